@@ -1,0 +1,76 @@
+#!/usr/bin/env python3
+"""Writes the benchmark's scripts, the same ones each time.
+
+    python3 bench/scripts.py FOLDER [--scale S]
+
+FOLDER/NAME.script and FOLDER/NAME.args (the words before the script on zfsp's command line). S multiplies the sizes.
+"""
+
+import argparse
+import random
+from pathlib import Path
+
+POOL = 4_194_304
+LEAVES = 1 << 20
+
+
+def place(leaf):
+    """A leaf as object and block."""
+    return f"{leaf >> 12} {leaf & 4095}"
+
+
+def random_writes(count):
+    """Writes of four bytes to random leaves of the root."""
+    source = random.Random(f"writes:{count}")
+    for i in range(count):
+        yield f"write p {place(source.randrange(LEAVES))} {i & 0xffffffff:08x}"
+
+
+def fill(count):
+    """Writes of leaf after leaf."""
+    for leaf in range(count):
+        yield f"write p {place(leaf)} {leaf & 0xff:02x}"
+
+
+def reads(writes, count):
+    """Random writes, and then reads of leaves that were written."""
+    yield from random_writes(writes)
+    source = random.Random(f"writes:{writes}")
+    leaves = [source.randrange(LEAVES) for _ in range(writes)]
+    source = random.Random("reads")
+    for _ in range(count):
+        yield f"read p {place(source.choice(leaves))}"
+
+
+def rewrites(count):
+    """Writes of one leaf again and again, with its size asked each time."""
+    for i in range(count):
+        yield f"write p 0 0 {i & 0xffffffff:08x}"
+        yield "get referenced p"
+
+
+def main():
+    options = argparse.ArgumentParser(description=__doc__, formatter_class=argparse.RawDescriptionHelpFormatter)
+    options.add_argument("folder", type=Path)
+    options.add_argument("--scale", type=float, default=1.0)
+    options = options.parse_args()
+    options.folder.mkdir(parents=True, exist_ok=True)
+
+    def scaled(count):
+        return max(1, int(count * options.scale))
+
+    scripts = {
+        "writes-100k": random_writes(scaled(100_000)),
+        "writes-1M": random_writes(scaled(1_000_000)),
+        "fill-1M": fill(min(LEAVES, scaled(1_000_000))),
+        "reads-1M": reads(scaled(100_000), scaled(1_000_000)),
+        "rewrites-500k": rewrites(scaled(500_000)),
+    }
+    for name, lines in scripts.items():
+        with open(options.folder / f"{name}.script", "w", buffering=1 << 20) as file:
+            file.writelines(f"{line}\n" for line in lines)
+        (options.folder / f"{name}.args").write_text(f"{POOL} 1\n")
+
+
+if __name__ == "__main__":
+    main()

@@ -1,0 +1,2 @@
+pub mod RewriteLaw
+pub mod LawProofs

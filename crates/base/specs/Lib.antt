@@ -1,0 +1,10 @@
+pub mod Counting
+pub mod Failing
+pub mod Key
+pub mod Map
+pub mod Names
+pub mod Refusals
+pub mod Rewrite
+pub mod Surveys
+pub mod Laws
+pub mod Reading

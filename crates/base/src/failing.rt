@@ -1,0 +1,148 @@
+//! Readers and writers that tell how often they failed.
+ghost use Rattle.std.specs.Prelude.{◌≡◌, ◌≢◌, ℕ, List, Option, Some, IfSome, IfOk, OnOk, OnErr, MatchResult, length, ◌≤◌};
+ghost use Rattle.std.specs.Io.Buffered.{reader_inner, writer_inner};
+ghost use Rattle.std.specs.Borrow.{sem};
+ghost use Rattle.std.specs.Io.{ReadsAtMost, WritesAtMost, StartsWith};
+ghost use Rattle.std.specs.Io.KnownBytes.{Appends, Keeps, ReadConsumes, WriteAppends};
+ghost use Rattle.base.specs.Failing.{HasRisen};
+
+use std::alloc::Allocator;
+use std::io;
+use std::io::{BufRead, BufReader, BufWriter, ErrorKind, Read, Write};
+
+/// A reader or writer that tells how often it failed (profile).
+///
+/// By it a caller knows a device's fault from want of memory: a device failed in a call only where the count rose in it. At
+/// the greatest u64 the count stays, and then counts as risen.
+pub trait Failing {
+    ghost failures: { Self → ℕ };
+
+    /// How often it has failed so far.
+    fn failures(&self) -> u64
+        ensures { result ≡ failures self.now };
+}
+
+impl<T: Failing> Failing for &mut T {
+    ghost failures = { λ t. T.failures t.now };
+
+    fn failures(&self) -> u64 {
+        T::failures(&**self)
+    }
+}
+
+impl<R: Read + Failing, A: Allocator> Failing for BufReader<R, A> {
+    ghost failures = { λ r. R.failures (reader_inner r) };
+
+    fn failures(&self) -> u64 {
+        self.get_ref().failures()
+    }
+}
+
+impl<W: Write + Failing + Drop, A: Allocator> Failing for BufWriter<W, A> {
+    ghost failures = { λ w. W.failures (writer_inner w) };
+
+    fn failures(&self) -> u64 {
+        self.get_ref().failures()
+    }
+}
+
+/// Any reader or writer, with a count of its failures. Want of memory is none of them.
+#[derive(Drop)]
+pub struct Counted<T> {
+    pub inner: T,
+    pub count: u64,
+}
+
+impl<T> Counted<T> {
+    /// This reader or writer, with a count of 0.
+    pub fn new(inner: T) -> Counted<T>
+        ensures inner { result.inner ≡ inner }
+        ensures count { result.count ≡ 0 }
+    {
+        Counted { inner, count: 0 }
+    }
+}
+
+impl<T> Failing for Counted<T> {
+    ghost failures = { λ c. c.count };
+
+    fn failures(&self) -> u64 {
+        self.count
+    }
+}
+
+impl<R: Read> Read for Counted<R> {
+    ghost remaining = { λ c. R.remaining c.inner };
+
+    fn read(&mut self, buf: &mut [u8]) -> io::Result<usize>
+        ensures bound { ReadsAtMost result buf.new }
+        ensures bytes { ReadConsumes (R.remaining self.old.inner) (R.remaining self.new.inner) result buf.new }
+    {
+        let result = self.inner.read(buf);
+        if let Err(e) = &result {
+            self.count = one_more(self.count, e);
+        }
+        result
+    }
+}
+
+impl<W: Write> Write for Counted<W> {
+    ghost contents = { λ c. W.contents c.inner };
+
+    fn write(&mut self, buf: &[u8]) -> io::Result<usize>
+        ensures bound { WritesAtMost result buf.now }
+        ensures bytes { WriteAppends (W.contents self.old.inner) (W.contents self.new.inner) result buf.now }
+    {
+        let result = self.inner.write(buf);
+        if let Err(e) = &result {
+            self.count = one_more(self.count, e);
+        }
+        result
+    }
+
+    fn flush(&mut self) -> io::Result<()>
+        ensures bytes { Keeps (W.contents self.old.inner) (W.contents self.new.inner) }
+    {
+        let result = self.inner.flush();
+        if let Err(e) = &result {
+            self.count = one_more(self.count, e);
+        }
+        result
+    }
+
+    fn write_all(&mut self, buf: &[u8]) -> io::Result<()>
+        ensures bytes { OnOk result (Appends (W.contents self.old.inner) (W.contents self.new.inner) buf.now) }
+    {
+        let result = self.inner.write_all(buf);
+        if let Err(e) = &result {
+            self.count = one_more(self.count, e);
+        }
+        result
+    }
+}
+
+impl<B: BufRead> BufRead for Counted<B> {
+    ghost consumable_len = { λ c. B.consumable_len c.inner };
+
+    // It looks twice: once for a failure, and once for the bytes, which the first look has left in the buffer.
+    fn fill_buf(&mut self) -> io::Result<&[u8]> {
+        if let Err(e) = self.inner.fill_buf() {
+            self.count = one_more(self.count, &e);
+            return Err(e);
+        }
+        self.inner.fill_buf()
+    }
+
+    fn consume(&mut self, amount: usize) {
+        self.inner.consume(amount);
+    }
+}
+
+// The count after one more failure, unless it was want of memory.
+fn one_more(count: u64, e: &io::Error) -> u64 {
+    if e.kind() == ErrorKind::OutOfMemory {
+        count
+    } else {
+        count.saturating_add(1)
+    }
+}

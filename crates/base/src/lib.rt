@@ -1,0 +1,13 @@
+//! Names, numbers, refusals and meters that every layer speaks of, and the definitions of a dataset's map.
+#![tactic(auto)]
+
+pub mod failing;
+pub mod laws;
+pub mod limit;
+pub mod meter;
+pub mod name;
+pub mod number;
+pub mod refusal;
+#[cfg(test)]
+mod tests;
+pub mod text;

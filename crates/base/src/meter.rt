@@ -1,0 +1,93 @@
+//! Counts of what was reached.
+ghost use Rattle.std.specs.Prelude.{◌≡◌};
+ghost use Rattle.base.specs.Counting.{counted};
+
+use std::marker::Model;
+use toll::Toll;
+
+/// How many nodes of trees were reached. The count stops at the greatest u64. A meter costs a [`Toll`], and cannot be copied.
+#[derive(Drop, Debug)]
+pub struct Meter {
+    nodes: u64,
+}
+
+impl Model for Meter {
+    ghost use Rattle.std.specs.Prelude.{ℕ};
+
+    ghost Value = { ℕ };
+
+    ghost view = { λ m. m.nodes };
+
+    ghost inverse = { λ n. record { nodes = n } };
+}
+
+impl Meter {
+    /// A meter at 0.
+    pub fn new(_toll: Toll) -> Meter
+        ensures { result ≡ 0 }
+    {
+        Meter { nodes: 0 }
+    }
+
+    /// How many nodes it has counted.
+    pub fn count(&self) -> u64
+        ensures { result ≡ self.now }
+    {
+        self.nodes
+    }
+
+    /// Counts one more node.
+    pub fn add_one(&mut self)
+        ensures { self.new ≡ counted self.old 1 }
+    {
+        self.nodes = one_more(self.nodes);
+    }
+}
+
+/// How many segments of dead lists were reached. The count stops at the greatest u64. A meter costs a [`Toll`], and cannot be
+/// copied.
+#[derive(Drop, Debug)]
+pub struct SegMeter {
+    segments: u64,
+}
+
+impl Model for SegMeter {
+    ghost use Rattle.std.specs.Prelude.{ℕ};
+
+    ghost Value = { ℕ };
+
+    ghost view = { λ m. m.segments };
+
+    ghost inverse = { λ n. record { segments = n } };
+}
+
+impl SegMeter {
+    /// A meter at 0.
+    pub fn new(_toll: Toll) -> SegMeter
+        ensures { result ≡ 0 }
+    {
+        SegMeter { segments: 0 }
+    }
+
+    /// How many segments it has counted.
+    pub fn count(&self) -> u64
+        ensures { result ≡ self.now }
+    {
+        self.segments
+    }
+
+    /// Counts one more segment.
+    pub fn add_one(&mut self)
+        ensures { self.new ≡ counted self.old 1 }
+    {
+        self.segments = one_more(self.segments);
+    }
+}
+
+// The next count, or the same at the greatest.
+#[tactic(auto, unfolding(crate::specs::Counting::counted, crate::specs::Counting::most))]
+fn one_more(count: u64) -> u64
+    ensures { result ≡ counted count 1 }
+{
+    count.saturating_add(1)
+}

@@ -1,0 +1,18 @@
+//! The right to make a meter.
+//!
+//! A crate that cannot name this one cannot make a meter of `base`: it can only hand on one that it was given, so whoever
+//! holds the meter sees every node and segment that was reached. Only `base`, `pool`, `session` and tests list this crate.
+#![tactic(auto)]
+
+/// Spent to make one meter.
+#[derive(Drop, Debug)]
+pub struct Toll {
+    _private: (),
+}
+
+impl Toll {
+    /// A toll for one meter. It takes no memory.
+    pub fn new() -> Toll {
+        Toll { _private: () }
+    }
+}
