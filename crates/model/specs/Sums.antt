@@ -1,0 +1,55 @@
+-- Space, as the sizes of sets of blocks (zfsprops(7) and zpoolprops(7), under the property's name).
+use Rattle.std.specs.Prelude.{ℕ, zero, suc, ◌+◌, ◌-◌, List, [], ◌∷◌, max, map}
+use Rattle.std.specs.List.{sum}
+use Rattle.std.specs.Option.{unwrap_or, option_map_or}
+use Rattle.std.specs.FinMap.{len}
+use Rattle.std.specs.FinSet as set
+use Rattle.base.specs.Map.{BlockSet, blocks}
+use Rattle.model.specs.World.{World, FileSystem, Dataset, Live, file_system_at, previous_of, map_of, map_of_snap, blocks_of_all, children_of}
+
+-- how many blocks one set has that another hasn't (profile)
+abbrev pub size_without : BlockSet → BlockSet → ℕ
+size_without a b = set.len (set.difference a b)
+
+-- zfsprops(7), referenced
+unfoldable pub referenced_of : World → Dataset → ℕ
+referenced_of w d = set.len (blocks (map_of w d))
+
+-- zfsprops(7), written
+unfoldable pub written_of : World → Dataset → ℕ
+written_of w d = size_without (blocks (map_of w d)) (blocks (map_of_snap w (previous_of w d)))
+
+-- zfsprops(7), usedbydataset
+abbrev pub used_by_dataset : World → FileSystem → ℕ
+used_by_dataset w s = size_without (blocks s.live) (blocks (map_of_snap w s.origin))
+
+-- zfsprops(7), usedbysnapshots: neither in the live map nor in the origin (the latter is profile)
+abbrev pub used_by_snapshots : World → FileSystem → ℕ
+used_by_snapshots w s = size_without (blocks_of_all (map (λ t. t.map) s.snaps)) (blocks_of_all (s.live ∷ map_of_snap w s.origin ∷ []))
+
+-- zfsprops(7), usedbyrefreservation
+abbrev pub used_by_refreservation : World → List ℕ → FileSystem → ℕ
+used_by_refreservation w name s = unwrap_or s.limits.refreservation 0 - written_of w (Live name)
+
+-- what of `used` isn't its children's (zfsprops(7), used)
+abbrev pub used_here : World → List ℕ → ℕ
+used_here w name =
+    option_map_or (λ s. used_by_dataset w s + used_by_snapshots w s + used_by_refreservation w name s) (file_system_at w name) 0
+
+-- zfsprops(7), reservation
+abbrev pub reservation_of : World → List ℕ → ℕ
+reservation_of w name = option_map_or (λ s. unwrap_or s.limits.reservation 0) (file_system_at w name) 0
+
+-- to this depth of the hierarchy: the sum over the children of `max(used, reservation)` (zfsprops(7), usedbychildren)
+abbrev pub children_within : World → ℕ → List ℕ → ℕ
+children_within w zero name = 0
+children_within w (suc depth) name =
+    sum (map (λ child. max (used_here w child + children_within w depth child) (reservation_of w child)) (children_of w name))
+
+-- zfsprops(7), usedbychildren. The hierarchy is no deeper than there are file systems
+unfoldable pub used_by_children : World → List ℕ → ℕ
+used_by_children w name = children_within w (len w.file_systems) name
+
+-- zfsprops(7), used, of a file system
+unfoldable pub used_of : World → List ℕ → ℕ
+used_of w name = used_here w name + used_by_children w name

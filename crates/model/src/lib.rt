@@ -1,0 +1,9 @@
+//! Requests, replies, and the definitions of what each request does to a pool.
+#![tactic(auto)]
+
+pub mod entry;
+pub mod laws;
+pub mod reply;
+pub mod request;
+#[cfg(test)]
+mod tests;

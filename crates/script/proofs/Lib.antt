@@ -1,0 +1,5 @@
+pub mod LinesLemmas
+pub mod WordsLemmas
+pub mod RunLemmas
+pub mod WorkedProofs
+pub mod NumberProofs

@@ -1,0 +1,36 @@
+-- Worked lines.
+use Rattle.std.specs.Prelude.{◌≡◌, ◌↔◌, ◌≤◌, ℕ, List, Some, ◌++◌, [], ◌∷◌, codes, replicate}
+use Rattle.std.specs.Fmt.{decimal}
+use Rattle.base.specs.declared.refusal.Refusal.TheVariants.{BadName, NoDataset, BadLine}
+use Rattle.base.specs.declared.name.Target.TheVariants.{FileSystem, Snapshot}
+use Rattle.model.specs.declared.request.Property.TheVariants.{Referenced}
+use Rattle.model.specs.declared.request.Request.TheVariants.{Write, Read, Get}
+use Rattle.model.specs.declared.reply.Reply.TheVariants.{Done, Refused}
+use Rattle.script.specs.Lines.{lines}
+use Rattle.script.specs.Words.{number_of_word}
+use Rattle.script.specs.Meaning.{meaning, Silent, Faulty, Asks}
+use Rattle.script.specs.Text.{line_of}
+
+-- what some lines ask for, and what some replies are written as (profile)
+pub record WorkedLines : Type 0 where
+  pub three : lines (codes "a" ++ 10 ∷ 10 ∷ codes "b") ≡ codes "a" ∷ [] ∷ codes "b" ∷ []
+  pub ended : lines (codes "a" ++ 10 ∷ []) ≡ codes "a" ∷ []
+  pub empty : meaning [] ≡ Silent
+  pub comment : meaning (codes "# no") ≡ Silent
+  pub write : meaning (codes "write p 0 1 6aF0") ≡ Asks (Write (FileSystem (codes "p")) 0 1 (106 ∷ 240 ∷ replicate 510 0))
+  pub read : meaning (codes "read p/a 0 17") ≡ Asks (Read (FileSystem (codes "p/a")) 0 17)
+  pub of_snapshot : meaning (codes "read p@s 1 2") ≡ Asks (Read (Snapshot (record { file_system = codes "p"; component = codes "s" })) 1 2)
+  pub get : meaning (codes "get referenced p") ≡ Asks (Get (FileSystem (codes "p")) Referenced)
+  pub bad_name : meaning (codes "write p/ 0 0 61") ≡ Faulty BadName
+  pub too_great : meaning (codes "write p/ 4294967296 0 61") ≡ Faulty BadLine
+  pub leading_zero : meaning (codes "read p 00 0") ≡ Faulty BadLine
+  pub odd_digits : meaning (codes "write p 0 0 616") ≡ Faulty BadLine
+  pub two_spaces : meaning (codes "read  p 0 0") ≡ Faulty BadLine
+  pub space_at_end : meaning (codes "get referenced p ") ≡ Faulty BadLine
+  pub unknown : meaning (codes "frob p") ≡ Faulty BadLine
+  pub done : line_of Done ≡ codes "ok" ++ 10 ∷ []
+  pub refused : line_of (Refused NoDataset) ≡ codes "error 2 NoDataset" ++ 10 ∷ []
+
+-- a number has one spelling, the one in which it is printed (profile)
+abbrev pub HasOneSpelling : Type 0
+HasOneSpelling = (word : List ℕ) (n : ℕ) → n ≤ 4294967295 → (number_of_word word ≡ Some n) ↔ (word ≡ decimal n)

@@ -1,0 +1,7 @@
+pub mod Lines
+pub mod Words
+pub mod Meaning
+pub mod Text
+pub mod Run
+pub mod Reading
+pub mod Examples

@@ -1,0 +1,82 @@
+-- What a line asks for.
+use Rattle.std.specs.Prelude.{ℕ, ◌==◌, nat_lt, List, [], ◌∷◌, Option, Some, None, length, if◌then◌else◌, codes}
+use Rattle.std.specs.List.{list_all}
+use Rattle.std.specs.Str.{bytes_eq}
+use Rattle.base.specs.declared.refusal.Refusal.{Refusal}
+use Rattle.base.specs.declared.refusal.Refusal.TheVariants.{BadName, BadLine}
+use Rattle.base.specs.Reading.{target_of}
+use Rattle.model.specs.declared.request.Request.{Request}
+use Rattle.model.specs.declared.request.Request.TheVariants.{Write, Read, Get}
+use Rattle.script.specs.Lines.{line_limit}
+use Rattle.script.specs.Words.{is_printable, words_of, is_word, number_of_word, block_of_word, property_of_word}
+
+-- a line asks for nothing and has no reply, is at fault and is refused so, or asks a request (profile)
+pub data Meaning : Type 0 where
+  Silent : Meaning
+  Faulty : Refusal → Meaning
+  Asks : Request → Meaning
+
+-- the rest, where a word has its form; else BadLine (profile)
+abbrev pub shaped : {X : Type 0} → Option X → (X → Meaning) → Meaning
+shaped None rest = Faulty BadLine
+shaped (Some x) rest = rest x
+
+-- the rest, where a name has its form; else BadName (profile)
+abbrev pub named : {X : Type 0} → Option X → (X → Meaning) → Meaning
+named None rest = Faulty BadName
+named (Some x) rest = rest x
+
+-- the operands, where there are so many of them (profile)
+abbrev pub two_of : List (List ℕ) → Option (List ℕ × List ℕ)
+two_of (a ∷ b ∷ []) = Some (a, b)
+two_of _ = None
+
+abbrev pub three_of : List (List ℕ) → Option (List ℕ × List ℕ × List ℕ)
+three_of (a ∷ b ∷ c ∷ []) = Some (a, b, c)
+three_of _ = None
+
+abbrev pub four_of : List (List ℕ) → Option (List ℕ × List ℕ × List ℕ × List ℕ)
+four_of (a ∷ b ∷ c ∷ d ∷ []) = Some (a, b, c, d)
+four_of _ = None
+
+-- `write TARGET NUM NUM HEX` (profile)
+unfoldable pub write_of : List (List ℕ) → Meaning
+write_of operands =
+    shaped (four_of operands) (λ w. shaped (number_of_word w.1) (λ object. shaped (number_of_word w.2) (λ block.
+    shaped (block_of_word w.3) (λ bytes. named (target_of w.0) (λ target. Asks (Write target object block bytes))))))
+
+-- `read TARGET NUM NUM` (profile)
+unfoldable pub read_of : List (List ℕ) → Meaning
+read_of operands =
+    shaped (three_of operands) (λ w. shaped (number_of_word w.1) (λ object. shaped (number_of_word w.2) (λ block.
+    named (target_of w.0) (λ target. Asks (Read target object block)))))
+
+-- `get PROP TARGET` (profile)
+unfoldable pub get_of : List (List ℕ) → Meaning
+get_of operands =
+    shaped (two_of operands) (λ w. shaped (property_of_word w.0) (λ property. named (target_of w.1) (λ target. Asks (Get target property))))
+
+-- by the command word (profile)
+unfoldable pub command_of : List ℕ → List (List ℕ) → Meaning
+command_of command operands =
+    if bytes_eq command (codes "write") then write_of operands
+    else if bytes_eq command (codes "read") then read_of operands
+    else if bytes_eq command (codes "get") then get_of operands
+    else Faulty BadLine
+
+-- by the words (profile)
+unfoldable pub words_meaning : List (List ℕ) → Meaning
+words_meaning [] = Faulty BadLine
+words_meaning (command ∷ operands) = command_of command operands
+
+-- a line that is neither empty nor begins with `#` (profile)
+unfoldable pub request_of : List ℕ → Meaning
+request_of line =
+    if nat_lt line_limit (length line) then Faulty BadLine
+    else if list_all is_printable line then (if list_all is_word (words_of line) then words_meaning (words_of line) else Faulty BadLine)
+    else Faulty BadLine
+
+-- a line; an empty one and one that begins with `#` have no reply (profile)
+unfoldable pub meaning : List ℕ → Meaning
+meaning [] = Silent
+meaning (b ∷ bs) = if b == 35 then Silent else request_of (b ∷ bs)

@@ -1,0 +1,53 @@
+-- The words of a line, and what they say.
+use Rattle.std.specs.Prelude.{ℕ, ◌+◌, ◌-◌, ◌*◌, ◌==◌, ◌&&◌, Bool, nat_lt, nat_le, List, [], ◌∷◌, ◌++◌, Option, Some, None, Result, Ok, Err, length, replicate, if◌then◌else◌, codes}
+use Rattle.std.specs.List.{slice_split}
+use Rattle.std.specs.Str.{bytes_eq}
+use Rattle.hex.specs.Hex.{decode_of}
+use Rattle.hex.specs.declared.error.FromHexError.{FromHexError}
+use Rattle.model.specs.declared.request.Property.{Property}
+use Rattle.model.specs.declared.request.Property.TheVariants.{Referenced}
+
+-- a byte that a line may have, 0x20 to 0x7e (profile)
+abbrev pub is_printable : ℕ → Bool
+is_printable b = nat_le 32 b && nat_le b 126
+
+-- words are joined by single spaces (profile)
+abbrev pub words_of : List ℕ → List (List ℕ)
+words_of line = slice_split (λ b. b == 32) line
+
+-- a word has a byte (profile)
+abbrev pub is_word : List ℕ → Bool
+is_word word = nat_lt 0 (length word)
+
+-- the number of these digits after n, at most 2^32 - 1 (profile)
+abbrev pub number_from : ℕ → List ℕ → Option ℕ
+number_from n [] = Some n
+number_from n (c ∷ cs) =
+    if nat_le 48 c && nat_le c 57
+    then (if nat_le (10 * n + (c - 48)) 4294967295 then number_from (10 * n + (c - 48)) cs else None)
+    else None
+
+-- a number that is not `0` (profile)
+abbrev pub number_without_zero : List ℕ → Option ℕ
+number_without_zero [] = None
+number_without_zero (c ∷ cs) = if c == 48 then None else number_from 0 (c ∷ cs)
+
+-- NUM: decimal digits without a leading zero, at most 2^32 - 1 (profile)
+unfoldable pub number_of_word : List ℕ → Option ℕ
+number_of_word word = if bytes_eq word (codes "0") then Some 0 else number_without_zero word
+
+-- zero bytes fill a block (profile)
+abbrev pub filled : Result (List ℕ) FromHexError → Option (List ℕ)
+filled (Err e) = None
+filled (Ok bytes) = Some (bytes ++ replicate (512 - length bytes) 0)
+
+-- HEX of a block: an even number of digits, 2 to 1024 (profile)
+unfoldable pub block_of_word : List ℕ → Option (List ℕ)
+block_of_word word =
+    if nat_lt (length word) 2 then None
+    else if nat_lt 1024 (length word) then None
+    else filled (decode_of word)
+
+-- PROP: a property's name (zfsprops(7))
+unfoldable pub property_of_word : List ℕ → Option Property
+property_of_word word = if bytes_eq word (codes "referenced") then Some Referenced else None

@@ -1,0 +1,90 @@
+//! The lines of a script.
+ghost use Rattle.std.specs.Prelude.{◌≡◌, ◌≤◌, ◌+◌, ◌++◌, vec_len, IfOk, OnOk, MatchBool};
+ghost use Rattle.script.specs.Lines.{kept_of, line_limit, Looks, GivesLine, GivesNone, HasMore};
+
+use memchr::memchr;
+use std::io::{BufRead, ErrorKind};
+
+/// A line has at most this many bytes, its line feed aside (profile).
+pub const LINE_LIMIT: usize = 4_194_304;
+
+/// Why a line could not be read.
+#[derive(Clone, Copy)]
+pub(crate) enum ReadFault {
+    NoMemory,
+    Failed,
+}
+
+/// What one look at a reader's buffer found.
+#[derive(Clone, Copy)]
+pub(crate) enum Step {
+    More,
+    Feed,
+    End,
+}
+
+/// Reads the next line. Of a line that is too long no more is kept than shows it. False where there is none.
+pub(crate) fn next_line<R: BufRead>(reader: &mut R, kept: &mut Vec<u8>) -> Result<bool, ReadFault>
+    ensures ok { IfOk result (λ found. MatchBool found
+        (GivesLine (R.remaining reader.old) (R.remaining reader.new) kept.new.items)
+        (GivesNone (R.remaining reader.old))) }
+    ensures no_memory { result ≡ Err ReadFault.NoMemory → HasMore (R.remaining reader.old) }
+{
+    kept.clear();
+    'looks: for _ in 0..u64::MAX {
+        match look(reader, kept)? {
+            Step::More => {}
+            Step::Feed => return Ok(true),
+            Step::End => return Ok(!kept.is_empty()),
+        }
+    }
+    Err(ReadFault::Failed)
+}
+
+/// Takes what the reader's buffer has of the line.
+fn look<R: BufRead>(reader: &mut R, kept: &mut Vec<u8>) -> Result<Step, ReadFault>
+    requires { vec_len kept.old ≤ line_limit + 1 }
+    ensures looks { IfOk result (Looks (R.remaining reader.old) (R.remaining reader.new) kept.old.items kept.new.items) }
+    ensures short { OnOk result (vec_len kept.new ≤ line_limit + 1) }
+    ensures no_memory { result ≡ Err ReadFault.NoMemory → HasMore (R.remaining reader.old) }
+{
+    let shown = match reader.fill_buf() {
+        Ok(shown) => shown,
+        Err(e) => {
+            return if e.kind() == ErrorKind::Interrupted {
+                Ok(Step::More)
+            } else {
+                Err(ReadFault::Failed)
+            };
+        }
+    };
+    if shown.is_empty() {
+        return Ok(Step::End);
+    }
+    match memchr(b'\n', shown) {
+        Some(end) => {
+            keep(kept, &shown[..end])?;
+            reader.consume(end + 1);
+            Ok(Step::Feed)
+        }
+        None => {
+            let len = shown.len();
+            keep(kept, shown)?;
+            reader.consume(len);
+            Ok(Step::More)
+        }
+    }
+}
+
+/// Keeps more of a line, up to one byte past its limit.
+#[tactic(auto, unfolding(crate::specs::Lines::line_limit))]
+fn keep(kept: &mut Vec<u8>, bytes: &[u8]) -> Result<(), ReadFault>
+    requires { vec_len kept.old ≤ line_limit + 1 }
+    ensures { OnOk result (kept.new.items ≡ kept_of (kept.old.items ++ bytes.now)) }
+{
+    let room = (LINE_LIMIT + 1 - kept.len()).min(bytes.len());
+    match kept.extend_from_slice(&bytes[..room]) {
+        Ok(()) => Ok(()),
+        Err(_) => Err(ReadFault::NoMemory),
+    }
+}

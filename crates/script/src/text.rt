@@ -1,0 +1,37 @@
+//! Replies as lines.
+ghost use Rattle.std.specs.Prelude.{◌++◌, ◌∷◌, [], Some, OnOk};
+ghost use Rattle.std.specs.Io.KnownBytes.{Appends};
+ghost use Rattle.script.specs.Text.{line_of, data_text};
+
+use model::reply::{Reply, Value};
+use std::io;
+use std::io::Write;
+
+/// Writes a reply's line.
+pub(crate) fn write_reply<W: Write>(writer: &mut W, reply: &Reply) -> io::Result<()>
+    ensures { OnOk result (Appends (W.contents writer.old) (W.contents writer.new) (line_of reply.now)) }
+{
+    match reply {
+        Reply::Done => writer.write_all(b"ok\n"),
+        Reply::Refused(refusal) => {
+            let (number, name) = (refusal.number(), refusal.name());
+            writeln!(writer, "error {number} {name}")
+        }
+        Reply::Data(None) => writer.write_all(b"hole\n"),
+        Reply::Data(Some(bytes)) => write_block(writer, bytes),
+        Reply::Value(Value::Size(size)) => {
+            let size = *size;
+            writeln!(writer, "{size}")
+        }
+        Reply::Value(Value::NotApplicable) => writer.write_all(b"-\n"),
+    }
+}
+
+fn write_block<W: Write>(writer: &mut W, bytes: &[u8; 512]) -> io::Result<()>
+    ensures { OnOk result (Appends (W.contents writer.old) (W.contents writer.new) (data_text (Some bytes.now) ++ 10 ∷ [])) }
+{
+    let mut text = [0u8; 1025];
+    let _ = hex::encode_to_slice(bytes.as_slice(), &mut text[..1024]);
+    text[1024] = b'\n';
+    writer.write_all(&text)
+}

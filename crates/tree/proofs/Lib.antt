@@ -1,0 +1,13 @@
+pub mod Prepare
+pub mod Lists
+pub mod Changing
+pub mod Digits
+pub mod Puts
+pub mod Writes
+pub mod Roots
+pub mod Present
+pub mod Steps
+pub mod Places
+pub mod Reach
+pub mod Order
+pub mod Find

@@ -1,0 +1,18 @@
+use Rattle.std.proofs.Common.{◌≡◌, sym, ap, ◌∙◌, None, get_or, Option, Some, refl}
+use Rattle.std.specs.Option.{option_map}
+use Rattle.tree.specs.Kid.{places_of, places}
+use Rattle.tree.specs.Node.{inner_part, shared_part}
+use Rattle.tree.proofs.Places.{places-forest_of}
+use Rattle.tree.proofs.put.owner_at.Goals as goal
+
+twice : {A B D : Type 0} (f : A → B) (h : B → D) (o : Option A) → option_map (λ x. h (f x)) o ≡ option_map h (option_map f o)
+twice f h None = refl
+twice f h (Some x) = refl
+
+pub returns-in-Some : goal.returns-in-Some
+returns-in-Some g c =
+    twice (λ a. a.now) (shared_part g.C.Level.part) c.owner.result
+    ∙ ap (option_map (shared_part g.C.Level.part)) c.owner.ensures
+    ∙ sym (places-forest_of (shared_part g.C.Level.part) c.deref.result.now.kids c.args.place)
+    ∙ ap (λ n. get_or (places (inner_part g.C.Level.part n).below) c.args.place None) c.deref.ensures
+    ∙ ap (λ o. get_or (places_of (option_map (λ a. inner_part g.C.Level.part a.now.value) o)) c.args.place None) (sym c.in-Some.is)

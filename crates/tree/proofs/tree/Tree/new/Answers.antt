@@ -1,0 +1,9 @@
+use Rattle.tree.proofs.Find.{map_of-empty}
+use Rattle.tree.proofs.Roots.{sound-none}
+use Rattle.tree.proofs.tree.Tree.new.Goals as goal
+
+pub returns : goal.returns
+returns c = map_of-empty
+
+pub invariant_of-result : goal.invariant_of-result
+invariant_of-result c = sound-none

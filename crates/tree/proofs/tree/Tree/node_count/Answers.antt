@@ -1,0 +1,9 @@
+use Rattle.std.proofs.Common.{sym, ap, ◌∙◌}
+use Rattle.std.specs.FinMap as fin
+use Rattle.tree.specs.Kid.{birth_of}
+use Rattle.tree.specs.Node.{whole, root_forest}
+use Rattle.tree.proofs.Find.{len-map_of}
+use Rattle.tree.proofs.tree.Tree.node_count.Goals as goal
+
+pub returns : goal.returns
+returns c = c.self.invariant.counted ∙ sym (len-map_of (birth_of (whole c.self.inside.root)) (root_forest c.self.inside.root) c.self.invariant.well) ∙ ap fin.len c.self.view_is

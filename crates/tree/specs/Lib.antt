@@ -1,0 +1,16 @@
+pub mod Shape
+pub mod Entries
+pub mod Cells
+pub mod Codes
+pub mod Node
+pub mod Kid
+pub mod Trail
+pub mod Put
+pub mod Numbers
+pub mod Taking
+pub mod Reading
+pub mod Change
+pub mod Unique
+pub mod Sound
+pub mod ChangeCode
+pub mod ChangeParts

@@ -1,0 +1,227 @@
+//! The nodes, one type a level.
+ghost use Rattle.std.specs.Prelude.{◌≡◌, ℕ, ◌<◌, ◌≤◌, ◌+◌, ◌*◌, ◌/◌, ◌%◌, ◌-◌, ◌^◌, Option, Some, None, zero, suc, OnOk, OnErr, ◌++◌, length, slice_index_or, map};
+ghost use Rattle.std.specs.Option.{option_map};
+ghost use Rattle.base.specs.Counting.{counted};
+ghost use Rattle.base.specs.Surveys.{dead_block};
+ghost use Rattle.base.specs.declared.refusal.Refusal.{Refusal};
+ghost use Rattle.tree.specs.Shape.{Part, part_at, cell_below, steps_below};
+ghost use Rattle.tree.specs.Cells.{cell_of};
+ghost use Rattle.tree.specs.Trail.{trail};
+
+use crate::cell::Cell;
+use base::meter::Meter;
+use base::number::{BlockNo, Dead, Group};
+use base::refusal::Refusal;
+use std::sync::Arc;
+
+/// A node of one level, with what is below it.
+pub trait Level {
+    ghost part: { Self → Part };
+
+    ghost height: { ℕ };
+
+    /// What stands at the node's own key.
+    fn cell(&self) -> Cell
+        ensures { cell_of result ≡ (part self.now).cell };
+
+    /// What stands `depth` levels below, at the index `at` of the keys that the node covers there.
+    fn find(&self, depth: u32, at: u32, meter: &mut Meter) -> Option<Cell>
+        requires shallow { depth ≤ 5 }
+        requires covered { at < 16 ^ depth }
+        ensures found { option_map cell_of result ≡ cell_below depth (part self.now) at }
+        ensures metered { meter.new ≡ counted meter.old (steps_below depth (part self.now) at) };
+
+    /// Adds the blocks from the node's own down to the leaf `at` of the `span` leaves that it covers, as far as they are
+    /// present.
+    fn follow(
+        &self,
+        span: u32,
+        at: u32,
+        blocks: &mut Vec<Dead>,
+        meter: &mut Meter,
+    ) -> Result<(), Refusal>
+        requires level { span ≡ 16 ^ Self.height }
+        requires covered { at < span }
+        ensures ok { OnOk result (map dead_block blocks.new.items ≡ map dead_block blocks.old.items ++ trail height (part self.now) at) }
+        ensures err { OnErr result (result ≡ Err Refusal.NoMemory) };
+}
+
+/// A data block.
+#[derive(Drop)]
+pub struct Leaf {
+    block: BlockNo,
+    birth: Group,
+    bytes: [u8; 512],
+}
+
+/// The length of an array of sixteen.
+fn sixteen<T>(xs: &[T; 16]) -> u32
+    ensures sixteen { result ≡ 16 }
+    ensures all { length xs.now ≡ 16 }
+{
+    16
+}
+
+/// How many keys a part covers at a level so far below its own.
+pub fn span(depth: u32) -> u32
+    requires { depth ≤ 5 }
+    ensures { result ≡ 16 ^ depth }
+{
+    match depth {
+        0 => 1,
+        1 => 16,
+        2 => 256,
+        3 => 4096,
+        4 => 65536,
+        _ => 1048576,
+    }
+}
+
+/// The place below on the way to a key, and the key's index among those that the place covers.
+fn step(depth: u32, at: u32) -> (usize, u32)
+    requires deep { 0 < depth }
+    requires shallow { depth ≤ 5 }
+    requires covered { at < 16 ^ depth }
+    ensures place { result.0 ≡ at / 16 ^ (depth - 1) }
+    ensures within { result.0 < 16 }
+    ensures rest { result.1 ≡ at % 16 ^ (depth - 1) }
+    ensures rest_covered { result.1 < 16 ^ (depth - 1) }
+{
+    let span = span(depth - 1);
+    ((at / span) as usize, at % span)
+}
+
+impl Leaf {
+    pub fn new(block: BlockNo, birth: Group, bytes: [u8; 512]) -> Leaf
+        ensures { result ≡ record { block = block; birth = birth; bytes = bytes } }
+    {
+        Leaf {
+            block,
+            birth,
+            bytes,
+        }
+    }
+}
+
+impl Level for Leaf {
+    ghost use Rattle.tree.specs.Node.{leaf_part};
+
+    ghost part = { leaf_part };
+
+    ghost height = { 0 };
+
+    fn cell(&self) -> Cell {
+        Cell {
+            block: self.block,
+            birth: self.birth,
+            bytes: Some(self.bytes),
+        }
+    }
+
+    fn find(&self, depth: u32, _at: u32, meter: &mut Meter) -> Option<Cell> {
+        meter.add_one();
+        if depth == 0 { Some(self.cell()) } else { None }
+    }
+
+    fn follow(
+        &self,
+        _span: u32,
+        _at: u32,
+        blocks: &mut Vec<Dead>,
+        meter: &mut Meter,
+    ) -> Result<(), Refusal> {
+        meter.add_one();
+        blocks.push(Dead {
+            block: self.block,
+            birth: self.birth,
+        })?;
+        Ok(())
+    }
+}
+
+/// An indirect block, with its sixteen places.
+#[derive(Drop)]
+pub struct Inner<C> {
+    block: BlockNo,
+    birth: Group,
+    kids: [Option<Arc<C>>; 16],
+}
+
+impl<C> Inner<C> {
+    pub fn new(block: BlockNo, birth: Group, kids: [Option<Arc<C>>; 16]) -> Inner<C>
+        ensures { result ≡ record { block = block; birth = birth; kids = kids } }
+    {
+        Inner { block, birth, kids }
+    }
+
+    /// How many places there are below a node.
+    pub fn place_count(&self) -> u32
+        ensures sixteen { result ≡ 16 }
+        ensures all { length self.now.kids ≡ 16 }
+    {
+        sixteen(&self.kids)
+    }
+
+    /// The owner of what stands at a place.
+    pub fn owner(&self, place: usize) -> Option<&Arc<C>>
+        requires { place < 16 }
+        ensures { option_map (λ a. a.now) result ≡ slice_index_or self.now.kids place None }
+    {
+        match &self.kids[place] {
+            Some(kid) => Some(kid),
+            None => None,
+        }
+    }
+}
+
+impl<C: Level> Level for Inner<C> {
+    ghost use Rattle.tree.specs.Node.{inner_part};
+
+    ghost part = { inner_part C.part };
+
+    ghost use Rattle.std.specs.Prelude.{suc};
+
+    ghost height = { suc C.height };
+
+    fn cell(&self) -> Cell {
+        Cell {
+            block: self.block,
+            birth: self.birth,
+            bytes: None,
+        }
+    }
+
+    fn find(&self, depth: u32, at: u32, meter: &mut Meter) -> Option<Cell> {
+        meter.add_one();
+        if depth == 0 {
+            return Some(self.cell());
+        }
+        let (place, rest) = step(depth, at);
+        match &self.kids[place] {
+            Some(kid) => kid.find(depth - 1, rest, meter),
+            None => None,
+        }
+    }
+
+    fn follow(
+        &self,
+        span: u32,
+        at: u32,
+        blocks: &mut Vec<Dead>,
+        meter: &mut Meter,
+    ) -> Result<(), Refusal> {
+        meter.add_one();
+        blocks.push(Dead {
+            block: self.block,
+            birth: self.birth,
+        })?;
+        let below = span / 16;
+        match &self.kids[(at / below) as usize] {
+            Some(kid) => {
+                kid.follow(below, at % below, blocks, meter)?;
+                Ok(())
+            }
+            None => Ok(()),
+        }
+    }
+}

@@ -1,0 +1,199 @@
+-- The pool's room after a change, from a survey's counts.
+use Rattle.std.proofs.Common.{◌≡◌, ℕ, ◌+◌, ◌<◌, Bool, true, false, cond, ◌||◌, List, [], ◌∷◌, Option, Some, None, refl, sym, ap, subst, ◌∙◌, true≢false, map, ◌⊎◌, inl, inr, ⊎_elim, length, arith}
+use Rattle.std.specs.Prelude.{is_some}
+use Rattle.std.specs.List.{list_any}
+use Rattle.std.specs.FinMap.{get, keys}
+use Rattle.std.specs.FinSet.{union, difference, from_list, len, len-empty}
+use Rattle.std.specs.Ordering.{eq_by_cmp}
+use Rattle.base.specs.declared.number.Key.{Key}
+use Rattle.base.specs.Key.{covers}
+use Rattle.base.specs.Map.{Map, Cell, Block, BlockSet, block_of, blocks, block_cmp, Contents, contents}
+use Rattle.base.specs.Rewrite.{Changes, rewrite, is_touched, cell_after, new_cell, changed_contents}
+use Rattle.base.proofs.RewriteLaw.{get-rewrite_any}
+use Rattle.world.specs.Sets.{Has, IsSubset}
+use Rattle.world.specs.Blocks.{ChangesKeys}
+use Rattle.world.proofs.Orders.{block_order as o}
+use Rattle.base.specs.Surveys.{IsIn, AreDifferent, IsDropped, IsSurvey}
+use Rattle.world.specs.Root.{Core, IsCore, IsChosen}
+use Rattle.world.proofs.SetCounts.{in_union_left, in_union_right, from_union, in_difference, from_difference, no-empty, Has-cases, len-two_parts, len_insert_new, put_in, equal_keys, same_key}
+use Rattle.world.proofs.BlockSets.{in_blocks, from_blocks, from_new_blocks}
+use Rattle.world.proofs.Changes.{rewrite_is_change}
+use Rattle.world.proofs.Lists.{in_map, map_in, different_map, length-mapped}
+
+same_value : {X : Type 0} (x y : X) → Some x ≡ Some y → x ≡ y
+same_value x y e = cc
+
+or_cases2 : (a b : Bool) → (a || b) ≡ true → (a ≡ true) ⊎ (b ≡ true)
+or_cases2 true b e = inl e
+or_cases2 false b e = inr e
+
+or_left : (a b : Bool) → a ≡ true → (a || b) ≡ true
+or_left true b e = refl
+or_left false b e = absurd (true≢false (sym e))
+
+or_right2 : (a b : Bool) → b ≡ true → (a || b) ≡ true
+or_right2 true b e = refl
+or_right2 false b e = e
+
+-- lists of different blocks as sets
+pub in_list : (bs : List Block) (b : Block) → IsIn bs b → Has (from_list {R = block_cmp} bs) b
+in_list [] b h = absurd h
+in_list (x ∷ bs) b h = put_in o (from_list bs) x b ∙ ⊎_elim
+    (λ is. or_left _ _ (ap (λ y. eq_by_cmp block_cmp y x) is ∙ same_key o x))
+    (λ r. or_right2 _ _ (in_list bs b r)) h
+
+pub from_in_list : (bs : List Block) (b : Block) → Has (from_list {R = block_cmp} bs) b → IsIn bs b
+from_in_list [] b h = no-empty o b h
+from_in_list (x ∷ bs) b h = ⊎_elim (λ t. inl (equal_keys o b x t)) (λ r. inr (from_in_list bs b r)) (or_cases2 _ _ (sym (put_in o (from_list bs) x b) ∙ h))
+
+false_from : (b : Bool) → (b ≡ true → ⊥) → b ≡ false
+false_from true h = absurd (h refl)
+false_from false h = refl
+
+pub len-from_list : (bs : List Block) → AreDifferent bs → len (from_list {R = block_cmp} bs) ≡ length bs
+len-from_list [] h = len-empty block_cmp
+len-from_list (x ∷ bs) h =
+    let e = len_insert_new o (from_list bs) x (false_from _ (λ t. h.0 (from_in_list bs x t))) in
+    let r = len-from_list bs h.1 in
+    omega (arith, e, r)
+
+-- a set of blocks changes by what is dropped and what is made, beside one that stays
+module _ (A A' D M L : BlockSet)
+    (drops : IsSubset D A) (makes : IsSubset M A')
+    (old : (b : Block) → Has A b → Has D b ⊎ Has A' b)
+    (new : (b : Block) → Has A' b → Has M b ⊎ (Has A b × (Has D b → ⊥)))
+    (apart : (b : Block) → Has M b → (Has A b × (Has D b → ⊥)) ⊎ Has L b → ⊥) where
+  abbrev stay : BlockSet
+  stay = union (difference A D) L
+
+  in_stay : (b : Block) → Has A b → (Has D b → ⊥) → Has stay b
+  in_stay b h n = in_union_left o (difference A D) L b (in_difference o A D b h n)
+
+  from_stay : (b : Block) → Has stay b → (Has A b × (Has D b → ⊥)) ⊎ Has L b
+  from_stay b h = ⊎_elim (λ k. inl (from_difference o A D b k)) (λ k. inr k) (from_union o (difference A D) L b h)
+
+  after : len (union A' L) ≡ len stay + len M
+  after = len-two_parts o (union A' L) stay M
+      (λ b h. ⊎_elim (λ k. ⊎_elim (λ d. absurd (k.1 d)) (λ a. in_union_left o A' L b a) (old b k.0)) (λ l. in_union_right o A' L b l) (from_stay b h))
+      (λ b h. in_union_left o A' L b (makes b h))
+      (λ b h m. apart b m (from_stay b h))
+      (λ b h. ⊎_elim (λ a. ⊎_elim (λ m. inr m) (λ k. inl (in_stay b k.0 k.1)) (new b a)) (λ l. inl (in_union_right o (difference A D) L b l)) (from_union o A' L b h))
+
+  before : len (union A L) ≡ len stay + len (difference D L)
+  before = len-two_parts o (union A L) stay (difference D L)
+      (λ b h. ⊎_elim (λ k. in_union_left o A L b k.0) (λ l. in_union_right o A L b l) (from_stay b h))
+      (λ b h. in_union_left o A L b (drops b (from_difference o D L b h).0))
+      (λ b h d. let p = from_difference o D L b d in ⊎_elim (λ k. k.1 p.0) (λ l. p.1 l) (from_stay b h))
+      (λ b h. by_last b h (Has-cases o L b))
+    where
+      by_drop : (b : Block) → Has A b → (Has L b → ⊥) → Has D b ⊎ ¬ (Has D b) → Has stay b ⊎ Has (difference D L) b
+      by_drop b a n (inl d) = inr (in_difference o D L b d n)
+      by_drop b a n (inr k) = inl (in_stay b a k)
+
+      by_last : (b : Block) → Has (union A L) b → Has L b ⊎ ¬ (Has L b) → Has stay b ⊎ Has (difference D L) b
+      by_last b h (inl l) = inl (in_union_right o (difference A D) L b l)
+      by_last b h (inr n) = ⊎_elim (λ a. by_drop b a n (Has-cases o D b)) (λ l. absurd (n l)) (from_union o A L b h)
+
+  pub room_after : len (union A' L) + len (difference D L) ≡ len (union A L) + len M
+  room_after = omega (arith, after, before)
+
+-- a present key stays present whatever the numbers are
+module _ (m : Map) (c : Changes) (g h : ℕ) (n p : Key → ℕ) (k : Key) where
+  same_new : (after : Contents) → is_some (new_cell after g n k) ≡ is_some (new_cell after h p k)
+  unfolding new_cell
+  same_new ks = at (list_any (covers k) (keys ks)) _ _
+    where
+      at : (b : Bool) (x y : Cell) → is_some (cond b (Some x) None) ≡ is_some (cond b (Some y) None)
+      at true x y = refl
+      at false x y = refl
+
+  same_after : is_some (cell_after m c g n k) ≡ is_some (cell_after m c h p k)
+  unfolding cell_after
+  same_after = at (is_touched m c k) _ _ _ (same_new (changed_contents (contents m) c))
+    where
+      at : (b : Bool) (x y z : Option Cell) → is_some x ≡ is_some y → is_some (cond b x z) ≡ is_some (cond b y z)
+      at true x y z e = e
+      at false x y z e = refl
+
+  pub same_presence : is_some (get (rewrite m c g n) k) ≡ is_some (get (rewrite m c h p) k)
+  same_presence = ap is_some (get-rewrite_any m c g n k) ∙ at _ _ _ same_after ∙ sym (ap is_some (get-rewrite_any m c h p k))
+    where
+      at : (b : Bool) (x y : Option Cell) → is_some x ≡ is_some y → is_some (cond b x None) ≡ is_some (cond b y None)
+      at true x y e = e
+      at false x y e = refl
+
+some_of : {A : Type 0} (x : Option A) → is_some x ≡ true → (a : A) × (x ≡ Some a)
+some_of None h = absurd (true≢false (sym h))
+some_of (Some a) h = (a, refl)
+
+module _ (c : Core) (core : IsCore c) (ch : Changes) (dropped : List Block) (made : List Key) (survey : IsSurvey c.live ch dropped made)
+    (number : Key → ℕ)
+    (once : (j k : Key) → IsIn made j → IsIn made k → number j ≡ number k → j ≡ k)
+    (free : (k : Key) (b : Block) → IsIn made k → Has (union (blocks c.live) (blocks c.last)) b → b.number ≡ number k → (¬ (Has (blocks c.last) b)) × IsDropped c.live ch b) where
+  abbrev new : Map
+  new = rewrite c.live ch c.group number
+
+  change : ChangesKeys c.live new (is_touched c.live ch) c.group number
+  change = rewrite_is_change c.live ch c.group number
+
+  abbrev block_at : Key → Block
+  block_at k = record { number = number k; birth = c.group }
+
+  pub in_made : (k : Key) (x : Cell) → is_touched c.live ch k ≡ true → get new k ≡ Some x → IsIn made k
+  in_made k x t h = (survey.each k).1 (t, same_presence c.live ch 0 c.group (λ _. 0) number k ∙ ap is_some h)
+
+  pub from_made : (k : Key) → IsIn made k → (x : Cell) × (get new k ≡ Some x) × (is_touched c.live ch k ≡ true) × (block_of x ≡ block_at k)
+  from_made k h =
+      let m = (survey.each k).0 h in
+      let s = some_of (get new k) (same_presence c.live ch c.group 0 number (λ _. 0) k ∙ m.1) in
+      let w = change.made k s.0 m.0 s.1 in
+      (s.0, s.1, m.0, λ i. record { number = w.0 i; birth = w.1 i })
+
+  dropped_at : (j : Key) (x : Cell) (b : Block) → get c.live j ≡ Some x → block_of x ≡ b → IsDropped c.live ch b → is_touched c.live ch j ≡ true
+  dropped_at j x b h is d = ap (is_touched c.live ch) (core.one j d.key x d.cell h d.there (ap (λ (y : Block). y.number) (is ∙ sym d.is))) ∙ d.touched
+
+  abbrev D : BlockSet
+  D = from_list dropped
+
+  abbrev M : BlockSet
+  M = from_list (map block_at made)
+
+  in_D : (b : Block) → IsDropped c.live ch b → Has D b
+  in_D b d = in_list dropped b ((survey.gone b).1 d)
+
+  from_D : (b : Block) → Has D b → IsDropped c.live ch b
+  from_D b h = (survey.gone b).0 (from_in_list dropped b h)
+
+  in_M : (k : Key) → IsIn made k → Has M (block_at k)
+  in_M k h = in_list (map block_at made) (block_at k) (map_in block_at made k h)
+
+  from_M : (b : Block) → Has M b → (k : Key) × IsIn made k × (b ≡ block_at k)
+  from_M b h = in_map block_at made b (from_in_list (map block_at made) b h)
+
+  old_or : (b : Block) (k : Key) (x : Cell) → get c.live k ≡ Some x → block_of x ≡ b → (t : Bool) → is_touched c.live ch k ≡ t → Has D b ⊎ Has (blocks new) b
+  old_or b k x h is true t = inl (in_D b (record { key = k; cell = x; there = h; is = is; touched = t }))
+  old_or b k x h is false t = inr (subst (λ y. Has (blocks new) y) is (in_blocks new k x (change.kept k t ∙ h)))
+
+  -- the room that the change takes: what it makes, less what it drops and the last synced world hasn't
+  pub room_of_rewrite : len (union (blocks new) (blocks c.last)) + len (difference D (blocks c.last)) ≡ len (union (blocks c.live) (blocks c.last)) + length made
+  room_of_rewrite =
+      room_after (blocks c.live) (blocks new) D M (blocks c.last)
+      (λ b h. let d = from_D b h in subst (λ y. Has (blocks c.live) y) d.is (in_blocks c.live d.key d.cell d.there))
+      (λ b h. let k = from_M b h in let w = from_made k.0 k.1 in subst (λ y. Has (blocks new) y) (w.3 ∙ sym k.2) (in_blocks new k.0 w.0 w.1))
+      (λ b h. let f = from_blocks c.live b h in old_or b f.0 f.1 f.2 f.3 (is_touched c.live ch f.0) refl)
+      (λ b h. ⊎_elim
+      (λ w. inr (subst (λ y. Has (blocks c.live) y) w.3 (in_blocks c.live w.0 w.1 w.2), λ d. true≢false (sym (dropped_at w.0 w.1 b w.2 w.3 (from_D b d)) ∙ w.4)))
+      (λ w. inl (subst (λ y. Has M y) ((λ i. record { number = sym w.5 i; birth = sym w.6 i })) (in_M w.0 (in_made w.0 w.1 w.3 w.2))))
+      (from_new_blocks c.live new (is_touched c.live ch) c.group number change b h))
+      (λ b m. let k = from_M b m in let n = ap (λ (y : Block). y.number) k.2 in λ s. ⊎_elim
+      (λ a. a.1 (in_D b (free k.0 b k.1 (in_union_left o (blocks c.live) (blocks c.last) b a.0) n).1))
+      (λ l. (free k.0 b k.1 (in_union_right o (blocks c.live) (blocks c.last) b l) n).0 l) s)
+      ∙ ap (λ n. len (union (blocks c.live) (blocks c.last)) + n)
+      (len-from_list (map block_at made) (different_map block_at made (λ a b h g e. once a b h g (ap (λ (y : Block). y.number) e)) survey.made_once) ∙ length-mapped block_at made)
+
+  pub chosen : ((k : Key) → IsIn made k → number k < c.size) → IsChosen c new (is_touched c.live ch) number
+  chosen small = record {
+    small = λ q x t h. small q (in_made q x t h);
+    allowed = λ q x b t h u n. let f = free q b (in_made q x t h) u n in record { new = f.0; key = f.1.key; cell = f.1.cell; there = f.1.there; is = f.1.is; leaves = f.1.touched };
+    once = λ j k a b t u h g n. once j k (in_made j a t h) (in_made k b u g) n;
+  }

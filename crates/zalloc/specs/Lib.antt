@@ -1,0 +1,4 @@
+pub mod Allocator
+pub mod StateMap
+pub mod States
+pub mod Tallies
