@@ -1,17 +1,16 @@
 -- The writing of one leaf, from the blocks on the way to it and the numbers chosen for them.
-use Rattle.std.proofs.Common.{◌≡◌, ℕ, zero, suc, ◌+◌, ◌-◌, ◌*◌, ◌/◌, ◌^◌, ◌<◌, ◌≤◌, Bool, true, false, cond, List, [], ◌∷◌, length, drop, map, Option, Some, None, refl, sym, ap, subst, ◌∙◌, arith, ◌⊎◌, inl, inr, ⊎_elim, true≢false}
-use Rattle.std.specs.Prelude.{slice_get, is_some, IsSome, IfSome, ◌==◌, ◌↔◌, count_by}
+use Rattle.std.proofs.Common.{◌≡◌, ℕ, zero, suc, ◌+◌, ◌-◌, ◌/◌, ◌^◌, ◌<◌, ◌≤◌, Bool, true, false, cond, List, length, drop, Option, Some, None, refl, sym, ap, subst, ◌∙◌, arith, ◌⊎◌, inl, inr, ⊎_elim}
+use Rattle.std.specs.Prelude.{slice_get, is_some, IsSome, IfSome, ◌==◌, count_by}
 use Rattle.std.specs.List.{All}
 use Rattle.std.specs.Option.{option_map}
 use Rattle.std.specs.FinMap.{get, same_map}
 use Rattle.std.proofs.lemmas.Bool.{eqb-true, eq-eqb, cases_lt}
 use Rattle.std.proofs.lemmas.Option.{slice_get-get_or, slice_get_within}
-use Rattle.std.proofs.Math.Nat.{div-div-eq-div-mul, pow-suc}
 use Rattle.base.specs.declared.number.Key.{Key}
 use Rattle.base.specs.declared.number.BlockNo.{BlockNo}
-use Rattle.base.specs.Key.{key_cmp, key_cmp_total, key_cmp-IsAntisymmetric, covers, path, parent, IsKey}
+use Rattle.base.specs.Key.{key_cmp_total, key_cmp-IsAntisymmetric, covers, path, parent, IsKey}
 use Rattle.base.specs.Map.{Map, Cell, Block, block_of, IsTree, HasBytes}
-use Rattle.base.specs.Rewrite.{writes_leaf, rewrite, is_touched}
+use Rattle.base.specs.Rewrite.{writes_leaf, rewrite}
 use Rattle.base.specs.Surveys.{IsIn, AreDifferent, IsMadeKey, IsDropped, IsSurvey}
 use Rattle.zalloc.specs.declared.BlockState.{BlockState}
 use Rattle.zalloc.specs.declared.BlockState.TheVariants.{Free, Allocated}
@@ -20,7 +19,7 @@ use Rattle.tree.specs.Change.{Shown, IsChange, IsKept, IsReleased, HasRoom, Lack
 use Rattle.tree.specs.Numbers.{number_in, number_at, AreYoung, AreKept, AreTaken}
 use Rattle.tree.specs.Unique.{IsUnique}
 use Rattle.tree.proofs.Puts.{level_cell, IsFalling}
-use Rattle.tree.proofs.Writes.{touched_is, made_cell, get-written, get-written_high}
+use Rattle.tree.proofs.Writes.{touched_is, get-written, get-written_high}
 use Rattle.tree.proofs.Lists.{same_value, some_of, not_some, if_some, for_some, mapped, in_at, at_in, at_drop, different_at, numbers_from, numbers_in, in_numbers, numbers_once, falls, young_ones}
 use Rattle.tree.proofs.Digits.{high_digits, below_key}
 
@@ -106,7 +105,8 @@ module _ (m : Map) (leaf : ℕ) (bytes : List ℕ) (young : ℕ) (states : List 
   pub made_to : (k : Key) → IsMadeKey m (writes_leaf leaf bytes) k → (k.level ≤ 5) × (covers k leaf ≡ true)
   made_to k h = (
     ⊎_elim (λ l. absurd (not_some _ (get-written_high m leaf bytes 0 (λ _. 0) k l none_high) h.1)) (λ b. b) (cases_lt 5 k.level),
-    sym (touched_is m leaf bytes k) ∙ h.0)
+    sym (touched_is m leaf bytes k) ∙ h.0,
+  )
 
   pub made_from : (k : Key) → k.level ≤ 5 → covers k leaf ≡ true → IsMadeKey m (writes_leaf leaf bytes) k
   made_from k b e = (touched_is m leaf bytes k ∙ e, ap is_some (get-written m leaf bytes 0 (λ _. 0) k b) ∙ rw e refl)
@@ -142,11 +142,11 @@ module _ (m : Map) (leaf : ℕ) (bytes : List ℕ) (young : ℕ) (states : List 
       let born = h.born in
       ⊎_elim (λ l. l)
       (λ r. let w = slice_get_within ts (5 - k.level) (block_of h.cell) at.1 in
-          let d : Block = record { number = 0; birth = 0 } in
-          let first = slice_get-get_or ts kept d (omega (arith, w)) in
-          let old = t.are_young.next _ first in
-          let f = falls t.newest kept (5 - k.level) ts _ _ t.falling r first at.1 in
-          absurd (omega (arith, old, f.1, born)))
+      let d : Block = record { number = 0; birth = 0 } in
+      let first = slice_get-get_or ts kept d (omega (arith, w)) in
+      let old = t.are_young.next _ first in
+      let f = falls t.newest kept (5 - k.level) ts _ _ t.falling r first at.1 in
+      absurd (omega (arith, old, f.1, born)))
       (cases_lt (5 - k.level) kept)
 
   pub below_kept : (k : Key) → k.level ≤ 5 → covers k leaf ≡ true → 5 - k.level < kept → (c : Cell) × (get m k ≡ Some c) × (slice_get ts (5 - k.level) ≡ Some (block_of c)) × IsKept m (writes_leaf leaf bytes) young k
@@ -178,7 +178,8 @@ module _ (m : Map) (leaf : ℕ) (bytes : List ℕ) (young : ℕ) (states : List 
     gone_once = different_at ts (λ i j a p q. one_place i j a a p q refl);
     each = λ k. (
       λ h. let p = from_path leaf k h in made_from k p.0 p.1,
-      λ h. let p = made_to k h in subst (IsIn (path leaf)) (sym (at_over leaf k p.1)) (on_path leaf k.level p.0));
+      λ h. let p = made_to k h in subst (IsIn (path leaf)) (sym (at_over leaf k p.1)) (on_path leaf k.level p.0),
+    );
     levels = λ k h. (from_path leaf k h).0;
     made_once = different_at (path leaf) (λ i j a p q. sym (path_level leaf i a p) ∙ path_level leaf j a q);
   }
@@ -199,9 +200,14 @@ module _ (m : Map) (leaf : ℕ) (bytes : List ℕ) (young : ℕ) (states : List 
       let e : slice_get ts (kept + i.0) ≡ Some b = sym (at_drop kept i.0 ts) ∙ i.1 in
       let x = cell_at (kept + i.0) b e in
       let l = x.0 in
-      record { key = over leaf (5 - (kept + i.0)); cell = x.1.0; there = x.1.1; is = x.1.2;
-          touched = touched_is m leaf bytes (over leaf (5 - (kept + i.0))) ∙ covers_over leaf (5 - (kept + i.0));
-          goes = λ k. let n = kept_below (over leaf (5 - (kept + i.0))) k in absurd (omega (arith, n, l)) }
+      record {
+        key = over leaf (5 - (kept + i.0));
+        cell = x.1.0;
+        there = x.1.1;
+        is = x.1.2;
+        touched = touched_is m leaf bytes (over leaf (5 - (kept + i.0))) ∙ covers_over leaf (5 - (kept + i.0));
+        goes = λ k. let n = kept_below (over leaf (5 - (kept + i.0))) k in absurd (omega (arith, n, l));
+      }
 
   released_to : (b : Block) → IsReleased m (writes_leaf leaf bytes) young b → IsIn (drop kept ts) b
   released_to b h =
@@ -209,7 +215,7 @@ module _ (m : Map) (leaf : ℕ) (bytes : List ℕ) (young : ℕ) (states : List 
       let at = block_at h.key h.cell v h.there in
       ⊎_elim (λ l. absurd (h.goes (below_kept h.key at.0 v l).3))
       (λ r. let s : kept + (5 - h.key.level - kept) ≡ 5 - h.key.level = omega arith in
-          at_in (drop kept ts) (5 - h.key.level - kept) b (at_drop kept (5 - h.key.level - kept) ts ∙ ap (slice_get ts) s ∙ at.1 ∙ ap Some h.is))
+      at_in (drop kept ts) (5 - h.key.level - kept) b (at_drop kept (5 - h.key.level - kept) ts ∙ ap (slice_get ts) s ∙ at.1 ∙ ap Some h.is))
       (cases_lt (5 - h.key.level) kept)
 
   released_once : AreDifferent (drop kept ts)
@@ -252,10 +258,12 @@ module _ (m : Map) (leaf : ℕ) (bytes : List ℕ) (young : ℕ) (states : List 
         let i = in_numbers kept n ns h in
         let s = p.six in
         let l : i.0 ≤ 5 = let w = i.2 in omega (arith, s, w) in
-        let from = i.1 in
-        (over leaf (5 - i.0), made_from (over leaf (5 - i.0)) (omega arith) (covers_over leaf (5 - i.0)),
+        let from = i.1 in (
+          over leaf (5 - i.0),
+          made_from (over leaf (5 - i.0)) (omega arith) (covers_over leaf (5 - i.0)),
           (λ k. let b = kept_below (over leaf (5 - i.0)) k in absurd (omega (arith, b, l, from))),
-          number_over i.0 l ∙ i.3)
+          number_over i.0 l ∙ i.3,
+        )
 
     places_once : (i j : ℕ) → kept ≤ i → kept ≤ j → i ≤ 5 → j ≤ 5 → number_in ns i ≡ number_in ns j → i ≡ j
     places_once i j a b x y e = ⊎_elim (λ l. absurd (p.taken.once i j a l (omega arith) e))
@@ -300,25 +308,27 @@ module _ (m : Map) (leaf : ℕ) (bytes : List ℕ) (young : ℕ) (states : List 
     both_new j k l r v w e = ⊎_elim
         (λ x. sym (crossed k j x.0 r w x.1 (sym e ∙ x.2)))
         (λ x. ⊎_elim
-            (λ y. crossed j k y.0 l v y.1 (e ∙ y.2))
-            (λ y. let s = places_once (5 - j.level) (5 - k.level) x.0 y.0 (omega arith) (omega arith) (sym (number_is j) ∙ e ∙ number_is k) in same_over leaf j k v w (omega (arith, s)))
-            (old_or_free k r w))
+        (λ y. crossed j k y.0 l v y.1 (e ∙ y.2))
+        (λ y. let s = places_once (5 - j.level) (5 - k.level) x.0 y.0 (omega arith) (omega arith) (sym (number_is j) ∙ e ∙ number_is k) in same_over leaf j k v w (omega (arith, s)))
+        (old_or_free k r w))
         (old_or_free j l v)
 
     -- one number stands at one key afterwards too
     pub unique_after : IsUnique new
-    unique_after = record { one = λ j k a b h q e.
-        let x = at_new j a h in let y = at_new k b q in
-        ⊎_elim
-        (λ u. ⊎_elim
-            (λ w. both_new j k x.0 y.0 u.0 w.0 (number_of_new j a u.1 ∙ e ∙ sym (number_of_new k b w.1)))
-            (λ w. crossed j k b x.0 u.0 w.1 (number_of_new j a u.1 ∙ e))
-            y.1)
-        (λ u. ⊎_elim
-            (λ w. sym (crossed k j a y.0 w.0 u.1 (number_of_new k b w.1 ∙ sym e)))
-            (λ w. t.unique.one j k a b u.1 w.1 e)
-            y.1)
-        x.1 }
+    unique_after = record {
+      one = λ j k a b h q e.
+          let x = at_new j a h in let y = at_new k b q in
+          ⊎_elim
+          (λ u. ⊎_elim
+          (λ w. both_new j k x.0 y.0 u.0 w.0 (number_of_new j a u.1 ∙ e ∙ sym (number_of_new k b w.1)))
+          (λ w. crossed j k b x.0 u.0 w.1 (number_of_new j a u.1 ∙ e))
+          y.1)
+          (λ u. ⊎_elim
+          (λ w. sym (crossed k j a y.0 w.0 u.1 (number_of_new k b w.1 ∙ sym e)))
+          (λ w. t.unique.one j k a b u.1 w.1 e)
+          y.1)
+          x.1;
+    }
 
     -- the tree that it leads to
     made_there : (k : Key) → k.level ≤ 5 → covers k leaf ≡ true → IsSome (get new k)
@@ -350,7 +360,8 @@ module _ (m : Map) (leaf : ℕ) (bytes : List ℕ) (young : ℕ) (states : List 
     new_bytes : (k : Key) (c : Cell) → new_cell k ≡ c → HasBytes k c
     new_bytes k c e = (
       λ z. let s : (k.level == 0) ≡ true = eq-eqb k.level 0 z in let bs : bytes ≡ c.bytes = sym (rw s refl) ∙ ap (λ (x : Cell). x.bytes) e in (ap length (sym bs) ∙ t.full, subst (All (λ b. b < 256)) bs t.octets),
-      λ z. let s : (k.level == 0) ≡ false = Rattle.tree.proofs.Digits.eq_not k.level 0 (λ q. absurd (omega arith)) in sym (ap (λ (x : Cell). x.bytes) e) ∙ rw s refl)
+      λ z. let s : (k.level == 0) ≡ false = Rattle.tree.proofs.Digits.eq_not k.level 0 (λ q. absurd (omega arith)) in sym (ap (λ (x : Cell). x.bytes) e) ∙ rw s refl,
+    )
 
     pub tree_after : (n : ℕ) → IsTree n m → ((k : ℕ) → IsIn taken k → k < n) → IsTree n new
     tree_after n tree small = record {
@@ -361,7 +372,7 @@ module _ (m : Map) (leaf : ℕ) (bytes : List ℕ) (young : ℕ) (states : List 
       parents = λ k h l. let x = either k h in ⊎_elim (λ v. made_there (parent k) (omega arith) (covers_parent k v)) (λ o. still_there (parent k) (tree.parents k o l)) x.1;
       children = λ k h l. let x = either k h in ⊎_elim
           (λ v. let s : k.level - 1 + 1 ≡ k.level = omega arith in let b = x.0 in
-              (over leaf (k.level - 1), parent_over (k.level - 1) ∙ ap (over leaf) s ∙ sym (at_over leaf k v), made_there (over leaf (k.level - 1)) (omega (arith, b)) (covers_over leaf (k.level - 1))))
+          (over leaf (k.level - 1), parent_over (k.level - 1) ∙ ap (over leaf) s ∙ sym (at_over leaf k v), made_there (over leaf (k.level - 1)) (omega (arith, b)) (covers_over leaf (k.level - 1))))
           (λ o. let c = tree.children k o l in (c.0, c.1, still_there c.0 c.2)) x.1;
     }
 

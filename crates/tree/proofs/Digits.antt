@@ -1,5 +1,5 @@
 -- Indices of keys, a level at a time.
-use Rattle.std.proofs.Common.{◌≡◌, ◌≢◌, ℕ, zero, suc, ◌+◌, ◌*◌, ◌/◌, ◌%◌, ◌-◌, ◌^◌, ◌<◌, ◌≤◌, Bool, true, false, refl, sym, ap, ◌∙◌, arith}
+use Rattle.std.proofs.Common.{◌≡◌, ◌≢◌, ℕ, suc, ◌+◌, ◌*◌, ◌/◌, ◌%◌, ◌-◌, ◌^◌, ◌<◌, ◌≤◌, Bool, true, false, refl, sym, ap, ◌∙◌, arith}
 use Rattle.std.specs.Prelude.{◌==◌}
 use Rattle.std.proofs.lemmas.Bool.{eqb-true, eq-eqb}
 use Rattle.std.proofs.lemmas.Nat.{pow-add}
@@ -32,14 +32,14 @@ low_digits r lv d l e =
     let small : r % 16 ^ lv < 16 ^ lv = mod-lt r c in
     let none : (r % 16 ^ lv) / 16 ^ lv ≡ 0 = div-eq_of_lt small in
     let parts : (r % 16 ^ l) / 16 ^ lv ≡ (r / 16 ^ lv % 16 ^ d) + (r % 16 ^ lv) / 16 ^ lv =
-        ap (λ x. (r % x) / 16 ^ lv) power ∙ ap (λ x. x / 16 ^ lv) split ∙ mul-add-div_right c (r / 16 ^ lv % 16 ^ d) (r % 16 ^ lv) in
+    ap (λ x. (r % x) / 16 ^ lv) power ∙ ap (λ x. x / 16 ^ lv) split ∙ mul-add-div_right c (r / 16 ^ lv % 16 ^ d) (r % 16 ^ lv) in
     omega (arith, none, parts)
 
 -- two indices with one place are one where they are one within it
 pub same_within : (a q s : ℕ) → 0 < s → a / s ≡ q / s → (a % s == q % s) ≡ (a == q)
 same_within a q s p h = both_ways _ _
     (λ t. let m : a % s ≡ q % s = eqb-true _ _ t in let x = div-add-mod a s in let y = div-add-mod q s in let z = ap (λ n. s * n) h in
-        eq-eqb a q (omega (arith, m, x, y, z)))
+    eq-eqb a q (omega (arith, m, x, y, z)))
     (λ t. let m : a ≡ q = eqb-true _ _ t in eq-eqb (a % s) (q % s) (ap (λ n. n % s) m))
 
 pub below_place : (q l : ℕ) → q < 16 ^ suc l → q / 16 ^ l < 16

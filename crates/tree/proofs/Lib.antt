@@ -1,3 +1,5 @@
+pub mod Walk
+pub mod Committed
 pub mod Prepare
 pub mod Lists
 pub mod Changing

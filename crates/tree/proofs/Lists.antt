@@ -53,7 +53,8 @@ pub different_at : {A : Type 0} (xs : List A) → ((i j : ℕ) (a : A) → slice
 different_at [] h = tt
 different_at (x ∷ xs) h = (
   λ t. let i = in_at xs x t in let e = h zero (suc i.0) x refl i.1 in absurd (omega arith),
-  different_at xs (λ i j a p q. let e = h (suc i) (suc j) a p q in omega arith))
+  different_at xs (λ i j a p q. let e = h (suc i) (suc j) a p q in omega arith),
+)
 
 -- the dropped front of a list of numbers
 abbrev pub numbers_from : ℕ → List BlockNo → List ℕ
@@ -139,8 +140,8 @@ pub young_more : (bs : List Dead) (young i : ℕ) (d : Dead) → i < length bs �
     → (k : ℕ) → k < i + 1 → (b : Block) → slice_get (map dead_block bs) k ≡ Some b → young ≤ b.birth
 young_more bs young i d h y inv k l b e = ⊎_elim (λ p. inv k p b e)
     (λ p. let s : k ≡ i = omega arith in
-        let t = ap (λ (z : Block). z.birth) (same_value _ b (sym (young_place bs i d h) ∙ ap (slice_get (map dead_block bs)) (sym s) ∙ e)) in
-        omega (arith, t, y))
+    let t = ap (λ (z : Block). z.birth) (same_value _ b (sym (young_place bs i d h) ∙ ap (slice_get (map dead_block bs)) (sym s) ∙ e)) in
+    omega (arith, t, y))
     (cases_lt k i)
 
 pub young_stop : (bs : List Dead) (young i : ℕ) (d : Dead) → i < length bs → (get_or bs i d).birth.0 < young

@@ -4,14 +4,13 @@ use Rattle.std.proofs.lemmas.Bool.{cases_lt}
 use Rattle.std.proofs.Math.Nat.{pow-suc}
 use Rattle.std.specs.Prelude.{◌&&◌}
 use Rattle.std.specs.Ordering.{nat_cmp, is_lt}
-use Rattle.std.specs.Cmp.{IsTotalOrder, nat_cmp_is}
-use Rattle.std.proofs.lemmas.Cmp.{then_total, on_total, nat_cmp_total, back_total}
+use Rattle.std.specs.Cmp.{nat_cmp_is}
 use Rattle.std.specs.declared.cmp.Ordering.TheVariants.{Less, Equal}
 use Rattle.std.specs.FinMap as fin
 use Rattle.base.specs.declared.number.Key.{Key}
 use Rattle.base.specs.Map.{Cell}
 use Rattle.tree.specs.Shape.{Forest, done, gap, grown}
-use Rattle.base.specs.Key.{first_leaf, key_cmp, key_cmp_total}
+use Rattle.base.specs.Key.{first_leaf, key_cmp}
 use Rattle.tree.specs.Entries.{key_at, entries_from, width, IsWell, IsShaped}
 
 pub less_by_leaf : (x y : Key) → first_leaf x < first_leaf y → T (is_lt (key_cmp x y))

@@ -1,10 +1,10 @@
 -- Lists of places, and the forests that they are.
-use Rattle.std.proofs.Common.{◌≡◌, ℕ, zero, suc, ◌+◌, ◌-◌, ◌<◌, ◌≤◌, List, [], ◌∷◌, ◌++◌, length, get_or, set, take, replicate, map, Option, Some, None, refl, sym, ap, subst, ◌∙◌, arith, add-one, sub-one, length-set}
+use Rattle.std.proofs.Common.{◌≡◌, ℕ, zero, suc, ◌+◌, ◌-◌, ◌<◌, ◌≤◌, List, [], ◌∷◌, ◌++◌, length, get_or, set, take, replicate, map, Option, Some, None, refl, ap, ◌∙◌, arith, add-one, sub-one}
 use Rattle.std.proofs.Math.Seq.{take-suc-set}
 use Rattle.std.specs.Option.{option_map}
 use Rattle.tree.specs.Shape.{Forest, done, gap, grown, Part, forest_of, part_at}
-use Rattle.tree.specs.Entries.{IsWell, IsShaped, width, cell_count}
-use Rattle.tree.specs.Kid.{places, places_of, IsKid, IsSound, cells}
+use Rattle.tree.specs.Entries.{IsWell, width, cell_count}
+use Rattle.tree.specs.Kid.{places, places_of, IsKid, cells}
 
 pub places-forest_of : {A : Type 0} (f : A → Part) (xs : List (Option A)) (i : ℕ) → get_or (places (forest_of f xs)) i None ≡ option_map f (get_or xs i None)
 places-forest_of f [] i = refl

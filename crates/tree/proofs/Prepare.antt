@@ -1,7 +1,6 @@
 -- A prepared change, from what the program's steps have given.
-use Rattle.std.proofs.Common.{◌≡◌, ℕ, ◌+◌, ◌-◌, ◌^◌, ◌<◌, ◌≤◌, List, [], ◌∷◌, length, get_or, drop, map, Option, Some, None, refl, sym, ap, subst, ◌∙◌, arith, zero, suc}
+use Rattle.std.proofs.Common.{◌≡◌, ℕ, ◌+◌, ◌-◌, ◌^◌, ◌<◌, ◌≤◌, List, [], ◌∷◌, length, get_or, drop, map, Option, Some, refl, sym, ap, subst, ◌∙◌, arith, zero, suc}
 use Rattle.std.specs.Prelude.{slice_get, IfSome, count_by}
-use Rattle.std.specs.Option.{option_map}
 use Rattle.std.specs.FinMap as fin
 use Rattle.std.specs.declared.sync.Arc.{Arc}
 use Rattle.std.specs.declared.alloc.Global.{Global}
@@ -15,12 +14,12 @@ use Rattle.zalloc.specs.declared.BlockState.{BlockState}
 use Rattle.zalloc.specs.declared.BlockState.TheVariants.{Allocated}
 use Rattle.zalloc.specs.States.{is_free}
 use Rattle.tree.specs.Change.{Shown, IsChange, HasRoom, LacksRoom}
-use Rattle.tree.specs.Entries.{map_of, cell_count}
-use Rattle.tree.specs.Kid.{birth_of, cells}
+use Rattle.tree.specs.Entries.{map_of}
+use Rattle.tree.specs.Kid.{birth_of}
 use Rattle.tree.specs.Node.{Root, whole, root_forest, root_part, shared_part}
 use Rattle.tree.specs.Numbers.{number_at, AreYoung, AreKept, AreTaken}
 use Rattle.tree.specs.Put.{put}
-use Rattle.tree.specs.Shape.{Forest, Part, forest_of}
+use Rattle.tree.specs.Shape.{Part, forest_of}
 use Rattle.tree.specs.Sound.{IsSoundTree}
 use Rattle.tree.specs.Trail.{trail, trail_in}
 use Rattle.tree.proofs.Places.{forest_of-map}

@@ -1,16 +1,16 @@
 -- How many present keys a walk to a key reaches.
-use Rattle.std.proofs.Common.{◌≡◌, ℕ, zero, suc, ◌+◌, ◌*◌, ◌/◌, ◌%◌, ◌-◌, ◌^◌, ◌<◌, ◌≤◌, List, [], ◌∷◌, Bool, true, false, Option, Some, None, cond, refl, sym, ap, ◌∙◌, arith, sub-one, ◌⊎◌, ⊎_elim}
+use Rattle.std.proofs.Common.{◌≡◌, ℕ, zero, suc, ◌+◌, ◌*◌, ◌/◌, ◌%◌, ◌-◌, ◌^◌, ◌<◌, ◌≤◌, Bool, true, false, Option, Some, None, cond, refl, sym, ap, ◌∙◌, arith}
 use Rattle.std.specs.Prelude.{is_some, nat_le}
 use Rattle.std.specs.Option.{option_and_then}
-use Rattle.std.proofs.lemmas.Bool.{le-leb, leb-true, cases_lt}
-use Rattle.std.proofs.Math.Nat.{pow-suc, div-div-eq-div-mul, div-add-mod, div-lt_iff_lt-mul}
+use Rattle.std.proofs.lemmas.Bool.{le-leb, leb-true}
+use Rattle.std.proofs.Math.Nat.{pow-suc, div-div-eq-div-mul}
 use Rattle.std.proofs.Math.Arith.{mod-mul}
 use Rattle.std.specs.FinMap.{get, empty, get-empty}
 use Rattle.base.specs.declared.number.Key.{Key}
 use Rattle.base.specs.Key.{key_cmp, parent}
 use Rattle.base.specs.Map.{Cell, Map}
 use Rattle.tree.specs.Reading.{present_up, present_on_path}
-use Rattle.tree.specs.Shape.{Part, Forest, part_at, cell_below, steps_below, steps_in}
+use Rattle.tree.specs.Shape.{Part, part_at, cell_below, steps_below, steps_in}
 use Rattle.tree.proofs.Order.{span_positive}
 
 abbrev one_if : Option Cell → ℕ

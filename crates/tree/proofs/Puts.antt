@@ -1,13 +1,13 @@
 -- What a part has once one leaf of it is written anew.
-use Rattle.std.proofs.Common.{◌≡◌, ◌≢◌, ℕ, zero, suc, ◌+◌, ◌*◌, ◌/◌, ◌%◌, ◌-◌, ◌^◌, ◌<◌, ◌≤◌, List, [], ◌∷◌, length, get_or, set, Bool, true, false, cond, Option, Some, None, refl, sym, ap, subst, ◌∙◌, arith, get_or-set_same, get_or-set_other, length-set, sub-one, replicate}
+use Rattle.std.proofs.Common.{◌≡◌, ◌≢◌, ℕ, zero, suc, ◌+◌, ◌*◌, ◌/◌, ◌%◌, ◌-◌, ◌^◌, ◌<◌, ◌≤◌, List, [], ◌∷◌, length, get_or, set, true, false, cond, Option, Some, None, refl, sym, ap, subst, ◌∙◌, arith, get_or-set_same, get_or-set_other, length-set, sub-one}
 use Rattle.std.specs.Prelude.{◌==◌, slice_get}
 use Rattle.std.specs.Option.{option_and_then, option_map}
 use Rattle.std.proofs.lemmas.Bool.{eqb-true, eq-eqb}
 use Rattle.std.proofs.Math.Nat.{pow-suc, div-eq_of_lt}
 use Rattle.base.specs.Map.{Cell, Block, block_of}
-use Rattle.tree.specs.Shape.{Forest, done, gap, grown, Part, forest_of, part_at, cell_below}
-use Rattle.tree.specs.Entries.{cell_count, width, IsWell, IsShaped}
-use Rattle.tree.specs.Kid.{IsKid, IsSound, cells, places, places_of}
+use Rattle.tree.specs.Shape.{done, Part, forest_of, part_at, cell_below}
+use Rattle.tree.specs.Entries.{cell_count, width}
+use Rattle.tree.specs.Kid.{IsKid, cells, places, places_of}
 use Rattle.tree.specs.Trail.{trail, trail_in}
 use Rattle.tree.specs.Put.{put}
 use Rattle.tree.proofs.Order.{span_positive}
@@ -43,7 +43,7 @@ module _ (g : ℕ) (number : ℕ → ℕ) (bytes : List ℕ) where
   same_place d l r q lv os kid new e h k s ih =
       let at : get_or (set os (r / 16 ^ l) (Some new)) (q / 16 ^ d) None ≡ Some new = ap (λ n. get_or (set os (r / 16 ^ l) (Some new)) n None) s ∙ get_or-set_same os (r / 16 ^ l) (Some new) None h in
       let same : ((r % 16 ^ l) / 16 ^ lv == q % 16 ^ d) ≡ (r / 16 ^ lv == q) =
-          ap (λ x. x == q % 16 ^ d) (sym (low_digits r lv d l e)) ∙ same_within (r / 16 ^ lv) q (16 ^ d) (span_positive d) (high_digits r lv d l e ∙ sym s) in
+      ap (λ x. x == q % 16 ^ d) (sym (low_digits r lv d l e)) ∙ same_within (r / 16 ^ lv) q (16 ^ d) (span_positive d) (high_digits r lv d l e ∙ sym s) in
       ap (λ o. cell_opt d o (q % 16 ^ d)) at ∙ ih ∙ ap (λ b. cond b (Some (level_cell lv)) (cell_opt d kid (q % 16 ^ d))) same
       ∙ ap (λ o. cond (r / 16 ^ lv == q) (Some (level_cell lv)) (cell_opt d o (q % 16 ^ d))) (k ∙ ap (λ n. get_or os n None) (sym s))
 

@@ -1,5 +1,5 @@
 -- How a part's cells are reached through the list of its places.
-use Rattle.std.proofs.Common.{◌≤◌, ◌≡◌, ◌≢◌, ℕ, zero, suc, ◌+◌, ◌/◌, ◌%◌, ◌-◌, ◌^◌, ◌<◌, List, [], ◌∷◌, length, get_or, Option, Some, None, refl, ap, arith, sub-one}
+use Rattle.std.proofs.Common.{◌≡◌, ◌≢◌, ℕ, zero, suc, ◌+◌, ◌/◌, ◌%◌, ◌-◌, ◌^◌, ◌<◌, List, [], ◌∷◌, length, get_or, Option, Some, None, refl, ap, arith, sub-one}
 use Rattle.std.specs.Option.{option_and_then}
 use Rattle.base.specs.Counting.{counted, most}
 use Rattle.tree.specs.Shape.{Part, forest_of, part_at, cell_below, steps_in, steps_below}

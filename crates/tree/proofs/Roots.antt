@@ -1,6 +1,5 @@
 -- What the map of a root has at a key.
 use Rattle.std.proofs.Common.{◌≡◌, ℕ, ◌-◌, ◌^◌, ◌<◌, ◌≤◌, Option, Some, None, refl, sym, ap, ◌∙◌, arith, cond, ⊎_elim, [], ◌∷◌}
-use Rattle.std.specs.Prelude.{is_some}
 use Rattle.std.specs.Option.{option_map}
 use Rattle.std.specs.FinMap as fin
 use Rattle.std.specs.declared.sync.Arc.{Arc}
@@ -8,28 +7,28 @@ use Rattle.std.specs.declared.alloc.Global.{Global}
 use Rattle.base.specs.declared.number.Key.{Key}
 use Rattle.base.specs.Key.{key_cmp, IsKey}
 use Rattle.base.specs.Map.{Cell}
-use Rattle.tree.specs.Shape.{Part, cell_below, gap, done}
+use Rattle.tree.specs.Shape.{Part, cell_below, done}
 use Rattle.tree.specs.Entries.{map_of, cell_in, cell_count, IsWell}
 use Rattle.tree.specs.Kid.{IsKid, birth_of, cells}
 use Rattle.tree.specs.Node.{Root, whole, root_forest, root_part, shared_part}
 use Rattle.tree.specs.Sound.{IsSoundTree}
 use Rattle.tree.proofs.Find.{get-map_at, get-map_of_high, cell_in-past, cell_in-root, cell_in-gap_here, map_of-empty}
 use Rattle.std.proofs.lemmas.Bool.{cases_lt}
-use Rattle.std.proofs.Common.{true, false, Bool, List, length, subst, suc, zero, ◌+◌, ◌*◌, ◌/◌}
+use Rattle.std.proofs.Common.{true, false, Bool, List, length, subst, ◌+◌, ◌/◌}
 use Rattle.std.specs.Prelude.{IsSome, IfSome, slice_get}
 use Rattle.std.specs.List.{All}
 use Rattle.base.specs.Key.{covers}
 use Rattle.base.specs.Map.{Map, Block, block_of}
 use Rattle.base.specs.declared.number.BlockNo.{BlockNo}
 use Rattle.zalloc.specs.declared.BlockState.{BlockState}
-use Rattle.zalloc.specs.declared.BlockState.TheVariants.{Free, Allocated}
+use Rattle.zalloc.specs.declared.BlockState.TheVariants.{Allocated}
 use Rattle.tree.specs.Shape.{forest_of}
 use Rattle.tree.specs.Trail.{trail, trail_in}
 use Rattle.tree.specs.Put.{put}
 use Rattle.tree.specs.Numbers.{number_at, AreYoung, AreKept, AreTaken}
 use Rattle.tree.proofs.Digits.{below_key}
 use Rattle.tree.proofs.Puts.{cell_opt, level_cell, put_cell, put_kid, put_cells, cells_bound, trail_at, trail_length, trail_falls}
-use Rattle.tree.proofs.Lists.{not_some, if_some, some_of}
+use Rattle.tree.proofs.Lists.{not_some, if_some}
 use Rattle.tree.proofs.Changing.{over, covers_over, IsTrail, IsNumbered}
 
 pub get-root : (k : Key) (root : Option (Arc Root Global)) (a : Arc Root Global) (g : ℕ) → k.level ≤ 5 → k.index < 16 ^ (5 - k.level) → root ≡ Some a → IsWell 5 g (root_forest root)
@@ -139,9 +138,9 @@ module _ (root : Option (Arc Root Global)) (a : Arc Root Global) (g leaf : ℕ) 
     taken = t;
     at = λ k l. ⊎_elim
         (λ b. let sum : k.level + (5 - k.level) ≡ 5 = omega arith in
-            get-here (Some a) _ new_well k l b ∙ ap (λ p. cell_opt (5 - k.level) (Some p) k.index) is
-            ∙ put_cell g (number_at ns) bytes (5 - k.level) 5 k.level g leaf k.index (whole root) sum kid small b
-            ∙ ap (λ o. cond (covers k leaf) (Some (level_cell g (number_at ns) bytes k.level)) o) (sym (get-here root _ well k l b)))
+        get-here (Some a) _ new_well k l b ∙ ap (λ p. cell_opt (5 - k.level) (Some p) k.index) is
+        ∙ put_cell g (number_at ns) bytes (5 - k.level) 5 k.level g leaf k.index (whole root) sum kid small b
+        ∙ ap (λ o. cond (covers k leaf) (Some (level_cell g (number_at ns) bytes k.level)) o) (sym (get-here root _ well k l b)))
         (λ b. past (covers k leaf) _ _ _ (λ v. let c = below_key leaf k small l v in absurd (omega (arith, c, b))) (none-past (Some a) _ new_well k l b) (none-past root _ well k l b))
         (cases_lt k.index (16 ^ (5 - k.level)));
     high = none-high (Some a) _ new_well;

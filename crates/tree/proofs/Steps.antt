@@ -1,5 +1,5 @@
 -- One level of a walk down, and of the writing of a part.
-use Rattle.std.proofs.Common.{◌≡◌, ℕ, zero, suc, ◌+◌, ◌*◌, ◌/◌, ◌%◌, ◌-◌, ◌^◌, ◌<◌, ◌≤◌, List, [], ◌∷◌, ◌++◌, length, get_or, set, map, Option, Some, None, refl, sym, ap, ◌∙◌, arith, append_assoc}
+use Rattle.std.proofs.Common.{◌≡◌, ℕ, suc, ◌+◌, ◌*◌, ◌/◌, ◌%◌, ◌-◌, ◌^◌, ◌<◌, List, [], ◌∷◌, ◌++◌, get_or, set, map, Option, Some, None, sym, ap, ◌∙◌, arith, append_assoc}
 use Rattle.std.proofs.lemmas.List.{map-set, map-append}
 use Rattle.std.proofs.Math.Nat.{pow-suc, mul-div_cancel, div-lt_iff_lt-mul}
 use Rattle.tree.proofs.Order.{span_positive}
@@ -8,7 +8,7 @@ use Rattle.base.specs.declared.number.Dead.{Dead}
 use Rattle.base.specs.declared.number.BlockNo.{BlockNo}
 use Rattle.base.specs.Map.{Block}
 use Rattle.base.specs.Surveys.{dead_block}
-use Rattle.tree.specs.Shape.{Part, forest_of, part_at}
+use Rattle.tree.specs.Shape.{Part, forest_of}
 use Rattle.tree.specs.Kid.{places_of}
 use Rattle.tree.specs.Trail.{trail, trail_in}
 use Rattle.tree.specs.Put.{put}
@@ -48,8 +48,8 @@ unfolding put number_at
 put_step f h g ns bytes at b depth n old kids kid e d ne k p =
     let own : n.0 ≡ (get_or ns (5 - suc h) (record { 0 = 0 })).0 = ap (λ (m : BlockNo). m.0) ne ∙ (let i : depth ≡ 5 - suc h = omega arith in ap (λ j. (get_or ns j (record { 0 = 0 })).0) i) in
     let new : Some (f kid) ≡ Some (put h g (number_at ns) bytes (at % 16 ^ h) (get_or (places_of old) (at / 16 ^ h) None)) =
-        ap Some p ∙ ap (λ x. Some (put h g (number_at ns) bytes (at % x) (get_or (places_of old) (at / x) None))) e in
+    ap Some p ∙ ap (λ x. Some (put h g (number_at ns) bytes (at % x) (get_or (places_of old) (at / x) None))) e in
     let list : map (option_map f) (set kids (at / b) (Some kid)) ≡ set (places_of old) (at / 16 ^ h) (Some (put h g (number_at ns) bytes (at % 16 ^ h) (get_or (places_of old) (at / 16 ^ h) None))) =
-        map-set (option_map f) kids (at / b) (Some kid) ∙ ap (λ os. set os (at / b) (Some (f kid))) k ∙ ap (λ x. set (places_of old) (at / x) (Some (f kid))) e ∙ ap (set (places_of old) (at / 16 ^ h)) new in
+    map-set (option_map f) kids (at / b) (Some kid) ∙ ap (λ os. set os (at / b) (Some (f kid))) k ∙ ap (λ x. set (places_of old) (at / x) (Some (f kid))) e ∙ ap (set (places_of old) (at / 16 ^ h)) new in
     let below = sym (forest_of-map f (set kids (at / b) (Some kid))) ∙ ap (forest_of (λ q. q)) list in
     λ i. record { cell = record { number = own i; birth = g; bytes = [] }; below = below i }

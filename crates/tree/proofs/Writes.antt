@@ -1,17 +1,16 @@
 -- What the writing of one leaf makes of a map, key by key.
-use Rattle.std.proofs.Common.{◌≡◌, ℕ, ◌+◌, ◌-◌, ◌≤◌, ◌<◌, ◌/◌, ◌^◌, Bool, true, false, cond, ◌||◌, ◌&&◌, List, [], ◌∷◌, ◌++◌, length, Option, Some, None, refl, sym, ap, subst, ◌∙◌, arith, map, ◌⊎◌, inl, inr, ⊎_elim, true≢false}
-use Rattle.std.specs.Prelude.{is_some, IsSome, ◌==◌, unwrap_or, not}
+use Rattle.std.proofs.Common.{◌≡◌, ℕ, ◌≤◌, ◌<◌, ◌/◌, ◌^◌, Bool, true, false, cond, ◌||◌, ◌&&◌, List, [], ◌∷◌, ◌++◌, length, Option, Some, None, refl, sym, ap, ◌∙◌, arith, map, ◌⊎◌, inl, inr, ⊎_elim, true≢false}
+use Rattle.std.specs.Prelude.{is_some, ◌==◌, unwrap_or, not}
 use Rattle.std.specs.Ordering.{eq_by_cmp, nat_cmp, is_eq}
 use Rattle.std.specs.List.{list_any, filter, flat_map}
 use Rattle.std.specs.Cmp.{nat_cmp_total, Equal-is, tied_itself}
-use Rattle.std.specs.FinMap.{get, keys, entries, insert, empty, find, put, from_entries, nat_cmp-IsAntisymmetric, entries-insert, get-from_entries, contains_key-keys, len-empty, len-entries, get-insert}
+use Rattle.std.specs.FinMap.{get, keys, entries, empty, find, put, nat_cmp-IsAntisymmetric, entries-insert, get-from_entries, contains_key-keys, len-empty, len-entries}
 use Rattle.std.proofs.lemmas.Bool.{eqb-true, eq-eqb, or_cases, or_right}
 use Rattle.base.specs.declared.number.Key.{Key}
 use Rattle.base.specs.Key.{key_cmp, covers, path, key_cmp-IsAntisymmetric}
 use Rattle.base.specs.Map.{Cell, Map, Contents, contents}
-use Rattle.base.specs.Rewrite.{Changes, writes_leaf, rewrite, cell_after, new_cell, changed_contents, is_touched}
-use Rattle.base.specs.Surveys.{IsMadeKey}
-use Rattle.base.proofs.RewriteLaw.{get-rewrite, get-rewrite_any, absent_key}
+use Rattle.base.specs.Rewrite.{writes_leaf, rewrite, cell_after, new_cell, changed_contents, is_touched}
+use Rattle.base.proofs.RewriteLaw.{get-rewrite, get-rewrite_any}
 
 no_entries : {A : Type 0} (xs : List A) → length xs ≡ 0 → xs ≡ []
 no_entries [] e = refl
@@ -50,7 +49,7 @@ any_tied : (k : Key) (leaf : ℕ) (ls : List ℕ) → list_any (eq_by_cmp nat_cm
 any_tied k leaf [] e h = absurd (true≢false (sym e))
 any_tied k leaf (l ∷ ls) e h = ⊎_elim
     (λ t. let same : leaf ≡ l = nat_cmp-IsAntisymmetric leaf l ((Equal-is (nat_cmp leaf l)).0 t) in
-        ap (λ b. b || list_any (covers k) ls) (ap (covers k) (sym same) ∙ h))
+    ap (λ b. b || list_any (covers k) ls) (ap (covers k) (sym same) ∙ h))
     (λ r. or_right _ _ (any_tied k leaf ls r h))
     (or_cases _ _ e)
 
@@ -94,7 +93,7 @@ low : (q : Key) (ks : List Key) → list_any (eq_by_cmp key_cmp q) ks ≡ true �
 low q [] e = absurd (true≢false (sym e))
 low q (k ∷ ks) e = ⊎_elim
     (λ t. let same : q ≡ k = key_cmp-IsAntisymmetric q k ((Equal-is (key_cmp q k)).0 t) in
-        ap (λ b. b || list_any (λ j. j.level == q.level) ks) (eq-eqb k.level q.level (ap (λ (j : Key). j.level) (sym same))))
+    ap (λ b. b || list_any (λ j. j.level == q.level) ks) (eq-eqb k.level q.level (ap (λ (j : Key). j.level) (sym same))))
     (λ r. or_right _ _ (low q ks r))
     (or_cases _ _ e)
 
@@ -126,6 +125,6 @@ get-written_high m leaf bytes g number k h none =
     let leaves = keys (changed_contents (contents m) (writes_leaf leaf bytes)) in
     get-rewrite_any m (writes_leaf leaf bytes) g number k
     ∙ no_cand (list_any (eq_by_cmp key_cmp k) (keys m ++ flat_map path leaves)) (cell_after m (writes_leaf leaf bytes) g number k) (λ e. ⊎_elim
-        (λ l. let some : is_some (get m k) ≡ true = contains_key-keys m k ∙ l in true≢false (sym some ∙ ap is_some (none k h)))
-        (λ r. let low = paths_low k leaves r in omega arith)
-        (any_append (eq_by_cmp key_cmp k) (keys m) (flat_map path leaves) e))
+    (λ l. let some : is_some (get m k) ≡ true = contains_key-keys m k ∙ l in true≢false (sym some ∙ ap is_some (none k h)))
+    (λ r. let low = paths_low k leaves r in omega arith)
+    (any_append (eq_by_cmp key_cmp k) (keys m) (flat_map path leaves) e))

@@ -1,5 +1,5 @@
 -- What a prepared change of a tree names, and what holds of it.
-use Rattle.std.specs.Prelude.{◌≡◌, ◌+◌, ◌<◌, ◌≤◌, ◌↔◌, ℕ, true, List, Some, IsSome, length, count_by, nat_le, slice_get}
+use Rattle.std.specs.Prelude.{◌≡◌, ◌+◌, ◌<◌, ◌≤◌, ◌↔◌, ℕ, true, List, Some, length, count_by, nat_le, slice_get}
 use Rattle.std.specs.FinMap.{get}
 use Rattle.base.specs.declared.number.Key.{Key}
 use Rattle.base.specs.Map.{Map, Cell, Block, block_of, IsTree}

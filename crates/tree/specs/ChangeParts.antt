@@ -1,5 +1,5 @@
 -- What the fields of a prepared change stand for.
-use Rattle.std.specs.Prelude.{◌≡◌, ◌≤◌, ℕ, length, map, drop}
+use Rattle.std.specs.Prelude.{◌≤◌, length, map, drop}
 use Rattle.base.specs.Surveys.{dead_block}
 use Rattle.tree.specs.declared.change.Change.TheInside.{Inside}
 use Rattle.tree.specs.Change.{Shown}

@@ -1,10 +1,10 @@
 -- The map that a tree stands for: from the present keys to their cells.
-use Rattle.std.specs.Prelude.{◌≡◌, ℕ, zero, suc, ◌+◌, ◌-◌, ◌*◌, ◌/◌, ◌%◌, ◌^◌, ◌<◌, ◌≤◌, List, [], ◌∷◌, ◌++◌, Option, None, length}
+use Rattle.std.specs.Prelude.{◌≡◌, ℕ, zero, suc, ◌+◌, ◌-◌, ◌*◌, ◌/◌, ◌%◌, ◌^◌, ◌<◌, ◌≤◌, List, [], ◌∷◌, ◌++◌, Option, length}
 use Rattle.std.specs.FinMap as finmap
 use Rattle.std.specs.Option.{option_and_then}
 use Rattle.base.specs.declared.number.Key.{Key}
 use Rattle.base.specs.Map.{Cell, Map}
-use Rattle.tree.specs.Shape.{Forest, done, gap, grown, Part, part_at, cell_below}
+use Rattle.tree.specs.Shape.{Forest, done, gap, grown, part_at, cell_below}
 
 -- (profile)
 abbrev pub key_at : ℕ → ℕ → Key

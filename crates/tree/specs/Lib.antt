@@ -5,6 +5,7 @@ pub mod Codes
 pub mod Node
 pub mod Kid
 pub mod Trail
+pub mod Walk
 pub mod Put
 pub mod Numbers
 pub mod Taking

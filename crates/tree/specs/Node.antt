@@ -1,5 +1,5 @@
 -- What the nodes of each level stand for.
-use Rattle.std.specs.Prelude.{[], ◌∷◌, Option, Some, None}
+use Rattle.std.specs.Prelude.{[], ◌∷◌, Option}
 use Rattle.std.specs.Option.{option_map}
 use Rattle.std.specs.declared.sync.Arc.{Arc}
 use Rattle.std.specs.declared.alloc.Global.{Global}

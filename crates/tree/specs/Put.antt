@@ -1,5 +1,5 @@
 -- A part after one leaf of it is written anew.
-use Rattle.std.specs.Prelude.{ℕ, zero, suc, ◌/◌, ◌%◌, ◌^◌, List, [], ◌∷◌, Option, Some, None, slice_index_or, slice_set}
+use Rattle.std.specs.Prelude.{ℕ, zero, suc, ◌/◌, ◌%◌, ◌^◌, List, [], Option, Some, None, slice_index_or, slice_set}
 use Rattle.tree.specs.Shape.{Part, done, forest_of}
 use Rattle.tree.specs.Kid.{places_of}
 

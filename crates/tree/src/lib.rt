@@ -6,6 +6,8 @@ mod change;
 mod node;
 mod numbers;
 mod put;
+#[cfg(test)]
+mod tests;
 mod tree;
 
 pub use cell::Cell;

@@ -7,6 +7,8 @@ ghost use Rattle.base.specs.declared.refusal.Refusal.{Refusal};
 ghost use Rattle.tree.specs.Shape.{Part, part_at, cell_below, steps_below};
 ghost use Rattle.tree.specs.Cells.{cell_of};
 ghost use Rattle.tree.specs.Trail.{trail};
+ghost use Rattle.tree.specs.Kid.{IsSound};
+ghost use Rattle.tree.specs.Walk.{born_after, part_blocks};
 
 use crate::cell::Cell;
 use base::meter::Meter;
@@ -43,6 +45,13 @@ pub trait Level {
         requires level { span ≡ 16 ^ Self.height }
         requires covered { at < span }
         ensures ok { OnOk result (map dead_block blocks.new.items ≡ map dead_block blocks.old.items ++ trail height (part self.now) at) }
+        ensures err { OnErr result (result ≡ Err Refusal.NoMemory) };
+
+    /// Adds the blocks born after a group, each before those below it. A part that is no younger is not walked.
+    fn gather(&self, cut: Group, out: &mut Vec<Dead>, meter: &mut Meter) -> Result<(), Refusal>
+        requires sound { IsSound height (part self.now) }
+        ensures gathered { OnOk result (map dead_block out.new.items ≡ map dead_block out.old.items ++ born_after cut.0 (part_blocks (part self.now))) }
+        ensures metered { OnOk result (counted meter.old (length (born_after cut.0 (part_blocks (part self.now)))) ≤ meter.new) }
         ensures err { OnErr result (result ≡ Err Refusal.NoMemory) };
 }
 
@@ -137,6 +146,18 @@ impl Level for Leaf {
         })?;
         Ok(())
     }
+
+    #[tactic(auto, unfolding(crate::specs::Walk::born_after, base::specs::Counting::counted, base::specs::Counting::most))]
+    fn gather(&self, cut: Group, out: &mut Vec<Dead>, meter: &mut Meter) -> Result<(), Refusal> {
+        meter.add_one();
+        if self.birth.0 > cut.0 {
+            out.push(Dead {
+                block: self.block,
+                birth: self.birth,
+            })?;
+        }
+        Ok(())
+    }
 }
 
 /// An indirect block, with its sixteen places.
@@ -223,5 +244,22 @@ impl<C: Level> Level for Inner<C> {
             }
             None => Ok(()),
         }
+    }
+
+    fn gather(&self, cut: Group, out: &mut Vec<Dead>, meter: &mut Meter) -> Result<(), Refusal> {
+        meter.add_one();
+        if self.birth.0 <= cut.0 {
+            return Ok(());
+        }
+        out.push(Dead {
+            block: self.block,
+            birth: self.birth,
+        })?;
+        for kid in self.kids.iter() {
+            if let Some(kid) = kid {
+                kid.gather(cut, out, meter)?;
+            }
+        }
+        Ok(())
     }
 }

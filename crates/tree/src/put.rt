@@ -47,9 +47,7 @@ fn place_count<C: Level>(old: Option<&Arc<Inner<C>>>) -> u32
 }
 
 /// One more owner of what stands at each place of a part that may be absent.
-fn keep_all<C: Level + Drop>(
-    old: Option<&Arc<Inner<C>>>,
-) -> Result<[Option<Arc<C>>; 16], Refusal>
+fn keep_all<C: Level + Drop>(old: Option<&Arc<Inner<C>>>) -> Result<[Option<Arc<C>>; 16], Refusal>
     ensures ok { IfOk result (λ r. map (option_map (λ a. C.part a.value)) r ≡ places_of (option_map (λ a. inner_part C.part a.now.value) old.entry)) }
     ensures err { OnErr result (result ≡ Err Refusal.NoMemory) }
 {

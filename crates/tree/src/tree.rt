@@ -1,5 +1,5 @@
 //! A version of a tree, seen as the map from its present keys to their cells.
-ghost use Rattle.std.specs.Prelude.{◌≡◌, ℕ, ◌<◌, ◌≤◌, ◌⊎◌, Some, IfOk, IfSome, IfErr, OnOk, OnErr, slice_get, map};
+ghost use Rattle.std.specs.Prelude.{◌≡◌, ℕ, ◌<◌, ◌≤◌, ◌⊎◌, Some, IfOk, IfSome, IfErr, OnOk, OnErr, slice_get, map, length};
 ghost use Rattle.base.specs.declared.number.Key.{Key};
 ghost use Rattle.base.specs.declared.refusal.Refusal.{Refusal};
 ghost use Rattle.base.specs.Rewrite.{writes_leaf};
@@ -8,6 +8,7 @@ ghost use Rattle.tree.specs.Change.{IsChange, HasRoom, LacksRoom};
 ghost use Rattle.base.specs.Surveys.{dead_block};
 ghost use Rattle.tree.specs.Node.{root_part, whole};
 ghost use Rattle.tree.specs.Trail.{trail, trail_in};
+ghost use Rattle.tree.specs.Walk.{born_after, blocks_of};
 ghost use Rattle.tree.specs.Put.{put};
 ghost use Rattle.tree.specs.Numbers.{number_at};
 ghost use Rattle.tree.specs.Taking.{AllFree, takes};
@@ -147,6 +148,26 @@ impl Tree {
         ensures { result ≡ len self.now }
     {
         self.count
+    }
+
+    /// The blocks born after a group, each before those below it (On-Disk Specification, chapter 2). Parts that are no younger
+    /// are not walked. NoMemory where there is none for the list.
+    pub fn walk_after(
+        &self,
+        alloc: Global,
+        cut: Group,
+        meter: &mut Meter,
+    ) -> Result<Vec<Dead>, Refusal>
+        ensures ok { IfOk result (λ v. map dead_block v.items ≡ born_after cut.0 (blocks_of self.now)) }
+        ensures metered { IfOk result (λ v. counted meter.old (length v.items) ≤ meter.new) }
+        ensures err { OnErr result (result ≡ Err Refusal.NoMemory) }
+    {
+        let _reached = meter.count();
+        let mut out = Vec::new(alloc);
+        if let Some(root) = &self.root {
+            root.gather(cut, &mut out, meter)?;
+        }
+        Ok(out)
     }
 
     /// Makes the writing of one leaf ready: new blocks for the leaf and its ancestors, born in `group` (On-Disk Specification,

@@ -1,4 +1,3 @@
-use Rattle.std.proofs.Common.{arith}
 use Rattle.tree.proofs.Lists.{young_more, young_stop, young_all}
 use Rattle.tree.proofs.numbers.young_front.Goals as goal
 

@@ -1,4 +1,4 @@
-use Rattle.std.proofs.Common.{◌≡◌, ◌+◌, ◌++◌, [], ◌∷◌, length-set, take, map, sym, ap, ◌∙◌, refl, arith, Option, Some, None}
+use Rattle.std.proofs.Common.{◌+◌, ◌++◌, [], ◌∷◌, length-set, take, map, sym, ap, ◌∙◌, arith, None}
 use Rattle.std.proofs.lemmas.List.{map-set, take_more, length-map}
 use Rattle.std.specs.Option.{option_map}
 use Rattle.tree.specs.Kid.{places_of}

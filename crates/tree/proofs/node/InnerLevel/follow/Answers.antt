@@ -1,8 +1,6 @@
 -- The block of the node, and then those that the call below has found.
-use Rattle.std.proofs.Common.{◌≡◌, ◌^◌, ◌/◌, Some, refl, sym, ap, ◌∙◌, ◌++◌, arith, map, length, ◌<◌}
-use Rattle.base.specs.Surveys.{dead_block}
+use Rattle.std.proofs.Common.{◌/◌, Some, sym, ap, ◌∙◌, arith}
 use Rattle.tree.specs.Shape.{part_at, forest_of}
-use Rattle.tree.specs.Trail.{trail}
 use Rattle.tree.specs.Node.{shared_part}
 use Rattle.tree.proofs.Reach.{part_at-forest_of, part_at-gap}
 use Rattle.tree.proofs.Steps.{below-span, place_within, follow_some, follow_none}

@@ -1,5 +1,5 @@
 -- The copied places with the new part at one of them.
-use Rattle.std.proofs.Common.{◌≡◌, ◌%◌, ◌/◌, refl, sym, ap, ◌∙◌, arith}
+use Rattle.std.proofs.Common.{◌%◌, ◌/◌, refl, ap, ◌∙◌}
 use Rattle.tree.specs.Put.{put}
 use Rattle.tree.specs.Numbers.{number_at}
 use Rattle.tree.specs.Node.{inner_part, shared_part}

@@ -1,5 +1,4 @@
-use Rattle.std.proofs.Common.{◌≡◌, length, ◌∙◌, ◌≤◌, ◌+◌, ◌-◌, List, Err, Result, refl, ap, subst, arith, map}
-use Rattle.base.specs.declared.refusal.Refusal.{Refusal}
+use Rattle.std.proofs.Common.{◌≡◌, length, ◌∙◌, ◌+◌, ◌-◌, Err, Result, refl, ap, subst, arith, map}
 use Rattle.base.specs.declared.refusal.Refusal.TheVariants.{NoSpace}
 use Rattle.base.specs.Surveys.{dead_block}
 use Rattle.tree.specs.Numbers.{AreYoung, AreKept}
@@ -88,4 +87,3 @@ returns-clause-room c =
       octets = c.fits-bytes;
     } in
     ready_room c.self.inside.root c.self.inside.count c.args.self.now c.args.leaf c.args.bytes.now c.args.group.0 c.args.young.0 c.args.allocator.now c.in_ok-blocks.blocks.items c.young_front-kept.result r c.in-Ok.ensures.room
-

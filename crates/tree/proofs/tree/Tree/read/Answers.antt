@@ -1,13 +1,13 @@
 -- What the map has at a key, by what the root's part has below it.
-use Rattle.std.proofs.Common.{◌≡◌, ◌^◌, ◌<◌, ◌≤◌, ◌-◌, ◌%◌, sym, ap, ◌∙◌, refl, arith}
+use Rattle.std.proofs.Common.{◌≡◌, ◌^◌, ◌<◌, ◌≤◌, ◌-◌, sym, ap, ◌∙◌, arith}
 use Rattle.std.specs.FinMap as fin
 use Rattle.base.specs.Key.{key_cmp}
 use Rattle.base.specs.Counting.{counted}
 use Rattle.tree.specs.Shape.{cell_below, steps_below}
-use Rattle.tree.specs.Entries.{map_of, cell_in}
+use Rattle.tree.specs.Entries.{map_of}
 use Rattle.tree.specs.Reading.{present_on_path}
 use Rattle.tree.specs.Kid.{birth_of}
-use Rattle.tree.specs.Node.{whole, root_forest, root_part, shared_part}
+use Rattle.tree.specs.Node.{whole, root_forest, root_part}
 use Rattle.tree.proofs.Reach.{counted-none}
 use Rattle.tree.proofs.Find.{get-map_of_high, map_of-empty}
 use Rattle.tree.proofs.Roots.{get-root, get-past}
@@ -48,8 +48,8 @@ returns-then-key-span-clause-metered c =
     ∙ ap (λ n. counted c.args.meter.now (steps_below n (root_part c.deref.result.now) c.args.key.index)) d
     ∙ ap (λ r. counted c.args.meter.now (steps_below (5 - c.args.key.level) (root_part r) c.args.key.index)) c.deref.ensures
     ∙ ap (counted c.args.meter.now) (sym (ap (λ m. present_on_path m c.args.key) (sym c.self.view_is)
-        ∙ present-root (map_of (root_forest c.self.inside.root)) (root_part c.in-Some.root.value) c.args.key c.if-key-gt5.false here
-            (λ j l b. get-root j _ c.in-Some.root _ l b c.in-Some.is c.self.invariant.well)))
+    ∙ present-root (map_of (root_forest c.self.inside.root)) (root_part c.in-Some.root.value) c.args.key c.if-key-gt5.false here
+    (λ j l b. get-root j _ c.in-Some.root _ l b c.in-Some.is c.self.invariant.well)))
 
 pub returns-else-key-span-clause-cell : goal.returns-else-key-span-clause-cell
 returns-else-key-span-clause-cell c =
@@ -62,4 +62,4 @@ returns-else-key-span-clause-metered c =
     let p : 16 ^ c.from-depth.result ≡ 16 ^ (5 - c.args.key.level) = ap (λ n. 16 ^ n) c.from-depth.ensures in
     let past : 16 ^ (5 - c.args.key.level) ≤ c.args.key.index = omega (arith, c.span.ensures, c.if-key-span.false, p) in
     counted-none _ _ (omega (arith, c.count-reached.ensures)) (ap (λ m. present_on_path m c.args.key) (sym c.self.view_is)
-        ∙ present-past (map_of (root_forest c.self.inside.root)) c.args.key past (λ j l h. get-past j c.self.inside.root _ l h c.self.invariant.well))
+    ∙ present-past (map_of (root_forest c.self.inside.root)) c.args.key past (λ j l h. get-past j c.self.inside.root _ l h c.self.invariant.well))
