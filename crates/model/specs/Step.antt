@@ -1,5 +1,5 @@
 -- One step of the pool: a request applied to a state (the zfs-SUBCOMMAND(8) page of each request).
-use Rattle.std.specs.Prelude.{◌≡◌, ℕ, Bool, true, false, None, Some, IsTrue}
+use Rattle.std.specs.Prelude.{◌≡◌, Bool, true, false, None, Some, IsTrue}
 use Rattle.std.specs.Option.{option_map_or}
 use Rattle.std.specs.FinMap.{get}
 use Rattle.base.specs.declared.refusal.Refusal.{Refusal}

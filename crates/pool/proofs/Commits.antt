@@ -1,5 +1,5 @@
 -- What a prepared change needs of the pool, and that it can be done.
-use Rattle.std.proofs.Common.{◌≡◌, ℕ, ◌<◌, List, [], ◌∷◌, Some, zero, suc, sym, ap, subst, ◌∙◌, refl, length}
+use Rattle.std.proofs.Common.{◌≡◌, ℕ, ◌<◌, List, [], ◌∷◌, Some, zero, suc, sym, ap, ◌∙◌, refl, length}
 use Rattle.std.specs.Prelude.{slice_get, slice_set}
 use Rattle.base.specs.Map.{Block, blocks}
 use Rattle.base.specs.Rewrite.{Changes}
@@ -8,9 +8,8 @@ use Rattle.zalloc.specs.declared.BlockState.{BlockState}
 use Rattle.zalloc.specs.declared.BlockState.TheVariants.{Free, Allocated}
 use Rattle.tree.specs.Change.{Shown as ShownChange, IsChange}
 use Rattle.tree.specs.Taking.{takes, AllFree}
-use Rattle.model.specs.State.{block_state}
 use Rattle.world.specs.Sets.{Has}
-use Rattle.world.specs.Root.{Core, IsCore, AreStates, root_state}
+use Rattle.world.specs.Root.{Core}
 use Rattle.world.specs.Settles.{AllAllocated, releases, released_state}
 use Rattle.world.proofs.Orders.{block_order as o}
 use Rattle.world.proofs.SetCounts.{in_union_left}

@@ -1,5 +1,5 @@
 -- The steps of a pool, as its functions need them: over what a contract sees of it.
-use Rattle.std.proofs.Common.{◌≡◌, ℕ, ◌*◌, true, false, List, Option, None, Some, refl, sym, ap, subst, ◌∙◌, ⊎_elim, ◌⊎◌, length, zero, suc, ◌<◌, arith}
+use Rattle.std.proofs.Common.{◌≡◌, ℕ, ◌*◌, true, false, List, Option, None, Some, refl, sym, ap, subst, ◌∙◌, ⊎_elim, ◌⊎◌, length, ◌<◌, arith}
 use Rattle.std.specs.Prelude.{IfSome, unwrap_or, []}
 use Rattle.std.specs.Option.{option_map}
 use Rattle.std.specs.FinMap.{get}

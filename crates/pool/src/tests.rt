@@ -65,30 +65,17 @@ fn writes_reads_and_counts(rt: HostRuntime) -> Result<(), Fail> {
 fn one_after_another(rt: HostRuntime) -> Result<(), Fail> {
     let alloc = rt.alloc();
     let mut pool = Pool::create(alloc, 1, 1000)?;
-    assert!(rt;
-        pool.apply(alloc, &write_of(alloc, b"p", 0, 0)?)
-            .same(&Reply::Done)
-    );
-    assert!(rt;
-        pool.apply(alloc, &write_of(alloc, b"p", 0, 0)?)
-            .same(&Reply::Done)
-    );
-    assert!(rt;
-        pool.apply(alloc, &referenced_of(alloc, b"p")?)
-            .same(&Reply::Value(Value::Size(3072)))
-    );
-    assert!(rt;
-        pool.apply(alloc, &write_of(alloc, b"p", 1, 0)?)
-            .same(&Reply::Done)
-    );
-    assert!(rt;
-        pool.apply(alloc, &referenced_of(alloc, b"p")?)
-            .same(&Reply::Value(Value::Size(5120 + 512)))
-    );
-    assert!(rt;
-        pool.apply(alloc, &read_of(alloc, b"p", 0, 1)?)
-            .same(&Reply::Data(None))
-    );
+    for (object, size) in [(0, 3072), (0, 3072), (1, 5120)] {
+        let write = write_of(alloc, b"p", object, 0)?;
+        assert!(rt; pool.apply(alloc, &write).same(&Reply::Done));
+        let get = referenced_of(alloc, b"p")?;
+        assert!(rt;
+            pool.apply(alloc, &get)
+                .same(&Reply::Value(Value::Size(size)))
+        );
+    }
+    let read = read_of(alloc, b"p", 0, 1)?;
+    assert!(rt; pool.apply(alloc, &read).same(&Reply::Data(None)));
     Ok(())
 }
 
@@ -129,43 +116,37 @@ fn full_pool(rt: HostRuntime) -> Result<(), Fail> {
 }
 
 #[test]
-fn refusals(rt: HostRuntime) -> Result<(), Fail> {
+fn no_such_block(rt: HostRuntime) -> Result<(), Fail> {
     let alloc = rt.alloc();
     let mut pool = Pool::create(alloc, 1, 1000)?;
     let bad_key = Reply::Refused(Refusal::BadKey);
+    for (object, block) in [(256, 0), (0, 4096)] {
+        let write = write_of(alloc, b"p", object, block)?;
+        assert!(rt; pool.apply(alloc, &write).same(&bad_key));
+        let read = read_of(alloc, b"p", object, block)?;
+        assert!(rt; pool.apply(alloc, &read).same(&bad_key));
+    }
+    Ok(())
+}
+
+#[test]
+fn no_such_dataset(rt: HostRuntime) -> Result<(), Fail> {
+    let alloc = rt.alloc();
+    let mut pool = Pool::create(alloc, 1, 1000)?;
     let no_dataset = Reply::Refused(Refusal::NoDataset);
-    assert!(rt;
-        pool.apply(alloc, &write_of(alloc, b"p", 256, 0)?)
-            .same(&bad_key)
-    );
-    assert!(rt;
-        pool.apply(alloc, &write_of(alloc, b"p", 0, 4096)?)
-            .same(&bad_key)
-    );
-    assert!(rt;
-        pool.apply(alloc, &read_of(alloc, b"p", 256, 0)?)
-            .same(&bad_key)
-    );
-    assert!(rt;
-        pool.apply(alloc, &write_of(alloc, b"p/a", 256, 0)?)
-            .same(&no_dataset)
-    );
-    assert!(rt;
-        pool.apply(alloc, &write_of(alloc, b"p@s", 0, 0)?)
-            .same(&no_dataset)
-    );
-    assert!(rt;
-        pool.apply(alloc, &read_of(alloc, b"p@s", 0, 0)?)
-            .same(&no_dataset)
-    );
-    assert!(rt;
-        pool.apply(alloc, &read_of(alloc, b"p#b", 0, 0)?)
-            .same(&no_dataset)
-    );
-    assert!(rt;
-        pool.apply(alloc, &referenced_of(alloc, b"q")?)
-            .same(&no_dataset)
-    );
+    for name in [
+        b"p/a".as_slice(),
+        b"p@s".as_slice(),
+        b"p#b".as_slice(),
+        b"q".as_slice(),
+    ] {
+        let write = write_of(alloc, name, 256, 0)?;
+        assert!(rt; pool.apply(alloc, &write).same(&no_dataset));
+        let read = read_of(alloc, name, 0, 0)?;
+        assert!(rt; pool.apply(alloc, &read).same(&no_dataset));
+        let get = referenced_of(alloc, name)?;
+        assert!(rt; pool.apply(alloc, &get).same(&no_dataset));
+    }
     Ok(())
 }
 

@@ -1,5 +1,5 @@
 -- The command line.
-use Rattle.std.specs.Prelude.{ℕ, ◌+◌, ◌&&◌, Bool, true, false, nat_le, List, [], ◌∷◌, drop, Option, Some, None, if◌then◌else◌, codes}
+use Rattle.std.specs.Prelude.{ℕ, ◌+◌, ◌&&◌, not, Bool, true, false, nat_le, List, [], ◌∷◌, drop, Option, Some, None, if◌then◌else◌, codes}
 use Rattle.std.specs.Str.{bytes_eq}
 use Rattle.script.specs.Words.{number_of_word}
 use Rattle.zfsp.specs.declared.args.Args.{Args}
@@ -33,3 +33,8 @@ operands_of stop first _ = None
 -- `[-e] BLOCKS POOLID [SCRIPT]` (profile)
 abbrev pub args_of : List (List ℕ) → Option Args
 args_of words = if is_first (codes "-e") words then operands_of true 1 (drop 1 words) else operands_of false 0 words
+
+-- no command line, or one with a number outside its limits (profile)
+abbrev pub is_bad : Option Args → Bool
+is_bad None = true
+is_bad (Some args) = not (nat_le 1 args.id && nat_le 1 args.blocks && nat_le args.blocks 4194304)

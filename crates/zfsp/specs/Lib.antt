@@ -1,2 +1,3 @@
 pub mod Args
+pub mod Serving
 pub mod Status

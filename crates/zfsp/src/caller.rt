@@ -1,23 +1,33 @@
 //! The pool as a caller.
+ghost use Rattle.zfsp.specs.Serving.{Serves};
+
 use model::reply::Reply;
 use model::request::Request;
 use pool::Pool;
 use script::run::Caller;
 use std::alloc::Global;
+use std::marker::Model;
 
-/// A pool, and the allocator that its requests take memory from.
+/// A pool, and the allocator that its requests take memory from. Contracts see the pool's state.
 #[derive(Drop)]
 pub(crate) struct Served {
     pub(crate) alloc: Global,
     pub(crate) pool: Pool,
 }
 
-impl Caller for Served {
-    ghost use Rattle.std.specs.Prelude.{IsSomeAnd};
-    ghost use Rattle.model.specs.Step.{Step};
+impl Model for Served {
+    ghost use Rattle.model.specs.State.{State};
+    ghost use Rattle.model.specs.Codes.{state_code};
 
-    // It always answers, and the answer is that of a step from the pool's state before to its state after.
-    ghost asks = { λ s q r t. IsSomeAnd r (λ reply. Step s.pool.state q reply t.pool.state) };
+    ghost Value = { State };
+
+    ghost coded = { state_code };
+
+    ghost view = { λ s. s.pool.state };
+}
+
+impl Caller for Served {
+    ghost asks = { Serves };
 
     fn ask(&mut self, request: Request) -> Option<Reply> {
         Some(self.pool.apply(self.alloc, &request))

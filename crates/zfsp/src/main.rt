@@ -11,7 +11,7 @@ use crate::args::{Args, read_args};
 use crate::run::{print_fault, print_usage, run_args};
 use base::failing::Counted;
 use script::run::ScriptFault;
-use std::io::{BufReader, BufWriter, ErrorKind};
+use std::io::{BufReader, BufWriter, ErrorKind, Read};
 use std::process::ExitCode;
 use std::{env, fs, io};
 
@@ -19,44 +19,29 @@ const BUFFER_SIZE: usize = 65536;
 
 /// Reads the command line, opens the script, and runs it. An error is of memory or of the opening.
 fn serve(rt: &HostRuntime) -> io::Result<u8> {
-    let alloc = rt.alloc();
-    let mut errors = Counted::new(rt.stderr());
-    let mut words = Vec::new(alloc);
+    let mut words = Vec::new(rt.alloc());
     match env::args(rt) {
         Ok(all) => {
             for word in all.skip(1) {
                 words.push(word)?;
             }
         }
-        Err(e) if e.kind() == ErrorKind::InvalidData => return Ok(print_usage(&mut errors)),
+        Err(e) if e.kind() == ErrorKind::InvalidData => return Ok(print_usage(&mut rt.stderr())),
         Err(e) => return Err(e),
     }
     let args = read_args(words.as_slice());
     match script_of(words.as_slice(), args.as_ref()) {
-        Some(path) => {
-            let file = fs::open(rt, path.as_str())?;
-            let mut reader = BufReader::with_capacity(alloc, BUFFER_SIZE, Counted::new(file))?;
-            let mut writer = BufWriter::with_capacity(
-                alloc,
-                BUFFER_SIZE,
-                Counted::new(rt.stdout()),
-            )?;
-            Ok(run_args(alloc, args.as_ref(), &mut reader, &mut writer, &mut errors))
-        }
-        None => {
-            let mut reader = BufReader::with_capacity(
-                alloc,
-                BUFFER_SIZE,
-                Counted::new(rt.stdin()),
-            )?;
-            let mut writer = BufWriter::with_capacity(
-                alloc,
-                BUFFER_SIZE,
-                Counted::new(rt.stdout()),
-            )?;
-            Ok(run_args(alloc, args.as_ref(), &mut reader, &mut writer, &mut errors))
-        }
+        Some(path) => run_source(rt, args.as_ref(), fs::open(rt, path.as_str())?),
+        None => run_source(rt, args.as_ref(), rt.stdin()),
     }
+}
+
+fn run_source<R: Read + Drop>(rt: &HostRuntime, args: Option<&Args>, source: R) -> io::Result<u8> {
+    let alloc = rt.alloc();
+    let mut reader = BufReader::with_capacity(alloc, BUFFER_SIZE, Counted::new(source))?;
+    let mut writer = BufWriter::with_capacity(alloc, BUFFER_SIZE, Counted::new(rt.stdout()))?;
+    let mut errors = Counted::new(rt.stderr());
+    Ok(run_args(alloc, args, &mut reader, &mut writer, &mut errors))
 }
 
 /// The word that names the script file, where there is one.

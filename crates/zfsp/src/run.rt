@@ -1,10 +1,15 @@
 //! Runs of the program.
-ghost use Rattle.std.specs.Prelude.{◌≡◌, ◌<◌, ◌≤◌, ◌↔◌, IsNone};
+ghost use Rattle.std.specs.Prelude.{◌≡◌, ◌<◌, ◌≤◌, ◌↔◌, IsTrue, IfSome};
+ghost use Rattle.std.specs.Option.{option_copied};
+ghost use Rattle.model.specs.State.{fresh_state};
+ghost use Rattle.zfsp.specs.Args.{is_bad};
+ghost use Rattle.zfsp.specs.Serving.{Serves};
 ghost use Rattle.zfsp.specs.Status.{RanAs};
 
 use crate::args::Args;
 use crate::caller::Served;
 use base::failing::Failing;
+use base::refusal::Refusal;
 use pool::Pool;
 use script::run::{Caller, ScriptFault, run_script};
 use std::alloc::Global;
@@ -25,8 +30,10 @@ where
     R: BufRead + Failing,
     W: Write + Failing,
     E: Write + Failing,
-    ensures usage { (result ≡ 2) ↔ IsNone args.entry }
+    ensures usage { (result ≡ 2) ↔ IsTrue (is_bad (option_copied args.entry)) }
     ensures most { result ≤ 3 }
+    ensures ran { result < 2 → IfSome (option_copied args.entry) (λ a. RanAs Serves a.stop (R.remaining reader.old)
+        (W.contents writer.old) (W.contents writer.new) (fresh_state a.id a.blocks) result) }
 {
     let Some(args) = args else {
         return print_usage(errors);
@@ -36,7 +43,8 @@ where
             let mut caller = Served { alloc, pool };
             run_on(alloc, &mut caller, args.stop, reader, writer, errors)
         }
-        Err(_) => print_fault(errors, ScriptFault::NoMemory),
+        Err(Refusal::NoMemory) => print_fault(errors, ScriptFault::NoMemory),
+        Err(_) => print_usage(errors),
     }
 }
 

@@ -315,6 +315,20 @@ fn a_failure_that_is_not_told(rt: HostRuntime) -> Result<(), Fail> {
 }
 
 #[test]
+fn a_pool_of_no_blocks(rt: HostRuntime) -> Result<(), Fail> {
+    let alloc = rt.alloc();
+    let script: &[u8] = b"read p 0 0\n";
+    let mut reader = BufReader::with_capacity(alloc, 7, Counted::new(script))?;
+    let mut output = Counted::new(Vec::new(alloc));
+    let mut errors = Counted::new(Vec::new(alloc));
+    let args = args_of(false, 0);
+    let status = run_args(alloc, Some(&args), &mut reader, &mut output, &mut errors);
+    assert_eq!(rt; status, 2);
+    assert_eq!(rt; output.inner.len(), 0);
+    Ok(())
+}
+
+#[test]
 fn no_command_line(rt: HostRuntime) -> Result<(), Fail> {
     let alloc = rt.alloc();
     let script: &[u8] = b"read p 0 0\n";
@@ -329,31 +343,32 @@ fn no_command_line(rt: HostRuntime) -> Result<(), Fail> {
     Ok(())
 }
 
-fn is_good<const N: usize>(alloc: Global, words: [&str; N]) -> Result<bool, Fail> {
-    let mut all = Vec::new(alloc);
-    for word in words {
-        all.push(String::from_str(alloc, word)?)?;
+/// Whether the words of a line, joined by spaces, are a good command line.
+fn is_good(alloc: Global, line: &str) -> Result<bool, Fail> {
+    let mut words = Vec::new(alloc);
+    for word in line.split(' ') {
+        words.push(String::from_str(alloc, word)?)?;
     }
-    Ok(read_args(all.as_slice()).is_some())
+    Ok(read_args(words.as_slice()).is_some())
 }
 
 #[test]
 fn command_lines(rt: HostRuntime) -> Result<(), Fail> {
     let alloc = rt.alloc();
-    assert!(rt; is_good(alloc, ["4194304", "4294967295"])?);
-    assert!(rt; is_good(alloc, ["5", "1", "-e"])?);
-    assert!(rt; is_good(alloc, ["-e", "5", "1", "x"])?);
-    assert!(rt; !is_good(alloc, ["0", "1"])?);
-    assert!(rt; !is_good(alloc, ["5", "0"])?);
-    assert!(rt; !is_good(alloc, ["4194305", "1"])?);
-    assert!(rt; !is_good(alloc, ["5", "4294967296"])?);
-    assert!(rt; !is_good(alloc, ["05", "1"])?);
-    assert!(rt; !is_good(alloc, ["+5", "1"])?);
-    assert!(rt; !is_good(alloc, ["5"])?);
-    assert!(rt; !is_good(alloc, ["-e"])?);
-    assert!(rt; !is_good(alloc, ["-e", "-e", "5", "1"])?);
-    assert!(rt; !is_good(alloc, ["-w", "5", "1"])?);
-    assert!(rt; !is_good(alloc, ["-e", "-w", "5", "1"])?);
-    assert!(rt; !is_good(alloc, ["5", "1", "x", "y"])?);
+    assert!(rt; is_good(alloc, "4194304 4294967295")?);
+    assert!(rt; is_good(alloc, "5 1 -e")?);
+    assert!(rt; is_good(alloc, "-e 5 1 x")?);
+    assert!(rt; !is_good(alloc, "0 1")?);
+    assert!(rt; !is_good(alloc, "5 0")?);
+    assert!(rt; !is_good(alloc, "4194305 1")?);
+    assert!(rt; !is_good(alloc, "5 4294967296")?);
+    assert!(rt; !is_good(alloc, "05 1")?);
+    assert!(rt; !is_good(alloc, "+5 1")?);
+    assert!(rt; !is_good(alloc, "5")?);
+    assert!(rt; !is_good(alloc, "-e")?);
+    assert!(rt; !is_good(alloc, "-e -e 5 1")?);
+    assert!(rt; !is_good(alloc, "-w 5 1")?);
+    assert!(rt; !is_good(alloc, "-e -w 5 1")?);
+    assert!(rt; !is_good(alloc, "5 1 x y")?);
     Ok(())
 }

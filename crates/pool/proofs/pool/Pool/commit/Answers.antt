@@ -1,12 +1,11 @@
-use Rattle.std.proofs.Common.{sym, ap, subst, ◌∙◌, ◌≡◌, List, map}
-use Rattle.base.specs.Surveys.{dead_block}
+use Rattle.std.proofs.Common.{sym, ap, subst, ◌∙◌, List}
 use Rattle.zalloc.specs.declared.BlockState.{BlockState}
 use Rattle.tree.specs.Taking.{AllFree, takes}
 use Rattle.pool.specs.Shown.{Shown, Leap}
 use Rattle.world.specs.Settles.{AllAllocated, releases}
 use Rattle.pool.specs.declared.pool.Plan.TheVariants.{Put}
 use Rattle.pool.specs.Pools.{core_of, IsSound}
-use Rattle.pool.specs.Plans.{CanDo, CanPut}
+use Rattle.pool.specs.Plans.{CanDo}
 use Rattle.pool.proofs.Commits.{release_them, take_them, sound_after}
 use Rattle.pool.proofs.pool.Pool.commit.Goals as goal
 

@@ -1,4 +1,4 @@
-use Rattle.std.proofs.Common.{sym, ap, subst, ◌∙◌, ◌≡◌, List}
+use Rattle.std.proofs.Common.{sym, subst, ◌∙◌, ◌≡◌, List}
 use Rattle.base.specs.Map.{Map}
 use Rattle.zalloc.specs.declared.BlockState.{BlockState}
 use Rattle.world.specs.Root.{Core, root_state}

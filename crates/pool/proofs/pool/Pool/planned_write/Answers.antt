@@ -1,6 +1,5 @@
-use Rattle.std.proofs.Common.{sym, ◌∙◌, ap, true≢false, ◌<◌, arith}
+use Rattle.std.proofs.Common.{sym, ◌∙◌, ap, true≢false}
 use Rattle.std.specs.Prelude.{Err}
-use Rattle.std.proofs.lemmas.Bool.{and_parts, ltb-true}
 use Rattle.world.proofs.States.{cells_allocated, cells_born}
 use Rattle.pool.specs.Pools.{core_of}
 use Rattle.pool.proofs.Steps.{write_no_dataset, write_bad_key, write_refused, write_done, write_can}

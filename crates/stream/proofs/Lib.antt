@@ -1,0 +1,5 @@
+pub mod KeyBounds
+pub mod Fronts
+pub mod Passing
+pub mod Streams
+pub mod Parts
