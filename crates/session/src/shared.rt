@@ -1,0 +1,66 @@
+//! A session, which callers in threads of their own share.
+ghost use Rattle.std.specs.Prelude.{◌≡◌, ◌<◌, ◌≤◌, ◌⊎◌, [], Err, IfOk, IfErr, OnErr};
+ghost use Rattle.session.specs.Calls.{Ran, IsFullOrNoMemory};
+
+use crate::book::{Book, enter};
+use crate::opening::Opening;
+use crate::seat::{Receipt, Seat};
+use base::refusal::Refusal;
+use model::request::Request;
+use pool::Pool;
+use std::alloc::Global;
+use std::sync::{Mutex, Wait};
+
+/// A pool that threads share. Each of its calls is one hold of the one lock.
+#[derive(Drop)]
+pub struct Session<K: Opening> {
+    pub(crate) book: Mutex<Book<K>>,
+}
+
+impl<K: Opening> Session<K> {
+    /// A session of a pool, with room for `limit` calls, 1 to 1,000,000. TooMany for another `limit`, NoMemory where there is none
+    /// for the history, which is reserved here once; the pool comes back with either.
+    pub fn open(alloc: Global, pool: Pool, limit: u64) -> Result<Session<K>, (Refusal, Pool)>
+        requires { pool.state ≡ K.opening }
+        ensures back { IfErr result (λ e. e.1 ≡ pool) }
+        ensures refusal { IfErr result (λ e. (e.0 ≡ Refusal.TooMany) × ((limit ≡ 0) ⊎ (1000000 < limit)) ⊎ (e.0 ≡ Refusal.NoMemory)) }
+        ensures range { (limit ≡ 0) ⊎ (1000000 < limit) → result ≡ Err (Refusal.TooMany, pool) }
+    {
+        let book = Book::open(alloc, pool, limit)?;
+        Ok(Session {
+            book: Mutex::new(book),
+        })
+    }
+
+    /// A seat without receipts. Seats are numbered from 1 as they are given. TooManySeats once 64 were given. It takes no memory.
+    pub fn seat<R: Wait>(&self, alloc: Global, rt: &R) -> Result<Seat<K>, Refusal>
+        ensures new { IfOk result (λ s. (s.receipts ≡ []) × (0 < s.number) × (s.number ≤ 64)) }
+        ensures refusal { IfErr result (λ r. r ≡ Refusal.TooManySeats) }
+    {
+        self.book.lock(rt).give_seat(alloc)
+    }
+
+    /// Applies a request, and gives its place in the history. A request that the pool refuses has run, and its entry has the refusal
+    /// as its reply. At `Err` nothing ran: SessionFull once the session has taken all its calls, NoMemory where there is no memory
+    /// for the entry or its receipts.
+    pub fn call<R: Wait>(
+        &self,
+        alloc: Global,
+        rt: &R,
+        seat: &mut Seat<K>,
+        request: Request,
+    ) -> Result<Receipt, Refusal>
+        ensures ok { IfOk result (λ r. Ran seat.old request r seat.new) }
+        ensures err { OnErr result (seat.new ≡ seat.old) }
+        ensures refusal { IfErr result (λ r. IsFullOrNoMemory r) }
+    {
+        let mut book = self.book.lock(rt);
+        enter(alloc, &mut book, seat, request)
+    }
+
+    /// Gives up the lock, once no thread has the session any more.
+    pub fn end(self) -> Book<K> {
+        let Session { book } = self;
+        book.into_inner()
+    }
+}
