@@ -1,5 +1,5 @@
 //! Several requests in one hold of the lock.
-ghost use Rattle.std.specs.Prelude.{◌≡◌, ◌+◌, ◌<◌, ◌≤◌, ◌⊎◌, ◌++◌, length, map, IfOk, IfErr, OnErr, Err, ◌↔◌, vec_len, vec_capacity, []};
+ghost use Rattle.std.specs.Prelude.{◌≡◌, ◌+◌, ◌<◌, ◌≤◌, ◌++◌, length, map, IfOk, IfErr, OnErr, Err, ◌↔◌, vec_len, vec_capacity, []};
 ghost use Rattle.session.specs.Calls.{IsBatch, IsPaced, FollowOn, IsFullOrNoMemory};
 
 use crate::book::{Book, enter};

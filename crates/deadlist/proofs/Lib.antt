@@ -1,0 +1,11 @@
+pub mod Filters
+pub mod Places
+pub mod Births
+pub mod Splits
+pub mod Puts
+pub mod Stands
+pub mod Cuts
+pub mod Joins
+pub mod Counts
+pub mod Merges
+pub mod Meters

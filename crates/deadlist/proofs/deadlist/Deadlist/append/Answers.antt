@@ -1,0 +1,14 @@
+use Rattle.std.proofs.Common.{◌≡◌, ◌+◌, length, arith, ap, ◌∙◌}
+use Rattle.base.specs.Counting.{counted}
+use Rattle.deadlist.proofs.Meters.{counted_more}
+use Rattle.deadlist.proofs.deadlist.Deadlist.append.Goals as goal
+
+pub returns-in-Ok-clause-meter : goal.returns-in-Ok-clause-meter
+returns-in-Ok-clause-meter c =
+    let n : c.segments.result + c.segments-2.result ≡ (length c.args.self.now.cuts + 1) + (length c.args.other.cuts + 1) = omega (arith, c.segments.ensures.count, c.segments-2.ensures.count) in
+    c.reach-2.ensures ∙ ap (λ m. counted m c.segments-2.result) c.reach.ensures ∙ counted_more c.args.meter.now c.segments.result c.segments-2.result ∙ ap (counted c.args.meter.now) n
+
+pub returns-in-Err-clause-meter : goal.returns-in-Err-clause-meter
+returns-in-Err-clause-meter c =
+    let n : c.segments.result + c.segments-2.result ≡ (length c.args.self.now.cuts + 1) + (length c.args.other.cuts + 1) = omega (arith, c.segments.ensures.count, c.segments-2.ensures.count) in
+    c.reach-2.ensures ∙ ap (λ m. counted m c.segments-2.result) c.reach.ensures ∙ counted_more c.args.meter.now c.segments.result c.segments-2.result ∙ ap (counted c.args.meter.now) n

@@ -1,0 +1,56 @@
+use Rattle.std.proofs.Common.{arith, sym, ◌∙◌, length-append}
+use Rattle.deadlist.specs.Segments.{entries_of}
+use Rattle.std.proofs.lemmas.Bool.{false≢true}
+use Rattle.std.proofs.lemmas.List.Sorted.{length_permutation, IsPermutation-append_left}
+use Rattle.deadlist.proofs.Meters.{counted_none, counted_standing}
+use Rattle.deadlist.proofs.deadlist.Deadlist.cut.Goals as goal
+use Rattle.deadlist.proofs.deadlist.Deadlist.cut.Goals.{then-not-stands, else-not-stands}
+
+pub returns-in_err-cut-clause-meter : goal.returns-in_err-cut-clause-meter
+returns-in_err-cut-clause-meter c =
+    let p = c.self.inside.parts in
+    let e = c.count-before.ensures in
+    let small = c.count-before.type_inv in
+    let old = c.args.meter.now in
+    let none = counted_none old (omega (arith, e, small)) in
+    rw (← c.self.view_is) (counted_standing p.closed.items c.args.group.0 old c.if-not-stands.meter 0 1 c.stands.result c.stands.ensures
+    (λ t. elim c.if-not-stands.branch [
+      | then-not-stands w ↦ absurd (false≢true (sym w.if-not-stands.true ∙ t))
+      | else-not-stands w ↦ w.meter-is ∙ none
+    ])
+    (λ f. elim c.if-not-stands.branch [
+      | then-not-stands w ↦ w.meter-is ∙ w.add_one.ensures
+      | else-not-stands w ↦ absurd (false≢true (sym f ∙ w.if-not-stands.false))
+    ]))
+
+pub returns-clause-meter : goal.returns-clause-meter
+returns-clause-meter c =
+    let p = c.self.inside.parts in
+    let e = c.count-before.ensures in
+    let small = c.count-before.type_inv in
+    let old = c.args.meter.now in
+    let none = counted_none old (omega (arith, e, small)) in
+    rw (← c.self.view_is) (counted_standing p.closed.items c.args.group.0 old c.if-not-stands.meter 0 1 c.stands.result c.stands.ensures
+    (λ t. elim c.if-not-stands.branch [
+      | then-not-stands w ↦ absurd (false≢true (sym w.if-not-stands.true ∙ t))
+      | else-not-stands w ↦ w.meter-is ∙ none
+    ])
+    (λ f. elim c.if-not-stands.branch [
+      | then-not-stands w ↦ w.meter-is ∙ w.add_one.ensures
+      | else-not-stands w ↦ absurd (false≢true (sym f ∙ w.if-not-stands.false))
+    ]))
+
+pub invariant_of-self-2 : goal.invariant_of-self-2
+invariant_of-self-2 c =
+    let es = entries_of c.self.inside.parts in
+    let fs = c.self.inside.fresh.items in
+    let n = length_permutation es (entries_of c.cut.new.self) c.in_ok-cut.ensures.entries in
+    let a = length-append es fs in
+    let b = length-append (entries_of c.cut.new.self) fs in
+    let all = c.self.invariant.1 in
+    (c.in_ok-cut.ensures.cut, omega (arith, n, a, b, all))
+
+pub returns-clause-entries : goal.returns-clause-entries
+returns-clause-entries c =
+    let es = entries_of c.self.inside.parts in
+    rw (← c.self.view_is) (IsPermutation-append_left c.self.inside.fresh.items es (entries_of c.cut.new.self) c.in_ok-cut.ensures.entries)

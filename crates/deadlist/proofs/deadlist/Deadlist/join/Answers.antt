@@ -1,0 +1,39 @@
+use Rattle.std.proofs.Common.{arith, sym, ◌∙◌}
+use Rattle.std.proofs.lemmas.Bool.{false≢true}
+use Rattle.deadlist.proofs.Meters.{counted_none, counted_standing}
+use Rattle.deadlist.proofs.deadlist.Deadlist.join.Goals as goal
+use Rattle.deadlist.proofs.deadlist.Deadlist.join.Goals.{then-stands, else-stands}
+
+pub returns-in_err-join-clause-meter : goal.returns-in_err-join-clause-meter
+returns-in_err-join-clause-meter c =
+    let p = c.self.inside.parts in
+    let e = c.count-before.ensures in
+    let small = c.count-before.type_inv in
+    let old = c.args.meter.now in
+    let none = counted_none old (omega (arith, e, small)) in
+    rw (← c.self.view_is) (counted_standing p.closed.items c.args.group.0 old c.if-stands.meter 2 0 c.stands.result c.stands.ensures
+    (λ t. elim c.if-stands.branch [
+      | then-stands w ↦ w.meter-is ∙ w.reach.ensures
+      | else-stands w ↦ absurd (false≢true (sym w.if-stands.false ∙ t))
+    ])
+    (λ f. elim c.if-stands.branch [
+      | then-stands w ↦ absurd (false≢true (sym f ∙ w.if-stands.true))
+      | else-stands w ↦ w.meter-is ∙ none
+    ]))
+
+pub returns-clause-meter : goal.returns-clause-meter
+returns-clause-meter c =
+    let p = c.self.inside.parts in
+    let e = c.count-before.ensures in
+    let small = c.count-before.type_inv in
+    let old = c.args.meter.now in
+    let none = counted_none old (omega (arith, e, small)) in
+    rw (← c.self.view_is) (counted_standing p.closed.items c.args.group.0 old c.if-stands.meter 2 0 c.stands.result c.stands.ensures
+    (λ t. elim c.if-stands.branch [
+      | then-stands w ↦ w.meter-is ∙ w.reach.ensures
+      | else-stands w ↦ absurd (false≢true (sym w.if-stands.false ∙ t))
+    ])
+    (λ f. elim c.if-stands.branch [
+      | then-stands w ↦ absurd (false≢true (sym f ∙ w.if-stands.true))
+      | else-stands w ↦ w.meter-is ∙ none
+    ]))

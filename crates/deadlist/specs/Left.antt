@@ -1,0 +1,33 @@
+-- What an iterator over a dead list has left.
+use Rattle.std.specs.Prelude.{ℕ, ◌+◌, List, [], ◌++◌, Option, None, Some, length}
+use Rattle.std.specs.Borrow.{Bor}
+use Rattle.base.specs.declared.number.Dead.{Dead}
+use Rattle.deadlist.specs.declared.iter.Iter.{Iter}
+use Rattle.deadlist.specs.Entries.{chunk_entries}
+use Rattle.deadlist.specs.Segments.{entries_in}
+
+-- the entries behind a reference, where there is one
+abbrev pub entries_behind : Option (Bor (List Dead)) → List Dead
+entries_behind None = []
+entries_behind (Some b) = b.now
+
+-- 1 where there is one
+abbrev pub one_behind : Option (Bor (List Dead)) → ℕ
+one_behind None = 0
+one_behind (Some b) = 1
+
+-- what is left of the segment under way
+abbrev pub left_here : Iter → List Dead
+left_here s = s.now.now ++ (chunk_entries s.chunks.now ++ s.tail.now)
+
+-- what lies beyond it
+abbrev pub left_beyond : Iter → List Dead
+left_beyond s = entries_in s.closed.now ++ (entries_behind s.last ++ entries_behind s.fresh)
+
+-- the entries that are left
+abbrev pub left : Iter → List Dead
+left s = left_here s ++ left_beyond s
+
+-- how many parts it hasn't begun
+abbrev pub unopened : Iter → ℕ
+unopened s = length s.closed.now + (one_behind s.last + one_behind s.fresh)

@@ -1,0 +1,114 @@
+-- Segments of a dead list: each but the last with an upper cut, in rising order (profile).
+use Rattle.std.specs.Prelude.{◌≤◌, ℕ, ◌+◌, zero, suc, Bool, false, cond, List, [], ◌∷◌, ◌++◌, map, filter, not, length, nat_le, nat_lt, ◌==◌, ◌||◌, Option, None, Some, if◌then◌else◌}
+use Rattle.std.specs.List.{flat_map, list_any}
+use Rattle.base.specs.declared.number.Dead.{Dead}
+use Rattle.deadlist.specs.declared.parts.Segment.{Segment}
+use Rattle.deadlist.specs.declared.parts.Parts.{Parts}
+
+-- the upper cut
+abbrev pub upper_of : Segment → ℕ
+upper_of s = s.upper.0
+
+-- the entries of a segment
+abbrev pub pile_of : Segment → List Dead
+pile_of s = s.pile
+
+-- the upper cuts
+abbrev pub uppers : List Segment → List ℕ
+uppers = map upper_of
+
+-- the entries, segment by segment
+abbrev pub entries_in : List Segment → List Dead
+entries_in = flat_map pile_of
+
+-- each entry was born from the first group on
+abbrev pub AreBornFrom : ℕ → List Dead → Type 0
+AreBornFrom from [] = Unit {0}
+AreBornFrom from (d ∷ ds) = (from ≤ d.birth.0) × AreBornFrom from ds
+
+-- each entry was born by the group
+abbrev pub AreBornBy : ℕ → List Dead → Type 0
+AreBornBy to [] = Unit {0}
+AreBornBy to (d ∷ ds) = (d.birth.0 ≤ to) × AreBornBy to ds
+
+-- the cuts rise from the group on, and each entry lies between its segment's cuts
+abbrev pub AreCut : ℕ → List Segment → List Dead → Type 0
+AreCut from [] last = AreBornFrom from last
+AreCut from (s ∷ ss) last = (from ≤ upper_of s) × AreBornFrom from s.pile × AreBornBy (upper_of s) s.pile × AreCut (upper_of s + 1) ss last
+
+-- how many segments at the front have a cut that passes
+abbrev pub front : (ℕ → Bool) → List Segment → ℕ
+front p [] = zero
+front p (s ∷ ss) = cond (p (upper_of s)) (suc (front p ss)) zero
+
+-- whether a cut stands there
+abbrev pub has_cut : ℕ → List Segment → Bool
+has_cut g [] = false
+has_cut g (s ∷ ss) = (upper_of s == g) || has_cut g ss
+
+-- the entries of the segment with that index, the last one past the others
+abbrev pub pile_at : List Segment → List Dead → ℕ → List Dead
+pile_at [] last i = last
+pile_at (s ∷ ss) last zero = s.pile
+pile_at (s ∷ ss) last (suc i) = pile_at ss last i
+
+-- the segments with other entries in one of them
+abbrev pub with_pile : List Segment → ℕ → List Dead → List Segment
+with_pile [] i p = []
+with_pile (s ∷ ss) zero p = record s { pile = p } ∷ ss
+with_pile (s ∷ ss) (suc i) p = s ∷ with_pile ss i p
+
+-- and what the last one then has
+abbrev pub last_with : List Segment → List Dead → ℕ → List Dead → List Dead
+last_with [] last i p = p
+last_with (s ∷ ss) last zero p = last
+last_with (s ∷ ss) last (suc i) p = last_with ss last i p
+
+-- the entries were born by the cut of the segment with that index
+abbrev pub FitsAt : List Segment → ℕ → List Dead → Type 0
+FitsAt [] i q = Unit {0}
+FitsAt (s ∷ ss) zero q = AreBornBy (upper_of s) q
+FitsAt (s ∷ ss) (suc i) q = FitsAt ss i q
+
+-- how many segments end by the cut
+abbrev pub ended : ℕ → List Segment → ℕ
+ended cut xs = front (λ u. nat_le u cut) xs
+
+-- how many segments end before the group
+abbrev pub begun : ℕ → List Segment → ℕ
+begun group xs = front (λ u. nat_lt u group) xs
+
+-- the cuts with one more, and without one
+abbrev pub with_cut : ℕ → List ℕ → List ℕ
+with_cut g cs = filter (λ c. nat_lt c g) cs ++ g ∷ filter (λ c. nat_lt g c) cs
+
+abbrev pub with_cuts : List ℕ → List ℕ → List ℕ
+with_cuts cs [] = cs
+with_cuts cs (g ∷ gs) = with_cuts (with_cut g cs) gs
+
+abbrev pub without_cut : ℕ → List ℕ → List ℕ
+without_cut g cs = filter (λ c. not (c == g)) cs
+
+-- the entries were born by the group, where there is one
+abbrev pub AreBornByIf : Option ℕ → List Dead → Type 0
+AreBornByIf None q = Unit {0}
+AreBornByIf (Some to) q = AreBornBy to q
+
+-- how many segments have an entry by the cut, or after it, as their cuts tell
+abbrev pub reached_upto : ℕ → List ℕ → ℕ
+reached_upto cut cs = length (filter (λ c. nat_le c cut) cs) + (if list_any (λ c. c == cut) cs then 0 else 1)
+
+abbrev pub reached_after : ℕ → List ℕ → ℕ
+reached_after cut cs = length (filter (λ c. nat_lt cut c) cs) + 1
+
+-- the entries of a list, segment by segment
+abbrev pub entries_of : Parts → List Dead
+entries_of p = entries_in p.closed.items ++ p.last
+
+-- its cuts
+abbrev pub cuts_of : Parts → List ℕ
+cuts_of p = uppers p.closed.items
+
+-- its cuts rise, and each entry lies between its segment's cuts
+abbrev pub IsCut : Parts → Type 0
+IsCut p = AreCut 0 p.closed.items p.last

@@ -1,0 +1,297 @@
+//! The dead list of a dataset.
+ghost use Rattle.std.specs.Prelude.{◌≡◌, ◌+◌, ◌≤◌, ◌<◌, ◌++◌, ◌∷◌, [], length, filter, map, OnOk, OnErr, IfOk, IfErr, MatchResult, nat_le, nat_lt, ◌==◌, if◌then◌else◌};
+ghost use Rattle.std.specs.List.{list_any};
+ghost use Rattle.std.specs.List.Sorted.{IsPermutation, IsStrictlyIncreasing};
+ghost use Rattle.base.specs.Counting.{counted};
+ghost use Rattle.base.specs.declared.refusal.Refusal.TheVariants.{NoMemory};
+ghost use Rattle.deadlist.specs.Entries.{is_after, is_upto};
+ghost use Rattle.deadlist.specs.Left.{left};
+ghost use Rattle.deadlist.specs.Segments.{with_cut, with_cuts, without_cut, reached_upto, reached_after};
+
+use crate::iter::Iter;
+use crate::parts::Parts;
+use crate::pile::count_in;
+use base::meter::SegMeter;
+use base::number::{Dead, Group};
+use base::refusal::Refusal;
+use std::alloc::{AllocError, Global};
+use std::marker::Model;
+use std::mem;
+
+/// How many new entries a list takes before it sorts them into their segments, at least.
+const FEW: usize = 64;
+
+/// Blocks that a dataset has let go and the dataset before it still has, with their births (On-Disk Specification, chapter 4:
+/// dead lists), in segments: a cut at a group divides the entries born by it from those born after it. The cuts rise, and the
+/// last segment is open upwards.
+///
+/// New entries stand behind the segments until a `reserve` sorts them in. A copy shares the segments' full chunks, so that it
+/// costs the segments and the few entries that aren't in a full chunk.
+#[derive(Drop)]
+pub struct Deadlist {
+    parts: Parts,
+    fresh: Vec<Dead>,
+    count: u64,
+    limit: usize,
+    alloc: Global,
+}
+
+impl Model for Deadlist {
+    ghost use Rattle.std.specs.Prelude.{◌≡◌, ◌++◌, ◌-◌, ◌^◌, min, length};
+    ghost use Rattle.std.specs.Vec.{vec_len, vec_capacity};
+    ghost use Rattle.deadlist.specs.Held.{Held};
+    ghost use Rattle.deadlist.specs.Segments.{IsCut, entries_of, cuts_of};
+
+    ghost Value = { Held };
+
+    ghost view = { λ d. record {
+      entries = entries_of d.parts ++ d.fresh.items;
+      cuts = cuts_of d.parts;
+      room = min (vec_capacity d.fresh - vec_len d.fresh) (2 ^ 64 - 1 - d.count);
+    } };
+
+    ghost invariant = { λ d. IsCut d.parts × (d.count ≡ length (entries_of d.parts ++ d.fresh.items)) };
+}
+
+impl Deadlist {
+    /// A list without entries and cuts. It takes no memory, and keeps the allocator.
+    pub fn new(alloc: Global) -> Deadlist
+        ensures entries { result.entries ≡ [] }
+        ensures cuts { result.cuts ≡ [] }
+    {
+        Deadlist {
+            parts: Parts::new(alloc),
+            fresh: Vec::new(alloc),
+            count: 0,
+            limit: FEW,
+            alloc,
+        }
+    }
+
+    /// An equal list. It costs the segments, and not their entries. 25 where memory is refused.
+    pub fn copy(&self) -> Result<Deadlist, Refusal>
+        ensures entries { IfOk result (λ d. d.entries ≡ self.now.entries) }
+        ensures cuts { IfOk result (λ d. d.cuts ≡ self.now.cuts) }
+        ensures err { IfErr result (λ e. e ≡ NoMemory) }
+    {
+        let parts = self.parts.copy(self.alloc)?;
+        let fresh = Vec::from_slice(self.alloc, self.fresh.as_slice())?;
+        Ok(Deadlist {
+            parts,
+            fresh,
+            count: self.count,
+            limit: self.limit,
+            alloc: self.alloc,
+        })
+    }
+
+    /// Makes room for that many pushes, until another call that changes the list. Once about as many entries were put in as the list
+    /// has segments and full chunks, it also sorts these in, each by a binary search over the cuts. 25 where memory is refused, and
+    /// then nothing is changed.
+    pub fn reserve(&mut self, n: usize) -> Result<(), Refusal>
+        ensures entries { IsPermutation self.old.entries self.new.entries }
+        ensures cuts { self.new.cuts ≡ self.old.cuts }
+        ensures room { OnOk result (n ≤ self.new.room) }
+        ensures unchanged { OnErr result (self.new ≡ self.old) }
+        ensures err { IfErr result (λ e. e ≡ NoMemory) }
+    {
+        if n as u64 > u64::MAX - self.count {
+            return Err(Refusal::NoMemory);
+        }
+        if self.fresh.len() < self.limit {
+            self.fresh.reserve(n)?;
+            return Ok(());
+        }
+        let sorted = self.parts.sorted(self.alloc, self.fresh.as_slice())?;
+        self.fresh.reserve(n)?;
+        self.fresh.clear();
+        self.limit = sorted.weight().saturating_add(FEW);
+        self.parts = sorted;
+        Ok(())
+    }
+
+    /// Puts an entry into the list, for which a `reserve` made room. It takes no memory, and costs the same in every list.
+    pub fn push_reserved(&mut self, dead: Dead)
+        requires { 0 < self.old.room }
+        ensures entries { self.new.entries ≡ self.old.entries ++ dead ∷ [] }
+        ensures cuts { self.new.cuts ≡ self.old.cuts }
+        ensures room { self.new.room + 1 ≡ self.old.room }
+    {
+        self.fresh.push_reserved(dead);
+        self.count += 1;
+    }
+
+    /// Adds the other's entries and cuts, whole segments where the cuts agree; the meter counts the segments of both. 25 where
+    /// memory is refused, and then the other is handed back, and both are unchanged.
+    pub fn append(
+        &mut self,
+        other: Deadlist,
+        meter: &mut SegMeter,
+    ) -> Result<(), (Refusal, Deadlist)>
+        ensures entries { OnOk result
+            (IsPermutation (self.old.entries ++ other.entries) self.new.entries) }
+        ensures cuts { OnOk result (self.new.cuts ≡ with_cuts self.old.cuts other.cuts) }
+        ensures unchanged { OnErr result (self.new ≡ self.old) }
+        ensures returned { IfErr result (λ e. e.1 ≡ other) }
+        ensures err { IfErr result (λ e. e.0 ≡ NoMemory) }
+        ensures meter { meter.new
+            ≡ counted meter.old ((length self.old.cuts + 1) + (length other.cuts + 1)) }
+    {
+        reach(meter, self.segments());
+        reach(meter, other.segments());
+        match self.joined(&other) {
+            Ok(()) => Ok(()),
+            Err(_) => Err((Refusal::NoMemory, other)),
+        }
+    }
+
+    // The same, of another that stays.
+    fn joined(&mut self, other: &Deadlist) -> Result<(), AllocError>
+        ensures entries { OnOk result
+            (IsPermutation (self.old.entries ++ other.now.entries) self.new.entries) }
+        ensures cuts { OnOk result (self.new.cuts ≡ with_cuts self.old.cuts other.now.cuts) }
+        ensures unchanged { OnErr result (self.new ≡ self.old) }
+    {
+        let Some(count) = self.count.checked_add(other.count) else {
+            return Err(AllocError);
+        };
+        let mut parts = self.parts.copy(self.alloc)?;
+        parts.merge(self.alloc, &other.parts)?;
+        self.fresh.reserve(other.fresh.len())?;
+        self.fresh.extend_from_slice(other.fresh.as_slice())?;
+        self.parts = parts;
+        self.count = count;
+        Ok(())
+    }
+
+    /// Takes out the entries born after the cut, and keeps the others; each list has the cuts on its side. The meter counts the
+    /// segments that end after the cut. 25 where memory is refused, and then nothing is changed.
+    pub fn take_after(&mut self, cut: Group, meter: &mut SegMeter) -> Result<Deadlist, Refusal>
+        ensures kept { OnOk result (self.new.entries ≡ filter (is_upto cut.0) self.old.entries) }
+        ensures kept_cuts { OnOk result (self.new.cuts ≡ filter (λ c. nat_le c cut.0) self.old.cuts) }
+        ensures taken { IfOk result (λ d. d.entries ≡ filter (is_after cut.0) self.old.entries) }
+        ensures taken_cuts { IfOk result
+            (λ d. d.cuts ≡ filter (λ c. nat_lt cut.0 c) self.old.cuts) }
+        ensures unchanged { OnErr result (self.new ≡ self.old) }
+        ensures err { IfErr result (λ e. e ≡ NoMemory) }
+        ensures meter { meter.new ≡ counted meter.old (reached_after cut.0 self.old.cuts) }
+    {
+        let count = self.space_after(cut, meter);
+        let (low, high) = dealt(self.alloc, self.fresh.as_slice(), cut.0)?;
+        let parts = self.parts.take_after(self.alloc, cut.0)?;
+        self.fresh = low;
+        self.count -= count;
+        Ok(Deadlist {
+            parts,
+            fresh: high,
+            count,
+            limit: self.limit,
+            alloc: self.alloc,
+        })
+    }
+
+    /// How many entries were born after the cut, in blocks: from the segments' sizes and the entries not yet sorted in, and where the
+    /// cut doesn't stand also from the entries of the segment that it divides. The meter counts the segments that end after the cut.
+    pub fn space_after(&self, cut: Group, meter: &mut SegMeter) -> u64
+        ensures space { result ≡ length (filter (is_after cut.0) self.now.entries) }
+        ensures meter { meter.new ≡ counted meter.old (reached_after cut.0 self.now.cuts) }
+    {
+        let _count = self.count;
+        self.parts.sum_after(cut.0, meter) + count_in(self.fresh.as_slice(), cut.0)
+    }
+
+    /// How many entries were born by the cut, in blocks: from the segments' sizes and the entries not yet sorted in, and where the cut
+    /// doesn't stand also from the entries of the segment that it divides. The meter counts the segments that end by the cut, and that
+    /// one.
+    pub fn space_upto(&self, cut: Group, meter: &mut SegMeter) -> u64
+        ensures space { result ≡ length (filter (is_upto cut.0) self.now.entries) }
+        ensures meter { meter.new ≡ counted meter.old (reached_upto cut.0 self.now.cuts) }
+    {
+        let _count = self.count;
+        let fresh = self.fresh.as_slice();
+        self.parts.sum_upto(cut.0, meter) + (fresh.len() as u64 - count_in(fresh, cut.0))
+    }
+
+    /// The entries, segment by segment, and then those that no `reserve` has sorted in yet.
+    pub fn iter(&self) -> Iter<'_>
+        ensures { left result ≡ self.now.entries }
+    {
+        Iter::new(&self.parts, self.fresh.as_slice())
+    }
+
+    /// How many segments it has: one more than cuts, which rise.
+    pub fn segments(&self) -> usize
+        ensures count { result ≡ length self.now.cuts + 1 }
+        ensures rising { IsStrictlyIncreasing self.now.cuts }
+    {
+        self.parts.closed.len() + 1
+    }
+
+    /// Sets a cut, where it doesn't stand; the meter then counts the segment that it divides, whose entries are gone through. 25 where memory is refused, and then
+    /// nothing is changed.
+    pub fn cut(&mut self, group: Group, meter: &mut SegMeter) -> Result<(), Refusal>
+        ensures entries { IsPermutation self.old.entries self.new.entries }
+        ensures cuts { OnOk result (self.new.cuts ≡ with_cut group.0 self.old.cuts) }
+        ensures room { self.new.room ≡ self.old.room }
+        ensures unchanged { OnErr result (self.new ≡ self.old) }
+        ensures err { IfErr result (λ e. e ≡ NoMemory) }
+        ensures meter { meter.new
+            ≡ counted meter.old (if list_any (λ c. c == group.0) self.old.cuts then 0 else 1) }
+    {
+        let _before = meter.count();
+        let at = self.parts.upto(group.0);
+        if !self.parts.stands(at, group.0) {
+            meter.add_one();
+        }
+        self.parts.cut(self.alloc, group)?;
+        Ok(())
+    }
+
+    /// Removes a cut, where it stands; the meter then counts the two segments that become one. 25 where memory is refused, and then
+    /// nothing is changed.
+    pub fn join(&mut self, group: Group, meter: &mut SegMeter) -> Result<(), Refusal>
+        ensures entries { self.new.entries ≡ self.old.entries }
+        ensures cuts { OnOk result (self.new.cuts ≡ without_cut group.0 self.old.cuts) }
+        ensures room { self.new.room ≡ self.old.room }
+        ensures unchanged { OnErr result (self.new ≡ self.old) }
+        ensures err { IfErr result (λ e. e ≡ NoMemory) }
+        ensures meter { meter.new
+            ≡ counted meter.old (if list_any (λ c. c == group.0) self.old.cuts then 2 else 0) }
+    {
+        let _before = meter.count();
+        let at = self.parts.upto(group.0);
+        if self.parts.stands(at, group.0) {
+            reach(meter, 2);
+        }
+        self.parts.join(self.alloc, group)?;
+        Ok(())
+    }
+}
+
+/// Counts that many segments.
+fn reach(meter: &mut SegMeter, segments: usize)
+    ensures { meter.new ≡ counted meter.old segments }
+{
+    let _before = meter.count();
+    for _i in 0..segments {
+        meter.add_one();
+    }
+}
+
+/// The entries born by the cut, and those born after it.
+fn dealt(alloc: Global, entries: &[Dead], cut: u64) -> Result<(Vec<Dead>, Vec<Dead>), AllocError>
+    ensures { IfOk result
+        (λ p. (p.0.items ≡ filter (is_upto cut) entries.now)
+        × (p.1.items ≡ filter (is_after cut) entries.now)) }
+{
+    let mut low = Vec::new(alloc);
+    let mut high = Vec::new(alloc);
+    for dead in entries {
+        if dead.birth.0 <= cut {
+            low.push(*dead)?;
+        } else {
+            high.push(*dead)?;
+        }
+    }
+    Ok((low, high))
+}

@@ -1,0 +1,115 @@
+//! The entries of a dead list, one after the other.
+ghost use Rattle.std.specs.Prelude.{◌≡◌, ◌+◌, ◌<◌, ◌++◌, ◌∷◌, [], List, Option, None, Some, length, IsTrue, MatchOption, false};
+ghost use Rattle.base.specs.declared.number.Dead.{Dead};
+ghost use Rattle.deadlist.specs.Segments.{entries_of};
+ghost use Rattle.deadlist.specs.Left.{left, left_here, left_beyond, unopened};
+
+use crate::parts::{Parts, Segment};
+use crate::pile::Pile;
+use base::number::Dead;
+use std::sync::Arc;
+
+/// The entries of a dead list that are left to give.
+#[derive(Drop)]
+pub struct Iter<'a> {
+    now: &'a [Dead],
+    chunks: &'a [Arc<Vec<Dead>>],
+    tail: &'a [Dead],
+    closed: &'a [Segment],
+    last: Option<&'a Pile>,
+    fresh: Option<&'a [Dead]>,
+}
+
+impl<'a> Iter<'a> {
+    pub(crate) fn new(parts: &'a Parts, fresh: &'a [Dead]) -> Iter<'a>
+        ensures { left result ≡ entries_of parts.now ++ fresh.now }
+    {
+        Iter {
+            now: &[],
+            chunks: &[],
+            tail: &[],
+            closed: parts.closed.as_slice(),
+            last: Some(&parts.last),
+            fresh: Some(fresh),
+        }
+    }
+
+    // The next entry of the segment under way.
+    fn next_here(&mut self) -> Option<Dead>
+        ensures here { MatchOption result ((left_here self.old ≡ []) × (left_here self.new ≡ []))
+            (λ d. left_here self.old ≡ d ∷ left_here self.new) }
+        ensures beyond { left_beyond self.new ≡ left_beyond self.old }
+        ensures unopened { unopened self.new ≡ unopened self.old }
+    {
+        loop {
+            if let [first, rest @ ..] = self.now {
+                self.now = rest;
+                return Some(*first);
+            }
+            if let [chunk, rest @ ..] = self.chunks {
+                self.now = chunk.as_slice();
+                self.chunks = rest;
+            } else if self.tail.is_empty() {
+                return None;
+            } else {
+                self.now = self.tail;
+                self.tail = &[];
+            }
+        }
+    }
+
+    // Goes on to the next segment, where the one under way has no entry left, and says whether there was one.
+    fn open_next(&mut self) -> bool
+        requires { left_here self.old ≡ [] }
+        ensures same { left self.new ≡ left self.old }
+        ensures fewer { IsTrue result → unopened self.new < unopened self.old }
+        ensures none { result ≡ false → left self.new ≡ [] }
+    {
+        if let [segment, rest @ ..] = self.closed {
+            let (chunks, tail) = segment.pile.chunks();
+            self.now = &[];
+            self.chunks = chunks;
+            self.tail = tail;
+            self.closed = rest;
+            return true;
+        }
+        if let Some(last) = self.last {
+            let (chunks, tail) = last.chunks();
+            self.now = &[];
+            self.chunks = chunks;
+            self.tail = tail;
+            self.last = None;
+            return true;
+        }
+        if let Some(fresh) = self.fresh {
+            self.now = fresh;
+            self.chunks = &[];
+            self.tail = &[];
+            self.fresh = None;
+            return true;
+        }
+        false
+    }
+}
+
+impl Iterator for Iter<'_> {
+    type Item = Dead;
+
+    ghost use Rattle.std.specs.Iterator.{YieldsFirst, item_count};
+    ghost use Rattle.deadlist.specs.Left.{left};
+
+    ghost next_gives = { YieldsFirst left };
+
+    ghost remaining = { item_count left };
+
+    fn next(&mut self) -> Option<Dead> {
+        loop {
+            if let Some(dead) = self.next_here() {
+                return Some(dead);
+            }
+            if !self.open_next() {
+                return None;
+            }
+        }
+    }
+}

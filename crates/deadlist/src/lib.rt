@@ -1,0 +1,11 @@
+//! Dead lists: the blocks that a dataset has let go and the dataset before it still has, in segments by birth.
+#![tactic(auto)]
+
+pub mod deadlist;
+pub mod iter;
+mod merge;
+mod parts;
+mod pile;
+mod sums;
+#[cfg(test)]
+mod tests;

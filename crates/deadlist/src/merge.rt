@@ -1,0 +1,134 @@
+//! Entries put into the segments that they lie in, one by one or a whole segment at a time.
+ghost use Rattle.std.specs.Prelude.{◌≡◌, ◌+◌, ◌≤◌, ◌<◌, ◌++◌, ◌∷◌, [], List, length, OnOk, OnErr, IfOk, IsTrue};
+ghost use Rattle.std.specs.List.Sorted.{IsPermutation};
+ghost use Rattle.base.specs.declared.number.Dead.{Dead};
+ghost use Rattle.deadlist.specs.Segments.{IsCut, AreBornFrom, AreBornByIf, FitsAt, entries_of, cuts_of, begun, with_cuts, pile_at, with_pile, last_with};
+
+use crate::parts::Parts;
+use crate::pile::Pile;
+use base::number::Dead;
+use std::alloc::{AllocError, Global};
+
+impl Parts {
+    /// Puts entries into the segments that their births lie in.
+    pub fn place_all(&mut self, alloc: Global, entries: &[Dead]) -> Result<(), AllocError>
+        requires { IsCut self.old }
+        ensures entries { OnOk result
+            (IsPermutation (entries_of self.old ++ entries.now) (entries_of self.new)) }
+        ensures cuts { OnOk result (cuts_of self.new ≡ cuts_of self.old) }
+        ensures cut { OnOk result (IsCut self.new) }
+    {
+        for dead in entries {
+            self.place(alloc, *dead)?;
+        }
+        Ok(())
+    }
+
+    /// Puts the entries of a pile into the segments that their births lie in.
+    fn place_pile(&mut self, alloc: Global, pile: &Pile) -> Result<(), AllocError>
+        requires { IsCut self.old }
+        ensures entries { OnOk result
+            (IsPermutation (entries_of self.old ++ pile.now) (entries_of self.new)) }
+        ensures cuts { OnOk result (cuts_of self.new ≡ cuts_of self.old) }
+        ensures cut { OnOk result (IsCut self.new) }
+    {
+        let (chunks, tail) = pile.chunks();
+        for chunk in chunks {
+            self.place_all(alloc, chunk.as_slice())?;
+        }
+        self.place_all(alloc, tail)
+    }
+
+    /// Puts a pile behind the entries of the segment with that index.
+    fn put_pile(&mut self, alloc: Global, at: usize, mut pile: Pile) -> Result<(), AllocError>
+        ensures closed { OnOk result (self.new.closed.items ≡ with_pile self.old.closed.items at
+            (pile_at self.old.closed.items self.old.last at ++ pile)) }
+        ensures last { OnOk result (self.new.last ≡ last_with self.old.closed.items self.old.last at
+            (pile_at self.old.closed.items self.old.last at ++ pile)) }
+    {
+        let mut own = self.replace(at, Pile::new(alloc));
+        own.add(alloc, &mut pile)?;
+        let _none = self.replace(at, own);
+        Ok(())
+    }
+
+    /// Whether the segment with that index ends no earlier than the group, or than any where there is none.
+    fn ends_late(&self, at: usize, to: Option<u64>) -> bool
+        ensures { IsTrue result
+            → (q : List Dead) → AreBornByIf to q → FitsAt self.now.closed.items at q }
+    {
+        if at >= self.closed.len() {
+            return true;
+        }
+        match to {
+            Some(to) => to <= self.closed[at].upper.0,
+            None => false,
+        }
+    }
+
+    /// Adds a pile whose entries were born between the groups: whole, where one segment takes them all.
+    fn absorb(
+        &mut self,
+        alloc: Global,
+        pile: Pile,
+        from: u64,
+        to: Option<u64>,
+    ) -> Result<(), AllocError>
+        requires cut { IsCut self.old }
+        requires from { AreBornFrom from pile }
+        requires to { AreBornByIf to pile }
+        ensures entries { OnOk result
+            (IsPermutation (entries_of self.old ++ pile) (entries_of self.new)) }
+        ensures cuts { OnOk result (cuts_of self.new ≡ cuts_of self.old) }
+        ensures cut { OnOk result (IsCut self.new) }
+    {
+        let at = self.below(from);
+        if self.ends_late(at, to) {
+            return self.put_pile(alloc, at, pile);
+        }
+        self.place_pile(alloc, &pile)
+    }
+
+    /// Adds the other's cuts and entries, whole segments where the cuts agree.
+    pub fn merge(&mut self, alloc: Global, other: &Parts) -> Result<(), AllocError>
+        requires cut { IsCut self.old }
+        requires other { IsCut other.now }
+        ensures entries { OnOk result
+            (IsPermutation (entries_of self.old ++ entries_of other.now) (entries_of self.new)) }
+        ensures cuts { OnOk result (cuts_of self.new ≡ with_cuts (cuts_of self.old) (cuts_of other.now)) }
+        ensures cut { OnOk result (IsCut self.new) }
+    {
+        let mut from = 0;
+        for segment in &other.closed {
+            let to = segment.upper;
+            self.cut(alloc, to)?;
+            let pile = segment.pile.copy(alloc)?;
+            self.absorb(alloc, pile, from, Some(to.0))?;
+            from = to.0.saturating_add(1);
+        }
+        let last = other.last.copy(alloc)?;
+        self.absorb(alloc, last, from, None)
+    }
+
+    /// A copy with more entries, each in the segment that its birth lies in.
+    pub fn sorted(&self, alloc: Global, entries: &[Dead]) -> Result<Parts, AllocError>
+        requires { IsCut self.now }
+        ensures entries { IfOk result
+            (λ p. IsPermutation (entries_of self.now ++ entries.now) (entries_of p)) }
+        ensures cuts { IfOk result (λ p. cuts_of p ≡ cuts_of self.now) }
+        ensures cut { IfOk result (λ p. IsCut p) }
+    {
+        let mut parts = self.copy(alloc)?;
+        parts.place_all(alloc, entries)?;
+        Ok(parts)
+    }
+
+    /// How many segments and chunks it has.
+    pub fn weight(&self) -> usize {
+        let mut weight = self.last.chunks().0.len();
+        for segment in &self.closed {
+            weight = weight.saturating_add(segment.pile.chunks().0.len().saturating_add(1));
+        }
+        weight
+    }
+}

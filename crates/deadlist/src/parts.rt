@@ -1,0 +1,210 @@
+//! Segments of a dead list.
+ghost use Rattle.std.specs.Prelude.{◌≡◌, ◌+◌, ◌≤◌, ◌<◌, ◌++◌, ◌∷◌, [], length, filter, OnOk, OnErr, IfOk, vec_len, nat_le, nat_lt};
+ghost use Rattle.std.specs.List.Sorted.{IsPermutation};
+ghost use Rattle.deadlist.specs.Entries.{is_after, is_upto};
+ghost use Rattle.deadlist.specs.Segments.{IsCut, entries_of, cuts_of, ended, begun, has_cut, with_cut, without_cut, pile_at, with_pile, last_with};
+
+use crate::pile::Pile;
+use base::number::{Dead, Group};
+use std::alloc::{AllocError, Global};
+use std::mem;
+
+/// The entries born by its upper cut and after the cut of the segment before it.
+#[derive(Drop)]
+pub struct Segment {
+    pub upper: Group,
+    pub pile: Pile,
+}
+
+/// Segments whose cuts rise, and the last one, which is open upwards.
+#[derive(Drop)]
+pub struct Parts {
+    pub closed: Vec<Segment>,
+    pub last: Pile,
+}
+
+impl Parts {
+    /// One segment without entries. It takes no memory.
+    pub fn new(alloc: Global) -> Parts
+        ensures closed { result.closed.items ≡ [] }
+        ensures last { result.last ≡ [] }
+    {
+        Parts {
+            closed: Vec::new(alloc),
+            last: Pile::new(alloc),
+        }
+    }
+
+    /// An equal one, which shares the full chunks.
+    pub fn copy(&self, alloc: Global) -> Result<Parts, AllocError>
+        ensures closed { IfOk result (λ p. p.closed.items ≡ self.now.closed.items) }
+        ensures last { IfOk result (λ p. p.last ≡ self.now.last) }
+    {
+        let mut closed = Vec::with_capacity(alloc, self.closed.len())?;
+        for segment in &self.closed {
+            let upper = segment.upper;
+            let pile = segment.pile.copy(alloc)?;
+            closed.push(Segment { upper, pile })?;
+        }
+        let last = self.last.copy(alloc)?;
+        Ok(Parts { closed, last })
+    }
+
+    /// How many segments end by the cut.
+    pub fn upto(&self, cut: u64) -> usize
+        requires { IsCut self.now }
+        ensures { result ≡ ended cut self.now.closed.items }
+    {
+        self.closed.as_slice().partition_point(|s| s.upper.0 <= cut)
+    }
+
+    /// How many segments end before the group.
+    pub fn below(&self, group: u64) -> usize
+        requires { IsCut self.now }
+        ensures { result ≡ begun group self.now.closed.items }
+    {
+        self.closed
+            .as_slice()
+            .partition_point(|s| s.upper.0 < group)
+    }
+
+    /// The entries of the segment with that index.
+    pub fn pile(&self, at: usize) -> &Pile
+        ensures { result.now ≡ pile_at self.now.closed.items self.now.last at }
+    {
+        if at < self.closed.len() {
+            &self.closed[at].pile
+        } else {
+            &self.last
+        }
+    }
+
+    /// Puts other entries into the segment with that index, and gives those that it had.
+    pub fn replace(&mut self, at: usize, pile: Pile) -> Pile
+        ensures closed { self.new.closed.items ≡ with_pile self.old.closed.items at pile }
+        ensures last { self.new.last ≡ last_with self.old.closed.items self.old.last at pile }
+        ensures old { result ≡ pile_at self.old.closed.items self.old.last at }
+    {
+        if at < self.closed.len() {
+            let segment = &mut self.closed[at];
+            return mem::replace(&mut segment.pile, pile);
+        }
+        mem::replace(&mut self.last, pile)
+    }
+
+    /// Puts an entry into the segment with that index.
+    fn put(&mut self, alloc: Global, at: usize, dead: Dead) -> Result<(), AllocError>
+        ensures closed { OnOk result (self.new.closed.items ≡ with_pile self.old.closed.items at
+            (pile_at self.old.closed.items self.old.last at ++ dead ∷ [])) }
+        ensures last { OnOk result (self.new.last ≡ last_with self.old.closed.items self.old.last at
+            (pile_at self.old.closed.items self.old.last at ++ dead ∷ [])) }
+    {
+        let mut pile = self.replace(at, Pile::new(alloc));
+        pile.push(alloc, dead)?;
+        let _none = self.replace(at, pile);
+        Ok(())
+    }
+
+    /// Puts an entry into the segment that its birth lies in.
+    pub fn place(&mut self, alloc: Global, dead: Dead) -> Result<(), AllocError>
+        requires { IsCut self.old }
+        ensures entries { OnOk result
+            (IsPermutation (entries_of self.old ++ dead ∷ []) (entries_of self.new)) }
+        ensures cuts { OnOk result (cuts_of self.new ≡ cuts_of self.old) }
+        ensures cut { OnOk result (IsCut self.new) }
+    {
+        let at = self.below(dead.birth.0);
+        self.put(alloc, at, dead)
+    }
+
+    /// Whether the cut stands there, where `at` segments end by it.
+    pub fn stands(&self, at: usize, cut: u64) -> bool
+        requires cut { IsCut self.now }
+        requires at { at ≡ ended cut self.now.closed.items }
+        ensures { result ≡ has_cut cut self.now.closed.items }
+    {
+        if at == 0 {
+            return false;
+        }
+        self.closed[at - 1].upper.0 == cut
+    }
+
+    /// The entries of the segment that the cut may divide, by the cut and after it, where `at` segments end by it.
+    fn divided(&self, alloc: Global, at: usize, cut: u64) -> Result<(Pile, Pile), AllocError>
+        requires cut { IsCut self.now }
+        requires at { at ≡ ended cut self.now.closed.items }
+        ensures { IfOk result
+            (λ p. (p.0 ≡ filter (is_upto cut) (pile_at self.now.closed.items self.now.last at))
+            × (p.1 ≡ filter (is_after cut) (pile_at self.now.closed.items self.now.last at))) }
+    {
+        let pile = self.pile(at);
+        if self.stands(at, cut) {
+            return Ok((Pile::new(alloc), pile.copy(alloc)?));
+        }
+        pile.divide(alloc, cut)
+    }
+
+    /// Takes out the entries born after the cut. On an error nothing is changed.
+    pub fn take_after(&mut self, alloc: Global, cut: u64) -> Result<Parts, AllocError>
+        requires { IsCut self.old }
+        ensures kept { OnOk result (entries_of self.new ≡ filter (is_upto cut) (entries_of self.old)) }
+        ensures kept_cuts { OnOk result
+            (cuts_of self.new ≡ filter (λ c. nat_le c cut) (cuts_of self.old)) }
+        ensures kept_cut { OnOk result (IsCut self.new) }
+        ensures taken { IfOk result
+            (λ p. entries_of p ≡ filter (is_after cut) (entries_of self.old)) }
+        ensures taken_cuts { IfOk result
+            (λ p. cuts_of p ≡ filter (λ c. nat_lt cut c) (cuts_of self.old)) }
+        ensures taken_cut { IfOk result (λ p. IsCut p) }
+        ensures err_closed { OnErr result (self.new.closed.items ≡ self.old.closed.items) }
+        ensures err_last { OnErr result (self.new.last ≡ self.old.last) }
+    {
+        let at = self.upto(cut);
+        let (low, high) = self.divided(alloc, at, cut)?;
+        let closed = self.closed.split_off(at)?;
+        let last = mem::replace(&mut self.last, low);
+        let mut taken = Parts { closed, last };
+        let _whole = taken.replace(0, high);
+        Ok(taken)
+    }
+
+    /// Sets a cut, where it doesn't stand. On an error nothing is changed.
+    pub fn cut(&mut self, alloc: Global, group: Group) -> Result<(), AllocError>
+        requires { IsCut self.old }
+        ensures entries { OnOk result (IsPermutation (entries_of self.old) (entries_of self.new)) }
+        ensures cuts { OnOk result (cuts_of self.new ≡ with_cut group.0 (cuts_of self.old)) }
+        ensures cut { OnOk result (IsCut self.new) }
+        ensures err_closed { OnErr result (self.new.closed.items ≡ self.old.closed.items) }
+        ensures err_last { OnErr result (self.new.last ≡ self.old.last) }
+    {
+        let at = self.upto(group.0);
+        if self.stands(at, group.0) {
+            return Ok(());
+        }
+        let (pile, high) = self.divided(alloc, at, group.0)?;
+        self.closed.insert(at, Segment { upper: group, pile })?;
+        let _whole = self.replace(at + 1, high);
+        Ok(())
+    }
+
+    /// Removes a cut, where it stands. On an error nothing is changed.
+    pub fn join(&mut self, alloc: Global, group: Group) -> Result<(), AllocError>
+        requires { IsCut self.old }
+        ensures entries { OnOk result (entries_of self.new ≡ entries_of self.old) }
+        ensures cuts { OnOk result (cuts_of self.new ≡ without_cut group.0 (cuts_of self.old)) }
+        ensures cut { OnOk result (IsCut self.new) }
+        ensures err_closed { OnErr result (self.new.closed.items ≡ self.old.closed.items) }
+        ensures err_last { OnErr result (self.new.last ≡ self.old.last) }
+    {
+        let at = self.upto(group.0);
+        if !self.stands(at, group.0) {
+            return Ok(());
+        }
+        let mut low = self.pile(at - 1).copy(alloc)?;
+        let mut high = self.pile(at).copy(alloc)?;
+        low.add(alloc, &mut high)?;
+        let _segment = self.closed.remove(at - 1);
+        let _whole = self.replace(at - 1, low);
+        Ok(())
+    }
+}
