@@ -5,5 +5,3 @@ pub mod entry;
 pub mod laws;
 pub mod reply;
 pub mod request;
-#[cfg(test)]
-mod tests;
