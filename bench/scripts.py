@@ -49,6 +49,16 @@ def rewrites(count):
         yield "get referenced p"
 
 
+def syncs(leaves, rounds, writes):
+    """Leaf after leaf, and then rounds of writes to random ones of them with a sync at the end of each."""
+    yield from fill(leaves)
+    source = random.Random(f"syncs:{leaves}")
+    for i in range(rounds):
+        for _ in range(writes):
+            yield f"write p {place(source.randrange(leaves))} {i & 0xffffffff:08x}"
+        yield "sync"
+
+
 def main():
     options = argparse.ArgumentParser(description=__doc__, formatter_class=argparse.RawDescriptionHelpFormatter)
     options.add_argument("folder", type=Path)
@@ -65,6 +75,11 @@ def main():
         "fill-1M": fill(min(LEAVES, scaled(1_000_000))),
         "reads-1M": reads(scaled(100_000), scaled(1_000_000)),
         "rewrites-500k": rewrites(scaled(500_000)),
+        # 937,500 leaves are 1,000,002 blocks, and 9,375 leaves are 10,003.
+        "syncs-1M-blocks": syncs(scaled(937_500), scaled(2_000), 100),
+        "syncs-10k-blocks": syncs(scaled(9_375), scaled(2_000), 100),
+        "bare-syncs-1M-blocks": syncs(scaled(937_500), scaled(100_000), 0),
+        "bare-syncs-10k-blocks": syncs(scaled(9_375), scaled(100_000), 0),
     }
     for name, lines in scripts.items():
         with open(options.folder / f"{name}.script", "w", buffering=1 << 20) as file:

@@ -5,7 +5,7 @@ use Rattle.std.specs.Option.{option_map}
 use Rattle.std.specs.FinMap.{get, insert, entries, keys, from_entries}
 use Rattle.std.specs.FinMap as finmap
 use Rattle.base.specs.declared.number.Key.{Key}
-use Rattle.base.specs.Key.{covers, path}
+use Rattle.base.specs.Key.{covers, path, object_of}
 use Rattle.base.specs.Map.{Cell, Map, Contents, contents}
 
 -- the leaves that a change writes, each with its bytes, and those that it punches; none is in both (profile)
@@ -20,6 +20,10 @@ writes_leaf leaf bytes = record { writes = insert finmap.empty leaf bytes; punch
 -- one leaf punched (profile)
 abbrev pub punches_leaf : ℕ → Changes
 punches_leaf leaf = record { writes = finmap.empty; punches = λ n. n == leaf }
+
+-- every block of one object punched (profile)
+abbrev pub frees_object : ℕ → Changes
+frees_object object = record { writes = finmap.empty; punches = λ n. object_of n == object }
 
 -- the contents once the changes are made (profile)
 unfoldable pub changed_contents : Contents → Changes → Contents

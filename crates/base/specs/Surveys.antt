@@ -1,5 +1,5 @@
 -- What a change of a map drops and makes, as lists of blocks and keys.
-use Rattle.std.specs.Prelude.{◌≡◌, ◌⊎◌, ◌↔◌, ◌≤◌, ℕ, true, List, [], ◌∷◌, IsSome, Some}
+use Rattle.std.specs.Prelude.{◌≡◌, ◌⊎◌, ◌↔◌, ◌≤◌, true, List, [], ◌∷◌, IsSome, Some}
 use Rattle.std.specs.FinMap.{get}
 use Rattle.base.specs.declared.number.Key.{Key}
 use Rattle.base.specs.declared.number.Dead.{Dead}

@@ -4,8 +4,10 @@ ghost use Rattle.std.specs.Io.Buffered.{reader_inner, writer_inner};
 ghost use Rattle.std.specs.Borrow.{sem};
 ghost use Rattle.std.specs.Io.{ReadsAtMost, WritesAtMost, StartsWith};
 ghost use Rattle.std.specs.Io.KnownBytes.{Appends, Keeps, ReadConsumes, WriteAppends};
-ghost use Rattle.base.specs.Failing.{HasRisen};
+ghost use Rattle.std.specs.IoError.{error_kind};
+ghost use Rattle.base.specs.Failing.{IsCountedKind, IsCountedCall};
 
+use crate::meter::one_more;
 use std::alloc::Allocator;
 use std::io;
 use std::io::{BufRead, BufReader, BufWriter, ErrorKind, Read, Write};
@@ -77,10 +79,11 @@ impl<R: Read> Read for Counted<R> {
     fn read(&mut self, buf: &mut [u8]) -> io::Result<usize>
         ensures bound { ReadsAtMost result buf.new }
         ensures bytes { ReadConsumes (R.remaining self.old.inner) (R.remaining self.new.inner) result buf.new }
+        ensures count { IsCountedCall result self.old.count self.new.count }
     {
         let result = self.inner.read(buf);
         if let Err(e) = &result {
-            self.count = one_more(self.count, e);
+            self.count = count_after(self.count, e);
         }
         result
     }
@@ -92,30 +95,33 @@ impl<W: Write> Write for Counted<W> {
     fn write(&mut self, buf: &[u8]) -> io::Result<usize>
         ensures bound { WritesAtMost result buf.now }
         ensures bytes { WriteAppends (W.contents self.old.inner) (W.contents self.new.inner) result buf.now }
+        ensures count { IsCountedCall result self.old.count self.new.count }
     {
         let result = self.inner.write(buf);
         if let Err(e) = &result {
-            self.count = one_more(self.count, e);
+            self.count = count_after(self.count, e);
         }
         result
     }
 
     fn flush(&mut self) -> io::Result<()>
         ensures bytes { Keeps (W.contents self.old.inner) (W.contents self.new.inner) }
+        ensures count { IsCountedCall result self.old.count self.new.count }
     {
         let result = self.inner.flush();
         if let Err(e) = &result {
-            self.count = one_more(self.count, e);
+            self.count = count_after(self.count, e);
         }
         result
     }
 
     fn write_all(&mut self, buf: &[u8]) -> io::Result<()>
         ensures bytes { OnOk result (Appends (W.contents self.old.inner) (W.contents self.new.inner) buf.now) }
+        ensures count { IsCountedCall result self.old.count self.new.count }
     {
         let result = self.inner.write_all(buf);
         if let Err(e) = &result {
-            self.count = one_more(self.count, e);
+            self.count = count_after(self.count, e);
         }
         result
     }
@@ -127,7 +133,7 @@ impl<B: BufRead> BufRead for Counted<B> {
     // It looks twice: once for a failure, and once for the bytes, which the first look has left in the buffer.
     fn fill_buf(&mut self) -> io::Result<&[u8]> {
         if let Err(e) = self.inner.fill_buf() {
-            self.count = one_more(self.count, &e);
+            self.count = count_after(self.count, &e);
             return Err(e);
         }
         self.inner.fill_buf()
@@ -138,11 +144,13 @@ impl<B: BufRead> BufRead for Counted<B> {
     }
 }
 
-// The count after one more failure, unless it was want of memory.
-fn one_more(count: u64, e: &io::Error) -> u64 {
+// The count after a failure: one more, unless it was want of memory.
+fn count_after(count: u64, e: &io::Error) -> u64
+    ensures { IsCountedKind (error_kind e.now) count result }
+{
     if e.kind() == ErrorKind::OutOfMemory {
         count
     } else {
-        count.saturating_add(1)
+        one_more(count)
     }
 }

@@ -86,7 +86,7 @@ impl SegMeter {
 
 // The next count, or the same at the greatest.
 #[tactic(auto, unfolding(crate::specs::Counting::counted, crate::specs::Counting::most))]
-fn one_more(count: u64) -> u64
+pub(crate) fn one_more(count: u64) -> u64
     ensures { result ≡ counted count 1 }
 {
     count.saturating_add(1)

@@ -1,5 +1,5 @@
 //! The dead list of a dataset.
-ghost use Rattle.std.specs.Prelude.{◌≡◌, ◌+◌, ◌≤◌, ◌<◌, ◌++◌, ◌∷◌, [], length, filter, map, OnOk, OnErr, IfOk, IfErr, MatchResult, nat_le, nat_lt, ◌==◌, if◌then◌else◌};
+ghost use Rattle.std.specs.Prelude.{◌≡◌, ◌+◌, ◌≤◌, ◌<◌, ◌++◌, ◌∷◌, [], length, filter, map, OnOk, OnErr, IfOk, IfErr, IsOk, MatchResult, nat_le, nat_lt, ◌==◌, if◌then◌else◌, true, false};
 ghost use Rattle.std.specs.List.{list_any};
 ghost use Rattle.std.specs.List.Sorted.{IsPermutation, IsStrictlyIncreasing};
 ghost use Rattle.base.specs.Counting.{counted};
@@ -25,8 +25,8 @@ const FEW: usize = 64;
 /// dead lists), in segments: a cut at a group divides the entries born by it from those born after it. The cuts rise, and the
 /// last segment is open upwards.
 ///
-/// New entries stand behind the segments until a `reserve` sorts them in. A copy shares the segments' full chunks, so that it
-/// costs the segments and the few entries that aren't in a full chunk.
+/// New entries stand behind the segments until a `reserve`, or an `append` of the list, sorts them in. A copy shares the
+/// segments' full chunks, so that it costs the segments and the few entries that aren't in a full chunk.
 #[derive(Drop)]
 pub struct Deadlist {
     parts: Parts,
@@ -98,7 +98,7 @@ impl Deadlist {
         if n as u64 > u64::MAX - self.count {
             return Err(Refusal::NoMemory);
         }
-        if self.fresh.len() < self.limit {
+        if self.fresh.len() < self.limit.max(self.parts.closed.len()) {
             self.fresh.reserve(n)?;
             return Ok(());
         }
@@ -121,8 +121,8 @@ impl Deadlist {
         self.count += 1;
     }
 
-    /// Adds the other's entries and cuts, whole segments where the cuts agree; the meter counts the segments of both. 25 where
-    /// memory is refused, and then the other is handed back, and both are unchanged.
+    /// Adds the other's entries and cuts: whole segments where the cuts agree, and its new entries by a binary search each. The meter
+    /// counts the segments of both. 25 where memory is refused, and then the other is handed back, and both are unchanged.
     pub fn append(
         &mut self,
         other: Deadlist,
@@ -157,8 +157,7 @@ impl Deadlist {
         };
         let mut parts = self.parts.copy(self.alloc)?;
         parts.merge(self.alloc, &other.parts)?;
-        self.fresh.reserve(other.fresh.len())?;
-        self.fresh.extend_from_slice(other.fresh.as_slice())?;
+        parts.place_all(self.alloc, other.fresh.as_slice())?;
         self.parts = parts;
         self.count = count;
         Ok(())
@@ -227,11 +226,12 @@ impl Deadlist {
         self.parts.closed.len() + 1
     }
 
-    /// Sets a cut, where it doesn't stand; the meter then counts the segment that it divides, whose entries are gone through. 25 where memory is refused, and then
-    /// nothing is changed.
+    /// Sets a cut, where it doesn't stand; the meter then counts the segment that it divides, whose entries are gone through. 25 where
+    /// memory is refused, and then nothing is changed. Where the cut stands it takes no memory.
     pub fn cut(&mut self, group: Group, meter: &mut SegMeter) -> Result<(), Refusal>
         ensures entries { IsPermutation self.old.entries self.new.entries }
         ensures cuts { OnOk result (self.new.cuts ≡ with_cut group.0 self.old.cuts) }
+        ensures stands { list_any (λ c. c == group.0) self.old.cuts ≡ true → IsOk result }
         ensures room { self.new.room ≡ self.old.room }
         ensures unchanged { OnErr result (self.new ≡ self.old) }
         ensures err { IfErr result (λ e. e ≡ NoMemory) }
@@ -248,10 +248,11 @@ impl Deadlist {
     }
 
     /// Removes a cut, where it stands; the meter then counts the two segments that become one. 25 where memory is refused, and then
-    /// nothing is changed.
+    /// nothing is changed. Where the cut doesn't stand it takes no memory.
     pub fn join(&mut self, group: Group, meter: &mut SegMeter) -> Result<(), Refusal>
         ensures entries { self.new.entries ≡ self.old.entries }
         ensures cuts { OnOk result (self.new.cuts ≡ without_cut group.0 self.old.cuts) }
+        ensures absent { list_any (λ c. c == group.0) self.old.cuts ≡ false → IsOk result }
         ensures room { self.new.room ≡ self.old.room }
         ensures unchanged { OnErr result (self.new ≡ self.old) }
         ensures err { IfErr result (λ e. e ≡ NoMemory) }

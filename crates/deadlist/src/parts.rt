@@ -1,5 +1,5 @@
 //! Segments of a dead list.
-ghost use Rattle.std.specs.Prelude.{◌≡◌, ◌+◌, ◌≤◌, ◌<◌, ◌++◌, ◌∷◌, [], length, filter, OnOk, OnErr, IfOk, vec_len, nat_le, nat_lt};
+ghost use Rattle.std.specs.Prelude.{◌≡◌, ◌+◌, ◌≤◌, ◌<◌, ◌++◌, ◌∷◌, [], length, filter, OnOk, OnErr, IfOk, IsOk, vec_len, nat_le, nat_lt, true, false};
 ghost use Rattle.std.specs.List.Sorted.{IsPermutation};
 ghost use Rattle.deadlist.specs.Entries.{is_after, is_upto};
 ghost use Rattle.deadlist.specs.Segments.{IsCut, entries_of, cuts_of, ended, begun, has_cut, with_cut, without_cut, pile_at, with_pile, last_with};
@@ -174,6 +174,7 @@ impl Parts {
         ensures entries { OnOk result (IsPermutation (entries_of self.old) (entries_of self.new)) }
         ensures cuts { OnOk result (cuts_of self.new ≡ with_cut group.0 (cuts_of self.old)) }
         ensures cut { OnOk result (IsCut self.new) }
+        ensures stands { has_cut group.0 self.old.closed.items ≡ true → IsOk result }
         ensures err_closed { OnErr result (self.new.closed.items ≡ self.old.closed.items) }
         ensures err_last { OnErr result (self.new.last ≡ self.old.last) }
     {
@@ -193,6 +194,7 @@ impl Parts {
         ensures entries { OnOk result (entries_of self.new ≡ entries_of self.old) }
         ensures cuts { OnOk result (cuts_of self.new ≡ without_cut group.0 (cuts_of self.old)) }
         ensures cut { OnOk result (IsCut self.new) }
+        ensures absent { has_cut group.0 self.old.closed.items ≡ false → IsOk result }
         ensures err_closed { OnErr result (self.new.closed.items ≡ self.old.closed.items) }
         ensures err_last { OnErr result (self.new.last ≡ self.old.last) }
     {

@@ -19,6 +19,13 @@ fn meter() -> SegMeter {
     SegMeter::new(Toll::new())
 }
 
+fn dead_of(block: u32, birth: u64) -> Dead {
+    Dead {
+        block: BlockNo(block),
+        birth: Group(birth),
+    }
+}
+
 impl Pair {
     fn new(alloc: Global) -> Pair {
         Pair {
@@ -29,13 +36,21 @@ impl Pair {
     }
 
     fn push(&mut self, block: u32, birth: u64) -> Result<(), Fail> {
-        let dead = Dead {
-            block: BlockNo(block),
-            birth: Group(birth),
-        };
+        let dead = dead_of(block, birth);
         self.list.reserve(1)?;
         self.list.push_reserved(dead);
         self.entries.push(dead)?;
+        Ok(())
+    }
+
+    /// Two pushes into room that one `reserve` made.
+    fn push_two(&mut self, block: u32, births: [u64; 2]) -> Result<(), Fail> {
+        let [one, other] = births;
+        self.list.reserve(2)?;
+        self.list.push_reserved(dead_of(block, one));
+        self.list.push_reserved(dead_of(block, other));
+        self.entries.push(dead_of(block, one))?;
+        self.entries.push(dead_of(block, other))?;
         Ok(())
     }
 
@@ -50,13 +65,22 @@ impl Pair {
         Ok(())
     }
 
-    fn cut(&mut self, cut: u64) -> Result<(), Fail> {
-        self.list.cut(Group(cut), &mut meter())?;
+    /// How many of the cuts lie after the group.
+    fn cuts_after(&self, group: u64) -> u64 {
+        self.cuts.iter().filter(|c| **c > group).count() as u64
+    }
+
+    fn cut(&mut self, rt: &impl Abort, cut: u64) -> Result<(), Fail> {
+        let mut meter = meter();
+        self.list.cut(Group(cut), &mut meter)?;
+        assert_eq!(rt; meter.count(), u64::from(!self.has(cut)));
         self.note_cut(cut)
     }
 
-    fn join(&mut self, cut: u64) -> Result<(), Fail> {
-        self.list.join(Group(cut), &mut meter())?;
+    fn join(&mut self, rt: &impl Abort, cut: u64) -> Result<(), Fail> {
+        let mut meter = meter();
+        self.list.join(Group(cut), &mut meter)?;
+        assert_eq!(rt; meter.count(), if self.has(cut) { 2 } else { 0 });
         self.cuts.retain(|c| *c != cut);
         Ok(())
     }
@@ -72,8 +96,10 @@ impl Pair {
         })
     }
 
-    fn take_after(&mut self, alloc: Global, cut: u64) -> Result<Pair, Fail> {
-        let list = self.list.take_after(Group(cut), &mut meter())?;
+    fn take_after(&mut self, rt: &impl Abort, alloc: Global, cut: u64) -> Result<Pair, Fail> {
+        let mut meter = meter();
+        let list = self.list.take_after(Group(cut), &mut meter)?;
+        assert_eq!(rt; meter.count(), self.cuts_after(cut).wrapping_add(1));
         self.part(alloc, cut, list)
     }
 
@@ -92,20 +118,23 @@ impl Pair {
         })
     }
 
-    fn append(&mut self, other: Pair) -> Result<(), Fail> {
+    fn append(&mut self, rt: &impl Abort, other: Pair) -> Result<(), Fail> {
         let Pair {
             list,
             entries,
             cuts,
         } = other;
+        let mut meter = meter();
+        let segments = self.cuts.len().wrapping_add(cuts.len()).wrapping_add(2);
+        if let Err((refusal, _list)) = self.list.append(list, &mut meter) {
+            return Err(refusal.into());
+        }
+        assert_eq!(rt; meter.count(), segments as u64);
         self.entries.extend_from_slice(entries.as_slice())?;
         for cut in &cuts {
             self.note_cut(*cut)?;
         }
-        match self.list.append(list, &mut meter()) {
-            Ok(()) => Ok(()),
-            Err((refusal, _list)) => Err(refusal.into()),
-        }
+        Ok(())
     }
 
     fn found(&self, alloc: Global) -> Result<Vec<Dead>, Fail> {
@@ -129,9 +158,8 @@ impl Pair {
         let mut meter = meter();
         let space = self.list.space_after(Group(cut), &mut meter);
         let want = self.entries.iter().filter(|d| d.birth.0 > cut).count() as u64;
-        let ends = self.cuts.iter().filter(|c| **c > cut).count() as u64;
         assert_eq!(rt; space, want);
-        assert_eq!(rt; meter.count(), ends.wrapping_add(1));
+        assert_eq!(rt; meter.count(), self.cuts_after(cut).wrapping_add(1));
     }
 
     fn check_upto(&self, rt: &impl Abort, cut: u64) {
@@ -161,24 +189,30 @@ fn next(seed: u64) -> u64 {
 }
 
 /// One pseudo-random call; what was put aside comes back.
-fn step(pair: &mut Pair, aside: Pair, alloc: Global, block: u32, seed: u64) -> Result<Pair, Fail> {
+fn step(
+    rt: &impl Abort,
+    alloc: Global,
+    pair: &mut Pair,
+    aside: Pair,
+    block: u32,
+    seed: u64,
+) -> Result<Pair, Fail> {
     let at = (seed >> 33) % 40;
     match (seed >> 20) % 12 {
-        0 => pair.cut(at)?,
-        1 => pair.join(at)?,
+        0 => pair.cut(rt, at)?,
+        1 => pair.join(rt, at)?,
         2 => {
-            let mut taken = pair.take_after(alloc, at)?;
-            taken.append(aside)?;
+            let mut taken = pair.take_after(rt, alloc, at)?;
+            taken.append(rt, aside)?;
             return Ok(taken);
         }
         3 => {
-            pair.append(aside)?;
+            pair.append(rt, aside)?;
             return Ok(Pair::new(alloc));
         }
-        _ => {
-            pair.push(block, at)?;
-            pair.push(block, (seed >> 40) % 40)?;
-        }
+        4 => *pair = pair.copy(alloc)?,
+        5 => pair.push(block, at)?,
+        _ => pair.push_two(block, [at, (seed >> 40) % 40])?,
     }
     Ok(aside)
 }
@@ -189,7 +223,7 @@ fn walk(rt: &impl Abort, alloc: Global, start: u64) -> Result<(), Fail> {
     let mut seed = start;
     for block in 0..300u32 {
         seed = next(seed);
-        aside = step(&mut pair, aside, alloc, block, seed)?;
+        aside = step(rt, alloc, &mut pair, aside, block, seed)?;
         pair.check(rt, alloc, (seed >> 33) % 40)?;
     }
     aside.check(rt, alloc, 20)
@@ -207,53 +241,45 @@ fn agrees_with_a_plain_list(rt: HostRuntime) -> Result<(), Fail> {
 fn fills_and_shares_chunks(rt: HostRuntime) -> Result<(), Fail> {
     let alloc = rt.alloc();
     let mut pair = Pair::new(alloc);
-    pair.cut(5)?;
-    pair.cut(2)?;
+    pair.cut(&rt, 5)?;
+    pair.cut(&rt, 2)?;
     for block in 0..3000u32 {
         pair.push(block, u64::from(block % 9))?;
     }
     let mut copy = pair.copy(alloc)?;
     pair.push(1, 7)?;
-    pair.join(5)?;
+    pair.join(&rt, 5)?;
     pair.check(&rt, alloc, 3)?;
     copy.check(&rt, alloc, 5)?;
-    let taken = copy.take_after(alloc, 2)?;
+    let taken = copy.take_after(&rt, alloc, 2)?;
     assert_eq!(rt; taken.list.segments(), 2);
-    copy.append(taken)?;
+    copy.append(&rt, taken)?;
     copy.check(&rt, alloc, 4)
 }
 
-#[test]
-fn counts_the_segments_of_cuts(rt: HostRuntime) -> Result<(), Fail> {
-    let mut meter = meter();
-    let mut list = Deadlist::new(rt.alloc());
-    list.cut(Group(5), &mut meter)?;
-    list.cut(Group(5), &mut meter)?;
-    assert_eq!(rt; meter.count(), 1);
-    list.join(Group(4), &mut meter)?;
-    list.join(Group(5), &mut meter)?;
-    assert_eq!(rt; meter.count(), 3);
-    Ok(())
-}
-
 fn cut_refused(rt: &impl Abort, alloc: Global, pair: &mut Pair, at: u64) -> Result<(), Fail> {
-    if let Err(refusal) = pair.list.cut(Group(at), &mut meter()) {
-        assert_eq!(rt; refusal.number(), 25);
-        pair.check(rt, alloc, at)?;
+    match pair.list.cut(Group(at), &mut meter()) {
+        Ok(()) => pair.note_cut(at),
+        Err(refusal) => {
+            assert_eq!(rt; refusal.number(), 25);
+            pair.check(rt, alloc, at)?;
+            pair.cut(rt, at)
+        }
     }
-    pair.cut(at)
 }
 
 fn join_refused(rt: &impl Abort, alloc: Global, pair: &mut Pair, at: u64) -> Result<(), Fail> {
     if let Err(refusal) = pair.list.join(Group(at), &mut meter()) {
         assert_eq!(rt; refusal.number(), 25);
         pair.check(rt, alloc, at)?;
+        return pair.join(rt, at);
     }
-    pair.join(at)
+    pair.cuts.retain(|c| *c != at);
+    Ok(())
 }
 
-fn reserve_refused(rt: &impl Abort, alloc: Global, pair: &mut Pair) -> Result<(), Fail> {
-    if let Err(refusal) = pair.list.reserve(1000) {
+fn reserve_refused(rt: &impl Abort, alloc: Global, pair: &mut Pair, n: usize) -> Result<(), Fail> {
+    if let Err(refusal) = pair.list.reserve(n) {
         assert_eq!(rt; refusal.number(), 25);
         pair.check(rt, alloc, 3)?;
     }
@@ -266,7 +292,7 @@ fn take_refused(rt: &impl Abort, alloc: Global, pair: &mut Pair) -> Result<Pair,
         Err(refusal) => {
             assert_eq!(rt; refusal.number(), 25);
             pair.check(rt, alloc, 4)?;
-            pair.take_after(alloc, 4)
+            pair.take_after(rt, alloc, 4)
         }
     }
 }
@@ -294,9 +320,10 @@ fn is_unchanged_where_memory_is_refused(rt: HostRuntime) -> Result<(), Fail> {
     let alloc = rt.alloc();
     let mut pair = Pair::new(alloc);
     for block in 0..150u32 {
+        reserve_refused(&rt, alloc, &mut pair, 1)?;
         pair.push(block, u64::from(block % 9))?;
     }
-    reserve_refused(&rt, alloc, &mut pair)?;
+    reserve_refused(&rt, alloc, &mut pair, 1000)?;
     cut_refused(&rt, alloc, &mut pair, 3)?;
     cut_refused(&rt, alloc, &mut pair, 6)?;
     join_refused(&rt, alloc, &mut pair, 3)?;

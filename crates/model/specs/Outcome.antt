@@ -1,5 +1,5 @@
 -- What each request does to the pool where it isn't refused (the zfs-SUBCOMMAND(8) page of each; groups and the sweep are profile).
-use Rattle.std.specs.Prelude.{ℕ, Bool, true, false, not, ◌&&◌, ◌||◌, List, length, map, nat_lt, if◌then◌else◌}
+use Rattle.std.specs.Prelude.{ℕ, ◌+◌, Bool, true, false, not, ◌&&◌, ◌||◌, List, length, map, nat_lt, if◌then◌else◌}
 use Rattle.std.specs.List.{filter}
 use Rattle.std.specs.Option.{option_map_or}
 use Rattle.std.specs.FinMap.{entries, insert, from_entries}
@@ -8,10 +8,10 @@ use Rattle.base.specs.declared.number.Key.{Key}
 use Rattle.base.specs.declared.name.Target.{Target}
 use Rattle.base.specs.declared.name.Target.TheVariants.{FileSystem as OfFileSystem, Snapshot as OfSnapshot, Bookmark as OfBookmark}
 use Rattle.base.specs.Key.{leaf_index}
-use Rattle.base.specs.Rewrite.{Changes, rewrite, writes_leaf}
+use Rattle.base.specs.Rewrite.{Changes, rewrite, writes_leaf, punches_leaf, frees_object}
 use Rattle.model.specs.declared.request.Request.{Request}
-use Rattle.model.specs.declared.request.Request.TheVariants.{Write, Read, Get}
-use Rattle.model.specs.World.{World, FileSystem, Snap, id_of, file_system_at, union_of, clones_of}
+use Rattle.model.specs.declared.request.Request.TheVariants.{Create, Write, Punch, FreeObject, Read, Get, PoolGet, List as ListNames, Sync}
+use Rattle.model.specs.World.{World, FileSystem, Snap, id_of, empty_file_system, file_system_at, union_of, clones_of}
 use Rattle.model.specs.State.{State, has_view}
 
 -- ---- worlds
@@ -29,9 +29,17 @@ with_file_systems w change = record w { file_systems = from_entries (map (λ e. 
 abbrev pub with_losses : World → World → World
 with_losses old new = record new { freeing = set.union new.freeing (set.difference (union_of old) (union_of new)) }
 
+-- one file system more, with nothing in it (zfs-create(8))
+abbrev pub with_new_file_system : World → List ℕ → World
+with_new_file_system w name = record w { file_systems = insert w.file_systems name empty_file_system }
+
 -- a live map rewritten, with new blocks of these numbers, born in the open group (On-Disk Specification, chapter 2: birth)
 abbrev pub after_change : World → List ℕ → Changes → (Key → ℕ) → World
 after_change w name c number = with_file_system w name (λ s. record s { live = rewrite s.live c w.group number })
+
+-- the next group opened (profile)
+abbrev pub with_next_group : World → World
+with_next_group w = record w { group = w.group + 1 }
 
 -- snapshots gone (zfs-destroy(8))
 abbrev pub without_snaps : World → (Snap → Bool) → World
@@ -55,10 +63,16 @@ state_after_change s (OfBookmark m) c choice = s
 
 -- the state after a request that isn't refused, before the sweep (the page of each subcommand)
 unfoldable pub state_before_sweep : State → Choice → Request → State
+state_before_sweep s c (Create name) = with_now s (with_new_file_system s.now name)
 state_before_sweep s c (Write target object block bytes) =
     state_after_change s target (writes_leaf (leaf_index object block) bytes) c
+state_before_sweep s c (Punch target object block) = state_after_change s target (punches_leaf (leaf_index object block)) c
+state_before_sweep s c (FreeObject target object) = state_after_change s target (frees_object object) c
 state_before_sweep s c (Read target object block) = s
 state_before_sweep s c (Get target property) = s
+state_before_sweep s c (PoolGet property) = s
+state_before_sweep s c ListNames = s
+state_before_sweep s c Sync = record s { now = with_next_group s.now; last = with_next_group s.now }
 
 -- ---- the sweep
 
@@ -73,9 +87,15 @@ state_after_sweep s = with_now s (with_losses s.now (without_snaps s.now (λ t. 
 
 -- the requests that only read (the page of each subcommand)
 abbrev pub only_reads : Request → Bool
+only_reads (Create name) = false
 only_reads (Write target object block bytes) = false
+only_reads (Punch target object block) = false
+only_reads (FreeObject target object) = false
 only_reads (Read target object block) = true
 only_reads (Get target property) = true
+only_reads (PoolGet property) = true
+only_reads ListNames = true
+only_reads Sync = false
 
 -- the state after a step: the change and then the sweep. A request that only reads leaves the state, which the step before it has
 -- swept (zfs-destroy(8), -d)

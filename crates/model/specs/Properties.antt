@@ -1,15 +1,22 @@
--- The values of properties, in bytes where they are sizes (zfsprops(7)).
-use Rattle.std.specs.Prelude.{ℕ, ◌*◌, List}
+-- The values of properties, in bytes where they are sizes (zfsprops(7), zpoolprops(7)).
+use Rattle.std.specs.Prelude.{ℕ, ◌*◌, List, ◌∷◌, ◌++◌, map}
+use Rattle.std.specs.List.{flat_map}
+use Rattle.std.specs.declared.cmp.Ordering.{Ordering}
+use Rattle.std.specs.Ordering.{nat_cmp, ordering_then}
+use Rattle.std.specs.FinMap.{entries, keys, from_entries}
 use Rattle.std.specs.Option.{option_map_or}
 use Rattle.base.specs.declared.name.Target.{Target}
 use Rattle.base.specs.declared.name.Target.TheVariants.{FileSystem as OfFileSystem, Snapshot as OfSnapshot, Bookmark as OfBookmark}
 use Rattle.model.specs.declared.request.Property.{Property}
 use Rattle.model.specs.declared.request.Property.TheVariants.{Referenced}
+use Rattle.model.specs.declared.request.PoolProperty.{PoolProperty}
+use Rattle.model.specs.declared.request.PoolProperty.TheVariants.{Size as PoolSize, Allocated, Free, Freeing, Waiting, Group}
 use Rattle.model.specs.declared.reply.Value.{Value}
-use Rattle.model.specs.declared.reply.Value.TheVariants.{Size, NotApplicable}
-use Rattle.model.specs.World.{World, Snap, Live, Snapped, id_of, file_system_at, snap_named}
+use Rattle.model.specs.declared.reply.Value.TheVariants.{Size, Number, NotApplicable}
+use Rattle.base.specs.Names.{name_cmp, snap_text, mark_text}
+use Rattle.model.specs.World.{World, FileSystem, Snap, Live, Snapped, id_of, file_system_at, snap_named}
 use Rattle.model.specs.State.{State}
-use Rattle.model.specs.Sums.{referenced_of}
+use Rattle.model.specs.Sums.{referenced_of, allocated_of, free_of, freeing_of, waiting_count}
 
 -- a size in bytes, 512 a block (profile)
 abbrev pub in_bytes : ℕ → Value
@@ -29,3 +36,32 @@ property_value s (OfFileSystem name) property =
     option_map_or (λ _. file_system_value s.now name property) (file_system_at s.now name) NotApplicable
 property_value s (OfSnapshot m) property = option_map_or (λ t. snap_value s.now t property) (snap_named s.now m) NotApplicable
 property_value s (OfBookmark m) property = NotApplicable
+
+-- a property of the pool (zpoolprops(7); waiting and the group are profile)
+unfoldable pub pool_value : State → PoolProperty → Value
+pool_value s PoolSize = in_bytes s.size
+pool_value s Allocated = in_bytes (allocated_of s)
+pool_value s Free = in_bytes (free_of s)
+pool_value s Freeing = in_bytes (freeing_of s)
+pool_value s Waiting = in_bytes (waiting_count s)
+pool_value s Group = Number s.now.group
+
+-- ---- names
+
+-- by creation group, and then by name (profile)
+abbrev pub bookmark_cmp : ℕ × List ℕ → ℕ × List ℕ → Ordering
+bookmark_cmp a b = ordering_then (nat_cmp a.0 b.0) (name_cmp a.1 b.1)
+
+-- the names of a file system's bookmarks in that order (zfs-bookmark(8); the order is profile)
+abbrev pub bookmarks_in_order : FileSystem → List (List ℕ)
+bookmarks_in_order s = map (λ k. k.1) (keys (from_entries {R = bookmark_cmp} (map (λ e. ((e.1.group, e.0), e.0)) (entries s.bookmarks))))
+
+-- a file system's own name, its snapshots in order of creation group, and its bookmarks (zfs-list(8); the order is profile)
+abbrev pub names_of : List ℕ × FileSystem → List (List ℕ)
+names_of e =
+    e.0 ∷ (map (λ t. snap_text (record { file_system = e.0; component = t.name })) e.1.snaps
+    ++ map (λ b. mark_text (record { file_system = e.0; component = b })) (bookmarks_in_order e.1))
+
+-- all names, of the file systems in byte order (zfs-list(8); the order is profile)
+unfoldable pub all_names : World → List (List ℕ)
+all_names w = flat_map names_of (entries w.file_systems)

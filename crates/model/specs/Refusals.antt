@@ -1,16 +1,17 @@
 -- Which refusal a request gets: the first of its row whose condition holds (the conditions are those of the zfs-SUBCOMMAND(8)
 -- pages; numbers and order are profile).
-use Rattle.std.specs.Prelude.{ℕ, ◌+◌, ◌*◌, Bool, true, false, not, ◌&&◌, List, [], ◌∷◌, Option, None, Some, is_some, nat_lt, if◌then◌else◌}
-use Rattle.std.specs.Option.{option_map}
-use Rattle.std.specs.FinMap.{contains_key}
+use Rattle.std.specs.Prelude.{ℕ, ◌+◌, ◌-◌, ◌*◌, ◌^◌, Bool, true, false, not, ◌&&◌, List, [], ◌∷◌, Option, None, Some, is_some, nat_lt, if◌then◌else◌}
+use Rattle.std.specs.Option.{option_map, option_map_or}
+use Rattle.std.specs.FinMap.{contains_key, len}
 use Rattle.base.specs.declared.number.Key.{Key}
 use Rattle.base.specs.declared.refusal.Refusal.{Refusal}
-use Rattle.base.specs.declared.refusal.Refusal.TheVariants.{NoDataset, BadKey, ReadOnly, Quota, RefQuota, NoSpace}
+use Rattle.base.specs.declared.refusal.Refusal.TheVariants.{NoDataset, Exists, NoParent, BadKey, ReadOnly, Quota, RefQuota, NoSpace, TooMany}
 use Rattle.base.specs.declared.name.Target.{Target}
 use Rattle.base.specs.declared.name.Target.TheVariants.{FileSystem as OfFileSystem, Snapshot as OfSnapshot, Bookmark as OfBookmark}
 use Rattle.base.specs.declared.name.Member.{Member}
+use Rattle.base.specs.Names.{parent_of}
 use Rattle.model.specs.declared.request.Request.{Request}
-use Rattle.model.specs.declared.request.Request.TheVariants.{Write, Read, Get}
+use Rattle.model.specs.declared.request.Request.TheVariants.{Create, Write, Punch, FreeObject, Read, Get, PoolGet, List as ListNames, Sync}
 use Rattle.model.specs.World.{Dataset, Live, Snapped, id_of, snap_named, bookmark_named}
 use Rattle.model.specs.State.{State}
 use Rattle.model.specs.Fits.{quotas_hold, refquotas_hold, pool_holds}
@@ -30,6 +31,10 @@ first_of (r ∷ rs) = if r.0 then Some r.1 else first_of rs
 -- a file system of that name is there (zfs(8))
 abbrev pub has_file_system : State → List ℕ → Bool
 has_file_system s name = contains_key s.now.file_systems name
+
+-- the file system that it would be a child of is there (zfs-create(8), without -p)
+abbrev pub has_parent : State → List ℕ → Bool
+has_parent s name = option_map_or (has_file_system s) (parent_of name) false
 
 -- a snapshot of that name is there (zfs(8))
 abbrev pub has_snap : State → Member → Bool
@@ -73,6 +78,24 @@ is_object object = nat_lt object 256
 abbrev pub is_block : ℕ → ℕ → Bool
 is_block object block = is_object object && nat_lt block 4096
 
+-- ---- limits of numbers
+
+-- of file systems in a pool, the root among them (profile)
+abbrev pub file_system_limit : ℕ
+file_system_limit = 1024
+
+-- one file system more would be too many (profile)
+abbrev pub has_no_room_for_file_system : State → Bool
+has_no_room_for_file_system s = nat_lt file_system_limit (len s.now.file_systems + 1)
+
+-- of open groups (profile)
+abbrev pub number_limit : ℕ
+number_limit = 2 ^ 63 - 1
+
+-- the open group is the last one (profile)
+abbrev pub has_no_next_group : State → Bool
+has_no_next_group s = nat_lt number_limit (s.now.group + 1)
+
 -- ---- limits of space
 
 -- numbers from the pool's size on, which no block has. Keys have six levels, so each key has a number of its own (profile)
@@ -89,6 +112,11 @@ limit_row asked = (not (quotas_hold asked.now), Quota) ∷ (not (refquotas_hold 
 
 -- ---- one row for each request
 
+-- zfs-create(8)
+abbrev pub create_row : State → List ℕ → Row
+create_row s name =
+    (has_file_system s name, Exists) ∷ (not (has_parent s name), NoParent) ∷ (has_no_room_for_file_system s, TooMany) ∷ []
+
 -- a change of a live map (profile)
 abbrev pub write_row : State → State → Target → Bool → Row
 write_row s asked target in_range =
@@ -102,11 +130,21 @@ read_row s target in_range = (not (has_dataset s target), NoDataset) ∷ (not in
 abbrev pub get_row : State → Target → Row
 get_row s target = (not (has_target s target), NoDataset) ∷ []
 
+-- zpool-sync(8); the last group is profile
+abbrev pub sync_row : State → Row
+sync_row s = (has_no_next_group s, TooMany) ∷ []
+
 -- the row of a request, with the state that its limits are asked of (profile)
 unfoldable pub row_of : State → State → Request → Row
+row_of s asked (Create name) = create_row s name
 row_of s asked (Write target object block bytes) = write_row s asked target (is_block object block)
+row_of s asked (Punch target object block) = write_row s asked target (is_block object block)
+row_of s asked (FreeObject target object) = write_row s asked target (is_object object)
 row_of s asked (Read target object block) = read_row s target (is_block object block)
 row_of s asked (Get target property) = get_row s target
+row_of s asked (PoolGet property) = []
+row_of s asked ListNames = []
+row_of s asked Sync = sync_row s
 
 -- the refusal that a request gets, if any (profile)
 unfoldable pub refusal_of : State → Request → Option Refusal

@@ -1,11 +1,13 @@
 -- Space, as the sizes of sets of blocks (zfsprops(7) and zpoolprops(7), under the property's name).
-use Rattle.std.specs.Prelude.{ℕ, zero, suc, ◌+◌, ◌-◌, List, [], ◌∷◌, max, map}
-use Rattle.std.specs.List.{sum}
+use Rattle.std.specs.Prelude.{◌≡◌, ℕ, zero, suc, ◌+◌, ◌-◌, List, [], ◌∷◌, max, map, count_by}
+use Rattle.std.specs.List.{sum, range_with_len}
 use Rattle.std.specs.Option.{unwrap_or, option_map_or}
 use Rattle.std.specs.FinMap.{len}
 use Rattle.std.specs.FinSet as set
 use Rattle.base.specs.Map.{BlockSet, blocks}
-use Rattle.model.specs.World.{World, FileSystem, Dataset, Live, file_system_at, previous_of, map_of, map_of_snap, blocks_of_all, children_of}
+use Rattle.model.specs.World.{World, FileSystem, Dataset, Live, file_system_at, previous_of, map_of, map_of_snap, blocks_of_all, reach_of, children_of}
+use Rattle.zalloc.specs.States.{is_free}
+use Rattle.model.specs.State.{State, waiting_of, block_state}
 
 -- how many blocks one set has that another hasn't (profile)
 abbrev pub size_without : BlockSet → BlockSet → ℕ
@@ -53,3 +55,23 @@ used_by_children w name = children_within w (len w.file_systems) name
 -- zfsprops(7), used, of a file system
 unfoldable pub used_of : World → List ℕ → ℕ
 used_of w name = used_here w name + used_by_children w name
+
+-- zpoolprops(7), allocated: the blocks that a dataset has or that are still to be freed
+unfoldable pub allocated_of : State → ℕ
+allocated_of s = set.len (reach_of s.now)
+
+-- zpoolprops(7), free: the numbers that no such block has, and that no block has which waits
+unfoldable pub free_of : State → ℕ
+free_of s = count_by (λ n. is_free (block_state s n)) (range_with_len 0 s.size)
+
+-- zpoolprops(7), freeing
+unfoldable pub freeing_of : State → ℕ
+freeing_of s = set.len s.now.freeing
+
+-- how many blocks wait for the next sync (profile)
+unfoldable pub waiting_count : State → ℕ
+waiting_count s = set.len (waiting_of s)
+
+-- each block of the pool is allocated, free or waiting (zpoolprops(7): size, allocated, free; waiting is profile)
+abbrev pub IsBalanced : State → Type 0
+IsBalanced s = s.size ≡ allocated_of s + free_of s + waiting_count s

@@ -3,5 +3,6 @@
 
 pub mod entry;
 pub mod laws;
+pub mod names;
 pub mod reply;
 pub mod request;

@@ -1,6 +1,7 @@
 //! What a pool answers.
 ghost use Rattle.std.specs.Prelude.{◌≡◌, ◌↔◌, IsTrue};
 
+use crate::names::Names;
 use base::refusal::Refusal;
 
 /// The value of a property.
@@ -8,6 +9,8 @@ use base::refusal::Refusal;
 pub enum Value {
     /// In bytes.
     Size(u64),
+    /// A number that is no size.
+    Number(u64),
     /// What was asked about has no such property.
     NotApplicable,
 }
@@ -19,6 +22,7 @@ impl Value {
     {
         match (self, other) {
             (Value::Size(a), Value::Size(b)) => *a == *b,
+            (Value::Number(a), Value::Number(b)) => *a == *b,
             (Value::NotApplicable, Value::NotApplicable) => true,
             _ => false,
         }
@@ -36,6 +40,10 @@ pub enum Reply {
     Data(Option<[u8; 512]>),
     /// The value of a property.
     Value(Value),
+    /// The open group that a sync leaves.
+    Group(u64),
+    /// Names of datasets or tags, in their order.
+    Names(Names),
 }
 
 impl Reply {
@@ -48,6 +56,8 @@ impl Reply {
             (Reply::Refused(a), Reply::Refused(b)) => a.same(*b),
             (Reply::Data(a), Reply::Data(b)) => are_same_data(a, b),
             (Reply::Value(a), Reply::Value(b)) => a.same(b),
+            (Reply::Group(a), Reply::Group(b)) => *a == *b,
+            (Reply::Names(a), Reply::Names(b)) => a.same(b),
             _ => false,
         }
     }

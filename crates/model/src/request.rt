@@ -1,7 +1,7 @@
 //! What a pool can be asked.
 ghost use Rattle.std.specs.Prelude.{◌≡◌, ◌↔◌, IsTrue};
 
-use base::name::Target;
+use base::name::{DsName, Target};
 
 /// What `Get` may ask of a dataset or bookmark (zfsprops(7)).
 #[derive(Clone, Copy, PartialEq, Eq, Debug)]
@@ -20,9 +20,48 @@ impl Property {
     }
 }
 
+/// What `PoolGet` may ask of a pool (zpoolprops(7); `Waiting` and `Group` are profile).
+#[derive(Clone, Copy, PartialEq, Eq, Debug)]
+pub enum PoolProperty {
+    /// All blocks of the pool, in bytes.
+    Size,
+    /// The blocks that a dataset has or that are still to be freed, in bytes.
+    Allocated,
+    /// The blocks that may be taken, in bytes.
+    Free,
+    /// The blocks that are still to be freed, in bytes.
+    Freeing,
+    /// The blocks that become free at the next sync, in bytes.
+    Waiting,
+    /// The open group, a number.
+    Group,
+}
+
+impl PoolProperty {
+    /// Whether the other is the same property.
+    pub fn same(&self, other: &PoolProperty) -> bool
+        ensures { IsTrue result ↔ (self.now ≡ other.now) }
+    {
+        match (self, other) {
+            (PoolProperty::Size, PoolProperty::Size) => true,
+            (PoolProperty::Allocated, PoolProperty::Allocated) => true,
+            (PoolProperty::Free, PoolProperty::Free) => true,
+            (PoolProperty::Freeing, PoolProperty::Freeing) => true,
+            (PoolProperty::Waiting, PoolProperty::Waiting) => true,
+            (PoolProperty::Group, PoolProperty::Group) => true,
+            _ => false,
+        }
+    }
+}
+
 /// One request to a pool.
 #[derive(Drop)]
 pub enum Request {
+    /// Makes a file system with nothing in it. The reply is Done. It is refused Exists where the name has one, NoParent where the
+    /// file system above it isn't there, TooMany where the pool has 1,024 file systems, else perhaps NoMemory.
+    Create {
+        name: DsName,
+    },
     /// Writes block `block`, 0 to 4095, of object `object`, 0 to 255. The reply is Done. It is refused NoDataset where no file
     /// system or snapshot has the name, ReadOnly where it is a snapshot's, BadKey outside those numbers, and then Quota, RefQuota
     /// or NoSpace where the limits of the pool afterwards would not hold: the first of these, or NoMemory.
@@ -31,6 +70,18 @@ pub enum Request {
         object: u32,
         block: u32,
         bytes: [u8; 512],
+    },
+    /// Makes block `block` of object `object` a hole. The reply is Done, also where it is one already. It is refused as a write
+    /// is.
+    Punch {
+        target: Target,
+        object: u32,
+        block: u32,
+    },
+    /// Makes every block of object `object` a hole. The reply is Done. It is refused as a write is.
+    FreeObject {
+        target: Target,
+        object: u32,
     },
     /// The bytes of a block, or none where it is a hole. The reply is Data. It is refused NoDataset and BadKey as a write is.
     Read {
@@ -43,6 +94,16 @@ pub enum Request {
         target: Target,
         property: Property,
     },
+    /// The value of a property of the pool. The reply is Value. It is never refused, and takes no memory.
+    PoolGet {
+        property: PoolProperty,
+    },
+    /// The names of all file systems in byte order, each with its snapshots and bookmarks after it. The reply is Names. It is never
+    /// refused but perhaps NoMemory.
+    List,
+    /// Makes the present world the last synced one and opens the next group: what waited is free. The reply is Group, the new open
+    /// group. It is refused TooMany where the open group is the last one, 2^63 - 1, else perhaps NoMemory.
+    Sync,
 }
 
 impl Request {
@@ -51,6 +112,7 @@ impl Request {
         ensures { IsTrue result ↔ (self.now ≡ other.now) }
     {
         match (self, other) {
+            (Request::Create { name: a }, Request::Create { name: b }) => a.same(b),
             (
                 Request::Write {
                     target: t,
@@ -65,6 +127,28 @@ impl Request {
                     bytes: e,
                 },
             ) => t.same(u) && *o == *p && *k == *l && *d == *e,
+            (
+                Request::Punch {
+                    target: t,
+                    object: o,
+                    block: k,
+                },
+                Request::Punch {
+                    target: u,
+                    object: p,
+                    block: l,
+                },
+            ) => t.same(u) && *o == *p && *k == *l,
+            (
+                Request::FreeObject {
+                    target: t,
+                    object: o,
+                },
+                Request::FreeObject {
+                    target: u,
+                    object: p,
+                },
+            ) => t.same(u) && *o == *p,
             (
                 Request::Read {
                     target: t,
@@ -87,6 +171,9 @@ impl Request {
                     property: q,
                 },
             ) => t.same(u) && p.same(q),
+            (Request::PoolGet { property: p }, Request::PoolGet { property: q }) => p.same(q),
+            (Request::List, Request::List) => true,
+            (Request::Sync, Request::Sync) => true,
             _ => false,
         }
     }

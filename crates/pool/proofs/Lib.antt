@@ -1,2 +1,6 @@
-pub mod Steps
+pub mod Names
 pub mod Commits
+pub mod Changes
+pub mod Steps
+pub mod Asking
+pub mod Immediate

@@ -1,29 +1,35 @@
 -- What a prepared step will do.
-use Rattle.std.specs.Prelude.{◌≡◌, ◌<◌, ℕ}
-use Rattle.base.specs.Map.{blocks}
-use Rattle.base.specs.Surveys.{IsIn}
-use Rattle.zalloc.specs.declared.BlockState.TheVariants.{Free}
-use Rattle.tree.specs.Change.{Shown}
-use Rattle.model.specs.State.{block_state}
-use Rattle.world.specs.Root.{Core, IsCore, root_state}
-use Rattle.world.specs.Settles.{IsSettling}
+use Rattle.std.specs.Prelude.{◌≡◌, ◌+◌, ◌<◌, None}
+use Rattle.std.specs.FinMap.{insert}
+use Rattle.model.specs.World.{empty_file_system}
+use Rattle.model.specs.Refusals.{number_limit}
+use Rattle.table.specs.Rows.{Row, FileSystems}
+use Rattle.table.specs.Create.{create_refusal}
+use Rattle.world.specs.Systems.{Systems, with_live}
+use Rattle.world.specs.SystemsSteps.{CanChange}
 use Rattle.pool.specs.declared.pool.Plan.{Plan}
-use Rattle.pool.specs.declared.pool.Plan.TheVariants.{Nothing, Put}
+use Rattle.pool.specs.declared.pool.Plan.TheVariants.{Nothing, Put, Create, Sync}
 
--- the pool's maps after a plan (profile)
-abbrev pub core_after : Core → Plan → Core
+-- the pool's file systems and groups after a plan (profile)
+abbrev pub core_after : Systems → Plan → Systems
 core_after c Nothing = c
-core_after c (Put change) = record c { live = change.new }
+core_after c (Put name change) = record c { now = with_live c.now name change.new }
+core_after c (Create file_system) = record c { now = insert c.now file_system.0 file_system.1 }
+core_after c (Sync last) = record c { group = c.group + 1; last = last; last_group = c.group + 1 }
 
--- a change of the live map that was prepared on these maps, and whose numbers are Free there (profile)
-pub record CanPut (c : Core) (change : Shown) : Type 0 where
-  pub old_is : change.old ≡ c.live
-  pub core : IsCore (record c { live = change.new })
-  pub settling : IsSettling (blocks c.live) (blocks change.new) (blocks c.last) c.last_group change.released change.taken
-  pub small : (n : ℕ) → IsIn change.taken n → n < c.size
-  pub free : (n : ℕ) → IsIn change.taken n → block_state (root_state c) n ≡ Free
+-- a new file system, empty, that nothing refuses (zfs-create(8))
+pub record CanCreate (c : Systems) (file_system : Row) : Type 0 where
+  pub empty : file_system.1 ≡ empty_file_system
+  pub may : create_refusal c.now file_system.0 ≡ None
 
--- the plan can be done from these maps (profile)
-abbrev pub CanDo : Core → Plan → Type 0
+-- a copy of the file systems that is to be the last synced one, where there is a next group (profile)
+pub record CanSync (c : Systems) (last : FileSystems) : Type 0 where
+  pub last_is : last ≡ c.now
+  pub next : c.group < number_limit
+
+-- the plan can be done from here (profile)
+abbrev pub CanDo : Systems → Plan → Type 0
 CanDo c Nothing = Unit {0}
-CanDo c (Put change) = CanPut c change
+CanDo c (Put name change) = CanChange c name change
+CanDo c (Create file_system) = CanCreate c file_system
+CanDo c (Sync last) = CanSync c last

@@ -1,11 +1,13 @@
 //! A pool of blocks with its file systems, which answers one request after another.
 //!
-//! A pool keeps the present world and the one that the last sync left, and the state of each block number. So far it has the
-//! root file system `p` alone.
+//! A pool keeps the present world and the one that the last sync left, and the state of each block number. So far it has file
+//! systems alone, without snapshots.
 #![tactic(auto)]
 
+mod named;
 mod pool;
 #[cfg(test)]
 mod tests;
 
-pub use pool::{BLOCK_LIMIT, Pool, Ready};
+pub use pool::{Pool, Ready};
+pub use zalloc::MOST_BLOCKS;

@@ -1,36 +1,46 @@
 //! The pool and its steps.
-ghost use Rattle.std.specs.Prelude.{◌≡◌, ◌<◌, ◌≤◌, ◌⊎◌, ◌↔◌, Err, IfOk, IfErr, map};
+ghost use Rattle.std.specs.Prelude.{◌≡◌, ◌<◌, ◌≤◌, ◌⊎◌, ◌↔◌, [], ◌∷◌, Err, IfOk, IfErr, map};
+ghost use Rattle.base.specs.declared.refusal.Refusal.{Refusal};
 ghost use Rattle.base.specs.Surveys.{dead_block};
-ghost use Rattle.model.specs.Refusals.{is_block as in_range};
+ghost use Rattle.tree.specs.Updates.{IsBatch};
+ghost use Rattle.model.specs.declared.request.Request.{Request};
 ghost use Rattle.model.specs.State.{fresh_state};
 ghost use Rattle.model.specs.Step.{Step};
+ghost use Rattle.model.specs.Sums.{IsBalanced};
 ghost use Rattle.model.specs.Run.{Run};
-ghost use Rattle.world.specs.Root.{root_state};
 ghost use Rattle.world.specs.Settles.{AllAllocated, releases};
+ghost use Rattle.world.specs.Systems.{systems_state};
+ghost use Rattle.pool.specs.Asked.{Asks};
 ghost use Rattle.pool.specs.Plans.{core_after, CanDo};
+ghost use Rattle.pool.specs.Prepared.{IsPlanned};
 
+use crate::named::{find, in_bytes, names_of};
 use base::meter::Meter;
-use base::name::Target;
-use base::number::{Dead, Group, Key};
+use base::name::{DsName, Target};
+use base::number::{Dead, Group};
 use base::refusal::Refusal;
+use model::names::Names;
 use model::reply::{Reply, Value};
-use model::request::{Property, Request};
+use model::request::{PoolProperty, Property, Request};
+use objset::{free_of, punch_of, write_of};
 use std::alloc::Global;
 use std::marker::Model;
+use std::slice::from_ref;
 use std::snapshot::Snapshot;
+use table::{FileSystem, Table};
 use toll::Toll;
-use tree::{Change, Tree};
-use zalloc::Allocator;
+use tree::{Change, Update, take_all};
+use zalloc::{Allocator, MOST_BLOCKS};
 
-/// A pool has at most this many blocks of 512 bytes (profile).
-pub const BLOCK_LIMIT: u32 = 4194304;
+/// The last group, which no sync closes (profile).
+const LAST_GROUP: u64 = 9223372036854775807;
 
 /// A pool of blocks with its file systems. Contracts see its state, and beside it what its steps need.
 #[derive(Drop)]
 pub struct Pool {
-    live: Tree,
+    present: Table,
     group: Group,
-    last: Tree,
+    last: Table,
     last_group: Group,
     size: u32,
     id: u32,
@@ -55,7 +65,9 @@ impl Model for Pool {
 #[derive(Drop)]
 enum Plan {
     Nothing,
-    Put(Change),
+    Put { name: DsName, change: Change },
+    Create(FileSystem),
+    Sync(Table),
 }
 
 /// A step that was prepared, with the pool as it was prepared on. One that is dropped has changed nothing.
@@ -66,7 +78,7 @@ pub struct Ready {
 }
 
 impl Model for Ready {
-    ghost use Rattle.world.specs.Root.{root_state};
+    ghost use Rattle.world.specs.Systems.{systems_state};
     ghost use Rattle.pool.specs.Shown.{Leap, leap_code};
     ghost use Rattle.pool.specs.Plans.{core_after, CanDo};
 
@@ -74,39 +86,41 @@ impl Model for Ready {
 
     ghost coded = { leap_code };
 
-    ghost view = { λ r. record { from = r.from.value; to = root_state (core_after r.from.value.core r.plan) } };
+    ghost view = { λ r. record { from = r.from.value; to = systems_state (core_after r.from.value.core r.plan) } };
 
     ghost invariant = { λ r. CanDo r.from.value.core r.plan };
 }
 
 impl Pool {
     /// A pool with this id and this many blocks, all free: the root file system alone, empty, in group 1. BadName for id 0, else
-    /// TooMany for no block or more than `BLOCK_LIMIT`, else NoMemory where there is no memory for the blocks' states.
+    /// TooMany for no block or more than `MOST_BLOCKS`, else NoMemory where there is no memory for the blocks' states.
     pub fn create(alloc: Global, id: u32, blocks: u32) -> Result<Pool, Refusal>
         ensures ok { IfOk result (λ p. p.state ≡ fresh_state id blocks) }
         ensures bad_name { (result ≡ Err Refusal.BadName) ↔ (id ≡ 0) }
-        ensures too_many { (result ≡ Err Refusal.TooMany) ↔ ((0 < id) × ((blocks < 1) ⊎ (BLOCK_LIMIT < blocks))) }
+        ensures too_many { (result ≡ Err Refusal.TooMany) ↔ ((0 < id) × ((blocks < 1) ⊎ (MOST_BLOCKS < blocks))) }
         ensures only { IfErr result (λ e. (e ≡ Refusal.BadName) ⊎ ((e ≡ Refusal.TooMany) ⊎ (e ≡ Refusal.NoMemory))) }
     {
         if id == 0 {
             return Err(Refusal::BadName);
         }
-        if blocks < 1 || blocks > BLOCK_LIMIT {
+        if blocks < 1 || blocks > MOST_BLOCKS {
             return Err(Refusal::TooMany);
         }
         Pool::fresh(alloc, id, blocks)
     }
 
     fn fresh(alloc: Global, id: u32, blocks: u32) -> Result<Pool, Refusal>
-        requires { blocks ≤ BLOCK_LIMIT }
+        requires { blocks ≤ MOST_BLOCKS }
         ensures ok { IfOk result (λ p. p.state ≡ fresh_state id blocks) }
         ensures only { IfErr result (λ e. e ≡ Refusal.NoMemory) }
     {
         let allocator = Allocator::new(alloc, blocks)?;
+        let present = Table::new(alloc)?;
+        let last = present.copy()?;
         Ok(Pool {
-            live: Tree::new(),
+            present,
             group: Group(1),
-            last: Tree::new(),
+            last,
             last_group: Group(1),
             size: blocks,
             id,
@@ -115,13 +129,16 @@ impl Pool {
         })
     }
 
-    /// Makes all growths of a request, and its reply. The state stays as it is until `commit`. A write costs the path to its leaf;
-    /// a read costs that too, and takes no memory; a `Get` costs nothing that grows.
+    /// Makes all growths of a request, and its reply. The state stays as it is until `commit`. A name costs the logarithm of the
+    /// number of file systems. A write or a punch costs the path to its leaf, and to free an object costs its nodes; a read costs
+    /// the path too, and takes no memory. A list costs the names, and a sync one share of each file system. Nothing else grows.
     pub fn prepare(&mut self, alloc: Global, request: &Request) -> (Reply, Ready)
         ensures same { self.new ≡ self.old }
         ensures from { result.1.from ≡ self.new }
         ensures step { Step self.old.state request.now result.0 result.1.to }
+        ensures balanced { IsBalanced self.old.state }
     {
+        let _group = self.group;
         let (reply, plan) = self.planned(alloc, request);
         let from = Snapshot::of(self);
         (reply, Ready { plan, from })
@@ -130,96 +147,145 @@ impl Pool {
     fn planned(&mut self, alloc: Global, request: &Request) -> (Reply, Plan)
         ensures same { self.new ≡ self.old }
         ensures can { CanDo self.old.core result.1 }
-        ensures step { Step self.old.state request.now result.0 (root_state (core_after self.old.core result.1)) }
+        ensures step { Step self.old.state request.now result.0 (systems_state (core_after self.old.core result.1)) }
     {
         match request {
+            Request::Create { name } => self.planned_create(name),
             Request::Write {
                 target,
                 object,
                 block,
                 bytes,
-            } => self.planned_write(alloc, target, *object, *block, bytes),
+            } => self.planned_update(alloc, target, write_of(*object, *block, bytes)),
+            Request::Punch {
+                target,
+                object,
+                block,
+            } => self.planned_update(alloc, target, punch_of(*object, *block)),
+            Request::FreeObject { target, object } => {
+                self.planned_update(alloc, target, free_of(*object))
+            }
             Request::Read {
                 target,
                 object,
                 block,
             } => (self.read(target, *object, *block), Plan::Nothing),
             Request::Get { target, property } => (self.get(target, *property), Plan::Nothing),
+            Request::PoolGet { property } => (self.pool_get(*property), Plan::Nothing),
+            Request::List => (self.list(alloc), Plan::Nothing),
+            Request::Sync => self.planned_sync(),
         }
     }
 
-    fn planned_write(
+    fn planned_create(&self, name: &DsName) -> (Reply, Plan)
+        ensures can { CanDo self.now.core result.1 }
+        ensures step { Step self.now.state (Request.Create name.now) result.0 (systems_state (core_after self.now.core result.1)) }
+    {
+        let _group = self.group;
+        match self.present.prepare_create(name) {
+            Ok(file_system) => (Reply::Done, Plan::Create(file_system)),
+            Err(refusal) => (Reply::Refused(refusal), Plan::Nothing),
+        }
+    }
+
+    // Plans this update of the live tree of a file system, or its refusal.
+    fn planned_update(
         &mut self,
         alloc: Global,
         target: &Target,
-        object: u32,
-        block: u32,
-        bytes: &[u8; 512],
+        update: Result<Update, Refusal>,
     ) -> (Reply, Plan)
+        requires { IfOk update (λ u. IsBatch (u ∷ [])) }
         ensures same { self.new ≡ self.old }
         ensures can { CanDo self.old.core result.1 }
-        ensures step { Step self.old.state (Request.Write target.now object block bytes.now) result.0 (root_state (core_after self.old.core result.1)) }
+        ensures step { (q : Request) → Asks q target.now update → Step self.old.state q result.0 (systems_state (core_after self.old.core result.1)) }
     {
         let _group = self.group;
-        if !target.is_root() {
+        let update = match update {
+            Ok(update) => update,
+            Err(refusal) => return (self.outside_the_limits(target, refusal), Plan::Nothing),
+        };
+        let Some(file_system) = find(&self.present, target) else {
             return (Reply::Refused(Refusal::NoDataset), Plan::Nothing);
-        }
-        if !is_block(object, block) {
-            return (Reply::Refused(Refusal::BadKey), Plan::Nothing);
-        }
-        let leaf = 4096 * object + block;
-        let prepared = self.live.prepare_change(
+        };
+        let prepared = file_system.live().prepare_change(
             alloc,
-            leaf,
-            bytes,
+            from_ref(&update),
             self.group,
             self.last_group,
             &self.allocator,
             &mut self.meter,
         );
-        let change = match prepared {
-            Ok(change) => change,
-            Err(refusal) => return (Reply::Refused(refusal), Plan::Nothing),
-        };
-        (Reply::Done, Plan::Put(change))
+        planned_change(file_system, prepared)
     }
 
     fn read(&mut self, target: &Target, object: u32, block: u32) -> Reply
         ensures same { self.new ≡ self.old }
-        ensures step { Step self.old.state (Request.Read target.now object block) result (root_state self.old.core) }
+        ensures step { Step self.old.state (Request.Read target.now object block) result (systems_state self.old.core) }
     {
         let _group = self.group;
-        if !target.is_root() {
+        let Some(file_system) = find(&self.present, target) else {
             return Reply::Refused(Refusal::NoDataset);
-        }
-        if !is_block(object, block) {
-            return Reply::Refused(Refusal::BadKey);
-        }
-        let key = Key {
-            level: 0,
-            index: 4096 * object + block,
         };
-        let Some(cell) = self.live.read(key, &mut self.meter) else {
-            return Reply::Data(None);
-        };
-        Reply::Data(cell.bytes)
+        match objset::read(file_system.live(), object, block, &mut self.meter) {
+            Ok(bytes) => Reply::Data(bytes),
+            Err(refusal) => Reply::Refused(refusal),
+        }
     }
 
     fn get(&self, target: &Target, property: Property) -> Reply
-        ensures { Step self.now.state (Request.Get target.now property) result (root_state self.now.core) }
+        ensures { Step self.now.state (Request.Get target.now property) result (systems_state self.now.core) }
     {
         let _group = self.group;
-        if !target.is_root() {
+        let Some(file_system) = find(&self.present, target) else {
             return Reply::Refused(Refusal::NoDataset);
-        }
+        };
         match property {
-            Property::Referenced => Reply::Value(Value::Size(
-                512 * (self.live.node_count() as u64),
-            )),
+            Property::Referenced => in_bytes(file_system.live().node_count()),
         }
     }
 
-    /// Does what was just prepared. It takes no memory.
+    fn list(&self, alloc: Global) -> Reply
+        ensures { Step self.now.state Request.List result (systems_state self.now.core) }
+    {
+        let _group = self.group;
+        match names_of(alloc, self.present.file_systems()) {
+            Ok(names) => Reply::Names(Names::from(names)),
+            Err(refusal) => Reply::Refused(refusal),
+        }
+    }
+
+    fn pool_get(&self, property: PoolProperty) -> Reply
+        ensures { Step self.now.state (Request.PoolGet property) result (systems_state self.now.core) }
+    {
+        let counts = self.allocator.counts();
+        match property {
+            PoolProperty::Size => in_bytes(self.size),
+            PoolProperty::Allocated => in_bytes(counts.allocated),
+            PoolProperty::Free => in_bytes(counts.free),
+            PoolProperty::Freeing => in_bytes(0),
+            PoolProperty::Waiting => in_bytes(counts.waiting),
+            PoolProperty::Group => Reply::Value(Value::Number(self.group.0)),
+        }
+    }
+
+    fn planned_sync(&self) -> (Reply, Plan)
+        ensures can { CanDo self.now.core result.1 }
+        ensures step { Step self.now.state Request.Sync result.0 (systems_state (core_after self.now.core result.1)) }
+    {
+        let group = self.group;
+        if group.0 >= LAST_GROUP {
+            return (Reply::Refused(Refusal::TooMany), Plan::Nothing);
+        }
+        match self.present.copy() {
+            Ok(last) => (Reply::Group(group.0 + 1), Plan::Sync(last)),
+            Err(refusal) => (Reply::Refused(refusal), Plan::Nothing),
+        }
+    }
+
+    /// Does what was just prepared. It takes no memory. A change costs its blocks and the logarithm of the number of file systems, a
+    /// creation a move of each file system that stands after it. A sync costs what waits, the file systems, and what only the world
+    /// before it reached; no block that either world goes on reaching is visited.
     pub fn commit(&mut self, ready: Ready)
         requires { ready.from ≡ self.old }
         ensures { self.new.state ≡ ready.to }
@@ -227,20 +293,108 @@ impl Pool {
         let Ready { plan, from } = ready;
         match plan {
             Plan::Nothing => {}
-            Plan::Put(change) => {
+            Plan::Put { name, change } => {
                 release_all(&mut self.allocator, change.released(), self.last_group);
-                self.live.commit(change, &mut self.allocator);
+                self.present.change_live(&name, change, &mut self.allocator);
+            }
+            Plan::Create(file_system) => self.present.add(file_system),
+            Plan::Sync(last) => {
+                self.last = last;
+                self.group = Group(self.group.0 + 1);
+                self.last_group = self.group;
+                self.allocator.end_group();
             }
         }
     }
 
-    /// One step: the request is done, or refused with the state as it was.
+    /// One step: the request is done, or refused with the state as it was. A write, a punch and a freed object change the tree at
+    /// once, and cost the path to the leaf or the object's nodes; every other request costs what `prepare` and `commit` do.
     pub fn apply(&mut self, alloc: Global, request: &Request) -> Reply
+        ensures step { Step self.old.state request.now result self.new.state }
+        ensures balanced { IsBalanced self.new.state }
+    {
+        let reply = self.answer(alloc, request);
+        let _group = self.group;
+        reply
+    }
+
+    // One step: a change of a tree at once, and each other request prepared and committed.
+    fn answer(&mut self, alloc: Global, request: &Request) -> Reply
+        ensures { Step self.old.state request.now result self.new.state }
+    {
+        match request {
+            Request::Write {
+                target,
+                object,
+                block,
+                bytes,
+            } => self.change_now(alloc, target, write_of(*object, *block, bytes)),
+            Request::Punch {
+                target,
+                object,
+                block,
+            } => self.change_now(alloc, target, punch_of(*object, *block)),
+            Request::FreeObject { target, object } => {
+                self.change_now(alloc, target, free_of(*object))
+            }
+            _ => self.answer_prepared(alloc, request),
+        }
+    }
+
+    fn answer_prepared(&mut self, alloc: Global, request: &Request) -> Reply
         ensures { Step self.old.state request.now result self.new.state }
     {
         let (reply, ready) = self.prepare(alloc, request);
         self.commit(ready);
         reply
+    }
+
+    // Puts this update of the live tree of a file system in force at once. Only then it releases the dropped blocks, and takes the new
+    // numbers, which can be theirs: want of memory comes before anything is changed.
+    fn change_now(
+        &mut self,
+        alloc: Global,
+        target: &Target,
+        update: Result<Update, Refusal>,
+    ) -> Reply
+        requires { IfOk update (λ u. IsBatch (u ∷ [])) }
+        ensures { (q : Request) → Asks q target.now update → Step self.old.state q result self.new.state }
+    {
+        let update = match update {
+            Ok(update) => update,
+            Err(refusal) => return self.outside_the_limits(target, refusal),
+        };
+        let _group = self.group;
+        let Target::FileSystem(name) = target else {
+            return Reply::Refused(Refusal::NoDataset);
+        };
+        let changed = self.present.apply_live(
+            name,
+            alloc,
+            from_ref(&update),
+            self.group,
+            self.last_group,
+            &self.allocator,
+            &mut self.meter,
+        );
+        let done = match changed {
+            Ok(done) => done,
+            Err(refusal) => return Reply::Refused(refusal),
+        };
+        release_all(&mut self.allocator, &done.released, self.last_group);
+        take_all(&mut self.allocator, &done.taken);
+        Reply::Done
+    }
+
+    // The answer where no update is asked for, since numbers are outside their limits: that there is no such file system comes first.
+    fn outside_the_limits(&self, target: &Target, refusal: Refusal) -> Reply
+        ensures { (q : Request) → Asks q target.now (Err refusal) → Step self.now.state q result self.now.state }
+    {
+        let _group = self.group;
+        match find(&self.present, target) {
+            Some(_) => Reply::Refused(refusal),
+            None => Reply::Refused(Refusal::NoDataset),
+        }
     }
 
     /// One step for each request, in their order, and the replies. NoMemory where there is none for the list of replies, and then
@@ -258,11 +412,18 @@ impl Pool {
     }
 }
 
-// Whether it is a block of an object.
-fn is_block(object: u32, block: u32) -> bool
-    ensures { result ≡ in_range object block }
+// What is done once a change of this file system's tree was prepared, or refused.
+fn planned_change(file_system: &FileSystem, prepared: Result<Change, Refusal>) -> (Reply, Plan)
+    ensures { IsPlanned file_system.now.0 prepared result.0 result.1 }
 {
-    object < 256 && block < 4096
+    let change = match prepared {
+        Ok(change) => change,
+        Err(refusal) => return (Reply::Refused(refusal), Plan::Nothing),
+    };
+    match file_system.name().clone() {
+        Ok(name) => (Reply::Done, Plan::Put { name, change }),
+        Err(_) => (Reply::Refused(Refusal::NoMemory), Plan::Nothing),
+    }
 }
 
 // Releases each of these blocks, to wait where it was born before the group.

@@ -3,3 +3,4 @@ pub mod WordsLemmas
 pub mod RunLemmas
 pub mod WorkedProofs
 pub mod NumberProofs
+pub mod NamesLemmas

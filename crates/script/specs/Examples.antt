@@ -4,8 +4,9 @@ use Rattle.std.specs.Fmt.{decimal}
 use Rattle.base.specs.declared.refusal.Refusal.TheVariants.{BadName, NoDataset, BadLine}
 use Rattle.base.specs.declared.name.Target.TheVariants.{FileSystem, Snapshot}
 use Rattle.model.specs.declared.request.Property.TheVariants.{Referenced}
-use Rattle.model.specs.declared.request.Request.TheVariants.{Write, Read, Get}
-use Rattle.model.specs.declared.reply.Reply.TheVariants.{Done, Refused}
+use Rattle.model.specs.declared.request.PoolProperty.TheVariants.{Free, Freeing}
+use Rattle.model.specs.declared.request.Request.TheVariants.{Create, Write, Punch, FreeObject, Read, Get, PoolGet, List as ListNames, Sync}
+use Rattle.model.specs.declared.reply.Reply.TheVariants.{Done, Refused, Group, Names}
 use Rattle.script.specs.Lines.{lines}
 use Rattle.script.specs.Words.{number_of_word}
 use Rattle.script.specs.Meaning.{meaning, Silent, Faulty, Asks}
@@ -21,6 +22,16 @@ pub record WorkedLines : Type 0 where
   pub read : meaning (codes "read p/a 0 17") ≡ Asks (Read (FileSystem (codes "p/a")) 0 17)
   pub of_snapshot : meaning (codes "read p@s 1 2") ≡ Asks (Read (Snapshot (record { file_system = codes "p"; component = codes "s" })) 1 2)
   pub get : meaning (codes "get referenced p") ≡ Asks (Get (FileSystem (codes "p")) Referenced)
+  pub create : meaning (codes "create p/a") ≡ Asks (Create (codes "p/a"))
+  pub create_slash : meaning (codes "create p/a/") ≡ Faulty BadName
+  pub punch : meaning (codes "punch p/a 0 17") ≡ Asks (Punch (FileSystem (codes "p/a")) 0 17)
+  pub free_object : meaning (codes "rmobj p/a 3") ≡ Asks (FreeObject (FileSystem (codes "p/a")) 3)
+  pub list : meaning (codes "list") ≡ Asks ListNames
+  pub sync : meaning (codes "sync") ≡ Asks Sync
+  pub sync_extra : meaning (codes "sync extra") ≡ Faulty BadLine
+  pub free : meaning (codes "pget free") ≡ Asks (PoolGet Free)
+  pub freeing : meaning (codes "pget freeing") ≡ Asks (PoolGet Freeing)
+  pub no_such_property : meaning (codes "pget nothing") ≡ Faulty BadLine
   pub bad_name : meaning (codes "write p/ 0 0 61") ≡ Faulty BadName
   pub too_great : meaning (codes "write p/ 4294967296 0 61") ≡ Faulty BadLine
   pub leading_zero : meaning (codes "read p 00 0") ≡ Faulty BadLine
@@ -29,6 +40,9 @@ pub record WorkedLines : Type 0 where
   pub space_at_end : meaning (codes "get referenced p ") ≡ Faulty BadLine
   pub unknown : meaning (codes "frob p") ≡ Faulty BadLine
   pub done : line_of Done ≡ codes "ok" ++ 10 ∷ []
+  pub group : line_of (Group 12) ≡ codes "12" ++ 10 ∷ []
+  pub no_names : line_of (Names []) ≡ codes "-" ++ 10 ∷ []
+  pub names : line_of (Names (codes "p" ∷ codes "p/a" ∷ [])) ≡ codes "p p/a" ++ 10 ∷ []
   pub refused : line_of (Refused NoDataset) ≡ codes "error 2 NoDataset" ++ 10 ∷ []
 
 -- a number has one spelling, the one in which it is printed (profile)

@@ -4,11 +4,12 @@ use Rattle.std.specs.List.{list_all}
 use Rattle.std.specs.Str.{bytes_eq}
 use Rattle.base.specs.declared.refusal.Refusal.{Refusal}
 use Rattle.base.specs.declared.refusal.Refusal.TheVariants.{BadName, BadLine}
-use Rattle.base.specs.Reading.{target_of}
+use Rattle.base.specs.declared.name.Target.{Target}
+use Rattle.base.specs.Reading.{name_of, target_of}
 use Rattle.model.specs.declared.request.Request.{Request}
-use Rattle.model.specs.declared.request.Request.TheVariants.{Write, Read, Get}
+use Rattle.model.specs.declared.request.Request.TheVariants.{Create, Write, Punch, FreeObject, Read, Get, PoolGet, List as ListNames, Sync}
 use Rattle.script.specs.Lines.{line_limit}
-use Rattle.script.specs.Words.{is_printable, words_of, is_word, number_of_word, block_of_word, property_of_word}
+use Rattle.script.specs.Words.{is_printable, words_of, is_word, number_of_word, block_of_word, property_of_word, pool_property_of_word}
 
 -- a line asks for nothing and has no reply, is at fault and is refused so, or asks a request (profile)
 pub data Meaning : Type 0 where
@@ -27,6 +28,10 @@ named None rest = Faulty BadName
 named (Some x) rest = rest x
 
 -- the operands, where there are so many of them (profile)
+abbrev pub one_of : List (List ℕ) → Option (List ℕ)
+one_of (a ∷ []) = Some a
+one_of _ = None
+
 abbrev pub two_of : List (List ℕ) → Option (List ℕ × List ℕ)
 two_of (a ∷ b ∷ []) = Some (a, b)
 two_of _ = None
@@ -39,29 +44,53 @@ abbrev pub four_of : List (List ℕ) → Option (List ℕ × List ℕ × List �
 four_of (a ∷ b ∷ c ∷ d ∷ []) = Some (a, b, c, d)
 four_of _ = None
 
+-- `create NAME` (profile)
+unfoldable pub create_of : List (List ℕ) → Meaning
+create_of operands = shaped (one_of operands) (λ w. named (name_of w) (λ name. Asks (Create name)))
+
 -- `write TARGET NUM NUM HEX` (profile)
 unfoldable pub write_of : List (List ℕ) → Meaning
 write_of operands =
     shaped (four_of operands) (λ w. shaped (number_of_word w.1) (λ object. shaped (number_of_word w.2) (λ block.
     shaped (block_of_word w.3) (λ bytes. named (target_of w.0) (λ target. Asks (Write target object block bytes))))))
 
--- `read TARGET NUM NUM` (profile)
-unfoldable pub read_of : List (List ℕ) → Meaning
-read_of operands =
+-- `TARGET NUM NUM`: a request at a block (profile)
+unfoldable pub block_request_of : (Target → ℕ → ℕ → Request) → List (List ℕ) → Meaning
+block_request_of request operands =
     shaped (three_of operands) (λ w. shaped (number_of_word w.1) (λ object. shaped (number_of_word w.2) (λ block.
-    named (target_of w.0) (λ target. Asks (Read target object block)))))
+    named (target_of w.0) (λ target. Asks (request target object block)))))
+
+-- `rmobj TARGET NUM` (profile)
+unfoldable pub free_object_of : List (List ℕ) → Meaning
+free_object_of operands =
+    shaped (two_of operands) (λ w. shaped (number_of_word w.1) (λ object. named (target_of w.0) (λ target. Asks (FreeObject target object))))
 
 -- `get PROP TARGET` (profile)
 unfoldable pub get_of : List (List ℕ) → Meaning
 get_of operands =
     shaped (two_of operands) (λ w. shaped (property_of_word w.0) (λ property. named (target_of w.1) (λ target. Asks (Get target property))))
 
+-- `pget PROP` (profile)
+unfoldable pub pool_get_of : List (List ℕ) → Meaning
+pool_get_of operands = shaped (one_of operands) (λ w. shaped (pool_property_of_word w) (λ property. Asks (PoolGet property)))
+
+-- `list`, `sync`: a request without operands (profile)
+abbrev pub bare : Request → List (List ℕ) → Meaning
+bare request [] = Asks request
+bare request (word ∷ words) = Faulty BadLine
+
 -- by the command word (profile)
 unfoldable pub command_of : List ℕ → List (List ℕ) → Meaning
 command_of command operands =
-    if bytes_eq command (codes "write") then write_of operands
-    else if bytes_eq command (codes "read") then read_of operands
+    if bytes_eq command (codes "create") then create_of operands
+    else if bytes_eq command (codes "write") then write_of operands
+    else if bytes_eq command (codes "punch") then block_request_of Punch operands
+    else if bytes_eq command (codes "rmobj") then free_object_of operands
+    else if bytes_eq command (codes "read") then block_request_of Read operands
     else if bytes_eq command (codes "get") then get_of operands
+    else if bytes_eq command (codes "pget") then pool_get_of operands
+    else if bytes_eq command (codes "list") then bare ListNames operands
+    else if bytes_eq command (codes "sync") then bare Sync operands
     else Faulty BadLine
 
 -- by the words (profile)

@@ -2,9 +2,10 @@
 use Rattle.std.specs.Prelude.{◌≡◌, ◌⊎◌, ℕ, List, [], Option, Some, None, Result, Ok, Err}
 use Rattle.base.specs.declared.refusal.Refusal.{Refusal}
 use Rattle.base.specs.declared.refusal.Refusal.TheVariants.{NoMemory}
+use Rattle.base.specs.declared.name.Target.{Target}
 use Rattle.model.specs.declared.request.Request.{Request}
 use Rattle.script.specs.Words.{words_of}
-use Rattle.script.specs.Meaning.{Meaning, Faulty, Asks}
+use Rattle.script.specs.Meaning.{Meaning, Faulty, Asks, block_request_of}
 
 -- nothing is left of a line, or these bytes after a space (profile)
 abbrev pub words_left : Option (List ℕ) → List (List ℕ)
@@ -15,3 +16,8 @@ words_left (Some rest) = words_of rest
 abbrev pub Means : Result Request Refusal → Meaning → Type 0
 Means (Ok request) m = m ≡ Asks request
 Means (Err refusal) m = (refusal ≡ NoMemory) ⊎ (m ≡ Faulty refusal)
+
+-- a request at a block that a line asks, or its fault, unless memory ran out
+abbrev pub MeansBlock : Result (Target × ℕ × ℕ) Refusal → List (List ℕ) → (Target → ℕ → ℕ → Request) → Type 0
+MeansBlock (Ok place) words request = block_request_of request words ≡ Asks (request place.0 place.1 place.2)
+MeansBlock (Err refusal) words request = (refusal ≡ NoMemory) ⊎ (block_request_of request words ≡ Faulty refusal)

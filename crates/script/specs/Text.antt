@@ -1,16 +1,18 @@
 -- The text of each reply.
 use Rattle.std.specs.Prelude.{ℕ, List, [], ◌∷◌, ◌++◌, Option, Some, None, codes}
+use Rattle.std.specs.List.{join_by}
 use Rattle.std.specs.Fmt.{decimal}
 use Rattle.hex.specs.Hex.{encode_lower}
 use Rattle.base.specs.Refusals.{number_of, name_of}
 use Rattle.model.specs.declared.reply.Value.{Value}
-use Rattle.model.specs.declared.reply.Value.TheVariants.{Size, NotApplicable}
+use Rattle.model.specs.declared.reply.Value.TheVariants.{Size, Number, NotApplicable}
 use Rattle.model.specs.declared.reply.Reply.{Reply}
-use Rattle.model.specs.declared.reply.Reply.TheVariants.{Done, Refused, Data, Value as ValueIs}
+use Rattle.model.specs.declared.reply.Reply.TheVariants.{Done, Refused, Data, Value as ValueIs, Group, Names}
 
 -- a property's value (profile)
 abbrev pub value_text : Value → List ℕ
 value_text (Size bytes) = decimal bytes
+value_text (Number n) = decimal n
 value_text NotApplicable = codes "-"
 
 -- a block's bytes, or `hole` (profile)
@@ -18,12 +20,19 @@ abbrev pub data_text : Option (List ℕ) → List ℕ
 data_text None = codes "hole"
 data_text (Some bytes) = encode_lower bytes
 
+-- the names joined by single spaces, or `-` where there are none (profile)
+abbrev pub names_text : List (List ℕ) → List ℕ
+names_text [] = codes "-"
+names_text (name ∷ names) = join_by (λ n. n) (codes " ") (name ∷ names)
+
 -- a reply (profile)
 abbrev pub text_of : Reply → List ℕ
 text_of Done = codes "ok"
 text_of (Refused refusal) = codes "error " ++ decimal (number_of refusal) ++ codes " " ++ name_of refusal
 text_of (Data bytes) = data_text bytes
 text_of (ValueIs v) = value_text v
+text_of (Group group) = decimal group
+text_of (Names names) = names_text names
 
 -- a reply's line (profile)
 abbrev pub line_of : Reply → List ℕ

@@ -6,6 +6,8 @@ use Rattle.hex.specs.Hex.{decode_of}
 use Rattle.hex.specs.declared.error.FromHexError.{FromHexError}
 use Rattle.model.specs.declared.request.Property.{Property}
 use Rattle.model.specs.declared.request.Property.TheVariants.{Referenced}
+use Rattle.model.specs.declared.request.PoolProperty.{PoolProperty}
+use Rattle.model.specs.declared.request.PoolProperty.TheVariants.{Size, Allocated, Free, Freeing, Waiting, Group}
 
 -- a byte that a line may have, 0x20 to 0x7e (profile)
 abbrev pub is_printable : ℕ → Bool
@@ -51,3 +53,14 @@ block_of_word word =
 -- PROP: a property's name (zfsprops(7))
 unfoldable pub property_of_word : List ℕ → Option Property
 property_of_word word = if bytes_eq word (codes "referenced") then Some Referenced else None
+
+-- PROP of a pool: a property's name (zpoolprops(7); `waiting` and `group` are profile)
+unfoldable pub pool_property_of_word : List ℕ → Option PoolProperty
+pool_property_of_word word =
+    if bytes_eq word (codes "size") then Some Size
+    else if bytes_eq word (codes "allocated") then Some Allocated
+    else if bytes_eq word (codes "free") then Some Free
+    else if bytes_eq word (codes "freeing") then Some Freeing
+    else if bytes_eq word (codes "waiting") then Some Waiting
+    else if bytes_eq word (codes "group") then Some Group
+    else None

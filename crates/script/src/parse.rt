@@ -1,18 +1,18 @@
 //! What a line asks for.
-ghost use Rattle.std.specs.Prelude.{◌≡◌, ◌*◌, ◌∷◌, Some, None, length, replicate};
+ghost use Rattle.std.specs.Prelude.{◌≡◌, ℕ, ◌*◌, ◌∷◌, Some, None, length, replicate};
 ghost use Rattle.std.specs.Bool.{OnTrue, OnFalse};
 ghost use Rattle.std.specs.Option.{option_map, option_copied};
 ghost use Rattle.std.specs.List.{list_all};
 ghost use Rattle.hex.specs.Hex.{decode_of};
-ghost use Rattle.script.specs.Words.{is_printable, is_word, words_of, number_of_word, number_without_zero, number_from, block_of_word, filled, property_of_word};
-ghost use Rattle.script.specs.Meaning.{request_of, command_of, write_of, read_of, get_of, two_of, three_of, four_of};
-ghost use Rattle.script.specs.Reading.{words_left, Means};
+ghost use Rattle.script.specs.Words.{is_printable, is_word, words_of, number_of_word, number_without_zero, number_from, block_of_word, filled, property_of_word, pool_property_of_word};
+ghost use Rattle.script.specs.Meaning.{request_of, command_of, create_of, write_of, block_request_of, free_object_of, get_of, pool_get_of, bare, one_of, two_of, three_of, four_of};
+ghost use Rattle.script.specs.Reading.{words_left, Means, MeansBlock};
 
 use crate::lines::LINE_LIMIT;
-use base::name::Target;
+use base::name::{DsName, Target};
 use base::refusal::Refusal;
 use memchr::memchr;
-use model::request::{Property, Request};
+use model::request::{PoolProperty, Property, Request};
 use std::alloc::Global;
 
 /// Reads the request of a line, or its fault; NoMemory where there is no memory for its name.
@@ -53,6 +53,17 @@ fn next_word(line: &[u8]) -> (&[u8], Option<&[u8]>)
         Some(end) => (&line[..end], Some(&line[end + 1..])),
         None => (line, None),
     }
+}
+
+fn one(rest: Option<&[u8]>) -> Option<&[u8]>
+    ensures { option_copied result ≡ one_of (words_left (option_copied rest.entry)) }
+{
+    let (a, rest) = next_word(rest?);
+    if let Some(more) = rest {
+        let _ = next_word(more);
+        return None;
+    }
+    Some(a)
 }
 
 fn two(rest: Option<&[u8]>) -> Option<(&[u8], &[u8])>
@@ -98,15 +109,38 @@ fn four(rest: Option<&[u8]>) -> Option<(&[u8], &[u8], &[u8], &[u8])>
 fn command_at(alloc: Global, command: &[u8], operands: Option<&[u8]>) -> Result<Request, Refusal>
     ensures { Means result (command_of command.now (words_left (option_copied operands.entry))) }
 {
-    if command == b"write".as_slice() {
+    if command == b"create".as_slice() {
+        create(alloc, operands)
+    } else if command == b"write".as_slice() {
         write(alloc, operands)
+    } else if command == b"punch".as_slice() {
+        punch(alloc, operands)
+    } else if command == b"rmobj".as_slice() {
+        free_object(alloc, operands)
     } else if command == b"read".as_slice() {
         read(alloc, operands)
     } else if command == b"get".as_slice() {
         get(alloc, operands)
+    } else if command == b"pget".as_slice() {
+        pool_get(operands)
+    } else if command == b"list".as_slice() {
+        bare(Request::List, operands)
+    } else if command == b"sync".as_slice() {
+        bare(Request::Sync, operands)
     } else {
         Err(Refusal::BadLine)
     }
+}
+
+#[tactic(auto, unfolding(crate::specs::Meaning::create_of))]
+fn create(alloc: Global, operands: Option<&[u8]>) -> Result<Request, Refusal>
+    ensures { Means result (create_of (words_left (option_copied operands.entry))) }
+{
+    let Some(name) = one(operands) else {
+        return Err(Refusal::BadLine);
+    };
+    let name = DsName::read(alloc, name)?;
+    Ok(Request::Create { name })
 }
 
 #[tactic(auto, unfolding(crate::specs::Meaning::write_of))]
@@ -135,9 +169,10 @@ fn write(alloc: Global, operands: Option<&[u8]>) -> Result<Request, Refusal>
     })
 }
 
-#[tactic(auto, unfolding(crate::specs::Meaning::read_of))]
-fn read(alloc: Global, operands: Option<&[u8]>) -> Result<Request, Refusal>
-    ensures { Means result (read_of (words_left (option_copied operands.entry))) }
+// The target, object and block of a request at a block.
+#[tactic(auto, unfolding(crate::specs::Meaning::block_request_of))]
+fn block_place(alloc: Global, operands: Option<&[u8]>) -> Result<(Target, u32, u32), Refusal>
+    ensures { (request : Target → ℕ → ℕ → Request) → MeansBlock result (words_left (option_copied operands.entry)) request }
 {
     let Some((target, object, block)) = three(operands) else {
         return Err(Refusal::BadLine);
@@ -149,11 +184,43 @@ fn read(alloc: Global, operands: Option<&[u8]>) -> Result<Request, Refusal>
         return Err(Refusal::BadLine);
     };
     let target = Target::read(alloc, target)?;
+    Ok((target, object, block))
+}
+
+fn read(alloc: Global, operands: Option<&[u8]>) -> Result<Request, Refusal>
+    ensures { Means result (block_request_of Request.Read (words_left (option_copied operands.entry))) }
+{
+    let (target, object, block) = block_place(alloc, operands)?;
     Ok(Request::Read {
         target,
         object,
         block,
     })
+}
+
+fn punch(alloc: Global, operands: Option<&[u8]>) -> Result<Request, Refusal>
+    ensures { Means result (block_request_of Request.Punch (words_left (option_copied operands.entry))) }
+{
+    let (target, object, block) = block_place(alloc, operands)?;
+    Ok(Request::Punch {
+        target,
+        object,
+        block,
+    })
+}
+
+#[tactic(auto, unfolding(crate::specs::Meaning::free_object_of))]
+fn free_object(alloc: Global, operands: Option<&[u8]>) -> Result<Request, Refusal>
+    ensures { Means result (free_object_of (words_left (option_copied operands.entry))) }
+{
+    let Some((target, object)) = two(operands) else {
+        return Err(Refusal::BadLine);
+    };
+    let Some(object) = number(object) else {
+        return Err(Refusal::BadLine);
+    };
+    let target = Target::read(alloc, target)?;
+    Ok(Request::FreeObject { target, object })
 }
 
 #[tactic(auto, unfolding(crate::specs::Meaning::get_of))]
@@ -170,12 +237,57 @@ fn get(alloc: Global, operands: Option<&[u8]>) -> Result<Request, Refusal>
     Ok(Request::Get { target, property })
 }
 
+#[tactic(auto, unfolding(crate::specs::Meaning::pool_get_of))]
+fn pool_get(operands: Option<&[u8]>) -> Result<Request, Refusal>
+    ensures { Means result (pool_get_of (words_left (option_copied operands.entry))) }
+{
+    let Some(property) = one(operands) else {
+        return Err(Refusal::BadLine);
+    };
+    let Some(property) = pool_property_named(property) else {
+        return Err(Refusal::BadLine);
+    };
+    Ok(Request::PoolGet { property })
+}
+
+// A request without operands.
+fn bare(request: Request, operands: Option<&[u8]>) -> Result<Request, Refusal>
+    ensures { Means result (bare request (words_left (option_copied operands.entry))) }
+{
+    if let Some(more) = operands {
+        let _ = next_word(more);
+        return Err(Refusal::BadLine);
+    }
+    Ok(request)
+}
+
 #[tactic(auto, unfolding(crate::specs::Words::property_of_word))]
 fn property_named(word: &[u8]) -> Option<Property>
     ensures { result ≡ property_of_word word.now }
 {
     if word == b"referenced".as_slice() {
         Some(Property::Referenced)
+    } else {
+        None
+    }
+}
+
+#[tactic(auto, unfolding(crate::specs::Words::pool_property_of_word))]
+fn pool_property_named(word: &[u8]) -> Option<PoolProperty>
+    ensures { result ≡ pool_property_of_word word.now }
+{
+    if word == b"size".as_slice() {
+        Some(PoolProperty::Size)
+    } else if word == b"allocated".as_slice() {
+        Some(PoolProperty::Allocated)
+    } else if word == b"free".as_slice() {
+        Some(PoolProperty::Free)
+    } else if word == b"freeing".as_slice() {
+        Some(PoolProperty::Freeing)
+    } else if word == b"waiting".as_slice() {
+        Some(PoolProperty::Waiting)
+    } else if word == b"group".as_slice() {
+        Some(PoolProperty::Group)
     } else {
         None
     }

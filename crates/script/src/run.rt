@@ -1,8 +1,10 @@
 //! Runs of scripts.
-ghost use Rattle.std.specs.Prelude.{◌≡◌, ◌&&◌, ◌||◌, ◌⊎◌, Option, Some, IfOk, IfErr, OnErr};
+ghost use Rattle.std.specs.Prelude.{◌≡◌, ◌&&◌, ◌||◌, ◌⊎◌, Option, Some, IfOk, IfErr, OnOk, OnErr};
 ghost use Rattle.base.specs.Failing.{HasRisen};
 ghost use Rattle.script.specs.Run.{HasRun, HasFailed, Answers, IsUnanswered, IsFaultOf, is_refusal};
 ghost use Rattle.script.specs.Meaning.{meaning};
+ghost use Rattle.script.specs.Text.{line_of};
+ghost use Rattle.std.specs.Io.KnownBytes.{Appends};
 ghost use Rattle.model.specs.declared.request.Request.{Request};
 ghost use Rattle.model.specs.declared.reply.Reply.{Reply};
 
@@ -14,6 +16,7 @@ use base::refusal::Refusal;
 use model::reply::Reply;
 use model::request::Request;
 use std::alloc::{AllocError, Global};
+use std::io;
 use std::io::{BufRead, Write};
 use thiserror::Error;
 
@@ -88,14 +91,14 @@ pub fn run_script<C: Caller, R: BufRead + Failing, W: Write + Failing>(
             Err(_) => return Err(ScriptFault::NoMemory),
         };
         if let Some(reply) = answer {
-            match write_reply(writer, &reply) {
-                Ok(()) => {}
+            let is_refused = match report(writer, reply) {
+                Ok(is_refused) => is_refused,
                 Err(_) => return Err(ScriptFault::of_counts(writes, writer.failures())),
-            }
-            if ends_run(&reply, stop) {
+            };
+            if is_refused & stop {
                 return Ok(true);
             }
-            refused = refused_after(refused, &reply);
+            refused = refused | is_refused;
         }
     }
     Err(ScriptFault::of_counts(reads, reader.failures()))
@@ -125,14 +128,11 @@ fn answer_to<C: Caller>(
     }
 }
 
-fn ends_run(reply: &Reply, stop: bool) -> bool
-    ensures { result ≡ (is_refusal (Some reply.now) && stop) }
+/// Writes a reply's line, and tells whether it was a refusal.
+fn report<W: Write>(writer: &mut W, reply: Reply) -> io::Result<bool>
+    ensures line { OnOk result (Appends (W.contents writer.old) (W.contents writer.new) (line_of reply)) }
+    ensures refusal { IfOk result (λ refused. refused ≡ is_refusal (Some reply)) }
 {
-    matches!(reply, Reply::Refused(_)) && stop
-}
-
-fn refused_after(refused: bool, reply: &Reply) -> bool
-    ensures { result ≡ (refused || is_refusal (Some reply.now)) }
-{
-    refused || matches!(reply, Reply::Refused(_))
+    write_reply(writer, &reply)?;
+    Ok(matches!(reply, Reply::Refused(_)))
 }

@@ -1,8 +1,9 @@
 //! Replies as lines.
 ghost use Rattle.std.specs.Prelude.{◌++◌, ◌∷◌, [], Some, OnOk};
 ghost use Rattle.std.specs.Io.KnownBytes.{Appends};
-ghost use Rattle.script.specs.Text.{line_of, data_text};
+ghost use Rattle.script.specs.Text.{line_of, data_text, names_text};
 
+use base::text::Bytes;
 use model::reply::{Reply, Value};
 use std::io;
 use std::io::Write;
@@ -23,6 +24,15 @@ pub(crate) fn write_reply<W: Write>(writer: &mut W, reply: &Reply) -> io::Result
             let size = *size;
             writeln!(writer, "{size}")
         }
+        Reply::Value(Value::Number(number)) => {
+            let number = *number;
+            writeln!(writer, "{number}")
+        }
+        Reply::Group(group) => {
+            let group = *group;
+            writeln!(writer, "{group}")
+        }
+        Reply::Names(names) => write_names(writer, names.as_slice()),
         Reply::Value(Value::NotApplicable) => writer.write_all(b"-\n"),
     }
 }
@@ -34,4 +44,18 @@ fn write_block<W: Write>(writer: &mut W, bytes: &[u8; 512]) -> io::Result<()>
     let _ = hex::encode_to_slice(bytes.as_slice(), &mut text[..1024]);
     text[1024] = b'\n';
     writer.write_all(&text)
+}
+
+fn write_names<W: Write>(writer: &mut W, names: &[Bytes]) -> io::Result<()>
+    ensures { OnOk result (Appends (W.contents writer.old) (W.contents writer.new) (names_text names.now ++ 10 ∷ [])) }
+{
+    let Some((first, others)) = names.split_first() else {
+        return writer.write_all(b"-\n");
+    };
+    writer.write_all(first.as_slice())?;
+    for name in others {
+        writer.write_all(b" ")?;
+        writer.write_all(name.as_slice())?;
+    }
+    writer.write_all(b"\n")
 }

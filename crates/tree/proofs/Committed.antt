@@ -1,19 +1,21 @@
 -- What holds of the map and the allocator once a change is in force.
-use Rattle.std.proofs.Common.{◌≡◌, ℕ, zero, suc, ◌<◌, ◌≤◌, Bool, true, false, cond, List, [], ◌∷◌, Option, Some, None, refl, sym, ap, subst, ◌∙◌, arith, inl, inr, ⊎_elim}
-use Rattle.std.specs.Prelude.{slice_get, slice_set, is_some, IfSome}
-use Rattle.std.specs.FinMap.{get, empty, get-empty}
+use Rattle.std.proofs.Common.{◌≡◌, ℕ, zero, suc, ◌≤◌, Bool, true, false, cond, List, [], ◌∷◌, ◌++◌, Option, Some, None, ◌⊎◌, refl, sym, ap, subst, ◌∙◌, arith, inl, inr, ⊎_elim}
+use Rattle.std.specs.Prelude.{slice_get, slice_set, is_some, IfSome, unwrap_or, ◌==◌}
+use Rattle.std.specs.List.{list_any, flat_map}
+use Rattle.std.specs.Ordering.{eq_by_cmp}
+use Rattle.std.specs.FinMap.{get, keys, empty, get-empty}
 use Rattle.std.proofs.lemmas.Bool.{cases_lt}
 use Rattle.base.specs.declared.number.Key.{Key}
-use Rattle.base.specs.Key.{key_cmp, covers}
-use Rattle.base.specs.Map.{Map, Cell}
-use Rattle.base.specs.Rewrite.{writes_leaf}
+use Rattle.base.specs.Key.{key_cmp, covers, path}
+use Rattle.base.specs.Map.{Map, Cell, Block, Contents, contents}
+use Rattle.base.specs.Rewrite.{Changes, rewrite, is_touched, cell_after, new_cell, changed_contents}
 use Rattle.base.specs.Surveys.{IsIn, AreDifferent, IsMadeKey}
+use Rattle.base.proofs.RewriteLaw.{get-rewrite_any}
 use Rattle.zalloc.specs.declared.BlockState.{BlockState}
 use Rattle.zalloc.specs.declared.BlockState.TheVariants.{Free, Allocated}
 use Rattle.tree.specs.Change.{Shown, IsChange, IsKept}
 use Rattle.tree.specs.Taking.{AllFree, takes}
-use Rattle.tree.proofs.Writes.{touched_is, made_cell, get-written, get-written_high}
-use Rattle.tree.proofs.Lists.{same_value, if_some, for_some}
+use Rattle.tree.proofs.Options.{same_value, if_some, for_some}
 
 set_other : {A : Type 0} (xs : List A) (i n : ℕ) (y : A) → (n ≡ i → ⊥) → slice_get (slice_set xs i y) n ≡ slice_get xs n
 set_other [] i n y h = refl
@@ -50,49 +52,82 @@ taken_allocated states (k ∷ ns) n h f = ⊎_elim
     (λ r. taken_allocated (slice_set states k Allocated) ns n r f.1)
     h
 
-chosen : (P : Cell → Type 0) (b : Bool) (x : Cell) (o : Option Cell) → (b ≡ true → P x) → (b ≡ false → IfSome o P) → IfSome (cond b (Some x) o) P
-chosen P true x o f h = f refl
-chosen P false x o f h = h refl
+-- where no block is released the numbers are Free ones
+pub free_alone : (states : List BlockState) (ns : List ℕ) (bs : List Block) (young : ℕ) → bs ≡ [] → ((n : ℕ) → IsIn ns n → (slice_get states n ≡ Some Free) ⊎ ((b : Block) × IsIn bs b × (young ≤ b.birth) × (b.number ≡ n)))
+    → (n : ℕ) → IsIn ns n → slice_get states n ≡ Some Free
+free_alone states ns bs young e h n i = ⊎_elim (λ f. f) (λ r. absurd (subst (λ (xs : List Block). IsIn xs r.0) e r.1)) (h n i)
 
--- the writing of a leaf, put in force
-module _ (m : Map) (leaf : ℕ) (bytes : List ℕ) (g young : ℕ) (states : List BlockState) (v : Shown) (c : IsChange m (writes_leaf leaf bytes) g young states v)
-    (low : (k : Key) → 5 < k.level → get m k ≡ None) where
-  pub can_take : AllFree states v.taken
-  can_take = all_free states v.taken c.taken_free c.taken_once
+module _ (m : Map) (c : Changes) where
+  -- a new cell's number and birth, and that it is there whatever these are
+  new_parts : (after : Contents) (g : ℕ) (number : Key → ℕ) (k : Key) (x : Cell) → new_cell after g number k ≡ Some x → (x.number ≡ number k) × (x.birth ≡ g)
+  unfolding new_cell
+  new_parts after g number k x e = by (list_any (covers k) (keys after)) e
+    where
+      by : (b : Bool) → cond b (Some (record { number = number k; birth = g; bytes = cond (k.level == 0) (unwrap_or (get after k.index) []) [] })) None ≡ Some x → (x.number ≡ number k) × (x.birth ≡ g)
+      by true f = let s = same_value _ x f in (ap (λ (z : Cell). z.number) (sym s), ap (λ (z : Cell). z.birth) (sym s))
+      by false f = cc
 
-  each_cell : (P : Cell → Type 0) → ((k : Key) → k.level ≤ 5 → covers k leaf ≡ true → P (made_cell g c.number bytes k)) → ((k : Key) → IfSome (get m k) P) → (k : Key) → IfSome (get v.new k) P
-  each_cell P f h k = ⊎_elim
-      (λ l. for_some P (get v.new k) (λ x e. let n : None ≡ Some x = sym (ap (λ n. get n k) c.new_is ∙ get-written_high m leaf bytes g c.number k l low) ∙ e in cc))
-      (λ l. subst (λ o. IfSome o P) (sym (ap (λ n. get n k) c.new_is ∙ get-written m leaf bytes g c.number k l)) (chosen P (covers k leaf) _ (get m k) (f k l) (λ _. h k)))
-      (cases_lt 5 k.level)
+  same_new : (after : Contents) (g h : ℕ) (n p : Key → ℕ) (k : Key) → is_some (new_cell after g n k) ≡ is_some (new_cell after h p k)
+  unfolding new_cell
+  same_new after g h n p k = by (list_any (covers k) (keys after)) _ _
+    where
+      by : (b : Bool) (x y : Cell) → is_some (cond b (Some x) None) ≡ is_some (cond b (Some y) None)
+      by true x y = refl
+      by false x y = refl
 
-  pub none_above : (k : Key) → 5 < k.level → get v.new k ≡ None
-  none_above k l = ap (λ n. get n k) c.new_is ∙ get-written_high m leaf bytes g c.number k l low
+  after_touched : (g : ℕ) (number : Key → ℕ) (k : Key) → is_touched m c k ≡ true → cell_after m c g number k ≡ new_cell (changed_contents (contents m) c) g number k
+  unfolding cell_after
+  after_touched g number k e = rw e refl
+
+  after_untouched : (g : ℕ) (number : Key → ℕ) (k : Key) → is_touched m c k ≡ false → cell_after m c g number k ≡ get m k
+  unfolding cell_after
+  after_untouched g number k e = rw e refl
+
+  from_cond : (b : Bool) (o : Option Cell) (x : Cell) → cond b o None ≡ Some x → (b ≡ true) × (o ≡ Some x)
+  from_cond true o x e = (refl, e)
+  from_cond false o x e = cc
+
+  -- each cell of a rewritten map is new at a key that is made, or as it was
+  pub each_rewritten : (g : ℕ) (number : Key → ℕ) (k : Key) (x : Cell) → get (rewrite m c g number) k ≡ Some x → (IsMadeKey m c k × (x.number ≡ number k) × (x.birth ≡ g)) ⊎ ((is_touched m c k ≡ false) × (get m k ≡ Some x))
+  each_rewritten g number k x e =
+      let w = from_cond _ (cell_after m c g number k) x (sym (get-rewrite_any m c g number k) ∙ e) in
+      by (is_touched m c k) refl w.0 w.1
+    where
+      by : (b : Bool) → is_touched m c k ≡ b → list_any (eq_by_cmp key_cmp k) (keys m ++ flat_map path (keys (changed_contents (contents m) c))) ≡ true → cell_after m c g number k ≡ Some x → (IsMadeKey m c k × (x.number ≡ number k) × (x.birth ≡ g)) ⊎ ((is_touched m c k ≡ false) × (get m k ≡ Some x))
+      by true t b f =
+          let n = sym (after_touched g number k t) ∙ f in
+          let w = new_parts _ g number k x n in
+          inl ((t, ap is_some (get-rewrite_any m c 0 (λ _. 0) k) ∙ (λ i. is_some (cond (b i) (after_touched 0 (λ _. 0) k t i) None)) ∙ same_new (changed_contents (contents m) c) 0 g (λ _. 0) number k ∙ ap is_some n), w.0, w.1)
+      by false t b f = inr (t, sym (after_untouched g number k t) ∙ f)
+
+-- a change, put in force
+module _ (m : Map) (c : Changes) (g young : ℕ) (states : List BlockState) (v : Shown) (h : IsChange m c g young states v) where
+  each_cell : (P : Cell → Type 0) → ((k : Key) (x : Cell) → IsMadeKey m c k → x.number ≡ h.number k → x.birth ≡ g → P x) → ((k : Key) (x : Cell) → get m k ≡ Some x → is_touched m c k ≡ false → P x) → (k : Key) → IfSome (get v.new k) P
+  each_cell P f r k = for_some P (get v.new k) (λ x e. ⊎_elim (λ a. f k x a.0 a.1 a.2) (λ a. r k x a.1 a.0) (each_rewritten m c g h.number k x (sym (ap (λ n. get n k) h.new_is) ∙ e)))
 
   -- no block is younger than the group
   pub born_after : ((k : Key) → IfSome (get m k) (λ x. x.birth ≤ g)) → (k : Key) → IfSome (get v.new k) (λ x. x.birth ≤ g)
-  born_after h = each_cell (λ x. x.birth ≤ g) (λ k l e. omega arith) h
+  born_after b = each_cell (λ x. x.birth ≤ g) (λ k x a n e. omega arith) (λ k x e u. if_some _ _ x e (b k))
 
-  made : (k : Key) → k.level ≤ 5 → covers k leaf ≡ true → IsMadeKey m (writes_leaf leaf bytes) k
-  made k l e = (touched_is m leaf bytes k ∙ e, ap is_some (get-written m leaf bytes 0 (λ _. 0) k l) ∙ rw e refl)
-
-  -- each block's number is Allocated
-  pub allocated_after : ((k : Key) → IfSome (get m k) (λ x. slice_get states x.number ≡ Some Allocated)) → (k : Key) → IfSome (get v.new k) (λ x. slice_get (takes states v.taken) x.number ≡ Some Allocated)
-  allocated_after h = each_cell (λ x. slice_get (takes states v.taken) x.number ≡ Some Allocated) at
-      (λ k. for_some _ (get m k) (λ x e. still_allocated states v.taken x.number (if_some _ _ x e (h k)) can_take))
+  -- each block's number is Allocated, where the states are those once the blocks were released that go
+  pub allocated_after : (now : List BlockState) → AllFree now v.taken → ((k : Key) (x : Cell) → get m k ≡ Some x → (is_touched m c k ≡ false) ⊎ (IsKept m c young k) → slice_get now x.number ≡ Some Allocated)
+      → (k : Key) → IfSome (get v.new k) (λ x. slice_get (takes now v.taken) x.number ≡ Some Allocated)
+  allocated_after now free still = each_cell (λ x. slice_get (takes now v.taken) x.number ≡ Some Allocated)
+      (λ k x a n b. ap (slice_get (takes now v.taken)) n ∙ made k a)
+      (λ k x e u. still_allocated now v.taken x.number (still k x e (inl u)) free)
     where
-      fresh : (k : Key) → k.level ≤ 5 → covers k leaf ≡ true → ¬ (IsKept m (writes_leaf leaf bytes) young k) → slice_get (takes states v.taken) (c.number k) ≡ Some Allocated
-      fresh k l e n = taken_allocated states v.taken (c.number k) (c.fresh k (made k l e) n) can_take
+      fresh : (k : Key) → IsMadeKey m c k → ¬ (IsKept m c young k) → slice_get (takes now v.taken) (h.number k) ≡ Some Allocated
+      fresh k a n = taken_allocated now v.taken (h.number k) (h.fresh k a n) free
 
-      by : (k : Key) (o : Option Cell) → get m k ≡ o → k.level ≤ 5 → covers k leaf ≡ true → slice_get (takes states v.taken) (c.number k) ≡ Some Allocated
-      by k None e l w = fresh k l w (λ t. let n : None ≡ Some t.cell = sym e ∙ t.there in cc)
-      by k (Some x) e l w = ⊎_elim
-          (λ s. fresh k l w (λ t. let same : x ≡ t.cell = same_value x t.cell (sym e ∙ t.there) in let b = ap (λ (z : Cell). z.birth) same in let y = t.born in absurd (omega (arith, b, y, s))))
-          (λ s. ap (slice_get (takes states v.taken)) (c.kept k x (made k l w) e s) ∙ still_allocated states v.taken x.number (if_some _ _ x e (h k)) can_take)
+      by : (k : Key) (o : Option Cell) → get m k ≡ o → IsMadeKey m c k → slice_get (takes now v.taken) (h.number k) ≡ Some Allocated
+      by k None e a = fresh k a (λ t. let n : None ≡ Some t.cell = sym e ∙ t.there in cc)
+      by k (Some x) e a = ⊎_elim
+          (λ l. fresh k a (λ t. let same : x ≡ t.cell = same_value x t.cell (sym e ∙ t.there) in let b = ap (λ (z : Cell). z.birth) same in let y = t.born in absurd (omega (arith, b, y, l))))
+          (λ l. ap (slice_get (takes now v.taken)) (h.kept k x a e l) ∙ still_allocated now v.taken x.number (still k x e (inr (record { made = a; cell = x; there = e; born = l }))) free)
           (cases_lt x.birth young)
 
-      at : (k : Key) → k.level ≤ 5 → covers k leaf ≡ true → slice_get (takes states v.taken) (c.number k) ≡ Some Allocated
-      at k l e = by k (get m k) refl l e
+      made : (k : Key) → IsMadeKey m c k → slice_get (takes now v.taken) (h.number k) ≡ Some Allocated
+      made k a = by k (get m k) refl a
 
 -- the empty map has no cell
 pub none_in_empty : (P : Cell → Type 0) (k : Key) → IfSome (get (empty {R = key_cmp}) k) P
@@ -100,6 +135,3 @@ none_in_empty P k = for_some P (get empty k) (λ x e. let n : None ≡ Some x = 
 
 pub all_of_none : (m : Map) (P : Cell → Type 0) → m ≡ empty → (k : Key) → IfSome (get m k) P
 all_of_none m P e = subst (λ (n : Map). (k : Key) → IfSome (get n k) P) (sym e) (none_in_empty P)
-
-pub nothing_above : (m : Map) → m ≡ empty → (k : Key) → 5 < k.level → get m k ≡ None
-nothing_above m e k h = ap (λ (n : Map). get n k) e ∙ get-empty key_cmp k

@@ -58,7 +58,7 @@ find_only k (x ∷ xs) ys e =
     ]
 
 -- a key that lies outside is not found
-not_before : (k : Key) (low high top : ℕ) (es : List (Key × Cell)) → first_leaf k < low → Placed low high top es → fin.find key_cmp k es ≡ None
+pub not_before : (k : Key) (low high top : ℕ) (es : List (Key × Cell)) → first_leaf k < low → Placed low high top es → fin.find key_cmp k es ≡ None
 not_before k low high top [] h p = refl
 not_before k low high top (e ∷ es) h p = let ne : first_leaf k ≢ first_leaf e.0 = omega arith in rw (untied_leaf k e.0 ne) (not_before k low high top es h p.3)
 
@@ -66,7 +66,7 @@ not_after : (k : Key) (low high top : ℕ) (es : List (Key × Cell)) → high �
 not_after k low high top [] h p = refl
 not_after k low high top (e ∷ es) h p = let ne : first_leaf k ≢ first_leaf e.0 = omega arith in rw (untied_leaf k e.0 ne) (not_after k low high top es h p.3)
 
-not_above : (k : Key) (low high top : ℕ) (es : List (Key × Cell)) → top < k.level → Placed low high top es → fin.find key_cmp k es ≡ None
+pub not_above : (k : Key) (low high top : ℕ) (es : List (Key × Cell)) → top < k.level → Placed low high top es → fin.find key_cmp k es ≡ None
 not_above k low high top [] h p = refl
 not_above k low high top (e ∷ es) h p = let ne : k.level ≢ e.0.level = omega arith in rw (untied_level k e.0 ne) (not_above k low high top es h p.3)
 
@@ -90,7 +90,7 @@ pub cell_in-grown_here : (d : ℕ) (c : Cell) (b r : Forest) (q : ℕ) → q < 1
 cell_in-grown_here d c b r q h = rw (div-eq_of_lt h, mod-eq_of_lt h) refl
 
 -- an index and the first leaf that it covers
-scale_lt : (a b l d : ℕ) → a < b * 16 ^ d → a * 16 ^ l < b * 16 ^ (l + d)
+pub scale_lt : (a b l d : ℕ) → a < b * 16 ^ d → a * 16 ^ l < b * 16 ^ (l + d)
 scale_lt a b l d h = let e : b * 16 ^ (l + d) ≡ b * (16 ^ l * 16 ^ d) = ap (λ x. b * x) (pow-add 16 l d) in let m = mul-lt-mul_of_pos_right h (span_positive l) in omega (arith, e, m)
 
 scale_le : (a b l d : ℕ) → b * 16 ^ d ≤ a → b * 16 ^ (l + d) ≤ a * 16 ^ l

@@ -1,23 +1,40 @@
 -- What the fields of a prepared change stand for.
-use Rattle.std.specs.Prelude.{◌≤◌, length, map, drop}
+use Rattle.std.specs.Prelude.{ℕ, map}
 use Rattle.base.specs.Surveys.{dead_block}
+use Rattle.base.specs.declared.number.Key.{Key}
 use Rattle.tree.specs.declared.change.Change.TheInside.{Inside}
+use Rattle.tree.specs.declared.change.NewBlock.{NewBlock}
+use Rattle.tree.specs.declared.change.Changed.{Changed}
+use Rattle.base.specs.Map.{Map}
 use Rattle.tree.specs.Change.{Shown}
 use Rattle.tree.specs.Entries.{map_of}
 use Rattle.tree.specs.Node.{root_forest}
 use Rattle.tree.specs.Sound.{IsSoundTree}
+
+-- a new block as its key and its number (profile)
+abbrev pub made_pair : NewBlock → Key × ℕ
+made_pair b = (b.key, b.block.0)
 
 -- (profile)
 abbrev pub shown : Inside → Shown
 shown c = record {
   old = map_of (root_forest c.old);
   new = map_of (root_forest c.root);
-  taken = map (λ b. b.0) (drop c.kept c.numbers);
-  released = map dead_block (drop c.kept c.blocks.items);
+  taken = map (λ b. b.0) c.taken.items;
+  released = map dead_block c.released.items;
+  made = map made_pair c.made.items;
 }
 
--- the new tree is sound, and the blocks that keep their numbers are the first ones (profile)
+-- the new tree is sound (profile)
 pub record IsSoundChange (c : Inside) : Type 0 where
   pub sound : IsSoundTree c.root c.count
-  pub blocks : c.kept ≤ length c.blocks.items
-  pub six : c.kept ≤ 6
+
+-- what a change in force has done, between the maps before and after (profile)
+abbrev pub change_done : Map → Map → Changed → Shown
+change_done old new done = record {
+  old = old;
+  new = new;
+  taken = map (λ b. b.0) done.taken.items;
+  released = map dead_block done.released.items;
+  made = map made_pair done.made.items;
+}

@@ -1,29 +1,33 @@
--- The numbers of the blocks on the way to a leaf.
-use Rattle.std.specs.Prelude.{◌≡◌, ℕ, ◌-◌, ◌<◌, ◌≤◌, List, Some, length, slice_get, slice_index_or}
+-- The numbers that new blocks can have.
+use Rattle.std.specs.Prelude.{◌≡◌, ◌⊎◌, ℕ, ◌+◌, ◌≤◌, Bool, cond, List, [], ◌∷◌, map, filter, drop, Some, nat_le, slice_get}
 use Rattle.base.specs.declared.number.BlockNo.{BlockNo}
-use Rattle.base.specs.Map.{Block}
+use Rattle.base.specs.declared.number.Dead.{Dead}
+use Rattle.base.specs.Surveys.{IsIn}
 use Rattle.zalloc.specs.declared.BlockState.{BlockState}
 use Rattle.zalloc.specs.declared.BlockState.TheVariants.{Free}
+use Rattle.zalloc.specs.States.{is_free}
 
 -- (profile)
-abbrev pub number_in : List BlockNo → ℕ → ℕ
-number_in ns i = (slice_index_or ns i (record { 0 = 0 })).0
+abbrev pub numbers : List BlockNo → List ℕ
+numbers = map (λ b. b.0)
 
--- the number for a level, where the list begins with that of the root at level 5 (profile)
-unfoldable pub number_at : List BlockNo → ℕ → ℕ
-number_at ns l = number_in ns (5 - l)
+-- whether a block was born from the group y on (profile)
+abbrev pub is_young : ℕ → Dead → Bool
+is_young y d = nat_le y d.birth.0
 
--- so many of the first blocks were born from a group on, and the next one wasn't (profile)
-pub record AreYoung (bs : List Block) (young n : ℕ) : Type 0 where
-  pub within : n ≤ length bs
-  pub front : (i : ℕ) → i < n → (b : Block) → slice_get bs i ≡ Some b → young ≤ b.birth
-  pub next : (b : Block) → slice_get bs n ≡ Some b → b.birth < young
+-- the numbers of the blocks that were born from the group y on (profile)
+unfoldable pub young_numbers : ℕ → List Dead → List ℕ
+young_numbers y ds = map (λ d. d.block.0) (filter (is_young y) ds)
 
--- the first numbers are those of the blocks (profile)
-pub record AreKept (bs : List Block) (n : ℕ) (ns : List BlockNo) : Type 0 where
-  pub same : (i : ℕ) → i < n → (b : Block) → slice_get bs i ≡ Some b → number_in ns i ≡ b.number
+-- the Free numbers of these states, the first of which is that of i (profile)
+abbrev pub frees : ℕ → List BlockState → List ℕ
+frees i [] = []
+frees i (s ∷ ss) = cond (is_free s) (i ∷ frees (i + 1) ss) (frees (i + 1) ss)
 
--- the numbers from one place on to another are Free, and none stands twice (profile)
-pub record AreTaken (states : List BlockState) (from to : ℕ) (ns : List BlockNo) : Type 0 where
-  pub free : (i : ℕ) → from ≤ i → i < to → slice_get states (number_in ns i) ≡ Some Free
-  pub once : (i j : ℕ) → from ≤ i → i < j → j < to → number_in ns i ≡ number_in ns j → ⊥
+-- the Free numbers from one on, in their order (profile)
+unfoldable pub frees_from : ℕ → List BlockState → List ℕ
+frees_from i states = frees i (drop i states)
+
+-- a number for a new block: a Free one, or that of a young block that is let go (profile)
+abbrev pub IsAtHand : List BlockState → ℕ → List Dead → ℕ → Type 0
+IsAtHand states y ds n = (slice_get states n ≡ Some Free) ⊎ ((d : Dead) × IsIn ds d × (y ≤ d.birth.0) × (d.block.0 ≡ n))

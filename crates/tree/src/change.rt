@@ -2,23 +2,31 @@
 ghost use Rattle.std.specs.Prelude.{◌≡◌, map};
 ghost use Rattle.std.specs.FinMap.{len};
 ghost use Rattle.base.specs.Surveys.{dead_block};
+ghost use Rattle.tree.specs.ChangeParts.{made_pair};
 
 use crate::tree::Root;
-use base::number::{BlockNo, Dead};
+use base::number::{BlockNo, Dead, Key};
 use std::marker::Model;
 use std::sync::Arc;
 
+/// A new block of a change: its key, and the number that it has.
+#[derive(Clone, Copy, PartialEq, Eq, Debug)]
+pub struct NewBlock {
+    pub key: Key,
+    pub block: BlockNo,
+}
+
 /// A change that is made ready: the tree that it leads to stands already, and to put it in force takes no memory. One that is
-/// dropped has changed nothing. Contracts see the maps before and after, the Free numbers that it takes, and the blocks that it
-/// drops without using their numbers again.
+/// dropped has changed nothing. Contracts see the maps before and after, the numbers that it takes, the blocks that it drops
+/// without keeping their numbers in place, and its new blocks.
 #[derive(Drop)]
 pub struct Change {
     pub(crate) old: Option<Arc<Root>>,
     pub(crate) root: Option<Arc<Root>>,
     pub(crate) count: u32,
-    pub(crate) blocks: Vec<Dead>,
-    pub(crate) kept: usize,
-    pub(crate) numbers: [BlockNo; 6],
+    pub(crate) released: Vec<Dead>,
+    pub(crate) taken: Vec<BlockNo>,
+    pub(crate) made: Vec<NewBlock>,
 }
 
 impl Model for Change {
@@ -37,19 +45,26 @@ impl Model for Change {
 }
 
 impl Change {
-    /// The blocks that it drops without using their numbers again, from the root on down.
+    /// The blocks that it drops, but for those whose numbers stay at their keys. The number of one that was born from the
+    /// change's `young` on may be among those taken.
     pub fn released(&self) -> &[Dead]
         ensures { map dead_block result.now ≡ self.now.released }
     {
-        &self.blocks[self.kept..]
+        &self.released
     }
 
-    /// The Free numbers that it takes.
+    /// The numbers that it takes: Free ones, and those of young blocks among the released.
     pub fn taken(&self) -> &[BlockNo]
         ensures { map (λ b. b.0) result.now ≡ self.now.taken }
     {
-        let numbers: &[BlockNo] = &self.numbers;
-        &numbers[self.kept..]
+        &self.taken
+    }
+
+    /// Its new blocks. They stand in the order of their keys, which no clause says yet.
+    pub fn made(&self) -> &[NewBlock]
+        ensures { map made_pair result.now ≡ self.now.made }
+    {
+        &self.made
     }
 
     /// How many blocks the tree will have.
@@ -58,4 +73,13 @@ impl Change {
     {
         self.count
     }
+}
+
+/// What a change that is in force has done to the numbers: the blocks that it dropped without keeping their numbers in place, the
+/// numbers that its new blocks have beside those kept, and its new blocks.
+#[derive(Drop)]
+pub struct Changed {
+    pub released: Vec<Dead>,
+    pub taken: Vec<BlockNo>,
+    pub made: Vec<NewBlock>,
 }

@@ -6,7 +6,7 @@ ghost use Rattle.base.specs.Surveys.{dead_block};
 ghost use Rattle.base.specs.declared.refusal.Refusal.{Refusal};
 ghost use Rattle.tree.specs.Shape.{Part, part_at, cell_below, steps_below};
 ghost use Rattle.tree.specs.Cells.{cell_of};
-ghost use Rattle.tree.specs.Trail.{trail};
+ghost use Rattle.tree.specs.Touch.{dead_of};
 ghost use Rattle.tree.specs.Kid.{IsSound};
 ghost use Rattle.tree.specs.Walk.{born_after, part_blocks};
 
@@ -33,19 +33,9 @@ pub trait Level {
         ensures found { option_map cell_of result ≡ cell_below depth (part self.now) at }
         ensures metered { meter.new ≡ counted meter.old (steps_below depth (part self.now) at) };
 
-    /// Adds the blocks from the node's own down to the leaf `at` of the `span` leaves that it covers, as far as they are
-    /// present.
-    fn follow(
-        &self,
-        span: u32,
-        at: u32,
-        blocks: &mut Vec<Dead>,
-        meter: &mut Meter,
-    ) -> Result<(), Refusal>
-        requires level { span ≡ 16 ^ Self.height }
-        requires covered { at < span }
-        ensures ok { OnOk result (map dead_block blocks.new.items ≡ map dead_block blocks.old.items ++ trail height (part self.now) at) }
-        ensures err { OnErr result (result ≡ Err Refusal.NoMemory) };
+    /// The node's own block.
+    fn block(&self) -> Dead
+        ensures { result ≡ dead_of (part self.now).cell };
 
     /// Adds the blocks born after a group, each before those below it. A part that is no younger is not walked.
     fn gather(&self, cut: Group, out: &mut Vec<Dead>, meter: &mut Meter) -> Result<(), Refusal>
@@ -58,9 +48,9 @@ pub trait Level {
 /// A data block.
 #[derive(Drop)]
 pub struct Leaf {
-    block: BlockNo,
-    birth: Group,
-    bytes: [u8; 512],
+    pub(crate) block: BlockNo,
+    pub(crate) birth: Group,
+    pub(crate) bytes: [u8; 512],
 }
 
 /// The length of an array of sixteen.
@@ -132,19 +122,11 @@ impl Level for Leaf {
         if depth == 0 { Some(self.cell()) } else { None }
     }
 
-    fn follow(
-        &self,
-        _span: u32,
-        _at: u32,
-        blocks: &mut Vec<Dead>,
-        meter: &mut Meter,
-    ) -> Result<(), Refusal> {
-        meter.add_one();
-        blocks.push(Dead {
+    fn block(&self) -> Dead {
+        Dead {
             block: self.block,
             birth: self.birth,
-        })?;
-        Ok(())
+        }
     }
 
     #[tactic(auto, unfolding(crate::specs::Walk::born_after, base::specs::Counting::counted, base::specs::Counting::most))]
@@ -163,9 +145,9 @@ impl Level for Leaf {
 /// An indirect block, with its sixteen places.
 #[derive(Drop)]
 pub struct Inner<C> {
-    block: BlockNo,
-    birth: Group,
-    kids: [Option<Arc<C>>; 16],
+    pub(crate) block: BlockNo,
+    pub(crate) birth: Group,
+    pub(crate) kids: [Option<Arc<C>>; 16],
 }
 
 impl<C> Inner<C> {
@@ -181,6 +163,17 @@ impl<C> Inner<C> {
         ensures all { length self.now.kids ≡ 16 }
     {
         sixteen(&self.kids)
+    }
+
+    /// What stands at a place.
+    pub fn kid(&self, place: usize) -> Option<&C>
+        requires { place < 16 }
+        ensures { option_map (λ k. k.now) result ≡ option_map (λ a. a.value) (slice_index_or self.now.kids place None) }
+    {
+        match &self.kids[place] {
+            Some(kid) => Some(&**kid),
+            None => None,
+        }
     }
 
     /// The owner of what stands at a place.
@@ -224,25 +217,10 @@ impl<C: Level> Level for Inner<C> {
         }
     }
 
-    fn follow(
-        &self,
-        span: u32,
-        at: u32,
-        blocks: &mut Vec<Dead>,
-        meter: &mut Meter,
-    ) -> Result<(), Refusal> {
-        meter.add_one();
-        blocks.push(Dead {
+    fn block(&self) -> Dead {
+        Dead {
             block: self.block,
             birth: self.birth,
-        })?;
-        let below = span / 16;
-        match &self.kids[(at / below) as usize] {
-            Some(kid) => {
-                kid.follow(below, at % below, blocks, meter)?;
-                Ok(())
-            }
-            None => Ok(()),
         }
     }
 

@@ -1,91 +1,118 @@
-//! The numbers of the blocks on the way to a leaf.
-ghost use Rattle.std.specs.Prelude.{◌≡◌, ℕ, ◌+◌, ◌-◌, ◌<◌, ◌≤◌, IfOk, IfSome, IfErr, IsTrue, OnOk, OnErr, length, map, slice_get, slice_index_or, count_by, Some, ◌⊎◌, false, replicate};
-ghost use Rattle.base.specs.Surveys.{dead_block};
+//! The numbers of new blocks.
+ghost use Rattle.std.specs.Prelude.{◌≡◌, ℕ, ◌+◌, ◌-◌, ◌<◌, ◌≤◌, ◌++◌, IfOk, IfSome, IfErr, OnOk, OnErr, length, map, filter, take, slice_get, count_by, Some, ◌⊎◌, nat_le};
+ghost use Rattle.base.specs.Surveys.{dead_block, IsIn, AreDifferent};
 ghost use Rattle.base.specs.declared.refusal.Refusal.{Refusal};
-ghost use Rattle.tree.specs.Numbers.{number_in, number_at, AreKept, AreTaken, AreYoung};
+ghost use Rattle.tree.specs.Build.{is_fresh, filled};
+ghost use Rattle.tree.specs.Numbers.{numbers, frees_from, is_young, young_numbers, IsAtHand};
 ghost use Rattle.zalloc.specs.States.{is_free};
-ghost use Rattle.zalloc.specs.declared.BlockState.TheVariants.{Free};
+ghost use Rattle.zalloc.specs.declared.BlockState.TheVariants.{Free, Allocated};
 
+use crate::change::NewBlock;
+use crate::plan::Claim;
 use base::number::{BlockNo, Dead, Group};
 use base::refusal::Refusal;
+use std::alloc::Global;
 use zalloc::Allocator;
 
-/// How many of the first blocks were born from a group on.
-pub fn young_front(blocks: &[Dead], young: Group) -> usize
-    ensures { AreYoung (map dead_block blocks.now) young.0 result }
+/// How many claims keep no block.
+pub fn fresh_count(claims: &[Claim]) -> usize
+    ensures { result ≡ count_by is_fresh claims.now }
 {
-    for (i, block) in blocks.iter().enumerate() {
-        if block.birth.0 < young.0 {
-            return i;
+    claims.iter().filter(|claim| claim.kept.is_none()).count()
+}
+
+/// Adds the numbers of the blocks that were born from a group on, up to so many in all.
+fn reuse(
+    released: &[Dead],
+    young: Group,
+    need: usize,
+    out: &mut Vec<BlockNo>,
+) -> Result<(), Refusal>
+    requires { length out.old.items ≤ need }
+    ensures ok { OnOk result (numbers out.new.items ≡ numbers out.old.items ++ take (need - length out.old.items) (young_numbers young.0 released.now)) }
+    ensures err { OnErr result (result ≡ Err Refusal.NoMemory) }
+{
+    for dead in released {
+        if out.len() == need {
+            return Ok(());
+        }
+        if dead.birth.0 >= young.0 {
+            out.push(dead.block)?;
         }
     }
-    blocks.len()
+    Ok(())
 }
 
-/// The numbers of the first blocks, with 0 for the others.
-fn kept_numbers(blocks: &[Dead], kept: usize) -> [BlockNo; 6]
-    requires blocks { kept ≤ length blocks.now }
-    requires six { kept ≤ 6 }
-    ensures six { length result ≡ 6 }
-    ensures kept { AreKept (map dead_block blocks.now) kept result }
+/// Adds the Free numbers from one on in turn, up to so many in all.
+fn take_free(
+    allocator: &Allocator,
+    first: u32,
+    need: usize,
+    out: &mut Vec<BlockNo>,
+) -> Result<(), Refusal>
+    requires { length out.old.items ≤ need }
+    ensures ok { OnOk result (numbers out.new.items ≡ numbers out.old.items ++ take (need - length out.old.items) (frees_from first allocator.now)) }
+    ensures err { OnErr result (result ≡ Err Refusal.NoMemory) }
 {
-    let mut numbers = [BlockNo(0); 6];
-    for i in 0..kept {
-        numbers[i] = blocks[i].block;
+    let mut from = first;
+    for _count in out.len()..need {
+        let Some(b) = allocator.find(from) else {
+            return Ok(());
+        };
+        out.push(b)?;
+        from = b.0 + 1;
     }
-    numbers
+    Ok(())
 }
 
-/// A Free number from one on, or any other.
-fn free_number(allocator: &Allocator, from: u32) -> Option<BlockNo>
-    ensures { IfSome result (λ b. slice_get allocator.now b.0 ≡ Some Free) }
-{
-    match allocator.find(from) {
-        Some(b) => Some(b),
-        None => allocator.find(0),
-    }
-}
-
-/// Whether a number is among those from one place on to another.
-fn is_among(numbers: &[BlockNo], from: usize, to: usize, b: BlockNo) -> bool
-    requires { to ≤ length numbers.now }
-    ensures { result ≡ false → (i : ℕ) → from ≤ i → i < to → number_in numbers.now i ≡ b.0 → ⊥ }
-{
-    for i in from..to {
-        if numbers[i] == b {
-            return true;
-        }
-    }
-    false
-}
-
-/// The numbers for the six blocks on the way to a leaf: the first `kept` of the present ones keep theirs, and each other takes
-/// a Free one.
-pub fn choose(allocator: &Allocator, blocks: &[Dead], kept: usize) -> Result<[BlockNo; 6], Refusal>
-    requires blocks { kept ≤ length blocks.now }
-    requires six { kept ≤ 6 }
-    ensures six { IfOk result (λ ns. length ns ≡ 6) }
-    ensures kept { IfOk result (λ ns. AreKept (map dead_block blocks.now) kept ns) }
-    ensures taken { IfOk result (λ ns. AreTaken allocator.now kept 6 ns) }
-    ensures room { OnOk result (6 ≤ count_by is_free allocator.now + kept) }
-    ensures no_space { result ≡ Err Refusal.NoSpace → count_by is_free allocator.now + kept < 6 }
+/// So many numbers for new blocks: those of young blocks that are let go, and then Free ones.
+pub fn choose(
+    alloc: Global,
+    allocator: &Allocator,
+    released: &[Dead],
+    young: Group,
+    need: usize,
+) -> Result<Vec<BlockNo>, Refusal>
+    requires allocated { (d : Dead) → IsIn released.now d → slice_get allocator.now d.block.0 ≡ Some Allocated }
+    requires once { AreDifferent (map (λ d. d.block.0) released.now) }
+    ensures len { IfOk result (λ v. length v.items ≡ need) }
+    ensures at_hand { IfOk result (λ v. (n : ℕ) → IsIn (numbers v.items) n → IsAtHand allocator.now young.0 released.now n) }
+    ensures once { IfOk result (λ v. AreDifferent (numbers v.items)) }
+    ensures room { OnOk result (need ≤ count_by is_free allocator.now + count_by (is_young young.0) released.now) }
+    ensures no_space { result ≡ Err Refusal.NoSpace → count_by is_free allocator.now + count_by (is_young young.0) released.now < need }
     ensures only { IfErr result (λ e. (e ≡ Refusal.NoSpace) ⊎ (e ≡ Refusal.NoMemory)) }
 {
-    let mut numbers = kept_numbers(blocks, kept);
-    if allocator.counts().free < 6 - kept as u32 {
+    let mut out = Vec::with_capacity(alloc, need)?;
+    reuse(released, young, need, &mut out)?;
+    if need - out.len() > allocator.counts().free as usize {
         return Err(Refusal::NoSpace);
     }
-    let mut from = allocator.hint();
-    for i in kept..6 {
-        // `find` gives each Free number in turn: with the room that is there it ends at neither answer below
-        let Some(b) = free_number(allocator, from) else {
-            return Err(Refusal::NoMemory);
+    take_free(allocator, allocator.hint(), need, &mut out)?;
+    take_free(allocator, 0, need, &mut out)?;
+    Ok(out)
+}
+
+/// The claims with their numbers.
+pub fn fill(alloc: Global, claims: &[Claim], taken: &[BlockNo]) -> Result<Vec<NewBlock>, Refusal>
+    requires { length taken.now ≡ count_by is_fresh claims.now }
+    ensures ok { IfOk result (λ v. v.items ≡ filled claims.now taken.now) }
+    ensures err { OnErr result (result ≡ Err Refusal.NoMemory) }
+{
+    let mut out = Vec::with_capacity(alloc, claims.len())?;
+    let mut next = 0;
+    for claim in claims {
+        let block = match claim.kept {
+            Some(dead) => dead.block,
+            None => {
+                let block = taken[next];
+                next += 1;
+                block
+            }
         };
-        if is_among(&numbers, kept, i, b) {
-            return Err(Refusal::NoMemory);
-        }
-        numbers[i] = b;
-        from = b.0.saturating_add(1);
+        out.push(NewBlock {
+            key: claim.key,
+            block,
+        })?;
     }
-    Ok(numbers)
+    Ok(out)
 }

@@ -1,16 +1,14 @@
 //! A version of a tree, seen as the map from its present keys to their cells.
-ghost use Rattle.std.specs.Prelude.{◌≡◌, ℕ, ◌<◌, ◌≤◌, ◌⊎◌, Some, IfOk, IfSome, IfErr, OnOk, OnErr, slice_get, map, length};
+ghost use Rattle.std.specs.Prelude.{◌≡◌, ◌<◌, ◌≤◌, ◌⊎◌, Some, IfOk, IfSome, IsSome, IfErr, OnOk, OnErr, slice_get, map, length};
 ghost use Rattle.base.specs.declared.number.Key.{Key};
 ghost use Rattle.base.specs.declared.refusal.Refusal.{Refusal};
-ghost use Rattle.base.specs.Rewrite.{writes_leaf};
+ghost use Rattle.tree.specs.Updates.{changes_of, IsBatch};
 ghost use Rattle.zalloc.specs.declared.BlockState.TheVariants.{Allocated};
 ghost use Rattle.tree.specs.Change.{IsChange, HasRoom, LacksRoom};
+ghost use Rattle.tree.specs.ChangeParts.{change_done};
 ghost use Rattle.base.specs.Surveys.{dead_block};
 ghost use Rattle.tree.specs.Node.{root_part, whole};
-ghost use Rattle.tree.specs.Trail.{trail, trail_in};
 ghost use Rattle.tree.specs.Walk.{born_after, blocks_of};
-ghost use Rattle.tree.specs.Put.{put};
-ghost use Rattle.tree.specs.Numbers.{number_at};
 ghost use Rattle.tree.specs.Taking.{AllFree, takes};
 ghost use Rattle.std.specs.FinMap as finmap;
 ghost use Rattle.std.specs.FinMap.{get, len};
@@ -19,11 +17,13 @@ ghost use Rattle.base.specs.Counting.{counted};
 ghost use Rattle.tree.specs.Cells.{cell_of};
 ghost use Rattle.tree.specs.Reading.{present_on_path};
 
+use crate::build::{Build, keep};
 use crate::cell::Cell;
-use crate::change::Change;
+use crate::change::{Change, Changed};
+use crate::draft::draft_of;
 use crate::node::{Inner, Leaf, Level, span};
-use crate::numbers::{choose, young_front};
-use crate::put::{Put, keep};
+use crate::renew::Renew;
+use crate::update::Update;
 use base::meter::Meter;
 use base::number::{BlockNo, Dead, Group, Key};
 use base::refusal::Refusal;
@@ -37,7 +37,7 @@ pub type Root = Inner<Inner<Inner<Inner<Inner<Leaf>>>>>;
 /// A dataset's tree of blocks. Contracts see the map from its present keys to their cells.
 #[derive(Drop)]
 pub struct Tree {
-    root: Option<Arc<Root>>,
+    pub(crate) root: Option<Arc<Root>>,
     count: u32,
 }
 
@@ -68,42 +68,8 @@ fn owner(root: &Option<Arc<Root>>) -> Option<&Arc<Root>>
     }
 }
 
-/// The blocks from the root down to a leaf, as far as they are present.
-fn trail_of(
-    alloc: Global,
-    root: &Option<Arc<Root>>,
-    leaf: u32,
-    meter: &mut Meter,
-) -> Result<Vec<Dead>, Refusal>
-    requires { leaf < 1048576 }
-    ensures ok { IfOk result (λ blocks. map dead_block blocks.items ≡ trail_in (whole root.now) (λ p. trail 5 p leaf)) }
-    ensures err { OnErr result (result ≡ Err Refusal.NoMemory) }
-{
-    let mut blocks = Vec::with_capacity(alloc, 6)?;
-    if let Some(a) = root {
-        a.follow(1048576, leaf, &mut blocks, meter)?;
-    }
-    Ok(blocks)
-}
-
-/// The root once a leaf is written anew, with these numbers from the root down.
-fn put_root(
-    alloc: Global,
-    root: &Option<Arc<Root>>,
-    leaf: u32,
-    bytes: &[u8; 512],
-    group: Group,
-    numbers: &[BlockNo; 6],
-) -> Result<Arc<Root>, Refusal>
-    requires { leaf < 1048576 }
-    ensures ok { IfOk result (λ a. root_part a.value ≡ put 5 group.0 (number_at numbers.now) bytes.now leaf (whole root.now)) }
-    ensures err { OnErr result (result ≡ Err Refusal.NoMemory) }
-{
-    Root::put(alloc, owner(root), 1048576, leaf, bytes, group, numbers, 0)
-}
-
-/// Takes each number in turn.
-fn take_all(allocator: &mut Allocator, numbers: &[BlockNo])
+/// Takes each number in turn, and each is Free when its turn comes. It takes no memory, and costs the numbers.
+pub fn take_all(allocator: &mut Allocator, numbers: &[BlockNo])
     requires { AllFree allocator.old (map (λ b. b.0) numbers.now) }
     ensures { allocator.new ≡ takes allocator.old (map (λ b. b.0) numbers.now) }
 {
@@ -123,9 +89,22 @@ impl Tree {
         }
     }
 
+    /// The same tree again, by one more owner of its root: no block is visited. NoMemory where there is none for that.
+    pub fn copy(&self) -> Result<Tree, Refusal>
+        ensures ok { IfOk result (λ t. t ≡ self.now) }
+        ensures err { OnErr result (result ≡ Err Refusal.NoMemory) }
+    {
+        let root = keep(owner(&self.root))?;
+        Ok(Tree {
+            root,
+            count: self.count,
+        })
+    }
+
     /// What stands at a key, or none. It costs a step for each level from the root down.
     pub fn read(&self, key: Key, meter: &mut Meter) -> Option<Cell>
         ensures cell { option_map cell_of result ≡ get self.now key }
+        ensures bytes { IfSome result (λ c. key.level ≡ 0 → IsSome c.bytes) }
         ensures metered { meter.new ≡ counted meter.old (present_on_path self.now key) }
     {
         let _reached = meter.count();
@@ -170,44 +149,79 @@ impl Tree {
         Ok(out)
     }
 
-    /// Makes the writing of one leaf ready: new blocks for the leaf and its ancestors, born in `group` (On-Disk Specification,
-    /// chapter 3). A block that was there and was born from `young` on keeps its number. Nothing is changed yet. NoSpace where
-    /// the allocator has fewer Free numbers than the change takes, NoMemory where there is no memory. It costs a node for each
-    /// level, with its sixteen places.
+    /// Makes a batch of changes ready: new blocks for the changed leaves and all their ancestors that stay, born in `group`
+    /// (On-Disk Specification, chapter 3). A block that was there and was born from `young` on keeps its number, and the others
+    /// take those of young blocks that go, and then Free ones. Nothing is changed yet. NoSpace where these numbers are fewer
+    /// than the new blocks, NoMemory where there is no memory. It costs the nodes on the way to the changes, each with its
+    /// sixteen places.
     pub fn prepare_change(
         &self,
         alloc: Global,
-        leaf: u32,
-        bytes: &[u8; 512],
+        updates: &[Update],
         group: Group,
         young: Group,
         allocator: &Allocator,
         meter: &mut Meter,
     ) -> Result<Change, Refusal>
-        requires leaf { leaf < 1048576 }
+        requires batch { IsBatch updates.now }
         requires young { young.0 ≤ group.0 }
         requires born { (k : Key) → IfSome (get self.now k) (λ c. c.birth ≤ group.0) }
         requires allocated { (k : Key) → IfSome (get self.now k) (λ c. slice_get allocator.now c.number ≡ Some Allocated) }
-        ensures ok { IfOk result (λ change. IsChange self.now (writes_leaf leaf bytes.now) group.0 young.0 allocator.now change) }
-        ensures room { OnOk result (HasRoom self.now (writes_leaf leaf bytes.now) young.0 allocator.now) }
-        ensures no_space { result ≡ Err Refusal.NoSpace → LacksRoom self.now (writes_leaf leaf bytes.now) young.0 allocator.now }
+        ensures ok { IfOk result (λ change. IsChange self.now (changes_of updates.now) group.0 young.0 allocator.now change) }
+        ensures room { OnOk result (HasRoom self.now (changes_of updates.now) young.0 allocator.now) }
+        ensures no_space { result ≡ Err Refusal.NoSpace → LacksRoom self.now (changes_of updates.now) young.0 allocator.now }
         ensures only { IfErr result (λ e. (e ≡ Refusal.NoSpace) ⊎ (e ≡ Refusal.NoMemory)) }
     {
-        let blocks = trail_of(alloc, &self.root, leaf, meter)?;
-        let kept = young_front(&blocks, young);
-        let numbers = match choose(allocator, &blocks, kept) {
-            Ok(numbers) => numbers,
-            Err(refusal) => return Err(refusal),
-        };
-        let root = put_root(alloc, &self.root, leaf, bytes, group, &numbers)?;
+        let mut draft = draft_of(
+            alloc, &self.root, self.count, updates, young, allocator, meter,
+        )?;
+        let made = &draft.made;
+        let built = Root::build(alloc, owner(&self.root), 5, 0, updates, group, made, 0)?;
         let old = keep(owner(&self.root))?;
+        draft.made.reverse();
         Ok(Change {
             old,
-            root: Some(root),
-            count: self.count + 6 - blocks.len() as u32,
-            blocks,
-            kept,
-            numbers,
+            root: built.part,
+            count: draft.count,
+            released: draft.released,
+            taken: draft.taken,
+            made: draft.made,
+        })
+    }
+
+    /// Puts a batch of changes in force at once, as `prepare_change` and `commit` would, but takes no number: the answer names those
+    /// that the new blocks have. At `Err` the tree is as it was. NoSpace and NoMemory come as at `prepare_change`. A batch that
+    /// is one write costs the nodes on its way, and changes those where they are that no other version of the tree shares.
+    pub fn change(
+        &mut self,
+        alloc: Global,
+        updates: &[Update],
+        group: Group,
+        young: Group,
+        allocator: &Allocator,
+        meter: &mut Meter,
+    ) -> Result<Changed, Refusal>
+        requires batch { IsBatch updates.now }
+        requires young { young.0 ≤ group.0 }
+        requires born { (k : Key) → IfSome (get self.old k) (λ c. c.birth ≤ group.0) }
+        requires allocated { (k : Key) → IfSome (get self.old k) (λ c. slice_get allocator.now c.number ≡ Some Allocated) }
+        ensures ok { IfOk result (λ done. IsChange self.old (changes_of updates.now) group.0 young.0 allocator.now (change_done self.old self.new done)) }
+        ensures room { OnOk result (HasRoom self.old (changes_of updates.now) young.0 allocator.now) }
+        ensures err { OnErr result (self.new ≡ self.old) }
+        ensures no_space { result ≡ Err Refusal.NoSpace → LacksRoom self.old (changes_of updates.now) young.0 allocator.now }
+        ensures only { IfErr result (λ e. (e ≡ Refusal.NoSpace) ⊎ (e ≡ Refusal.NoMemory)) }
+    {
+        let mut draft = draft_of(
+            alloc, &self.root, self.count, updates, young, allocator, meter,
+        )?;
+        let new_blocks = &draft.made;
+        Root::renew(&mut self.root, alloc, 5, 0, updates, group, new_blocks, 0)?;
+        self.count = draft.count;
+        draft.made.reverse();
+        Ok(Changed {
+            released: draft.released,
+            taken: draft.taken,
+            made: draft.made,
         })
     }
 

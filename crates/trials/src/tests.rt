@@ -11,7 +11,6 @@ use std::alloc::Global;
 use std::marker::Brand;
 use std::process::Abort;
 use std::sync::{Arc, Wait};
-use std::test::Fail;
 use std::thread::{Threads, join};
 
 // So many turns, and then no more.
@@ -134,12 +133,19 @@ fn close_without_a_seat<K: Opening, R: Abort>(
     for (entry, seat) in closed.history.iter().zip(seats_of_entries) {
         assert_eq!(rt; entry.seat, seat);
     }
+    let refused = closed
+        .history
+        .get(1)
+        .expect(rt, "a refused call has an entry");
+    assert!(rt; refused.reply.same(&Reply::Refused(Refusal::BadKey)));
 }
 
 fn two_gets(alloc: Global) -> Result<Vec<Request>, Refusal> {
-    let first = get_of(alloc)?;
-    let second = get_of(alloc)?;
-    Ok(vec![in alloc; first, second]?)
+    let mut gets = Vec::new(alloc);
+    for _ in 0..2u8 {
+        gets.push(get_of(alloc)?)?;
+    }
+    Ok(gets)
 }
 
 #[test]
@@ -299,11 +305,14 @@ fn enter_the_last<K: Opening, R: Abort>(
     assert_eq!(rt; closed.history.len(), 6);
 }
 
+// Writes of the blocks 0, 1 and 2.
 fn three_writes(alloc: Global) -> Result<Vec<Request>, Refusal> {
-    let first = write_of(alloc, 0, 0, 97)?;
-    let second = write_of(alloc, 0, 1, 98)?;
-    let third = write_of(alloc, 0, 2, 99)?;
-    Ok(vec![in alloc; first, second, third]?)
+    let mut writes = Vec::new(alloc);
+    for block in 0..3u8 {
+        let write = write_of(alloc, 0, u32::from(block), 97 + block)?;
+        writes.push(write)?;
+    }
+    Ok(writes)
 }
 
 #[test]
@@ -353,44 +362,87 @@ fn one_write<K: Opening, R: Wait + Abort>(
 }
 
 #[test]
-fn refused_memory(rt: HostRuntime) -> Result<(), Fail> {
-    let pool = Pool::create(rt.alloc(), 1, 1000)?;
+fn refused_memory(rt: HostRuntime) {
+    let Ok(pool) = Pool::create(rt.alloc(), 1, 1000) else {
+        return;
+    };
     calls_again_where_refused::<Brand, _>(&rt, rt.alloc(), pool)
 }
 
 // Whichever growth is refused, a call that didn't run has left nothing, so that the seat's receipts are the history.
-fn calls_again_where_refused<K: Opening, R: Wait + Abort>(
-    rt: &R,
-    alloc: Global,
-    pool: Pool,
-) -> Result<(), Fail>
+fn calls_again_where_refused<K: Opening, R: Wait + Abort>(rt: &R, alloc: Global, pool: Pool)
     requires { pool.state ≡ K.opening }
 {
-    let session: Session<K> = Session::open(alloc, pool, 20).ok().ok_or("opens")?;
-    let mut seat = session.seat(alloc, rt)?;
-    let mut seats = Vec::with_capacity(alloc, 1)?;
-    let mut ran = 0;
+    let Ok(session) = Session::<K>::open(alloc, pool, 20) else {
+        return;
+    };
+    let Ok(mut seat) = session.seat(alloc, rt) else {
+        return;
+    };
+    let called = calls_that_ran(rt, alloc, &session, &mut seat);
+    let batched = batch_that_ran(rt, alloc, &session, &mut seat);
+    close_after(
+        rt,
+        alloc,
+        session.end(),
+        seat,
+        called.saturating_add(batched),
+    );
+}
+
+fn calls_that_ran<K: Opening, R: Wait + Abort>(
+    rt: &R,
+    alloc: Global,
+    session: &Session<K>,
+    seat: &mut Seat<K>,
+) -> usize {
+    let mut ran: usize = 0;
     for block in 0..6u32 {
-        let write = write_of(alloc, 0, block, 97)?;
-        match session.call(alloc, rt, &mut seat, write) {
+        let Ok(write) = write_of(alloc, 0, block, 97) else {
+            continue;
+        };
+        match session.call(alloc, rt, seat, write) {
             Ok(receipt) => {
-                assert_eq!(rt; receipt.number, ran);
-                ran += 1;
+                assert_eq!(rt; receipt.number, ran as u64);
+                ran = ran.saturating_add(1);
             }
             Err(why) => assert_eq!(rt; why, Refusal::NoMemory),
         }
     }
-    match session.batch(alloc, rt, &mut seat, three_writes(alloc)?, &mut gate_of(9)) {
-        Ok(receipts) => ran += receipts.len() as u64,
-        Err(why) => assert_eq!(rt; why, Refusal::NoMemory),
+    ran
+}
+
+fn batch_that_ran<K: Opening, R: Wait + Abort>(
+    rt: &R,
+    alloc: Global,
+    session: &Session<K>,
+    seat: &mut Seat<K>,
+) -> usize {
+    let Ok(writes) = three_writes(alloc) else {
+        return 0;
+    };
+    match session.batch(alloc, rt, seat, writes, &mut gate_of(9)) {
+        Ok(receipts) => receipts.len(),
+        Err(why) => {
+            assert_eq!(rt; why, Refusal::NoMemory);
+            0
+        }
     }
-    assert!(rt; ran >= 6);
-    seats.push_reserved(seat);
-    let closed = session
-        .end()
+}
+
+fn close_after<K: Opening>(
+    rt: &impl Abort,
+    alloc: Global,
+    book: Book<K>,
+    seat: Seat<K>,
+    ran: usize,
+) {
+    let Ok(seats) = vec![in alloc; seat] else {
+        return;
+    };
+    let closed = book
         .close(seats)
         .ok()
-        .ok_or("the receipts are the history")?;
-    assert_eq!(rt; closed.history.len() as u64, ran);
-    Ok(())
+        .expect(rt, "the receipts are the history");
+    assert_eq!(rt; closed.history.len(), ran);
 }

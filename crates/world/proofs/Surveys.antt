@@ -1,5 +1,5 @@
 -- The pool's room after a change, from a survey's counts.
-use Rattle.std.proofs.Common.{◌≡◌, ℕ, ◌+◌, ◌<◌, Bool, true, false, cond, ◌||◌, List, [], ◌∷◌, Option, Some, None, refl, sym, ap, subst, ◌∙◌, true≢false, map, ◌⊎◌, inl, inr, ⊎_elim, length, arith}
+use Rattle.std.proofs.Common.{◌≡◌, ℕ, ◌+◌, Bool, true, false, cond, ◌||◌, List, [], ◌∷◌, Option, Some, None, refl, sym, ap, ◌∙◌, true≢false, ◌⊎◌, inl, inr, ⊎_elim, length, arith}
 use Rattle.std.specs.Prelude.{is_some}
 use Rattle.std.specs.List.{list_any}
 use Rattle.std.specs.FinMap.{get, keys}
@@ -7,18 +7,13 @@ use Rattle.std.specs.FinSet.{union, difference, from_list, len, len-empty}
 use Rattle.std.specs.Ordering.{eq_by_cmp}
 use Rattle.base.specs.declared.number.Key.{Key}
 use Rattle.base.specs.Key.{covers}
-use Rattle.base.specs.Map.{Map, Cell, Block, BlockSet, block_of, blocks, block_cmp, Contents, contents}
+use Rattle.base.specs.Map.{Map, Cell, Block, BlockSet, block_cmp, Contents, contents}
 use Rattle.base.specs.Rewrite.{Changes, rewrite, is_touched, cell_after, new_cell, changed_contents}
 use Rattle.base.proofs.RewriteLaw.{get-rewrite_any}
 use Rattle.world.specs.Sets.{Has, IsSubset}
-use Rattle.world.specs.Blocks.{ChangesKeys}
 use Rattle.world.proofs.Orders.{block_order as o}
-use Rattle.base.specs.Surveys.{IsIn, AreDifferent, IsDropped, IsSurvey}
-use Rattle.world.specs.Root.{Core, IsCore, IsChosen}
+use Rattle.base.specs.Surveys.{IsIn, AreDifferent}
 use Rattle.world.proofs.SetCounts.{in_union_left, in_union_right, from_union, in_difference, from_difference, no-empty, Has-cases, len-two_parts, len_insert_new, put_in, equal_keys, same_key}
-use Rattle.world.proofs.BlockSets.{in_blocks, from_blocks, from_new_blocks}
-use Rattle.world.proofs.Changes.{rewrite_is_change}
-use Rattle.world.proofs.Lists.{in_map, map_in, different_map, length-mapped}
 
 same_value : {X : Type 0} (x y : X) → Some x ≡ Some y → x ≡ y
 same_value x y e = cc
@@ -121,79 +116,3 @@ module _ (m : Map) (c : Changes) (g h : ℕ) (n p : Key → ℕ) (k : Key) where
       at : (b : Bool) (x y : Option Cell) → is_some x ≡ is_some y → is_some (cond b x None) ≡ is_some (cond b y None)
       at true x y e = e
       at false x y e = refl
-
-some_of : {A : Type 0} (x : Option A) → is_some x ≡ true → (a : A) × (x ≡ Some a)
-some_of None h = absurd (true≢false (sym h))
-some_of (Some a) h = (a, refl)
-
-module _ (c : Core) (core : IsCore c) (ch : Changes) (dropped : List Block) (made : List Key) (survey : IsSurvey c.live ch dropped made)
-    (number : Key → ℕ)
-    (once : (j k : Key) → IsIn made j → IsIn made k → number j ≡ number k → j ≡ k)
-    (free : (k : Key) (b : Block) → IsIn made k → Has (union (blocks c.live) (blocks c.last)) b → b.number ≡ number k → (¬ (Has (blocks c.last) b)) × IsDropped c.live ch b) where
-  abbrev new : Map
-  new = rewrite c.live ch c.group number
-
-  change : ChangesKeys c.live new (is_touched c.live ch) c.group number
-  change = rewrite_is_change c.live ch c.group number
-
-  abbrev block_at : Key → Block
-  block_at k = record { number = number k; birth = c.group }
-
-  pub in_made : (k : Key) (x : Cell) → is_touched c.live ch k ≡ true → get new k ≡ Some x → IsIn made k
-  in_made k x t h = (survey.each k).1 (t, same_presence c.live ch 0 c.group (λ _. 0) number k ∙ ap is_some h)
-
-  pub from_made : (k : Key) → IsIn made k → (x : Cell) × (get new k ≡ Some x) × (is_touched c.live ch k ≡ true) × (block_of x ≡ block_at k)
-  from_made k h =
-      let m = (survey.each k).0 h in
-      let s = some_of (get new k) (same_presence c.live ch c.group 0 number (λ _. 0) k ∙ m.1) in
-      let w = change.made k s.0 m.0 s.1 in
-      (s.0, s.1, m.0, λ i. record { number = w.0 i; birth = w.1 i })
-
-  dropped_at : (j : Key) (x : Cell) (b : Block) → get c.live j ≡ Some x → block_of x ≡ b → IsDropped c.live ch b → is_touched c.live ch j ≡ true
-  dropped_at j x b h is d = ap (is_touched c.live ch) (core.one j d.key x d.cell h d.there (ap (λ (y : Block). y.number) (is ∙ sym d.is))) ∙ d.touched
-
-  abbrev D : BlockSet
-  D = from_list dropped
-
-  abbrev M : BlockSet
-  M = from_list (map block_at made)
-
-  in_D : (b : Block) → IsDropped c.live ch b → Has D b
-  in_D b d = in_list dropped b ((survey.gone b).1 d)
-
-  from_D : (b : Block) → Has D b → IsDropped c.live ch b
-  from_D b h = (survey.gone b).0 (from_in_list dropped b h)
-
-  in_M : (k : Key) → IsIn made k → Has M (block_at k)
-  in_M k h = in_list (map block_at made) (block_at k) (map_in block_at made k h)
-
-  from_M : (b : Block) → Has M b → (k : Key) × IsIn made k × (b ≡ block_at k)
-  from_M b h = in_map block_at made b (from_in_list (map block_at made) b h)
-
-  old_or : (b : Block) (k : Key) (x : Cell) → get c.live k ≡ Some x → block_of x ≡ b → (t : Bool) → is_touched c.live ch k ≡ t → Has D b ⊎ Has (blocks new) b
-  old_or b k x h is true t = inl (in_D b (record { key = k; cell = x; there = h; is = is; touched = t }))
-  old_or b k x h is false t = inr (subst (λ y. Has (blocks new) y) is (in_blocks new k x (change.kept k t ∙ h)))
-
-  -- the room that the change takes: what it makes, less what it drops and the last synced world hasn't
-  pub room_of_rewrite : len (union (blocks new) (blocks c.last)) + len (difference D (blocks c.last)) ≡ len (union (blocks c.live) (blocks c.last)) + length made
-  room_of_rewrite =
-      room_after (blocks c.live) (blocks new) D M (blocks c.last)
-      (λ b h. let d = from_D b h in subst (λ y. Has (blocks c.live) y) d.is (in_blocks c.live d.key d.cell d.there))
-      (λ b h. let k = from_M b h in let w = from_made k.0 k.1 in subst (λ y. Has (blocks new) y) (w.3 ∙ sym k.2) (in_blocks new k.0 w.0 w.1))
-      (λ b h. let f = from_blocks c.live b h in old_or b f.0 f.1 f.2 f.3 (is_touched c.live ch f.0) refl)
-      (λ b h. ⊎_elim
-      (λ w. inr (subst (λ y. Has (blocks c.live) y) w.3 (in_blocks c.live w.0 w.1 w.2), λ d. true≢false (sym (dropped_at w.0 w.1 b w.2 w.3 (from_D b d)) ∙ w.4)))
-      (λ w. inl (subst (λ y. Has M y) ((λ i. record { number = sym w.5 i; birth = sym w.6 i })) (in_M w.0 (in_made w.0 w.1 w.3 w.2))))
-      (from_new_blocks c.live new (is_touched c.live ch) c.group number change b h))
-      (λ b m. let k = from_M b m in let n = ap (λ (y : Block). y.number) k.2 in λ s. ⊎_elim
-      (λ a. a.1 (in_D b (free k.0 b k.1 (in_union_left o (blocks c.live) (blocks c.last) b a.0) n).1))
-      (λ l. (free k.0 b k.1 (in_union_right o (blocks c.live) (blocks c.last) b l) n).0 l) s)
-      ∙ ap (λ n. len (union (blocks c.live) (blocks c.last)) + n)
-      (len-from_list (map block_at made) (different_map block_at made (λ a b h g e. once a b h g (ap (λ (y : Block). y.number) e)) survey.made_once) ∙ length-mapped block_at made)
-
-  pub chosen : ((k : Key) → IsIn made k → number k < c.size) → IsChosen c new (is_touched c.live ch) number
-  chosen small = record {
-    small = λ q x t h. small q (in_made q x t h);
-    allowed = λ q x b t h u n. let f = free q b (in_made q x t h) u n in record { new = f.0; key = f.1.key; cell = f.1.cell; there = f.1.there; is = f.1.is; leaves = f.1.touched };
-    once = λ j k a b t u h g n. once j k (in_made j a t h) (in_made k b u g) n;
-  }

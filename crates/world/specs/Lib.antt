@@ -1,9 +1,12 @@
 -- Words for the lemmas on worlds and pools.
 pub mod Sets
+pub mod Waiting
 pub mod Blocks
 pub mod Numbering
 pub mod Entries
-pub mod Waiting
-pub mod Root
-pub mod Differs
 pub mod Settles
+pub mod SystemsChange
+pub mod Systems
+pub mod Hierarchies
+pub mod SystemsSteps
+pub mod SystemsCodes

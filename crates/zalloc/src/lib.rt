@@ -5,9 +5,10 @@
 //! search than an empty one: counts of the Free numbers are kept for each run of 128 and of 16,384 numbers.
 #![tactic(auto)]
 
-ghost use Rattle.std.specs.Prelude.{◌≡◌, ◌≢◌, ℕ, ◌≤◌, IfSome, IfNone, IfOk, IfErr, Some, slice_get, slice_set, map, length, count_by, if◌then◌else◌, replicate, vec_capacity, []};
+ghost use Rattle.std.specs.Prelude.{◌≡◌, ◌≢◌, ℕ, ◌<◌, ◌≤◌, IfSome, IfNone, IfOk, IfErr, Some, slice_get, slice_set, map, length, count_by, if◌then◌else◌, replicate, vec_capacity, []};
 ghost use Rattle.std.specs.List.{Contains};
 ghost use Rattle.zalloc.specs.States.{is_free, is_waiting, is_allocated, after_group};
+ghost use Rattle.zalloc.specs.Tallies.{IsTaken};
 ghost use Rattle.zalloc.specs.declared.BlockState.TheVariants.{Free, Allocated, Waiting};
 
 mod state_map;
@@ -124,11 +125,13 @@ impl Allocator {
         }
     }
 
-    /// A Free number not below `from`, or None where there is none. Near constant time: it reads at most 128 states, 128
+    /// The least Free number not below `from`, or None where there is none. Near constant time: it reads at most 128 states, 128
     /// counts of runs of 128 numbers, 257 counts of runs of 16,384 numbers, and again 128 counts and 128 states.
     pub fn find(&self, from: u32) -> Option<BlockNo>
         ensures found { IfSome result (λ b. slice_get self.now b.0 ≡ Some Free) }
         ensures not_below { IfSome result (λ b. from ≤ b.0) }
+        ensures least { IfSome result (λ b. IsTaken self.now from b.0) }
+        ensures within { IfSome result (λ b. b.0 < MOST_BLOCKS) }
         ensures none { IfNone result ((k : ℕ) → from ≤ k → slice_get self.now k ≢ Some Free) }
     {
         let number = self.states.find(from as usize)?;

@@ -94,6 +94,7 @@ impl StateMap {
     pub fn find(&self, from: usize) -> Option<usize>
         ensures found { IfSome result (λ i. slice_get self.now i ≡ Some Free) }
         ensures not_below { IfSome result (λ i. from ≤ i) }
+        ensures least { IfSome result (λ i. IsTaken self.now from i) }
         ensures none { IfNone result ((k : ℕ) → from ≤ k → slice_get self.now k ≢ Some Free) }
     {
         if from >= self.states.len() {
@@ -112,6 +113,7 @@ impl StateMap {
         requires { from ≤ MOST_BLOCKS }
         ensures not_below { IfSome result (λ c. from ≤ c) }
         ensures within { IfSome result (λ c. c ≤ MOST_BLOCKS) }
+        ensures least { IfSome result (λ c. IsTaken self.now (CHUNK * from) (CHUNK * c)) }
         ensures found { IfSome result (λ c. ¬ IsTaken self.now (CHUNK * c) (CHUNK * c + CHUNK)) }
         ensures none { IfNone result ((k : ℕ) → CHUNK * from ≤ k → slice_get self.now k ≢ Some Free) }
     {
@@ -154,6 +156,7 @@ fn free_counts(alloc: Global, n: usize, width: usize) -> Result<Vec<u16>, AllocE
 fn first_free(states: &[BlockState], from: usize, end: usize) -> Option<usize>
     ensures found { IfSome result (λ i. slice_get states.now i ≡ Some Free) }
     ensures not_below { IfSome result (λ i. from ≤ i) }
+    ensures least { IfSome result (λ i. IsTaken states.now from i) }
     ensures none { IfNone result (IsTaken states.now from end) }
 {
     for i in from..end.min(states.len()) {
@@ -169,6 +172,7 @@ fn first_nonzero(counts: &[u16], from: usize, end: usize) -> Option<usize>
     ensures found { IfSome result (λ i. slice_index counts.now i ≢ 0) }
     ensures not_below { IfSome result (λ i. from ≤ i) }
     ensures within { IfSome result (λ i. i < length counts.now) }
+    ensures least { IfSome result (λ i. (k : ℕ) → from ≤ k → k < i → slice_index counts.now k ≡ 0) }
     ensures none { IfNone result ((k : ℕ) → from ≤ k → k < end → slice_index counts.now k ≡ 0) }
 {
     for i in from..end.min(counts.len()) {

@@ -3,6 +3,7 @@ ghost use Rattle.std.specs.Prelude.{◌≡◌, map};
 ghost use Rattle.std.specs.String.{string_bytes};
 ghost use Rattle.zfsp.specs.Args.{args_of, within, is_first};
 
+use pool::MOST_BLOCKS;
 use script::parse::number;
 
 /// A command line that was read.
@@ -12,16 +13,13 @@ pub struct Args {
     pub stop: bool,
     /// Whether to run beside workers; not yet.
     pub workers: bool,
-    /// How many blocks the pool has, 1 to 4,194,304.
+    /// How many blocks the pool has, 1 to `MOST_BLOCKS`.
     pub blocks: u32,
     /// The pool's id, from 1 on.
     pub id: u32,
     /// The place of the script's word; None for standard input.
     pub script: Option<usize>,
 }
-
-/// A pool has at most this many blocks (profile).
-pub const MOST_BLOCKS: u32 = 4_194_304;
 
 /// Reads the words `[-e] BLOCKS POOLID [SCRIPT]` (profile), the program's own name left out. None for a bad command line, as
 /// for `-w` so far. A word after POOLID is SCRIPT, whatever it looks like.

@@ -1,6 +1,9 @@
 //! Runs a script of requests on a fresh pool, and prints the replies.
 #![tactic(auto)]
 
+ghost use Rattle.std.specs.Prelude.{◌≡◌, ◌≤◌, ◌↔◌, IsTrue, IfOk, slice_get, option_and_then, option_copied};
+ghost use Rattle.zfsp.specs.Args.{is_bad};
+
 pub mod args;
 mod caller;
 pub mod run;
@@ -18,7 +21,9 @@ use std::{env, fs, io};
 const BUFFER_SIZE: usize = 65536;
 
 /// Reads the command line, opens the script, and runs it. An error is of memory or of the opening.
-fn serve(rt: &HostRuntime) -> io::Result<u8> {
+fn serve(rt: &HostRuntime) -> io::Result<u8>
+    ensures { IfOk result (λ status. status ≤ 3) }
+{
     let mut words = Vec::new(rt.alloc());
     match env::args(rt) {
         Ok(all) => {
@@ -36,7 +41,11 @@ fn serve(rt: &HostRuntime) -> io::Result<u8> {
     }
 }
 
-fn run_source<R: Read + Drop>(rt: &HostRuntime, args: Option<&Args>, source: R) -> io::Result<u8> {
+/// Runs the script that a source gives, and writes to the standard output.
+fn run_source<R: Read + Drop>(rt: &HostRuntime, args: Option<&Args>, source: R) -> io::Result<u8>
+    ensures usage { IfOk result (λ status. (status ≡ 2) ↔ IsTrue (is_bad (option_copied args.entry))) }
+    ensures most { IfOk result (λ status. status ≤ 3) }
+{
     let alloc = rt.alloc();
     let mut reader = BufReader::with_capacity(alloc, BUFFER_SIZE, Counted::new(source))?;
     let mut writer = BufWriter::with_capacity(alloc, BUFFER_SIZE, Counted::new(rt.stdout()))?;
@@ -45,7 +54,9 @@ fn run_source<R: Read + Drop>(rt: &HostRuntime, args: Option<&Args>, source: R) 
 }
 
 /// The word that names the script file, where there is one.
-fn script_of<'a>(words: &'a [String], args: Option<&Args>) -> Option<&'a String> {
+fn script_of<'a>(words: &'a [String], args: Option<&Args>) -> Option<&'a String>
+    ensures { option_copied result ≡ option_and_then (λ a. option_and_then (slice_get words.now) a.script) (option_copied args.entry) }
+{
     words.get(args?.script?)
 }
 

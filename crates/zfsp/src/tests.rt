@@ -343,6 +343,61 @@ fn no_command_line(rt: HostRuntime) -> Result<(), Fail> {
     Ok(())
 }
 
+/// Runs a script on a fresh pool of so many blocks, and compares what it prints.
+fn expect_replies<R: Abort>(
+    rt: &R,
+    alloc: Global,
+    blocks: u32,
+    script: &[u8],
+    want: &[u8],
+) -> Result<(), Fail> {
+    expect_run(rt, alloc, args_of(false, blocks), script, want, 0)
+}
+
+#[test]
+fn a_sync_frees_what_waits(rt: HostRuntime) -> Result<(), Fail> {
+    let script =
+        b"write p 0 0 61\nsync\nwrite p 0 0 62\npget waiting\npget free\nwrite p 0 0 63\npget waiting\nsync\npget free\npget allocated\n";
+    let want = b"ok\n2\nok\n3072\n0\nok\n3072\n3\n3072\n3072\n";
+    expect_replies(&rt, rt.alloc(), 12, script.as_slice(), want.as_slice())
+}
+
+#[test]
+fn no_room_beside_what_waits(rt: HostRuntime) -> Result<(), Fail> {
+    let script = b"write p 0 0 61\nsync\nwrite p 0 0 62\npget free\npget waiting\n";
+    let want = b"ok\n2\nerror 20 NoSpace\n2560\n0\n";
+    expect_replies(&rt, rt.alloc(), 11, script.as_slice(), want.as_slice())
+}
+
+#[test]
+fn a_young_block_never_waits(rt: HostRuntime) -> Result<(), Fail> {
+    let script = b"write p 0 0 61\nwrite p 0 0 61\nget referenced p\npget waiting\npget free\n";
+    let want = b"ok\nok\n3072\n0\n508928\n";
+    expect_replies(&rt, rt.alloc(), 1000, script.as_slice(), want.as_slice())
+}
+
+#[test]
+fn a_full_pool_of_one_path(rt: HostRuntime) -> Result<(), Fail> {
+    let script = b"write p 0 0 61\nwrite p 0 0 61\nsync\nwrite p 0 0 62\n";
+    let want = b"ok\nok\n2\nerror 20 NoSpace\n";
+    expect_replies(&rt, rt.alloc(), 6, script.as_slice(), want.as_slice())
+}
+
+#[test]
+fn properties_of_a_fresh_pool(rt: HostRuntime) -> Result<(), Fail> {
+    let script = b"pget size\npget allocated\npget free\npget freeing\npget waiting\npget group\n";
+    let want = b"512000\n0\n512000\n0\n0\n1\n";
+    expect_replies(&rt, rt.alloc(), 1000, script.as_slice(), want.as_slice())
+}
+
+#[test]
+fn shapes_of_sync_and_pget(rt: HostRuntime) -> Result<(), Fail> {
+    let script = b"sync extra\npget nothing\npget\npget free p\nsync \npget group\n";
+    let want =
+        b"error 28 BadLine\nerror 28 BadLine\nerror 28 BadLine\nerror 28 BadLine\nerror 28 BadLine\n1\n";
+    expect_replies(&rt, rt.alloc(), 1000, script.as_slice(), want.as_slice())
+}
+
 /// Whether the words of a line, joined by spaces, are a good command line.
 fn is_good(alloc: Global, line: &str) -> Result<bool, Fail> {
     let mut words = Vec::new(alloc);
@@ -371,4 +426,66 @@ fn command_lines(rt: HostRuntime) -> Result<(), Fail> {
     assert!(rt; !is_good(alloc, "-e -w 5 1")?);
     assert!(rt; !is_good(alloc, "5 1 x y")?);
     Ok(())
+}
+
+#[test]
+fn file_systems_in_byte_order(rt: HostRuntime) -> Result<(), Fail> {
+    let script = b"create p/a\ncreate p/b\ncreate p/a/x\ncreate p/a-x\nlist\n";
+    let want = b"ok\nok\nok\nok\np p/a p/a-x p/a/x p/b\n";
+    expect_replies(&rt, rt.alloc(), 1000, script.as_slice(), want.as_slice())
+}
+
+#[test]
+fn creations_refused(rt: HostRuntime) -> Result<(), Fail> {
+    let script =
+        b"frob\ncreate p/a/\ncreate q/a\ncreate p\ncreate p/b\ncreate p/b\ncreate p/c/d\nlist\n";
+    let want =
+        b"error 28 BadLine\nerror 1 BadName\nerror 4 NoParent\nerror 3 Exists\nok\nerror 3 Exists\nerror 4 NoParent\np p/b\n";
+    expect_replies(&rt, rt.alloc(), 1000, script.as_slice(), want.as_slice())
+}
+
+// The last four digits of a number.
+fn digits(n: u32) -> [u8; 4] {
+    let digit = |d: u32| b'0' + (d % 10) as u8;
+    [digit(n / 1000), digit(n / 100), digit(n / 10), digit(n)]
+}
+
+#[test]
+fn as_many_file_systems_as_may_be(rt: HostRuntime) -> Result<(), Fail> {
+    let alloc = rt.alloc();
+    let mut script = Vec::new(alloc);
+    let mut want = Vec::new(alloc);
+    for n in 1..1024u32 {
+        script.extend_from_slice(b"create p/")?;
+        script.extend_from_slice(&digits(n))?;
+        script.push(b'\n')?;
+        want.extend_from_slice(b"ok\n")?;
+    }
+    script.extend_from_slice(b"create p/a\n")?;
+    want.extend_from_slice(b"error 21 TooMany\n")?;
+    expect_replies(&rt, alloc, 1000, script.as_slice(), want.as_slice())
+}
+
+#[test]
+fn blocks_at_the_limits(rt: HostRuntime) -> Result<(), Fail> {
+    let script =
+        b"create p/a\nwrite p/a 255 4095 01\nget referenced p/a\nget referenced p\nwrite p/a 256 0 01\nwrite p/a 0 4096 01\n";
+    let want = b"ok\nok\n3072\n0\nerror 5 BadKey\nerror 5 BadKey\n";
+    expect_replies(&rt, rt.alloc(), 1000, script.as_slice(), want.as_slice())
+}
+
+#[test]
+fn objects_freed_and_blocks_punched(rt: HostRuntime) -> Result<(), Fail> {
+    let script =
+        b"create p/a\nwrite p/a 0 0 61\nwrite p/a 1 0 62\nget referenced p/a\nrmobj p/a 1\nget referenced p/a\nrmobj p/a 1\nrmobj p/a 256\npunch p/a 0 0\nget referenced p/a\npunch p/a 0 0\n";
+    let want = b"ok\nok\nok\n5120\nok\n3072\nok\nerror 5 BadKey\nok\n0\nok\n";
+    expect_replies(&rt, rt.alloc(), 1000, script.as_slice(), want.as_slice())
+}
+
+#[test]
+fn a_punch_in_a_full_pool(rt: HostRuntime) -> Result<(), Fail> {
+    let script =
+        b"create p/a\nwrite p/a 0 0 61\nwrite p/a 0 0 61\nsync\nwrite p/a 0 0 62\npunch p/a 0 0\nsync\npget free\n";
+    let want = b"ok\nok\nok\n2\nerror 20 NoSpace\nok\n3\n3072\n";
+    expect_replies(&rt, rt.alloc(), 6, script.as_slice(), want.as_slice())
 }

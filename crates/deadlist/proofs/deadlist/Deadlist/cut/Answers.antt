@@ -2,6 +2,7 @@ use Rattle.std.proofs.Common.{arith, sym, ◌∙◌, length-append}
 use Rattle.deadlist.specs.Segments.{entries_of}
 use Rattle.std.proofs.lemmas.Bool.{false≢true}
 use Rattle.std.proofs.lemmas.List.Sorted.{length_permutation, IsPermutation-append_left}
+use Rattle.deadlist.proofs.Counts.{has_cut_any}
 use Rattle.deadlist.proofs.Meters.{counted_none, counted_standing}
 use Rattle.deadlist.proofs.deadlist.Deadlist.cut.Goals as goal
 use Rattle.deadlist.proofs.deadlist.Deadlist.cut.Goals.{then-not-stands, else-not-stands}
@@ -54,3 +55,8 @@ pub returns-clause-entries : goal.returns-clause-entries
 returns-clause-entries c =
     let es = entries_of c.self.inside.parts in
     rw (← c.self.view_is) (IsPermutation-append_left c.self.inside.fresh.items es (entries_of c.cut.new.self) c.in_ok-cut.ensures.entries)
+
+pub returns-in_err-cut-clause-stands : goal.returns-in_err-cut-clause-stands
+returns-in_err-cut-clause-stands c =
+    let p = c.self.inside.parts in
+    rw (← c.self.view_is) (λ h. absurd (false≢true (c.in_err-cut.ensures.stands (has_cut_any p.closed.items c.args.group.0 ∙ h))))

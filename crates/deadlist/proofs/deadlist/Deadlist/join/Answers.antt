@@ -1,5 +1,6 @@
 use Rattle.std.proofs.Common.{arith, sym, ◌∙◌}
 use Rattle.std.proofs.lemmas.Bool.{false≢true}
+use Rattle.deadlist.proofs.Counts.{has_cut_any}
 use Rattle.deadlist.proofs.Meters.{counted_none, counted_standing}
 use Rattle.deadlist.proofs.deadlist.Deadlist.join.Goals as goal
 use Rattle.deadlist.proofs.deadlist.Deadlist.join.Goals.{then-stands, else-stands}
@@ -37,3 +38,8 @@ returns-clause-meter c =
       | then-stands w ↦ absurd (false≢true (sym f ∙ w.if-stands.true))
       | else-stands w ↦ w.meter-is ∙ none
     ]))
+
+pub returns-in_err-join-clause-absent : goal.returns-in_err-join-clause-absent
+returns-in_err-join-clause-absent c =
+    let p = c.self.inside.parts in
+    rw (← c.self.view_is) (λ h. absurd (false≢true (c.in_err-join.ensures.absent (has_cut_any p.closed.items c.args.group.0 ∙ h))))

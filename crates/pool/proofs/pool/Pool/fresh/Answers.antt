@@ -1,21 +1,23 @@
 use Rattle.std.proofs.Common.{sym, subst, ◌∙◌, ◌≡◌, List}
-use Rattle.base.specs.Map.{Map}
 use Rattle.zalloc.specs.declared.BlockState.{BlockState}
-use Rattle.world.specs.Root.{Core, root_state}
-use Rattle.world.proofs.Fresh.{first_core, first_is_core, first_state, first_states}
+use Rattle.world.specs.Systems.{FileSystems, Systems, systems_state}
+use Rattle.world.proofs.SystemsFresh.{first_pool, first_is_good, first_state, first_numbers}
 use Rattle.pool.specs.Pools.{IsSound}
 use Rattle.pool.proofs.pool.Pool.fresh.Goals as goal
 
-abbrev core_at : Map → Map → Core → Core
-core_at live last c = record c { live = live; last = last }
+abbrev core_at : FileSystems → FileSystems → Systems → Systems
+core_at now last c = record c { now = now; last = last }
 
 pub invariant_of-result : goal.invariant_of-result
 invariant_of-result c =
-    let same : core_at c.new-2.result c.new-3.result (first_core c.args.id c.args.blocks) ≡ first_core c.args.id c.args.blocks =
-    λ i. core_at (c.new-2.ensures i) (c.new-3.ensures i) (first_core c.args.id c.args.blocks) in
+    let last = c.in_ok-last.ensures.ok ∙ c.in_ok-present.ensures.ok in
+    let same : core_at c.in_ok-present.present c.in_ok-last.last (first_pool c.args.id c.args.blocks) ≡ first_pool c.args.id c.args.blocks =
+    λ i. core_at (c.in_ok-present.ensures.ok i) (last i) (first_pool c.args.id c.args.blocks) in
     subst (λ x. IsSound x c.in_ok-allocator.allocator) (sym same)
-    (subst (λ (st : List BlockState). IsSound (first_core c.args.id c.args.blocks) st) (sym c.in_ok-allocator.ensures.ok)
-    (record { core = first_is_core c.args.id c.args.blocks; states = first_states c.args.id c.args.blocks }))
+    (subst (λ (st : List BlockState). IsSound (first_pool c.args.id c.args.blocks) st) (sym c.in_ok-allocator.ensures.ok)
+    (record { core = first_is_good c.args.id c.args.blocks; states = first_numbers c.args.id c.args.blocks }))
 
 pub returns-clause-ok : goal.returns-clause-ok
-returns-clause-ok c = (λ i. root_state (core_at (c.new-2.ensures i) (c.new-3.ensures i) (first_core c.args.id c.args.blocks))) ∙ first_state c.args.id c.args.blocks
+returns-clause-ok c =
+    let last = c.in_ok-last.ensures.ok ∙ c.in_ok-present.ensures.ok in
+    (λ i. systems_state (core_at (c.in_ok-present.ensures.ok i) (last i) (first_pool c.args.id c.args.blocks))) ∙ first_state c.args.id c.args.blocks

@@ -8,7 +8,7 @@ pub loop-request-preserved : goal.loop-request-preserved
 loop-request-preserved c =
     let before = take c.loop-request.request-index c.args.requests.now in
     let grown = run_grows c.args.self.now.state c.loop-request.self.state c.apply-reply.new.self.state before c.loop-request.replies.items
-    c.request-item.result c.apply-reply.result c.loop-request.invariant.0 c.apply-reply.ensures in
+    c.request-item.result c.apply-reply.result c.loop-request.invariant.0 c.apply-reply.ensures.step in
     let longer = take_more c.args.requests.now c.loop-request.request-index c.request-item.result c.loop-request-test.true
     ∙ ap (λ q. before ++ q ∷ []) (sym c.request-item.is) in
     let pushed = c.push_reserved.ensures in (

@@ -1,89 +1,58 @@
-use Rattle.std.proofs.Common.{◌≡◌, length, ◌∙◌, ◌+◌, ◌-◌, Err, Result, refl, ap, subst, arith, map}
-use Rattle.base.specs.declared.refusal.Refusal.TheVariants.{NoSpace}
-use Rattle.base.specs.Surveys.{dead_block}
-use Rattle.tree.specs.Numbers.{AreYoung, AreKept}
-use Rattle.tree.proofs.Prepare.{IsReady, ready_room, ready_no_room, ready_bound, ready_change, ready_sound}
+use Rattle.std.proofs.Common.{◌≡◌, map, Option, refl, sym, ap, subst, ◌∙◌, arith}
+use Rattle.base.specs.Surveys.{AreDifferent}
+use Rattle.tree.specs.Build.{made_keys, HasKeys, number_of, rebuilt}
+use Rattle.tree.specs.ChangeParts.{made_pair}
+use Rattle.tree.specs.Entries.{map_of}
+use Rattle.tree.specs.Kid.{IsKid, birth_of}
+use Rattle.tree.specs.Node.{whole}
+use Rattle.tree.specs.Said.{said}
+use Rattle.tree.specs.Shape.{Part}
+use Rattle.tree.proofs.Words.{batch_in_order}
+use Rattle.tree.proofs.Filled.{new_key}
+use Rattle.tree.proofs.Prepare.{IsReady, same_forest, born_of, allocated_of, own_kid, ready_keys, ready_places, ready_sound, ready_change}
 use Rattle.tree.proofs.tree.Tree.prepare_change.Goals as goal
+use Rattle.tree.proofs.tree.Tree.prepare_change.Goals.{After-deref, After-reverse}
 
-same_error : {T E : Type 0} (x y : E) → (let r : Result T E = Err x in r) ≡ Err y → x ≡ y
-same_error x y e = cc
+module _ (c : After-deref) where
+  ready : IsReady c.self.inside.root c.self.inside.count c.args.updates.now c.args.young.0 c.args.allocator.now
+  ready = record { sound = c.self.invariant; batch = c.requires.batch; sized = c.in_ok-draft.ensures.ok.sized; allocated = allocated_of c.self.inside.root c.args.self.now c.args.allocator.now c.self.view_is c.requires.allocated }
 
-pub returns-in-Err-clause-no_space : goal.returns-in-Err-clause-no_space
-returns-in-Err-clause-no_space c =
-    let r : IsReady c.self.inside.root c.self.inside.count c.args.self.now c.args.leaf c.args.bytes.now c.args.group.0 c.args.young.0 c.args.allocator.now c.in_ok-blocks.blocks.items c.young_front-kept.result = record {
-      is = c.self.view_is;
-      sound = c.self.invariant;
-      small = c.requires.leaf;
-      born = c.requires.born;
-      allocated = c.requires.allocated;
-      found = c.in_ok-blocks.ensures.ok;
-      front = subst (λ bs. AreYoung (map dead_block bs) c.args.young.0 c.young_front-kept.result) c.deref.ensures.value c.young_front-kept.ensures;
-      full = c.told-bytes;
-      octets = c.fits-bytes;
-    } in
-    λ e. ready_no_room c.self.inside.root c.self.inside.count c.args.self.now c.args.leaf c.args.bytes.now c.args.group.0 c.args.young.0 c.args.allocator.now c.in_ok-blocks.blocks.items c.young_front-kept.result r (c.in-Err.ensures.no_space (ap Err (same_error c.in-Err.refusal NoSpace e)))
+pub build-requires : goal.build-requires
+build-requires c = (
+  omega arith,
+  (
+    refl,
+    (
+      omega arith,
+      (
+        omega arith,
+        (
+          batch_in_order c.args.updates.now c.requires.batch,
+          (
+            subst (λ (o : Option Part). IsKid 5 (birth_of o) o) (sym c.owner.ensures) (own_kid _ _ _ _ _ (ready c)),
+            (
+              subst (λ (o : Option Part). HasKeys c.deref.result.now 0 (made_keys (said c.args.updates.now) 5 0 o)) (sym c.owner.ensures)
+                  (subst (λ bs. HasKeys bs 0 (made_keys (said c.args.updates.now) 5 0 (whole c.self.inside.root))) (sym c.deref.ensures.value) (ready_keys _ _ _ _ _ (ready c) c.in_ok-draft.draft c.in_ok-draft.ensures.ok)),
+              subst (λ bs. AreDifferent (map new_key bs)) (sym c.deref.ensures.value) (ready_places _ _ _ _ _ (ready c) c.in_ok-draft.draft c.in_ok-draft.ensures.ok),
+            ),
+          ),
+        ),
+      ),
+    ),
+  ),
+)
 
-pub overflow_add-result : goal.overflow_add-result
-overflow_add-result c =
-    let r : IsReady c.self.inside.root c.self.inside.count c.args.self.now c.args.leaf c.args.bytes.now c.args.group.0 c.args.young.0 c.args.allocator.now c.in_ok-blocks.blocks.items c.young_front-kept.result = record {
-      is = c.self.view_is;
-      sound = c.self.invariant;
-      small = c.requires.leaf;
-      born = c.requires.born;
-      allocated = c.requires.allocated;
-      found = c.in_ok-blocks.ensures.ok;
-      front = subst (λ bs. AreYoung (map dead_block bs) c.args.young.0 c.young_front-kept.result) c.deref.ensures.value c.young_front-kept.ensures;
-      full = c.told-bytes;
-      octets = c.fits-bytes;
-    } in
-    let b = ready_bound c.self.inside.root c.self.inside.count c.args.self.now c.args.leaf c.args.bytes.now c.args.group.0 c.args.young.0 c.args.allocator.now c.in_ok-blocks.blocks.items c.young_front-kept.result r in omega (arith, b.0)
+module _ (c : After-reverse) where
+  built : whole c.in_ok-built.built.part ≡ rebuilt (said c.args.updates.now) (number_of c.in_ok-draft.draft.made.items) c.args.group.0 5 0 (whole c.self.inside.root)
+  built = c.in_ok-built.ensures.part ∙ (λ i. rebuilt (said c.args.updates.now) (number_of (c.deref.ensures.value i)) c.args.group.0 5 0 (c.owner.ensures i))
 
 pub invariant_of-result : goal.invariant_of-result
 invariant_of-result c =
-    let r : IsReady c.self.inside.root c.self.inside.count c.args.self.now c.args.leaf c.args.bytes.now c.args.group.0 c.args.young.0 c.args.allocator.now c.in_ok-blocks.blocks.items c.young_front-kept.result = record {
-      is = c.self.view_is;
-      sound = c.self.invariant;
-      small = c.requires.leaf;
-      born = c.requires.born;
-      allocated = c.requires.allocated;
-      found = c.in_ok-blocks.ensures.ok;
-      front = subst (λ bs. AreYoung (map dead_block bs) c.args.young.0 c.young_front-kept.result) c.deref.ensures.value c.young_front-kept.ensures;
-      full = c.told-bytes;
-      octets = c.fits-bytes;
-    } in
-    let b = ready_bound c.self.inside.root c.self.inside.count c.args.self.now c.args.leaf c.args.bytes.now c.args.group.0 c.args.young.0 c.args.allocator.now c.in_ok-blocks.blocks.items c.young_front-kept.result r in
-    record {
-      sound = ready_sound c.self.inside.root c.self.inside.count c.args.self.now c.args.leaf c.args.bytes.now c.args.group.0 c.args.young.0 c.args.allocator.now c.in_ok-blocks.blocks.items c.young_front-kept.result r c.in_ok-root.root c.in-Ok.numbers c.in-Ok.ensures.six (subst (λ bs. AreKept (map dead_block bs) c.young_front-kept.result c.in-Ok.numbers) c.deref-2.ensures.value c.in-Ok.ensures.kept) c.in-Ok.ensures.taken c.in_ok-root.ensures.ok _ (let l : c.len.result ≡ length c.in_ok-blocks.blocks.items = c.len.ensures ∙ c.in_ok-blocks.blocks.ok.0 in ap (λ n. c.self.inside.count + 6 - n) l);
-      blocks = omega (arith, b.2);
-      six = omega (arith, b.1, b.2);
-    }
+    let b = (goal.at.invariant_of-result c).After-deref in
+    record { sound = ready_sound _ _ _ _ _ (ready b) c.in_ok-draft.draft c.in_ok-draft.ensures.ok c.args.group.0 (born_of c.self.inside.root c.args.self.now c.args.group.0 c.self.view_is c.requires.born) c.in_ok-built.built.part (built c) }
 
 pub returns-clause-ok : goal.returns-clause-ok
 returns-clause-ok c =
-    let r : IsReady c.self.inside.root c.self.inside.count c.args.self.now c.args.leaf c.args.bytes.now c.args.group.0 c.args.young.0 c.args.allocator.now c.in_ok-blocks.blocks.items c.young_front-kept.result = record {
-      is = c.self.view_is;
-      sound = c.self.invariant;
-      small = c.requires.leaf;
-      born = c.requires.born;
-      allocated = c.requires.allocated;
-      found = c.in_ok-blocks.ensures.ok;
-      front = subst (λ bs. AreYoung (map dead_block bs) c.args.young.0 c.young_front-kept.result) c.deref.ensures.value c.young_front-kept.ensures;
-      full = c.told-bytes;
-      octets = c.fits-bytes;
-    } in
-    ready_change c.self.inside.root c.self.inside.count c.args.self.now c.args.leaf c.args.bytes.now c.args.group.0 c.args.young.0 c.args.allocator.now c.in_ok-blocks.blocks.items c.young_front-kept.result r c.in_ok-root.root c.in-Ok.numbers c.in-Ok.ensures.six (subst (λ bs. AreKept (map dead_block bs) c.young_front-kept.result c.in-Ok.numbers) c.deref-2.ensures.value c.in-Ok.ensures.kept) c.in-Ok.ensures.taken c.in_ok-root.ensures.ok c.in_ok-old.old (c.in_ok-old.ensures.ok ∙ c.owner.ensures) _ refl refl refl refl
-
-pub returns-clause-room : goal.returns-clause-room
-returns-clause-room c =
-    let r : IsReady c.self.inside.root c.self.inside.count c.args.self.now c.args.leaf c.args.bytes.now c.args.group.0 c.args.young.0 c.args.allocator.now c.in_ok-blocks.blocks.items c.young_front-kept.result = record {
-      is = c.self.view_is;
-      sound = c.self.invariant;
-      small = c.requires.leaf;
-      born = c.requires.born;
-      allocated = c.requires.allocated;
-      found = c.in_ok-blocks.ensures.ok;
-      front = subst (λ bs. AreYoung (map dead_block bs) c.args.young.0 c.young_front-kept.result) c.deref.ensures.value c.young_front-kept.ensures;
-      full = c.told-bytes;
-      octets = c.fits-bytes;
-    } in
-    ready_room c.self.inside.root c.self.inside.count c.args.self.now c.args.leaf c.args.bytes.now c.args.group.0 c.args.young.0 c.args.allocator.now c.in_ok-blocks.blocks.items c.young_front-kept.result r c.in-Ok.ensures.room
+    let b = (goal.at.returns-clause-ok c).After-deref in
+    ready_change _ _ _ _ _ (ready b) c.in_ok-draft.draft c.in_ok-draft.ensures.ok c.args.group.0 (born_of c.self.inside.root c.args.self.now c.args.group.0 c.self.view_is c.requires.born) c.in_ok-built.built.part (built c)
+    c.args.self.now c.self.view_is _ (ap map_of (same_forest c.in_ok-old.old c.self.inside.root (c.in_ok-old.ensures.ok ∙ c.owner-2.ensures)) ∙ c.self.view_is) refl refl refl (ap (map made_pair) c.reverse.ensures.items)

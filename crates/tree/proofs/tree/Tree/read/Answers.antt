@@ -1,16 +1,17 @@
 -- What the map has at a key, by what the root's part has below it.
-use Rattle.std.proofs.Common.{◌≡◌, ◌^◌, ◌<◌, ◌≤◌, ◌-◌, sym, ap, ◌∙◌, arith}
+use Rattle.std.proofs.Common.{◌≡◌, Some, subst, ◌^◌, ◌<◌, ◌≤◌, ◌-◌, sym, ap, ◌∙◌, arith}
 use Rattle.std.specs.FinMap as fin
 use Rattle.base.specs.Key.{key_cmp}
 use Rattle.base.specs.Counting.{counted}
 use Rattle.tree.specs.Shape.{cell_below, steps_below}
-use Rattle.tree.specs.Entries.{map_of}
+use Rattle.tree.specs.Entries.{map_of, IsWell}
 use Rattle.tree.specs.Reading.{present_on_path}
 use Rattle.tree.specs.Kid.{birth_of}
 use Rattle.tree.specs.Node.{whole, root_forest, root_part}
 use Rattle.tree.proofs.Reach.{counted-none}
 use Rattle.tree.proofs.Find.{get-map_of_high, map_of-empty}
 use Rattle.tree.proofs.Roots.{get-root, get-past}
+use Rattle.tree.proofs.Leaves.{bytes_there}
 use Rattle.tree.proofs.Present.{present-empty, present-high, present-past, present-root}
 use Rattle.tree.proofs.tree.Tree.read.Goals as goal
 
@@ -63,3 +64,13 @@ returns-else-key-span-clause-metered c =
     let past : 16 ^ (5 - c.args.key.level) ≤ c.args.key.index = omega (arith, c.span.ensures, c.if-key-span.false, p) in
     counted-none _ _ (omega (arith, c.count-reached.ensures)) (ap (λ m. present_on_path m c.args.key) (sym c.self.view_is)
     ∙ present-past (map_of (root_forest c.self.inside.root)) c.args.key past (λ j l h. get-past j c.self.inside.root _ l h c.self.invariant.well))
+
+-- a leaf stands five levels below the root
+pub returns-then-key-span-clause-bytes : goal.returns-then-key-span-clause-bytes
+returns-then-key-span-clause-bytes c =
+    let well : IsWell 5 (birth_of (whole c.self.inside.root)) (root_forest (Some c.in-Some.root)) = subst (λ r. IsWell 5 (birth_of (whole c.self.inside.root)) (root_forest r)) c.in-Some.is c.self.invariant.well in
+    bytes_there (c.args.key.level ≡ 0) _ (root_part c.in-Some.root.value) c.args.key.index c.find.result well (λ leaf.
+    let depth : c.from-depth.result ≡ 5 = omega (arith, c.from-depth.ensures) in
+    c.find.ensures.found
+    ∙ ap (λ n. cell_below n (root_part c.deref.result.now) c.args.key.index) depth
+    ∙ ap (λ r. cell_below 5 (root_part r) c.args.key.index) c.deref.ensures)

@@ -1,6 +1,6 @@
 use Rattle.std.proofs.Common.{◌+◌, ◌/◌, arith, refl}
 use Rattle.std.proofs.lemmas.Option.{IfSome_then}
-use Rattle.zalloc.proofs.Finding.{if_none, if_none_then, untaken, none_from, some_chunk}
+use Rattle.zalloc.proofs.Finding.{if_none, if_none_then, untaken, none_from, some_chunk, none_to, taken_to, if_some_then}
 use Rattle.zalloc.proofs.state_map.StateMap.find_chunk.Goals as goal
 
 pub returns-in-Some-clause-found : goal.returns-in-Some-clause-found
@@ -26,3 +26,17 @@ returns-clause-none c =
     (λ h. absurd (some_chunk
     c.self.inside.states.items c.self.inside.chunks.items c.self.inside.regions.items c.in_ok-region.region
     c.self.invariant.chunks c.self.invariant.regions (rw c.deref-2.ensures.value at c.in_ok-region.ensures.found) h))
+
+pub returns-in-Some-clause-least : goal.returns-in-Some-clause-least
+returns-in-Some-clause-least c =
+    rw (← c.self.view_is) (taken_to c.self.inside.states.items c.self.inside.chunks.items c.args.from c.in-Some.chunk c.self.invariant.chunks (rw c.deref.ensures.value at c.in-Some.ensures.least))
+
+pub returns-clause-least : goal.returns-clause-least
+returns-clause-least c =
+    if_some_then c.first_nonzero-3.result (rw c.deref-3.ensures.value at c.first_nonzero-3.ensures.least)
+    (λ j h. rw (← c.self.view_is) (none_to
+    c.self.inside.states.items c.self.inside.chunks.items c.self.inside.regions.items c.args.from (c.args.from / 128 + 1) c.in_ok-region.region j
+    c.self.invariant.chunks c.self.invariant.regions
+    (rw c.deref.ensures.value at c.in_default.ensures.none)
+    (rw c.deref-2.ensures.value at c.in_ok-region.ensures.least)
+    h))

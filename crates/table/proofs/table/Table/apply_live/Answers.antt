@@ -1,0 +1,83 @@
+use Rattle.std.proofs.Common.{◌≡◌, ◌⊎◌, ◌≤◌, Result, Ok, Err, Some, refl, sym, ap, subst, ◌∙◌, ⊎_elim}
+use Rattle.std.specs.Prelude.{IfErr, IfSome, OnOk, slice_get}
+use Rattle.std.specs.FinMap.{get}
+use Rattle.base.specs.Map.{Map}
+use Rattle.base.specs.declared.number.Key.{Key}
+use Rattle.base.specs.declared.refusal.Refusal.{Refusal}
+use Rattle.base.specs.declared.refusal.Refusal.TheVariants.{NoDataset, NoSpace, NoMemory}
+use Rattle.zalloc.specs.declared.BlockState.TheVariants.{Allocated}
+use Rattle.tree.proofs.Options.{not_some}
+use Rattle.tree.specs.declared.change.Changed.{Changed}
+use Rattle.table.specs.Places.{IsAt, IsGapFor}
+use Rattle.table.specs.Rows.{live_of}
+use Rattle.table.proofs.Rows.{get_gap, is_there, live_is, row_sorted, row_live, row_alone, row_hierarchy}
+use Rattle.table.proofs.table.Table.apply_live.Goals as goal
+
+-- what holds in any case holds on success
+on_ok : {T E P : Type 0} (r : Result T E) → P → OnOk r P
+on_ok (Ok v) p = p
+on_ok (Err e) p = tt
+
+-- a tree doesn't tell of names
+other_refusal : (r : Result Changed Refusal) → IfErr r (λ e. (e ≡ NoSpace) ⊎ (e ≡ NoMemory)) → r ≡ Err NoDataset → ⊥
+other_refusal r only is = neither (subst (λ (x : Result Changed Refusal). IfErr x (λ e. (e ≡ NoSpace) ⊎ (e ≡ NoMemory))) is only)
+  where
+    neither : (NoDataset ≡ NoSpace) ⊎ (NoDataset ≡ NoMemory) → ⊥
+    neither = ⊎_elim (λ e. cc) (λ e. cc)
+
+pub returns-in_default-clause-no_dataset : goal.returns-in_default-clause-no_dataset
+returns-in_default-clause-no_dataset c =
+    let gap : IsGapFor c.self.inside.file_systems.items c.args.name.now c.in_default.field-0 = rw (← c.deref.ensures.value, ← c.as_bytes.ensures) c.in_default.ensures.absent in
+    (λ _. rw (← c.self.view_is) (get_gap _ c.self.invariant.sorted c.args.name.now c.in_default.field-0 gap), λ _. refl)
+
+pub apply-requires-clause-born : goal.apply-requires-clause-born
+apply-requires-clause-born c =
+    let at : IsAt c.self.inside.file_systems.items c.args.name.now c.in-Ok.place = rw (← c.deref.ensures.value, ← c.as_bytes.ensures) c.in-Ok.ensures.found in
+    let same = live_is _ c.self.invariant.sorted c.args.name.now c.in-Ok.place at c.index_mut.result.now c.index_mut.ensures.value in
+    subst (λ (m : Map). (k : Key) → IfSome (get m k) (λ x. x.birth ≤ c.args.group.0)) (ap (λ m. live_of m c.args.name.now) (sym c.self.view_is) ∙ same) c.requires.born
+
+pub apply-requires-clause-allocated : goal.apply-requires-clause-allocated
+apply-requires-clause-allocated c =
+    let at : IsAt c.self.inside.file_systems.items c.args.name.now c.in-Ok.place = rw (← c.deref.ensures.value, ← c.as_bytes.ensures) c.in-Ok.ensures.found in
+    let same = live_is _ c.self.invariant.sorted c.args.name.now c.in-Ok.place at c.index_mut.result.now c.index_mut.ensures.value in
+    subst (λ (m : Map). (k : Key) → IfSome (get m k) (λ x. slice_get c.args.allocator.now x.number ≡ Some Allocated)) (ap (λ m. live_of m c.args.name.now) (sym c.self.view_is) ∙ same) c.requires.allocated
+
+pub invariant_of-self : goal.invariant_of-self
+invariant_of-self c =
+    let at : IsAt c.self.inside.file_systems.items c.args.name.now c.in-Ok.place = rw (← c.deref.ensures.value, ← c.as_bytes.ensures) c.in-Ok.ensures.found in
+    record {
+      sorted = row_sorted _ c.self.invariant.sorted c.args.name.now c.in-Ok.place at c.index_mut.result.now c.index_mut.ensures.value c.apply.new.self c.apply.ensures.others;
+      room = c.self.invariant.room;
+      hierarchy = row_hierarchy _ c.self.invariant.sorted c.args.name.now c.in-Ok.place at c.index_mut.result.now c.index_mut.ensures.value c.apply.new.self c.apply.ensures.others c.self.invariant.hierarchy;
+    }
+
+pub returns-clause-ok : goal.returns-clause-ok
+returns-clause-ok c =
+    let at : IsAt c.self.inside.file_systems.items c.args.name.now c.in-Ok.place = rw (← c.deref.ensures.value, ← c.as_bytes.ensures) c.in-Ok.ensures.found in
+    let before = live_is _ c.self.invariant.sorted c.args.name.now c.in-Ok.place at c.index_mut.result.now c.index_mut.ensures.value in
+    let after = row_live _ c.self.invariant.sorted c.args.name.now c.in-Ok.place at c.index_mut.result.now c.index_mut.ensures.value c.apply.new.self c.apply.ensures.others in
+    rw (← c.self.view_is, before, after) c.apply.ensures.ok
+
+pub returns-clause-others : goal.returns-clause-others
+returns-clause-others c =
+    let at : IsAt c.self.inside.file_systems.items c.args.name.now c.in-Ok.place = rw (← c.deref.ensures.value, ← c.as_bytes.ensures) c.in-Ok.ensures.found in
+    on_ok c.apply.result
+    (rw (← c.self.view_is) (row_alone _ c.self.invariant.sorted c.args.name.now c.in-Ok.place at c.index_mut.result.now c.index_mut.ensures.value c.apply.new.self c.apply.ensures.others))
+
+pub returns-clause-room : goal.returns-clause-room
+returns-clause-room c =
+    let at : IsAt c.self.inside.file_systems.items c.args.name.now c.in-Ok.place = rw (← c.deref.ensures.value, ← c.as_bytes.ensures) c.in-Ok.ensures.found in
+    let before = live_is _ c.self.invariant.sorted c.args.name.now c.in-Ok.place at c.index_mut.result.now c.index_mut.ensures.value in
+    rw (← c.self.view_is, before) c.apply.ensures.room
+
+pub returns-clause-no_dataset : goal.returns-clause-no_dataset
+returns-clause-no_dataset c =
+    let at : IsAt c.self.inside.file_systems.items c.args.name.now c.in-Ok.place = rw (← c.deref.ensures.value, ← c.as_bytes.ensures) c.in-Ok.ensures.found in
+    let there = is_there _ c.self.invariant.sorted c.args.name.now c.in-Ok.place at c.index_mut.result.now c.index_mut.ensures.value in
+    (λ e. absurd (other_refusal c.apply.result c.apply.ensures.only e), λ none. absurd (not_some (get c.args.self.now c.args.name.now) none (rw (← c.self.view_is) there)))
+
+pub returns-clause-no_space : goal.returns-clause-no_space
+returns-clause-no_space c =
+    let at : IsAt c.self.inside.file_systems.items c.args.name.now c.in-Ok.place = rw (← c.deref.ensures.value, ← c.as_bytes.ensures) c.in-Ok.ensures.found in
+    let before = live_is _ c.self.invariant.sorted c.args.name.now c.in-Ok.place at c.index_mut.result.now c.index_mut.ensures.value in
+    rw (← c.self.view_is, before) c.apply.ensures.no_space

@@ -1,0 +1,5 @@
+pub mod Rows
+pub mod Places
+pub mod Hierarchy
+pub mod Create
+pub mod Table

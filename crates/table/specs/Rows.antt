@@ -1,0 +1,34 @@
+-- File systems by name.
+use Rattle.std.specs.Prelude.{ℕ, List}
+use Rattle.std.specs.Option.{option_map_or}
+use Rattle.std.specs.Coded.{Coded, coded×, coded_ℕ, coded_list}
+use Rattle.std.specs.FinMap.{FinMap, get, insert}
+use Rattle.std.specs.FinMap as finmap
+use Rattle.base.specs.Names.{name_cmp}
+use Rattle.base.specs.Map.{Map}
+use Rattle.model.specs.World.{FileSystem}
+use Rattle.model.specs.Codes.{file_system_code}
+
+-- a name, and the file system under it (On-Disk Specification, chapter 4)
+abbrev pub Row : Type 0
+Row = List ℕ × FileSystem
+
+-- a world's file systems, by their names (On-Disk Specification, chapter 4)
+abbrev pub FileSystems : Type 0
+FileSystems = FinMap name_cmp FileSystem
+
+-- the code of a name with its file system (profile)
+abbrev pub row_code : Coded Row
+row_code = coded× (coded_list coded_ℕ) file_system_code
+
+-- the code of the file systems (profile)
+abbrev pub file_systems_code : Coded FileSystems
+file_systems_code = finmap.code (coded_list coded_ℕ) file_system_code
+
+-- the live map of the file system of this name, and the empty one where there is none (On-Disk Specification, chapter 4)
+abbrev pub live_of : FileSystems → List ℕ → Map
+live_of m name = option_map_or (λ f. f.live) (get m name) finmap.empty
+
+-- the file system of this name with another live map, and all others as they are (On-Disk Specification, chapter 4)
+abbrev pub with_live : FileSystems → List ℕ → Map → FileSystems
+with_live m name live = option_map_or (λ f. insert m name (record f { live = live })) (get m name) m

@@ -1,0 +1,132 @@
+//! One file system of a table.
+ghost use Rattle.std.specs.Prelude.{◌≡◌, ◌≤◌, ◌⊎◌, Some, IfOk, IfErr, IfSome, OnOk, OnErr, slice_get};
+ghost use Rattle.std.specs.FinMap.{get};
+ghost use Rattle.base.specs.Names.{name_cmp};
+ghost use Rattle.base.specs.declared.number.Key.{Key};
+ghost use Rattle.base.specs.declared.refusal.Refusal.{Refusal};
+ghost use Rattle.model.specs.World.{empty_file_system};
+ghost use Rattle.tree.specs.Change.{IsChange, HasRoom, LacksRoom};
+ghost use Rattle.tree.specs.ChangeParts.{change_done};
+ghost use Rattle.tree.specs.Taking.{AllFree, takes};
+ghost use Rattle.tree.specs.Updates.{changes_of, IsBatch};
+ghost use Rattle.zalloc.specs.declared.BlockState.TheVariants.{Allocated};
+
+use base::meter::Meter;
+use base::name::DsName;
+use base::number::Group;
+use base::refusal::Refusal;
+use std::alloc::Global;
+use std::cmp::Ordering;
+use std::marker::Model;
+use std::sync::Arc;
+use tree::{Change, Changed, Tree, Update};
+use zalloc::Allocator;
+
+/// A file system: its name, and its live dataset (On-Disk Specification, chapter 4). Contracts see the pair of its name and of
+/// what a world has under that name. Copies share the name and the tree.
+#[derive(Drop)]
+pub struct FileSystem {
+    name: Arc<DsName>,
+    live: Tree,
+}
+
+impl Model for FileSystem {
+    ghost use Rattle.model.specs.World.{empty_file_system};
+    ghost use Rattle.table.specs.Rows.{Row, row_code};
+
+    ghost Value = { Row };
+
+    ghost coded = { row_code };
+
+    ghost view = { λ f. (f.name.value, record empty_file_system { live = f.live }) };
+}
+
+impl FileSystem {
+    /// A file system without a block, under this name (zfs-create(8)). NoMemory where there is none for the name. It costs the
+    /// length of the name.
+    pub fn new(alloc: Global, name: &DsName) -> Result<FileSystem, Refusal>
+        ensures ok { IfOk result (λ f. f ≡ (name.now, empty_file_system)) }
+        ensures err { IfErr result (λ e. e ≡ Refusal.NoMemory) }
+    {
+        let name = Arc::new(alloc, name.clone()?)?;
+        Ok(FileSystem {
+            name,
+            live: Tree::new(),
+        })
+    }
+
+    /// Its name. Constant time.
+    pub fn name(&self) -> &DsName
+        ensures { result.now ≡ self.now.0 }
+    {
+        &self.name
+    }
+
+    /// The tree of its live dataset. Constant time.
+    pub fn live(&self) -> &Tree
+        ensures { result.now ≡ self.now.1.live }
+    {
+        &self.live
+    }
+
+    /// One more owner of its name. NoMemory where there is none for that. Constant time.
+    pub fn share_name(&self) -> Result<Arc<DsName>, Refusal>
+        ensures ok { IfOk result (λ a. a.value ≡ self.now.0) }
+        ensures err { IfErr result (λ e. e ≡ Refusal.NoMemory) }
+    {
+        Ok(Arc::try_clone(&self.name)?)
+    }
+
+    /// An equal file system, by one more owner of its name and of its tree: no block is visited. NoMemory where there is none
+    /// for that. Constant time.
+    pub fn copy(&self) -> Result<FileSystem, Refusal>
+        ensures ok { IfOk result (λ f. f ≡ self.now) }
+        ensures err { IfErr result (λ e. e ≡ Refusal.NoMemory) }
+    {
+        let name = self.share_name()?;
+        let live = self.live.copy()?;
+        Ok(FileSystem { name, live })
+    }
+
+    // How its name compares with another, byte by byte.
+    pub(crate) fn compare(&self, name: &[u8]) -> Ordering
+        ensures { result ≡ name_cmp self.now.0 name.now }
+    {
+        self.name.as_bytes().cmp(&name)
+    }
+
+    // Puts a change of the live tree in force, and takes its numbers. It takes no memory.
+    pub(crate) fn commit(&mut self, change: Change, allocator: &mut Allocator)
+        requires tree { self.old.1.live ≡ change.old }
+        requires allocator { AllFree allocator.old change.taken }
+        ensures live { self.new ≡ (self.old.0, record self.old.1 { live = change.new }) }
+        ensures allocator { allocator.new ≡ takes allocator.old change.taken }
+    {
+        self.live.commit(change, allocator);
+    }
+
+    // Puts a batch of changes of the live tree in force at once. It takes no number.
+    pub(crate) fn apply(
+        &mut self,
+        alloc: Global,
+        updates: &[Update],
+        group: Group,
+        young: Group,
+        allocator: &Allocator,
+        meter: &mut Meter,
+    ) -> Result<Changed, Refusal>
+        requires batch { IsBatch updates.now }
+        requires young { young.0 ≤ group.0 }
+        requires born { (k : Key) → IfSome (get self.old.1.live k) (λ c. c.birth ≤ group.0) }
+        requires allocated { (k : Key) → IfSome (get self.old.1.live k) (λ c. slice_get allocator.now c.number ≡ Some Allocated) }
+        ensures ok { IfOk result (λ done. IsChange self.old.1.live (changes_of updates.now) group.0 young.0 allocator.now (change_done self.old.1.live self.new.1.live done)) }
+        ensures others { self.new ≡ (self.old.0, record self.old.1 { live = self.new.1.live }) }
+        ensures room { OnOk result (HasRoom self.old.1.live (changes_of updates.now) young.0 allocator.now) }
+        ensures err { OnErr result (self.new ≡ self.old) }
+        ensures no_space { result ≡ Err Refusal.NoSpace → LacksRoom self.old.1.live (changes_of updates.now) young.0 allocator.now }
+        ensures only { IfErr result (λ e. (e ≡ Refusal.NoSpace) ⊎ (e ≡ Refusal.NoMemory)) }
+    {
+        self.live
+            .change(alloc, updates, group, young, allocator, meter)
+    }
+}

@@ -1,0 +1,25 @@
+use Rattle.std.proofs.Common.{◌≡◌, ℕ, ◌+◌, ◌-◌, ◌*◌, ◌^◌, ◌<◌, take, drop, map, length}
+use Rattle.std.specs.Prelude.{◌||◌}
+use Rattle.std.specs.Option.{option_map}
+use Rattle.tree.specs.Kid.{places_of}
+use Rattle.tree.specs.Node.{inner_part, shared_part}
+use Rattle.tree.specs.Said.{said, AreInOrder}
+use Rattle.tree.specs.Touch.{any_kid, later_first, touched, stays}
+use Rattle.tree.specs.Build.{made_keys, parts, rebuilt, number_of, HasKeys}
+use Rattle.tree.proofs.build.build_kids.Given as goal
+
+abbrev pub invariant-loop-back : goal.invariant-loop-back
+invariant-loop-back g l =
+    let h = g.C.Level.height in
+    let os = places_of (option_map (λ a. inner_part g.C.Level.part a.now.value) l.fn.old) in
+    let s = said l.fn.updates in
+    record {
+      order : AreInOrder l.rest;
+      same : (n : ℕ) → n < (l.fn.first + (16 - l.back)) * 16 ^ h → said l.rest n ≡ s n;
+      touched : (l.any_touched || any_kid (touched s h) l.fn.first (take (16 - l.back) os)) ≡ any_kid (touched s h) l.fn.first os;
+      stays : (l.any_stays || any_kid (stays s h) l.fn.first (take (16 - l.back) os)) ≡ any_kid (stays s h) l.fn.first os;
+      next : l.at + length (later_first (made_keys s h) l.fn.first (take (16 - l.back) os)) ≡ l.fn.next + length (later_first (made_keys s h) l.fn.first os);
+      keys : HasKeys l.fn.made l.at (later_first (made_keys s h) l.fn.first (take (16 - l.back) os));
+      sixteen : length l.kids ≡ 16;
+      parts : drop (16 - l.back) (map (option_map (shared_part g.C.Level.part)) l.kids) ≡ drop (16 - l.back) (parts (rebuilt s (number_of l.fn.made) l.fn.group.0 h) l.fn.first os);
+    }

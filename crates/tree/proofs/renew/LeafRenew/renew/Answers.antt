@@ -1,0 +1,33 @@
+use Rattle.std.proofs.Common.{[], length, Some, sym, ap, subst, ◌∙◌, arith}
+use Rattle.std.specs.Option.{option_map}
+use Rattle.tree.specs.Entries.{key_at}
+use Rattle.tree.specs.Node.{leaf_part}
+use Rattle.tree.specs.Said.{said, full}
+use Rattle.tree.specs.Word.{word_said}
+use Rattle.tree.specs.Build.{leaf_rebuilt, number_of, HasKeys, no_block}
+use Rattle.tree.proofs.MadeLaws.{key_place, rebuilt_at_leaf, made_of_leaf}
+use Rattle.tree.proofs.renew.LeafRenew.renew.Goals as goal
+
+pub number_at-after-requires : goal.number_at-after-requires
+number_at-after-requires c =
+    let o = option_map (λ a. leaf_part a.value) c.args.slot.now in
+    let w = sym c.word_of.ensures ∙ ap word_said c.in-Full.is in
+    let k = subst (HasKeys c.args.made.now c.args.next) (made_of_leaf (said c.args.updates.now) c.args.index o _ w) c.requires.keys in
+    (key_place c.args.made.now c.args.next (key_at 0 c.args.index) [] no_block c.requires.once k).0
+
+pub returns-in-Some-get_mut-clause-part : goal.returns-in-Some-get_mut-clause-part
+returns-in-Some-get_mut-clause-part c =
+    let o = option_map (λ a. leaf_part a.value) c.args.slot.now in
+    let w = sym c.word_of.ensures ∙ ap word_said c.in-Full.is in
+    let k = subst (HasKeys c.args.made.now c.args.next) (made_of_leaf (said c.args.updates.now) c.args.index o _ w) c.requires.keys in
+    let n = (key_place c.args.made.now c.args.next (key_at 0 c.args.index) [] no_block c.requires.once k).1 in
+    ap Some (ap leaf_part c.new.ensures)
+    ∙ (λ i. leaf_rebuilt (full c.in-Full.bytes.now) ((ap (λ b. b.0) c.number_at-after.ensures.number ∙ n) i) c.args.group.0 o)
+    ∙ sym (rebuilt_at_leaf (said c.args.updates.now) (number_of c.args.made.now) c.args.group.0 c.args.index o _ w)
+
+pub returns-in-Some-get_mut-clause-next : goal.returns-in-Some-get_mut-clause-next
+returns-in-Some-get_mut-clause-next c =
+    let o = option_map (λ a. leaf_part a.value) c.args.slot.now in
+    let w = sym c.word_of.ensures ∙ ap word_said c.in-Full.is in
+    let n = ap length (made_of_leaf (said c.args.updates.now) c.args.index o _ w) in
+    omega (arith, n, c.number_at-after.ensures.next)

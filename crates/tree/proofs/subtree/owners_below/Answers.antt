@@ -1,0 +1,8 @@
+use Rattle.std.proofs.Common.{arith}
+use Rattle.tree.specs.Node.{shared_part}
+use Rattle.tree.proofs.Sameness.{same_forest}
+use Rattle.tree.proofs.subtree.owners_below.Goals as goal
+
+pub returns-clause-ok : goal.returns-clause-ok
+returns-clause-ok g c =
+    same_forest (shared_part g.C.Level.part) c.loop-place.kids c.args.node.now.kids (omega arith) (λ i n. c.loop-place.invariant.same i (omega (arith, n)))

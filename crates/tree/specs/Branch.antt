@@ -1,0 +1,23 @@
+-- What stands at and below one key of a map.
+use Rattle.std.specs.Prelude.{ℕ, ◌+◌, ◌*◌, ◌-◌, ◌&&◌, cond, nat_lt, is_some, Option, Some, None}
+use Rattle.std.specs.FinMap.{get, retain_keys}
+use Rattle.base.specs.declared.number.Key.{Key}
+use Rattle.base.specs.Key.{is_at_or_below}
+use Rattle.base.specs.Map.{Map}
+
+-- a key, and the map of the keys at and below it (On-Disk Specification, chapter 3: the blocks below an indirect block)
+pub record Branch : Type 0 where
+  pub key : Key
+  pub map : Map
+
+-- the keys of a map at and below one (On-Disk Specification, chapter 3)
+unfoldable pub map_below : Map → Key → Map
+map_below m k = retain_keys m (is_at_or_below k)
+
+-- the key at one of the sixteen places below another (On-Disk Specification, chapter 3; the number of places is profile)
+abbrev pub child_key : Key → ℕ → Key
+child_key k i = record { level = k.level - 1; index = 16 * k.index + i }
+
+-- what stands at a place directly below, if the map has that key; below a leaf is nothing (profile)
+abbrev pub child_of : Branch → ℕ → Option Branch
+child_of b i = cond (nat_lt 0 b.key.level && is_some (get b.map (child_key b.key i))) (Some (record { key = child_key b.key i; map = map_below b.map (child_key b.key i) })) None

@@ -1,0 +1,253 @@
+//! The nodes that a batch of changes makes.
+ghost use Rattle.std.specs.Prelude.{◌≡◌, ℕ, suc, ◌+◌, ◌-◌, ◌*◌, ◌^◌, ◌<◌, ◌≤◌, IfOk, OnErr, Option, Some, None, slice_index_or, length, map};
+ghost use Rattle.std.specs.Option.{option_map};
+ghost use Rattle.base.specs.declared.refusal.Refusal.{Refusal};
+ghost use Rattle.base.specs.Surveys.{AreDifferent};
+ghost use Rattle.tree.specs.Kid.{IsKid, birth_of, places_of};
+ghost use Rattle.tree.specs.Node.{inner_part};
+ghost use Rattle.tree.specs.Said.{said, AreInOrder};
+ghost use Rattle.tree.specs.Touch.{any_kid, later_first, touched, stays};
+ghost use Rattle.tree.specs.Build.{made_keys, parts, rebuilt, number_of, no_block, HasKeys};
+
+use crate::change::NewBlock;
+use crate::node::{Inner, Leaf, Level};
+use crate::update::{Update, Word, is_idle, split_at_leaf, word_of};
+use base::number::{BlockNo, Group};
+use base::refusal::Refusal;
+use std::alloc::Global;
+use std::sync::Arc;
+
+/// One more owner of a part that may be absent.
+pub fn keep<C: Level>(old: Option<&Arc<C>>) -> Result<Option<Arc<C>>, Refusal>
+    ensures ok { IfOk result (λ r. option_map (λ a. C.part a.value) r ≡ option_map (λ a. C.part a.now.value) old.entry) }
+    ensures err { OnErr result (result ≡ Err Refusal.NoMemory) }
+{
+    match old {
+        Some(a) => Ok(Some(Arc::try_clone(a)?)),
+        None => Ok(None),
+    }
+}
+
+/// The owner of what stands at a place of a part that may be absent.
+fn owner_at<C: Level>(old: Option<&Arc<Inner<C>>>, place: usize) -> Option<&Arc<C>>
+    requires { place < 16 }
+    ensures { option_map (λ a. C.part a.now.value) result ≡ slice_index_or (places_of (option_map (λ a. inner_part C.part a.now.value) old.entry)) place None }
+{
+    match old {
+        Some(node) => node.owner(place),
+        None => None,
+    }
+}
+
+/// How many places a shared part has, also one that is absent.
+fn owner_count<C: Level>(old: Option<&Arc<Inner<C>>>) -> u32
+    ensures sixteen { result ≡ 16 }
+    ensures all { length (places_of (option_map (λ a. inner_part C.part a.now.value) old.entry)) ≡ 16 }
+{
+    match old {
+        Some(node) => node.place_count(),
+        None => 16,
+    }
+}
+
+/// A part after a batch, whether it was touched, whether it stays, and how many of the new blocks are made.
+#[derive(Drop)]
+pub struct Built<C> {
+    pub part: Option<Arc<C>>,
+    pub touched: bool,
+    pub stays: bool,
+    pub next: usize,
+}
+
+/// The places of a part after a batch.
+#[derive(Drop)]
+struct BuiltKids<C> {
+    kids: [Option<Arc<C>>; 16],
+    touched: bool,
+    stays: bool,
+    next: usize,
+}
+
+/// The number of the new block at a place, and the place after it.
+pub fn number_at(made: &[NewBlock], at: usize) -> (BlockNo, usize)
+    requires { at < length made.now }
+    ensures number { result.0 ≡ (slice_index_or made.now at no_block).block }
+    ensures next { result.1 ≡ at + 1 }
+{
+    (made[at].block, at + 1)
+}
+
+/// A level whose parts can be made anew.
+pub trait Build: Level + Drop {
+    /// The part with an index among those of its level after a batch. The numbers are those of the new blocks, which stand from
+    /// the last key to the first, and from one place on.
+    fn build(
+        alloc: Global,
+        old: Option<&Arc<Self>>,
+        level: u8,
+        index: u32,
+        updates: &[Update],
+        group: Group,
+        made: &[NewBlock],
+        next: usize,
+    ) -> Result<Built<Self>, Refusal>
+        requires level { level ≡ Self.height }
+        requires within { (index + 1) * 16 ^ level ≤ 1048576 }
+        requires low { level ≤ 5 }
+        requires order { AreInOrder updates.now }
+        requires sound { IsKid Self.height (birth_of (option_map (λ a. Self.part a.now.value) old)) (option_map (λ a. Self.part a.now.value) old) }
+        requires keys { HasKeys made.now next (made_keys (said updates.now) Self.height index (option_map (λ a. Self.part a.now.value) old)) }
+        requires once { AreDifferent (map (λ b. b.key) made.now) }
+        ensures part { IfOk result (λ b. option_map (λ a. Self.part a.value) b.part ≡ rebuilt (said updates.now) (number_of made.now) group.0 Self.height index (option_map (λ a. Self.part a.now.value) old.entry)) }
+        ensures touched { IfOk result (λ b. b.touched ≡ touched (said updates.now) Self.height index (option_map (λ a. Self.part a.now.value) old.entry)) }
+        ensures stays { IfOk result (λ b. b.stays ≡ stays (said updates.now) Self.height index (option_map (λ a. Self.part a.now.value) old.entry)) }
+        ensures next { IfOk result (λ b. b.next ≡ next + length (made_keys (said updates.now) Self.height index (option_map (λ a. Self.part a.now.value) old.entry))) }
+        ensures err { OnErr result (result ≡ Err Refusal.NoMemory) };
+}
+
+impl Build for Leaf {
+    fn build(
+        alloc: Global,
+        old: Option<&Arc<Leaf>>,
+        _level: u8,
+        index: u32,
+        updates: &[Update],
+        group: Group,
+        made: &[NewBlock],
+        next: usize,
+    ) -> Result<Built<Leaf>, Refusal> {
+        let present = old.is_some();
+        match word_of(updates, index) {
+            Word::Silent => Ok(Built {
+                part: keep(old)?,
+                touched: false,
+                stays: present,
+                next,
+            }),
+            Word::Hole => Ok(Built {
+                part: None,
+                touched: present,
+                stays: false,
+                next,
+            }),
+            Word::Full(bytes) => {
+                let (block, after) = number_at(made, next);
+                Ok(Built {
+                    part: Some(Arc::new(alloc, Leaf::new(block, group, *bytes))?),
+                    touched: true,
+                    stays: true,
+                    next: after,
+                })
+            }
+        }
+    }
+}
+
+/// The places of a part after a batch, made from the last to the first. The places have a level, and the indices from one on.
+fn build_kids<C: Build>(
+    alloc: Global,
+    old: Option<&Arc<Inner<C>>>,
+    level: u8,
+    first: u32,
+    updates: &[Update],
+    group: Group,
+    made: &[NewBlock],
+    next: usize,
+) -> Result<BuiltKids<C>, Refusal>
+    requires level { level ≡ C.height }
+    requires within { (first + 16) * 16 ^ level ≤ 1048576 }
+    requires low { level ≤ 5 }
+    requires order { AreInOrder updates.now }
+    requires sound { IsKid (suc C.height) (birth_of (option_map (λ a. inner_part C.part a.now.value) old)) (option_map (λ a. inner_part C.part a.now.value) old) }
+    requires keys { HasKeys made.now next (later_first (made_keys (said updates.now) C.height) first (places_of (option_map (λ a. inner_part C.part a.now.value) old))) }
+    requires once { AreDifferent (map (λ b. b.key) made.now) }
+    ensures kids { IfOk result (λ b. map (option_map (λ a. C.part a.value)) b.kids ≡ parts (rebuilt (said updates.now) (number_of made.now) group.0 C.height) first (places_of (option_map (λ a. inner_part C.part a.now.value) old.entry))) }
+    ensures touched { IfOk result (λ b. b.touched ≡ any_kid (touched (said updates.now) C.height) first (places_of (option_map (λ a. inner_part C.part a.now.value) old.entry))) }
+    ensures stays { IfOk result (λ b. b.stays ≡ any_kid (stays (said updates.now) C.height) first (places_of (option_map (λ a. inner_part C.part a.now.value) old.entry))) }
+    ensures next { IfOk result (λ b. b.next ≡ next + length (later_first (made_keys (said updates.now) C.height) first (places_of (option_map (λ a. inner_part C.part a.now.value) old.entry)))) }
+    ensures err { OnErr result (result ≡ Err Refusal.NoMemory) }
+{
+    let mut kids = [
+        None, None, None, None, None, None, None, None, None, None, None, None, None, None, None,
+        None,
+    ];
+    let mut any_touched = false;
+    let mut any_stays = false;
+    let mut at = next;
+    let mut rest = updates;
+    let span = crate::node::span(u32::from(level));
+    for back in 0..owner_count(old) {
+        let place = 15 - back;
+        let index = first + place;
+        let (mine, earlier) = split_at_leaf(rest, index * span);
+        rest = earlier;
+        let kid = owner_at(old, place as usize);
+        let built = C::build(alloc, kid, level, index, mine, group, made, at)?;
+        any_touched |= built.touched;
+        any_stays |= built.stays;
+        at = built.next;
+        kids[place as usize] = built.part;
+    }
+    Ok(BuiltKids {
+        kids,
+        touched: any_touched,
+        stays: any_stays,
+        next: at,
+    })
+}
+
+impl<C: Build> Build for Inner<C> {
+    fn build(
+        alloc: Global,
+        old: Option<&Arc<Inner<C>>>,
+        level: u8,
+        index: u32,
+        updates: &[Update],
+        group: Group,
+        made: &[NewBlock],
+        next: usize,
+    ) -> Result<Built<Inner<C>>, Refusal> {
+        let present = old.is_some();
+        if is_idle(updates, present) {
+            return Ok(Built {
+                part: keep(old)?,
+                touched: false,
+                stays: present,
+                next,
+            });
+        }
+        let below = build_kids(
+            alloc,
+            old,
+            level - 1,
+            16 * index,
+            updates,
+            group,
+            made,
+            next,
+        )?;
+        if !below.touched {
+            return Ok(Built {
+                part: keep(old)?,
+                touched: false,
+                stays: present,
+                next: below.next,
+            });
+        }
+        if !below.stays {
+            return Ok(Built {
+                part: None,
+                touched: true,
+                stays: false,
+                next: below.next,
+            });
+        }
+        let (block, after) = number_at(made, below.next);
+        Ok(Built {
+            part: Some(Arc::new(alloc, Inner::new(block, group, below.kids))?),
+            touched: true,
+            stays: true,
+            next: after,
+        })
+    }
+}

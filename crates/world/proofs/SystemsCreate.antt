@@ -1,0 +1,157 @@
+-- A file system created in a pool of plain file systems.
+use Rattle.std.proofs.Common.{◌≡◌, ℕ, ◌+◌, ◌<◌, Bool, true, false, cond, not, arith, List, Option, Some, None, refl, sym, ap, subst, ◌∙◌, true≢false, ◌⊎◌, ⊎_elim}
+use Rattle.std.specs.Prelude.{is_some, nat_lt}
+use Rattle.std.specs.Option.{option_map_or}
+use Rattle.std.specs.FinMap.{get, contains_key}
+use Rattle.std.specs.FinMap as finmap
+use Rattle.std.proofs.lemmas.Bool.{ltb-true, lt-ltb, cases_lt, false_from_ne_true}
+use Rattle.base.specs.declared.refusal.Refusal.{Refusal}
+use Rattle.base.specs.declared.refusal.Refusal.TheVariants.{Exists, NoParent, TooMany, NoMemory}
+use Rattle.base.specs.Names.{parent_of}
+use Rattle.base.specs.Map.{IsTree}
+use Rattle.zalloc.specs.declared.BlockState.{BlockState}
+use Rattle.model.specs.declared.request.Request.{Request}
+use Rattle.model.specs.declared.reply.Reply.TheVariants.{Done, Refused}
+use Rattle.model.specs.World.{FileSystem, empty_file_system}
+use Rattle.model.specs.Outcome.{Choice, with_now, with_new_file_system, state_after, state_after_sweep, state_before_sweep}
+use Rattle.model.specs.Refusals.{refusal_of}
+use Rattle.model.specs.Step.{Step, done, refused, out_of_memory}
+use Rattle.world.specs.SystemsChange.{AreReached, AreKeysOne, AreStatesOf}
+use Rattle.world.specs.Systems.{FileSystems, HasParent, blocks_of_systems, Systems, systems_world, systems_state, IsSystems, AreStates, with_new}
+use Rattle.table.specs.Create.{create_refusal}
+use Rattle.world.specs.SystemsSteps.{Creates}
+use Rattle.world.proofs.Maps.{no_value}
+use Rattle.world.proofs.SystemsEmpty.{none_tree, none_once}
+use Rattle.world.proofs.SystemsWorld.{states_of, of_states, state_after_sweep-systems}
+use Rattle.world.proofs.SystemsKeep.{put_cases, new_blocks, new_keeps}
+use Rattle.world.proofs.SystemsNumbered.{systems_numbered}
+
+absent : (x : Option FileSystem) → is_some x ≡ false → x ≡ None
+absent None e = refl
+absent (Some s) e = absurd (true≢false e)
+
+-- a test of a name's parent, as a fact
+pub parent_there : (ss : FileSystems) (name : List ℕ) → option_map_or (contains_key ss) (parent_of name) false ≡ true → HasParent ss name
+parent_there ss name e = at (parent_of name) refl e
+  where
+    at : (p : Option (List ℕ)) → parent_of name ≡ p → option_map_or (contains_key ss) p false ≡ true → HasParent ss name
+    at None h f = absurd (true≢false (sym f))
+    at (Some q) h f = record { parent = q; named = h; there = f }
+
+module _ (c : Systems) (name : List ℕ) where
+  -- the pool once the file system is there
+  abbrev pub with_created : Systems
+  with_created = record c { now = with_new c.now name }
+
+  pub created-state : with_now (systems_state c) (with_new_file_system (systems_state c).now name) ≡ systems_state with_created
+  unfolding systems_state systems_world
+  created-state = refl
+
+  module _ (good : IsSystems c) (none : contains_key c.now name ≡ false) where
+    not_there : get c.now name ≡ None
+    not_there = absent (get c.now name) none
+
+    same_blocks : blocks_of_systems c.now ≡ blocks_of_systems (with_new c.now name)
+    same_blocks = sym (new_blocks c.now good.now.named name not_there)
+
+    -- no number's state changes
+    pub create_states : (states : List BlockState) → AreStates c states → AreStates with_created states
+    create_states states known = of_states with_created states
+        (subst (λ s. AreStatesOf s (blocks_of_systems c.last) c.size states) same_blocks (states_of c states known))
+
+    module _ (parent : option_map_or (contains_key c.now) (parent_of name) false ≡ true) (room : finmap.len c.now < 1024) where
+      -- what holds of the pool between two steps holds again
+      pub create_keeps : IsSystems with_created
+      create_keeps = record {
+        now = record {
+          named = new_keeps c.now good.now.named name not_there (parent_there c.now name parent) room;
+          trees = λ q x h. ⊎_elim
+              (λ w. subst (λ (y : FileSystem). IsTree c.size y.live) (sym w.1) (none_tree c.size))
+              (λ w. good.now.trees q x w.1)
+              (put_cases c.now name empty_file_system q x h);
+          keys_one = λ q x h. ⊎_elim
+              (λ w. subst (λ (y : FileSystem). AreKeysOne y.live) (sym w.1) none_once)
+              (λ w. good.now.keys_one q x w.1)
+              (put_cases c.now name empty_file_system q x h);
+        };
+        last = good.last;
+        reached = subst (λ s. AreReached s (blocks_of_systems c.last) c.last_group c.group c.size) same_blocks good.reached;
+        begun = good.begun;
+      }
+
+-- what a test of a name says where it finds no fault: the name is new, its parent is there, and there is room for one more
+create_parts : {E : Type 0} (exists parent room : Bool) (a b d : E) → cond {A = Option E} exists (Some a) (cond parent (cond room None (Some d)) (Some b)) ≡ None
+    → (exists ≡ false) × (parent ≡ true) × (room ≡ true)
+create_parts true parent room a b d e = absurd (no_value a (sym e))
+create_parts false false room a b d e = absurd (no_value b (sym e))
+create_parts false true true a b d e = (refl, refl, refl)
+create_parts false true false a b d e = absurd (no_value d (sym e))
+
+module _ (c : Systems) (name : List ℕ) (may : create_refusal c.now name ≡ None) where
+  parts : (contains_key c.now name ≡ false) × (option_map_or (contains_key c.now) (parent_of name) false ≡ true) × (nat_lt (finmap.len c.now) 1024 ≡ true)
+  unfolding create_refusal
+  parts = create_parts _ _ _ Exists NoParent TooMany may
+
+  -- where the definition has no fault, what holds of the pool between two steps holds once it is created, and no number's state changes
+  pub create_good : IsSystems c → IsSystems (with_created c name)
+  create_good good = create_keeps c name good parts.0 parts.1 (ltb-true (finmap.len c.now) 1024 parts.2)
+
+  pub create_numbers : IsSystems c → (states : List BlockState) → AreStates c states → AreStates (with_created c name) states
+  create_numbers good = create_states c name good parts.0
+
+-- ---- steps
+
+module _ (c : Systems) (q : Request) (name : List ℕ) (creates : Creates q name) where
+  systems-are : (systems_state c).now.file_systems ≡ c.now
+  unfolding systems_state systems_world
+  systems-are = refl
+
+  row-create : refusal_of (systems_state c) q ≡ create_refusal c.now name
+  row-create = creates.row (systems_state c) ∙ ap (λ ss. create_refusal ss name) systems-are
+
+  pub create_no_memory : Step (systems_state c) q (Refused NoMemory) (systems_state c)
+  create_no_memory = out_of_memory (record { may = creates.memory; reply_is = refl; unchanged = refl })
+
+  pub create_refused : (why : Refusal) → create_refusal c.now name ≡ Some why → Step (systems_state c) q (Refused why) (systems_state c)
+  create_refused why e = refused (record { why = why; row = row-create ∙ e; reply_is = refl; unchanged = refl })
+
+  -- a creation that the table refused, or that had no memory
+  pub create_err : (why : Refusal) → (create_refusal c.now name ≡ Some why) ⊎ (why ≡ NoMemory) → Step (systems_state c) q (Refused why) (systems_state c)
+  create_err why which = ⊎_elim
+      (λ e. create_refused why e)
+      (λ e. subst (λ z. Step (systems_state c) q (Refused z) (systems_state c)) (sym e) create_no_memory)
+      which
+
+  after-create : (choice : Choice) → IsSystems (with_created c name) → systems_state (with_created c name) ≡ state_after (systems_state c) choice q
+  unfolding state_after
+  after-create choice good =
+      sym (state_after_sweep-systems (with_created c name) good.now.named.plain)
+      ∙ ap state_after_sweep (sym (creates.before (systems_state c) choice ∙ created-state c name))
+      ∙ sym (ap (λ b. cond b (systems_state c) (state_after_sweep (state_before_sweep (systems_state c) choice q))) creates.writes)
+
+  pub create_done : IsSystems c → create_refusal c.now name ≡ None → Step (systems_state c) q Done (systems_state (record c { now = with_new c.now name }))
+  create_done good may = done (record {
+    choice = record { number = λ _. 0 };
+    not_refused = row-create ∙ may;
+    reply_is = sym (creates.reply (systems_state c));
+    new_is = after-create (record { number = λ _. 0 }) (create_good c name may good);
+    numbered = systems_numbered (with_created c name) (create_good c name may good);
+  })
+
+-- ---- the row as a list of conditions
+
+-- the conditions in the order of the definition's row come to the same
+pub create_row : (exists parent room full : Bool) → full ≡ not room
+    → cond {A = Option Refusal} exists (Some Exists) (cond (not parent) (Some NoParent) (cond full (Some TooMany) None))
+    ≡ cond exists (Some Exists) (cond parent (cond room None (Some TooMany)) (Some NoParent))
+create_row true parent room full e = refl
+create_row false false room full e = refl
+create_row false true true full e = rw e refl
+create_row false true false full e = rw e refl
+
+-- there are as many file systems as may be, said in either way
+pub no_room : (n limit : ℕ) → nat_lt limit (n + 1) ≡ not (nat_lt n limit)
+no_room n limit = ⊎_elim
+    (λ l. rw (lt-ltb n limit l) (false_from_ne_true (nat_lt limit (n + 1)) (λ t. let k = ltb-true limit (n + 1) t in absurd (omega arith))))
+    (λ l. lt-ltb limit (n + 1) (omega arith) ∙ sym (ap not (false_from_ne_true (nat_lt n limit) (λ t. let k = ltb-true n limit t in absurd (omega arith)))))
+    (cases_lt n limit)

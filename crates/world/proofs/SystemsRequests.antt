@@ -1,0 +1,103 @@
+-- The requests that create a file system, change a live map or list the names, in a pool of plain file systems.
+use Rattle.std.proofs.Common.{◌≡◌, ℕ, List, [], ◌∷◌, ◌++◌, refl, sym, ap, ◌∙◌, inl, inr, map}
+use Rattle.std.specs.List.{flat_map}
+use Rattle.std.specs.Option.{option_map_or}
+use Rattle.std.specs.FinMap.{keys, entries, contains_key, len, from_entries}
+use Rattle.base.specs.declared.name.Target.{Target}
+use Rattle.base.specs.declared.refusal.Refusal.TheVariants.{NoMemory}
+use Rattle.base.specs.Key.{leaf_index}
+use Rattle.base.specs.Names.{name_cmp, parent_of, snap_text, mark_text}
+use Rattle.base.specs.Rewrite.{punches_leaf, frees_object}
+use Rattle.model.specs.declared.request.Request.TheVariants.{Create, Punch, FreeObject, List as ListNames}
+use Rattle.model.specs.declared.reply.Reply.TheVariants.{Refused, Names as NamesAre}
+use Rattle.model.specs.World.{FileSystem, Snap, Bookmark}
+use Rattle.model.specs.Properties.{bookmark_cmp, names_of, all_names}
+use Rattle.model.specs.Outcome.{state_before_sweep}
+use Rattle.model.specs.Refusals.{refusal_of, row_of, is_block, is_object}
+use Rattle.model.specs.Step.{Step, out_of_memory, reply_of}
+use Rattle.world.specs.Entries.{IsEntry}
+use Rattle.world.specs.Systems.{IsPlain, Systems, systems_world, systems_state, IsSystems, file_system_limit}
+use Rattle.table.specs.Create.{create_refusal}
+use Rattle.world.specs.SystemsSteps.{ChangesLive, Creates}
+use Rattle.world.proofs.Maps.{at_entry}
+use Rattle.world.proofs.Orders.{name_order, entries-empty}
+use Rattle.world.proofs.SystemsCreate.{create_row, no_room}
+use Rattle.world.proofs.SystemsReads.{read_only}
+
+-- ---- a creation
+
+pub create_creates : (name : List ℕ) → Creates (Create name) name
+unfolding state_before_sweep refusal_of row_of reply_of create_refusal
+create_creates name = record {
+  before = λ s choice. refl;
+  row = λ s.
+      create_row (contains_key s.now.file_systems name) (option_map_or (contains_key s.now.file_systems) (parent_of name) _) _ _
+      (no_room (len s.now.file_systems) file_system_limit);
+  reply = λ s. refl;
+  writes = refl;
+  memory = refl;
+}
+
+-- ---- changes of a live map
+
+pub punch_changes : (target : Target) (object block : ℕ)
+    → ChangesLive (Punch target object block) target (punches_leaf (leaf_index object block)) (is_block object block)
+unfolding state_before_sweep row_of reply_of
+punch_changes target object block = record {
+  before = λ s choice. refl;
+  row = λ s asked. refl;
+  reply = λ s. refl;
+  writes = refl;
+  memory = refl;
+}
+
+pub free_changes : (target : Target) (object : ℕ) → ChangesLive (FreeObject target object) target (frees_object object) (is_object object)
+unfolding state_before_sweep row_of reply_of
+free_changes target object = record {
+  before = λ s choice. refl;
+  row = λ s asked. refl;
+  reply = λ s. refl;
+  writes = refl;
+  memory = refl;
+}
+
+-- ---- the names
+
+-- bookmarks with their sort keys, and the names of sorted ones
+abbrev keyed : List (List ℕ × Bookmark) → List ((ℕ × List ℕ) × List ℕ)
+keyed es = map (λ e. ((e.1.group, e.0), e.0)) es
+
+abbrev names_in : List ((ℕ × List ℕ) × List ℕ) → List (List ℕ)
+names_in es = map (λ (k : ℕ × List ℕ). k.1) (map (λ e. e.0) es)
+
+-- a plain file system is listed by its own name alone
+names-plain : (name : List ℕ) (s : FileSystem) → IsPlain s → names_of (name, s) ≡ name ∷ []
+names-plain name s plain i = name ∷ (
+    map (λ (t : Snap). snap_text (record { file_system = name; component = t.name })) (plain.snaps i)
+    ++ map (λ (b : List ℕ). mark_text (record { file_system = name; component = b })) (no_bookmarks i))
+  where
+    no_bookmarks : names_in (entries (from_entries {R = bookmark_cmp} (keyed (entries s.bookmarks)))) ≡ []
+    no_bookmarks =
+        ap (λ bs. names_in (entries (from_entries {R = bookmark_cmp} (keyed (entries bs))))) plain.bookmarks
+        ∙ ap (λ es. names_in (entries (from_entries {R = bookmark_cmp} (keyed es)))) (entries-empty name_cmp)
+        ∙ ap names_in (entries-empty bookmark_cmp)
+
+names-all : (es : List (List ℕ × FileSystem)) → ((name : List ℕ) (s : FileSystem) → IsEntry es name s → IsPlain s) → flat_map names_of es ≡ map (λ e. e.0) es
+names-all [] plain = refl
+names-all (e ∷ es) plain =
+    ap (λ xs. xs ++ flat_map names_of es) (names-plain e.0 e.1 (plain e.0 e.1 (inl (refl, refl))))
+    ∙ ap (λ xs. e.0 ∷ xs) (names-all es (λ name s i. plain name s (inr i)))
+
+module _ (c : Systems) where
+  pub list_no_memory : Step (systems_state c) ListNames (Refused NoMemory) (systems_state c)
+  list_no_memory = out_of_memory (record { may = refl; reply_is = refl; unchanged = refl })
+
+  module _ (good : IsSystems c) where
+    names-are : all_names (systems_state c).now ≡ keys c.now
+    unfolding all_names systems_state systems_world
+    names-are = names-all (entries c.now) (λ name s i. good.now.named.plain name s (at_entry name_order c.now name s i))
+
+    -- the names in byte order
+    pub list_done : (names : List (List ℕ)) → names ≡ keys c.now → Step (systems_state c) ListNames (NamesAre names) (systems_state c)
+    unfolding reply_of refusal_of row_of
+    list_done names e = read_only c good ListNames (NamesAre names) refl refl (ap NamesAre (e ∙ sym names-are))
