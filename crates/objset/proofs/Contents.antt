@@ -9,7 +9,7 @@ use Rattle.std.specs.FinMap.{find, get, entries, get-entries, get-from_entries}
 use Rattle.std.proofs.lemmas.Bool.{eqb-true, eq-eqb}
 use Rattle.std.specs.Prelude.{IsSome, unwrap_or}
 use Rattle.tree.specs.Cells.{cell_of}
-use Rattle.tree.specs.declared.cell.Cell.{Cell as Found}
+use Rattle.node.specs.declared.cell.Cell.{Cell as Found}
 use Rattle.base.specs.declared.number.Key.{Key}
 use Rattle.base.specs.Key.{key_cmp, key_cmp_total, key_cmp-IsAntisymmetric}
 use Rattle.base.specs.Map.{Cell, Map, contents}

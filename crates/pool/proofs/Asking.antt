@@ -6,7 +6,7 @@ use Rattle.base.specs.Rewrite.{writes_leaf, punches_leaf, frees_object}
 use Rattle.base.specs.declared.name.Target.{Target}
 use Rattle.base.specs.declared.refusal.Refusal.{Refusal}
 use Rattle.base.specs.declared.refusal.Refusal.TheVariants.{BadKey}
-use Rattle.tree.specs.declared.update.Update.{Update}
+use Rattle.batch.specs.declared.update.Update.{Update}
 use Rattle.tree.specs.Updates.{changes_of}
 use Rattle.objset.specs.Blocks.{IsNoBlock}
 use Rattle.model.specs.declared.request.Request.TheVariants.{Write, Punch, FreeObject}

@@ -11,7 +11,7 @@ use Rattle.base.specs.Map.{Map}
 use Rattle.zalloc.specs.declared.BlockState.TheVariants.{Allocated}
 use Rattle.base.specs.Rewrite.{Changes}
 use Rattle.zalloc.specs.declared.BlockState.{BlockState}
-use Rattle.tree.specs.declared.update.Update.{Update}
+use Rattle.batch.specs.declared.update.Update.{Update}
 use Rattle.tree.specs.Updates.{changes_of}
 use Rattle.tree.specs.Change.{Shown as ShownChange, IsChange, HasRoom, LacksRoom}
 use Rattle.model.specs.declared.request.Request.{Request}

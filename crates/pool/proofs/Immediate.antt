@@ -14,7 +14,7 @@ use Rattle.base.specs.Surveys.{dead_block}
 use Rattle.zalloc.specs.declared.BlockState.{BlockState}
 use Rattle.zalloc.specs.declared.BlockState.TheVariants.{Allocated}
 use Rattle.tree.specs.declared.change.Changed.{Changed}
-use Rattle.tree.specs.declared.update.Update.{Update}
+use Rattle.batch.specs.declared.update.Update.{Update}
 use Rattle.tree.specs.Updates.{changes_of}
 use Rattle.tree.specs.Change.{Shown as ShownChange, IsChange, HasRoom, LacksRoom}
 use Rattle.tree.specs.ChangeParts.{change_done}

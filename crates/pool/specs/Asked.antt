@@ -4,7 +4,7 @@ use Rattle.base.specs.Rewrite.{Changes}
 use Rattle.base.specs.declared.name.Target.{Target}
 use Rattle.base.specs.declared.refusal.Refusal.{Refusal}
 use Rattle.base.specs.declared.refusal.Refusal.TheVariants.{BadKey}
-use Rattle.tree.specs.declared.update.Update.{Update}
+use Rattle.batch.specs.declared.update.Update.{Update}
 use Rattle.tree.specs.Updates.{changes_of}
 use Rattle.model.specs.declared.request.Request.{Request}
 use Rattle.world.specs.SystemsSteps.{ChangesLive}

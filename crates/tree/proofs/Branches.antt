@@ -14,15 +14,15 @@ use Rattle.base.specs.Key.{key_cmp, key_cmp_total, key_cmp-IsAntisymmetric, is_a
 use Rattle.base.specs.Map.{Map, Cell}
 use Rattle.tree.specs.Branch.{Branch, map_below, child_key, child_of}
 use Rattle.tree.specs.BranchParts.{branch_at}
-use Rattle.tree.specs.Entries.{key_at, entries_from, width, IsWell, map_of}
-use Rattle.tree.specs.Kid.{IsSound, IsKid, places}
-use Rattle.tree.specs.Shape.{Part, grown, done, part_at, cell_below}
-use Rattle.tree.proofs.Digits.{high_digits, low_digits, eq_not}
-use Rattle.tree.proofs.Find.{not_before, not_above, scale_lt, found, cell_in-past, cell_in-root}
-use Rattle.tree.proofs.Options.{same_value}
-use Rattle.tree.proofs.Order.{entries_sorted, placed, span_positive}
-use Rattle.tree.proofs.Places.{AreKids-at, kids_of, part_at-places}
-use Rattle.tree.proofs.Sameness.{place_in, rest_in}
+use Rattle.node.specs.Entries.{key_at, entries_from, width, IsWell, map_of}
+use Rattle.node.specs.Kid.{IsSound, IsKid, places}
+use Rattle.node.specs.Shape.{Part, grown, done, part_at, cell_below}
+use Rattle.node.proofs.Digits.{high_digits, low_digits, eq_not}
+use Rattle.node.proofs.Find.{not_before, not_above, scale_lt, found, cell_in-past, cell_in-root}
+use Rattle.node.proofs.Options.{same_value}
+use Rattle.node.proofs.Order.{entries_sorted, placed, span_positive}
+use Rattle.node.proofs.Places.{AreKids-at, kids_of, part_at-places}
+use Rattle.node.proofs.Sameness.{place_in, rest_in}
 
 -- the map of a part at a key
 pub map_at : ℕ → ℕ → Part → Map

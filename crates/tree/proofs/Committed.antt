@@ -13,9 +13,10 @@ use Rattle.base.specs.Surveys.{IsIn, AreDifferent, IsMadeKey}
 use Rattle.base.proofs.RewriteLaw.{get-rewrite_any}
 use Rattle.zalloc.specs.declared.BlockState.{BlockState}
 use Rattle.zalloc.specs.declared.BlockState.TheVariants.{Free, Allocated}
-use Rattle.tree.specs.Change.{Shown, IsChange, IsKept}
+use Rattle.tree.specs.Change.{Shown, IsChange}
+use Rattle.batch.specs.Room.{IsKept}
 use Rattle.tree.specs.Taking.{AllFree, takes}
-use Rattle.tree.proofs.Options.{same_value, if_some, for_some}
+use Rattle.node.proofs.Options.{same_value, if_some, for_some}
 
 set_other : {A : Type 0} (xs : List A) (i n : ℕ) (y : A) → (n ≡ i → ⊥) → slice_get (slice_set xs i y) n ≡ slice_get xs n
 set_other [] i n y h = refl

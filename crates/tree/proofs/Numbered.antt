@@ -1,6 +1,6 @@
 -- The map after a batch, once the numbers are chosen.
-use Rattle.std.proofs.Common.{◌≡◌, ℕ, zero, suc, ◌+◌, ◌*◌, ◌-◌, ◌/◌, ◌%◌, ◌^◌, ◌<◌, ◌≤◌, Bool, true, false, cond, List, [], ◌∷◌, ◌++◌, length, map, reverse, Option, Some, None, refl, sym, ap, subst, ◌∙◌, arith, inl, inr, ◌⊎◌, ⊎_elim, true≢false}
-use Rattle.std.specs.Prelude.{is_some, IsSome, unwrap_or, ◌==◌, ◌||◌, slice_get, slice_index, count_by}
+use Rattle.std.proofs.Common.{◌≡◌, ℕ, suc, ◌+◌, ◌*◌, ◌-◌, ◌/◌, ◌%◌, ◌^◌, ◌<◌, ◌≤◌, Bool, true, false, cond, List, [], ◌∷◌, ◌++◌, length, map, reverse, Option, Some, None, refl, sym, ap, subst, ◌∙◌, arith, inl, inr, ◌⊎◌, ⊎_elim, true≢false}
+use Rattle.std.specs.Prelude.{is_some, IsSome, unwrap_or, ◌||◌, slice_get, count_by}
 use Rattle.std.specs.List.{list_any, All}
 use Rattle.std.specs.FinMap.{get, keys}
 use Rattle.std.proofs.lemmas.Bool.{eqb-true, eq-eqb, cases_lt, or_cases, or_right}
@@ -14,54 +14,32 @@ use Rattle.base.specs.Rewrite.{Changes, rewrite, changed_contents}
 use Rattle.base.specs.Surveys.{IsIn, AreDifferent, IsMadeKey, dead_block}
 use Rattle.zalloc.specs.declared.BlockState.{BlockState}
 use Rattle.zalloc.specs.declared.BlockState.TheVariants.{Free, Allocated}
-use Rattle.tree.specs.Change.{Shown, IsChange, IsKept}
+use Rattle.tree.specs.Change.{Shown, IsChange}
+use Rattle.batch.specs.Room.{IsKept}
 use Rattle.tree.specs.ChangeParts.{made_pair}
-use Rattle.tree.specs.declared.update.Update.{Update}
-use Rattle.tree.specs.declared.update.Update.TheVariants.{Write, Punch}
-use Rattle.tree.specs.declared.plan.Claim.{Claim}
-use Rattle.tree.specs.declared.change.NewBlock.{NewBlock}
-use Rattle.tree.specs.Entries.{key_at}
-use Rattle.tree.specs.Shape.{Part}
-use Rattle.tree.specs.Said.{Said, silent, hole, full, said, said_by, first_said, AreSized, IsSized}
-use Rattle.tree.specs.Touch.{touched, stays, claims, released, dead_of, own_block, young_one, leaf_touched, leaf_stays}
-use Rattle.tree.specs.Build.{rebuilt, filled, number_of, is_fresh}
-use Rattle.tree.specs.Numbers.{numbers, IsAtHand}
-use Rattle.tree.specs.Unique.{IsUnique}
-use Rattle.tree.specs.Updates.{changes_of}
-use Rattle.tree.proofs.Options.{same_value, some_of, not_some, if_some, for_some, some_mapped}
-use Rattle.tree.proofs.Lists.{all_bytes}
-use Rattle.tree.proofs.Digits.{high_digits}
-use Rattle.tree.proofs.TouchLaws.{touched_at_leaf, stays_at_leaf, untouched_stays}
-use Rattle.tree.proofs.Words.{leaf_left, leaf_after}
-use Rattle.tree.proofs.Standing.{Stands, IsPlace, part_at_key, stays_here, after_is, new_bytes, new_map}
-use Rattle.tree.proofs.Listing.{in_map}
-use Rattle.tree.proofs.NumberLaws.{in_append, in_left, in_right, different_append}
-use Rattle.tree.proofs.Filled.{claim_key, kept_number, fresh_number, used_number, once_number, placed, in_placed, placed_keys, new_key}
-use Rattle.tree.proofs.Batch.{IsAsked, IsMade, made_to, made_from, claim_keys_once, claimed_to, claimed_from, kept_claim, claim_kept, fresh_claim, claim_fresh, claim_of_key, key_claim, released_to, released_from, released_blocks_once, gone_of, here_is}
-
--- what is written has its size
-said_sized : (us : List Update) (n : ℕ) (b : List ℕ) → ((i : ℕ) (u : Update) → slice_get us i ≡ Some u → IsSized u) → said us n ≡ full b → (length b ≡ 512) × ((i : ℕ) → slice_index b i < 256)
-unfolding said
-said_sized [] n b h e = absurd (silent_full b e)
-  where
-    silent_full : (b : List ℕ) → silent ≡ full b → ⊥
-    silent_full b e = cc
-said_sized (u ∷ us) n b h e = first u (h zero u refl) e (said_sized us n b (λ i v f. h (suc i) v f))
-  where
-    one : (leaf : ℕ) (bytes : List ℕ) (w : Said) (v : Bool) → IsSized (Write leaf bytes) → first_said (cond v (full bytes) silent) w ≡ full b → (w ≡ full b → (length b ≡ 512) × ((i : ℕ) → slice_index b i < 256)) → (length b ≡ 512) × ((i : ℕ) → slice_index b i < 256)
-    one leaf bytes w true k e ih = let same : bytes ≡ b = cc in subst (λ xs. (length xs ≡ 512) × ((i : ℕ) → slice_index xs i < 256)) same k
-    one leaf bytes w false k e ih = ih e
-
-    two : (w : Said) (v : Bool) → first_said (cond v hole silent) w ≡ full b → (w ≡ full b → (length b ≡ 512) × ((i : ℕ) → slice_index b i < 256)) → (length b ≡ 512) × ((i : ℕ) → slice_index b i < 256)
-    two w true e ih = cc
-    two w false e ih = ih e
-
-    first : (u : Update) → IsSized u → first_said (said_by u n) (said us n) ≡ full b → (said us n ≡ full b → (length b ≡ 512) × ((i : ℕ) → slice_index b i < 256)) → (length b ≡ 512) × ((i : ℕ) → slice_index b i < 256)
-    first (Write leaf bytes) k e ih = one leaf bytes (said us n) (leaf == n) k e ih
-    first (Punch key) k e ih = two (said us n) (covers key n) e ih
-
-pub full_size : (us : List Update) → AreSized us → (n : ℕ) (b : List ℕ) → said us n ≡ full b → length b ≡ 512
-full_size us z n b e = (said_sized us n b z.each e).0
+use Rattle.batch.specs.declared.update.Update.{Update}
+use Rattle.batch.specs.declared.plan.Claim.{Claim}
+use Rattle.batch.specs.declared.numbers.NewBlock.{NewBlock}
+use Rattle.node.specs.Entries.{key_at}
+use Rattle.node.specs.Shape.{Part}
+use Rattle.batch.specs.Said.{Said, silent, hole, full, said}
+use Rattle.batch.specs.Touch.{touched, stays, claims, released, own_block, young_one, leaf_touched, leaf_stays}
+use Rattle.node.specs.Cells.{dead_of}
+use Rattle.batch.specs.Build.{rebuilt, filled, number_of, is_fresh}
+use Rattle.batch.specs.Numbers.{numbers, IsAtHand}
+use Rattle.node.specs.Unique.{IsUnique}
+use Rattle.batch.specs.Updates.{changes_of}
+use Rattle.node.proofs.Options.{same_value, some_of, not_some, if_some, for_some, some_mapped}
+use Rattle.batch.proofs.Lists.{all_bytes}
+use Rattle.batch.proofs.SaidLaws.{said_sized}
+use Rattle.node.proofs.Digits.{high_digits}
+use Rattle.batch.proofs.TouchLaws.{touched_at_leaf, stays_at_leaf, untouched_stays}
+use Rattle.batch.proofs.Words.{leaf_left, leaf_after}
+use Rattle.batch.proofs.Standing.{Stands, IsPlace, part_at_key, stays_here, after_is, new_bytes, new_map}
+use Rattle.batch.proofs.Listing.{in_map}
+use Rattle.batch.proofs.NumberLaws.{in_append, in_left, in_right, different_append}
+use Rattle.batch.proofs.Filled.{claim_key, kept_number, fresh_number, used_number, once_number, placed, in_placed, placed_keys, new_key}
+use Rattle.batch.proofs.Batch.{IsAsked, IsMade, made_to, made_from, claim_keys_once, claimed_to, claimed_from, kept_claim, claim_kept, fresh_claim, claim_fresh, claim_of_key, key_claim, released_to, released_from, released_blocks_once, gone_of, here_is}
 
 no_free : (x : Option BlockState) → x ≡ Some Free → x ≡ Some Allocated → ⊥
 no_free x a b = let e : Free ≡ Allocated = same_value Free Allocated (sym a ∙ b) in cc
@@ -312,7 +290,7 @@ module _ (m : Map) (o : Option Part) (us : List Update) (g y : ℕ) (states : Li
           (word (s k.index) refl (sym (touched_at_leaf s k.index (at 0 k.index)) ∙ a) (sym (stays_at_leaf s k.index (at 0 k.index)) ∙ b))
 
   no_octets : (l j : ℕ) → 0 < l → new_bytes m o g q.stands us q.batch l j ≡ []
-  no_octets l j h = ap (λ b. cond b (unwrap_or (get after j) []) []) (Rattle.tree.proofs.Digits.eq_not l 0 (λ e. absurd (omega arith)))
+  no_octets l j h = ap (λ b. cond b (unwrap_or (get after j) []) []) (Rattle.node.proofs.Digits.eq_not l 0 (λ e. absurd (omega arith)))
 
   -- the tree that it leads to
   pub tree_after : (n : ℕ) → IsTree n m → ((k : ℕ) → IsIn (numbers ns) k → k < n) → IsTree n m'
@@ -335,7 +313,7 @@ module _ (m : Map) (o : Option Part) (us : List Update) (g y : ℕ) (states : Li
         let x = some_of (get m' k) h in let w = place_new k x.0 x.1 in
         let up = any_up k.level k.index (keys after) (left_here k w ∙ h) in
         let one : k.level + 1 ≡ suc k.level = omega arith in
-        let v = Rattle.tree.proofs.Standing.place_down k.level k.index l w in
+        let v = Rattle.batch.proofs.Standing.place_down k.level k.index l w in
         subst (λ j. IsSome (get m' (key_at j (k.index / 16)))) (sym one) (sym (left_here (key_at (suc k.level) (k.index / 16)) v) ∙ up);
     children = λ k h l.
         let x = some_of (get m' k) h in let w = place_new k x.0 x.1 in
@@ -344,7 +322,7 @@ module _ (m : Map) (o : Option Part) (us : List Update) (g y : ℕ) (states : Li
         let r = any_child (k.level - 1) k.index (keys after) (subst P (sym down) (left_here k w ∙ h)) in
         let W : ℕ → Type 0 = λ j. IsPlace j k.index in
         let up : IsPlace (suc (k.level - 1)) k.index = subst W (sym down) w in
-        let v = Rattle.tree.proofs.Standing.place_up (k.level - 1) k.index (r.0 % 16) up (omega arith) in
+        let v = Rattle.batch.proofs.Standing.place_up (k.level - 1) k.index (r.0 % 16) up (omega arith) in
         let split : 16 * k.index + r.0 % 16 ≡ r.0 = let d = r.1 in omega (arith, d) in
         let z : IsPlace (k.level - 1) r.0 = subst (IsPlace (k.level - 1)) split v in
         let one : k.level - 1 + 1 ≡ k.level = omega arith in

@@ -10,8 +10,8 @@ use Rattle.base.specs.declared.number.Key.{Key}
 use Rattle.base.specs.Key.{key_cmp, parent}
 use Rattle.base.specs.Map.{Cell, Map}
 use Rattle.tree.specs.Reading.{present_up, present_on_path}
-use Rattle.tree.specs.Shape.{Part, part_at, cell_below, steps_below, steps_in}
-use Rattle.tree.proofs.Order.{span_positive}
+use Rattle.node.specs.Shape.{Part, part_at, cell_below, steps_below, steps_in}
+use Rattle.node.proofs.Order.{span_positive}
 
 abbrev one_if : Option Cell → ℕ
 one_if o = cond (is_some o) 1 0

@@ -7,10 +7,10 @@ use Rattle.base.specs.Key.{IsKey}
 use Rattle.tree.specs.declared.subtree.Node.{Node}
 use Rattle.tree.specs.declared.subtree.Node.TheVariants.{Leaf, First, Second, Third, Fourth, Root}
 use Rattle.tree.specs.Branch.{Branch, child_key}
-use Rattle.tree.specs.Entries.{entries_from}
-use Rattle.tree.specs.Kid.{IsSound}
-use Rattle.tree.specs.Node.{leaf_part, inner_part, shared_part, root_part}
-use Rattle.tree.specs.Shape.{Part, grown, done, part_at}
+use Rattle.node.specs.Entries.{entries_from}
+use Rattle.node.specs.Kid.{IsSound}
+use Rattle.node.specs.Node.{leaf_part, inner_part, shared_part, root_part}
+use Rattle.node.specs.Shape.{Part, grown, done, part_at}
 
 -- (profile)
 abbrev pub node_part : Node → Part

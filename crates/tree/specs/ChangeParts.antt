@@ -3,13 +3,13 @@ use Rattle.std.specs.Prelude.{ℕ, map}
 use Rattle.base.specs.Surveys.{dead_block}
 use Rattle.base.specs.declared.number.Key.{Key}
 use Rattle.tree.specs.declared.change.Change.TheInside.{Inside}
-use Rattle.tree.specs.declared.change.NewBlock.{NewBlock}
+use Rattle.batch.specs.declared.numbers.NewBlock.{NewBlock}
 use Rattle.tree.specs.declared.change.Changed.{Changed}
 use Rattle.base.specs.Map.{Map}
 use Rattle.tree.specs.Change.{Shown}
-use Rattle.tree.specs.Entries.{map_of}
-use Rattle.tree.specs.Node.{root_forest}
-use Rattle.tree.specs.Sound.{IsSoundTree}
+use Rattle.node.specs.Entries.{map_of}
+use Rattle.node.specs.Node.{root_forest}
+use Rattle.node.specs.Sound.{IsSoundTree}
 
 -- a new block as its key and its number (profile)
 abbrev pub made_pair : NewBlock → Key × ℕ

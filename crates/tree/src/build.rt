@@ -3,52 +3,18 @@ ghost use Rattle.std.specs.Prelude.{◌≡◌, ℕ, suc, ◌+◌, ◌-◌, ◌*�
 ghost use Rattle.std.specs.Option.{option_map};
 ghost use Rattle.base.specs.declared.refusal.Refusal.{Refusal};
 ghost use Rattle.base.specs.Surveys.{AreDifferent};
-ghost use Rattle.tree.specs.Kid.{IsKid, birth_of, places_of};
-ghost use Rattle.tree.specs.Node.{inner_part};
-ghost use Rattle.tree.specs.Said.{said, AreInOrder};
-ghost use Rattle.tree.specs.Touch.{any_kid, later_first, touched, stays};
-ghost use Rattle.tree.specs.Build.{made_keys, parts, rebuilt, number_of, no_block, HasKeys};
+ghost use Rattle.node.specs.Kid.{IsKid, birth_of, places_of};
+ghost use Rattle.node.specs.Node.{inner_part};
+ghost use Rattle.batch.specs.Said.{said, AreInOrder};
+ghost use Rattle.batch.specs.Touch.{any_kid, later_first, touched, stays};
+ghost use Rattle.batch.specs.Build.{made_keys, parts, rebuilt, number_of, no_block, HasKeys};
 
-use crate::change::NewBlock;
-use crate::node::{Inner, Leaf, Level};
-use crate::update::{Update, Word, is_idle, split_at_leaf, word_of};
 use base::number::{BlockNo, Group};
 use base::refusal::Refusal;
+use batch::{NewBlock, Update, Word, is_idle, split_at_leaf, word_of};
+use node::{Inner, Leaf, Level, keep, owner_at, owner_count, span};
 use std::alloc::Global;
 use std::sync::Arc;
-
-/// One more owner of a part that may be absent.
-pub fn keep<C: Level>(old: Option<&Arc<C>>) -> Result<Option<Arc<C>>, Refusal>
-    ensures ok { IfOk result (λ r. option_map (λ a. C.part a.value) r ≡ option_map (λ a. C.part a.now.value) old.entry) }
-    ensures err { OnErr result (result ≡ Err Refusal.NoMemory) }
-{
-    match old {
-        Some(a) => Ok(Some(Arc::try_clone(a)?)),
-        None => Ok(None),
-    }
-}
-
-/// The owner of what stands at a place of a part that may be absent.
-fn owner_at<C: Level>(old: Option<&Arc<Inner<C>>>, place: usize) -> Option<&Arc<C>>
-    requires { place < 16 }
-    ensures { option_map (λ a. C.part a.now.value) result ≡ slice_index_or (places_of (option_map (λ a. inner_part C.part a.now.value) old.entry)) place None }
-{
-    match old {
-        Some(node) => node.owner(place),
-        None => None,
-    }
-}
-
-/// How many places a shared part has, also one that is absent.
-fn owner_count<C: Level>(old: Option<&Arc<Inner<C>>>) -> u32
-    ensures sixteen { result ≡ 16 }
-    ensures all { length (places_of (option_map (λ a. inner_part C.part a.now.value) old.entry)) ≡ 16 }
-{
-    match old {
-        Some(node) => node.place_count(),
-        None => 16,
-    }
-}
 
 /// A part after a batch, whether it was touched, whether it stays, and how many of the new blocks are made.
 #[derive(Drop)]
@@ -175,7 +141,7 @@ fn build_kids<C: Build>(
     let mut any_stays = false;
     let mut at = next;
     let mut rest = updates;
-    let span = crate::node::span(u32::from(level));
+    let span = span(u32::from(level));
     for back in 0..owner_count(old) {
         let place = 15 - back;
         let index = first + place;

@@ -4,17 +4,11 @@ ghost use Rattle.std.specs.FinMap.{len};
 ghost use Rattle.base.specs.Surveys.{dead_block};
 ghost use Rattle.tree.specs.ChangeParts.{made_pair};
 
-use crate::tree::Root;
-use base::number::{BlockNo, Dead, Key};
+use base::number::{BlockNo, Dead};
+use batch::NewBlock;
+use node::Root;
 use std::marker::Model;
 use std::sync::Arc;
-
-/// A new block of a change: its key, and the number that it has.
-#[derive(Clone, Copy, PartialEq, Eq, Debug)]
-pub struct NewBlock {
-    pub key: Key,
-    pub block: BlockNo,
-}
 
 /// A change that is made ready: the tree that it leads to stands already, and to put it in force takes no memory. One that is
 /// dropped has changed nothing. Contracts see the maps before and after, the numbers that it takes, the blocks that it drops

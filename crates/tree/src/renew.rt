@@ -3,29 +3,18 @@ ghost use Rattle.std.specs.Prelude.{◌≡◌, suc, ◌+◌, ◌*◌, ◌^◌, �
 ghost use Rattle.std.specs.Option.{option_map};
 ghost use Rattle.base.specs.declared.refusal.Refusal.{Refusal};
 ghost use Rattle.base.specs.Surveys.{AreDifferent};
-ghost use Rattle.tree.specs.Kid.{IsKid, birth_of};
-ghost use Rattle.tree.specs.Node.{inner_part};
-ghost use Rattle.tree.specs.Said.{said, AreInOrder, IsWay};
-ghost use Rattle.tree.specs.Build.{made_keys, rebuilt, number_of, HasKeys};
+ghost use Rattle.node.specs.Kid.{IsKid, birth_of};
+ghost use Rattle.node.specs.Node.{inner_part};
+ghost use Rattle.batch.specs.Said.{said, AreInOrder, IsWay};
+ghost use Rattle.batch.specs.Build.{made_keys, rebuilt, number_of, HasKeys};
 
 use crate::build::{Build, number_at};
-use crate::change::NewBlock;
-use crate::node::{Inner, Leaf, Level};
-use crate::update::{Update, Word, way_of, word_of};
 use base::number::Group;
 use base::refusal::Refusal;
+use batch::{NewBlock, Update, Word, way_of, word_of};
+use node::{Inner, Leaf, owner_in};
 use std::alloc::Global;
 use std::sync::Arc;
-
-/// The owner of what a place has.
-fn owner_in<C: Level>(slot: &Option<Arc<C>>) -> Option<&Arc<C>>
-    ensures { option_map (λ a. C.part a.now.value) result ≡ option_map (λ a. C.part a.value) slot.now }
-{
-    match slot {
-        Some(node) => Some(node),
-        None => None,
-    }
-}
 
 /// Makes the part of a place anew.
 fn replace<C: Build>(

@@ -11,17 +11,16 @@ ghost use Rattle.base.specs.declared.number.Key.{Key};
 ghost use Rattle.base.specs.declared.refusal.Refusal.{Refusal};
 ghost use Rattle.tree.specs.Branch.{child_of, child_key};
 ghost use Rattle.tree.specs.BranchParts.{branch_at, node_part, node_level, AreBelow, IsSoundBranch};
-ghost use Rattle.tree.specs.Kid.{IsSound};
-ghost use Rattle.tree.specs.Node.{leaf_part, inner_part, shared_part};
-ghost use Rattle.tree.specs.Shape.{Part, part_at, forest_of};
-ghost use Rattle.tree.specs.Touch.{dead_of};
+ghost use Rattle.node.specs.Kid.{IsSound};
+ghost use Rattle.node.specs.Node.{leaf_part, inner_part, shared_part};
+ghost use Rattle.node.specs.Shape.{Part, part_at, forest_of};
+ghost use Rattle.node.specs.Cells.{dead_of};
 
-use crate::build::keep;
-use crate::node::{Inner, Leaf, Level};
-use crate::tree::{Root, Tree};
+use crate::tree::Tree;
 use base::meter::Meter;
 use base::number::{Dead, Group, Key};
 use base::refusal::Refusal;
+use node::{Inner, Leaf, Level, Root, keep};
 use std::marker::Model;
 use std::sync::Arc;
 

@@ -2,37 +2,33 @@
 ghost use Rattle.std.specs.Prelude.{◌≡◌, ◌<◌, ◌≤◌, ◌⊎◌, Some, IfOk, IfSome, IsSome, IfErr, OnOk, OnErr, slice_get, map, length};
 ghost use Rattle.base.specs.declared.number.Key.{Key};
 ghost use Rattle.base.specs.declared.refusal.Refusal.{Refusal};
-ghost use Rattle.tree.specs.Updates.{changes_of, IsBatch};
+ghost use Rattle.batch.specs.Updates.{changes_of, IsBatch};
 ghost use Rattle.zalloc.specs.declared.BlockState.TheVariants.{Allocated};
-ghost use Rattle.tree.specs.Change.{IsChange, HasRoom, LacksRoom};
+ghost use Rattle.tree.specs.Change.{IsChange};
+ghost use Rattle.batch.specs.Room.{HasRoom, LacksRoom};
 ghost use Rattle.tree.specs.ChangeParts.{change_done};
 ghost use Rattle.base.specs.Surveys.{dead_block};
-ghost use Rattle.tree.specs.Node.{root_part, whole};
-ghost use Rattle.tree.specs.Walk.{born_after, blocks_of};
+ghost use Rattle.node.specs.Walk.{born_after, blocks_of};
 ghost use Rattle.tree.specs.Taking.{AllFree, takes};
 ghost use Rattle.std.specs.FinMap as finmap;
 ghost use Rattle.std.specs.FinMap.{get, len};
 ghost use Rattle.std.specs.Option.{option_map};
 ghost use Rattle.base.specs.Counting.{counted};
-ghost use Rattle.tree.specs.Cells.{cell_of};
+ghost use Rattle.node.specs.Cells.{cell_of};
 ghost use Rattle.tree.specs.Reading.{present_on_path};
 
-use crate::build::{Build, keep};
-use crate::cell::Cell;
+use crate::build::Build;
 use crate::change::{Change, Changed};
-use crate::draft::draft_of;
-use crate::node::{Inner, Leaf, Level, span};
 use crate::renew::Renew;
-use crate::update::Update;
 use base::meter::Meter;
 use base::number::{BlockNo, Dead, Group, Key};
 use base::refusal::Refusal;
+use batch::{Update, draft_of};
+use node::{Cell, Level, Root, keep, owner_in, span};
 use std::alloc::Global;
 use std::marker::Model;
 use std::sync::Arc;
 use zalloc::Allocator;
-
-pub type Root = Inner<Inner<Inner<Inner<Inner<Leaf>>>>>;
 
 /// A dataset's tree of blocks. Contracts see the map from its present keys to their cells.
 #[derive(Drop)]
@@ -49,23 +45,13 @@ impl Model for Tree {
 
     ghost coded = { map_code };
 
-    ghost use Rattle.tree.specs.Node.{root_forest};
-    ghost use Rattle.tree.specs.Entries.{map_of};
-    ghost use Rattle.tree.specs.Sound.{IsSoundTree};
+    ghost use Rattle.node.specs.Node.{root_forest};
+    ghost use Rattle.node.specs.Entries.{map_of};
+    ghost use Rattle.node.specs.Sound.{IsSoundTree};
 
     ghost view = { λ t. map_of (root_forest t.root) };
 
     ghost invariant = { λ t. IsSoundTree t.root t.count };
-}
-
-/// The owner of a root that may be absent.
-fn owner(root: &Option<Arc<Root>>) -> Option<&Arc<Root>>
-    ensures { option_map (λ a. root_part a.now.value) result ≡ whole root.now }
-{
-    match root {
-        Some(a) => Some(a),
-        None => None,
-    }
 }
 
 /// Takes each number in turn, and each is Free when its turn comes. It takes no memory, and costs the numbers.
@@ -94,7 +80,7 @@ impl Tree {
         ensures ok { IfOk result (λ t. t ≡ self.now) }
         ensures err { OnErr result (result ≡ Err Refusal.NoMemory) }
     {
-        let root = keep(owner(&self.root))?;
+        let root = keep(owner_in(&self.root))?;
         Ok(Tree {
             root,
             count: self.count,
@@ -176,8 +162,8 @@ impl Tree {
             alloc, &self.root, self.count, updates, young, allocator, meter,
         )?;
         let made = &draft.made;
-        let built = Root::build(alloc, owner(&self.root), 5, 0, updates, group, made, 0)?;
-        let old = keep(owner(&self.root))?;
+        let built = Root::build(alloc, owner_in(&self.root), 5, 0, updates, group, made, 0)?;
+        let old = keep(owner_in(&self.root))?;
         draft.made.reverse();
         Ok(Change {
             old,

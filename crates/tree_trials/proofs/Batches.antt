@@ -1,6 +1,6 @@
 -- A batch, one update after another.
 use Rattle.std.proofs.Common.{◌≡◌, ℕ, zero, suc, ◌+◌, ◌<◌, ◌≤◌, List, [], ◌∷◌, length, get_or, drop, sym, subst, arith, drop-cons}
-use Rattle.tree.specs.declared.update.Update.{Update}
+use Rattle.batch.specs.declared.update.Update.{Update}
 use Rattle.tree.specs.Updates.{IsBatchFrom, IsOfTree, first_of, past_of}
 
 pub batch_step : (us : List Update) (i low first past : ℕ) (d : Update) → i < length us → low ≤ first → first ≡ first_of (get_or us i d) → past ≡ past_of (get_or us i d) → IsOfTree (get_or us i d) → IsBatchFrom past (drop (i + 1) us) → IsBatchFrom low (drop i us)

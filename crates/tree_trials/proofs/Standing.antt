@@ -79,9 +79,9 @@ module _ (m : Map) (ds : List Dead) (cut : ℕ) (listed : map dead_block ds ≡ 
       within (x ∷ ds) zero d e = omega arith
       within (x ∷ ds) (suc i) d e = let h = within ds i d e in omega (arith, h)
 
--- one block more
-pub one_more : (ds : List Dead) (n group : ℕ) (states : List BlockState) (x : Dead) → ((i : ℕ) (d : Dead) → i < n → slice_get ds i ≡ Some d → IsStanding group states d) → IsStanding group states (get_or ds n x) → (i : ℕ) (d : Dead) → i < n + 1 → slice_get ds i ≡ Some d → IsStanding group states d
-one_more ds n group states x below here i d h e =
-    ⊎_elim (λ l. below i d l e) (λ l. let s : i ≡ n = omega arith in
-    let same : get_or ds n x ≡ d = get_or_from_slice_get ds n d x (ap (slice_get ds) (sym s) ∙ e) in
-    subst (IsStanding group states) same here) (cases_lt i n)
+-- what holds of each one so far, and of one more
+pub one_more : {A : Type 0} (P : A → Type 0) (xs : List A) (n : ℕ) (d : A) → ((i : ℕ) (x : A) → i < n → slice_get xs i ≡ Some x → P x) → P (get_or xs n d) → (i : ℕ) (x : A) → i < n + 1 → slice_get xs i ≡ Some x → P x
+one_more P xs n d below here i x h e =
+    ⊎_elim (λ l. below i x l e) (λ l. let s : i ≡ n = omega arith in
+    let same : get_or xs n d ≡ x = get_or_from_slice_get xs n x d (ap (slice_get xs) (sym s) ∙ e) in
+    subst P same here) (cases_lt i n)

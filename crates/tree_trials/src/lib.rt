@@ -8,3 +8,5 @@ pub mod ready;
 mod rig;
 #[cfg(test)]
 mod tests;
+#[cfg(test)]
+mod ways;

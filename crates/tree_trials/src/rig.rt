@@ -1,22 +1,40 @@
 //! A tree with the allocator of its numbers, beside a plain list of what its leaves are to have.
-ghost use Rattle.std.specs.Prelude.{◌≡◌, ◌<◌, ◌≤◌, length};
+ghost use Rattle.std.specs.Prelude.{◌≡◌, ◌<◌, ◌≤◌, Some, IfSome, OnOk, length, map, slice_get};
+ghost use Rattle.std.specs.FinMap.{get};
+ghost use Rattle.base.specs.Surveys.{AreDifferent};
+ghost use Rattle.base.specs.declared.number.Key.{Key};
+ghost use Rattle.tree.specs.Taking.{AllFree};
+ghost use Rattle.tree.specs.Updates.{IsBatch};
+ghost use Rattle.zalloc.specs.declared.BlockState.TheVariants.{Allocated};
 
 use crate::ready::{is_batch, is_ready, meter};
 use base::number::{BlockNo, Dead, Group, Key};
 use base::refusal::Refusal;
 use std::alloc::Global;
 use std::process::Abort;
-use tree::{Changed, NewBlock, Tree, Update};
+use tree::{Change, Changed, NewBlock, Tree, Update};
 use zalloc::{Allocator, BlockState};
 
 /// How many leaves a plain list speaks of.
 pub const PLACES: usize = 128;
+
+/// How batches are put in force.
+#[derive(Clone, Copy, PartialEq, Eq, Debug)]
+pub enum Way {
+    /// Each at once.
+    AtOnce,
+    /// Each made ready first, and then committed.
+    Prepared,
+}
+
+pub const WAYS: [Way; 2] = [Way::AtOnce, Way::Prepared];
 
 /// A tree, and the numbers that it has.
 #[derive(Drop)]
 pub struct Rig {
     pub tree: Tree,
     pub allocator: Allocator,
+    pub way: Way,
 }
 
 /// A rig of a pool with so many numbers.
@@ -26,6 +44,7 @@ pub fn rig_of(rt: &impl Abort, alloc: Global, numbers: u32) -> Rig
     Rig {
         tree: Tree::new(),
         allocator: Allocator::new(alloc, numbers).expect(rt, "memory for an allocator"),
+        way: Way::AtOnce,
     }
 }
 
@@ -59,6 +78,34 @@ fn take(rt: &impl Abort, allocator: &mut Allocator, number: BlockNo) {
     }
 }
 
+/// Asserts that these numbers can be taken in turn.
+fn assert_free(rt: &impl Abort, allocator: &Allocator, numbers: &[BlockNo])
+    requires { AreDifferent (map (λ b. b.0) numbers.now) }
+    ensures { AllFree allocator.now (map (λ b. b.0) numbers.now) }
+{
+    for number in numbers {
+        match allocator.state(*number) {
+            Some(BlockState::Free) => {}
+            other => panic!(rt; "{number:?} is to be taken and {other:?}"),
+        }
+    }
+}
+
+/// What a prepared change is going to do.
+fn changed_by(alloc: Global, change: &Change) -> Result<Changed, Refusal> {
+    let mut released = Vec::new(alloc);
+    released.extend_from_slice(change.released())?;
+    let mut taken = Vec::new(alloc);
+    taken.extend_from_slice(change.taken())?;
+    let mut made = Vec::new(alloc);
+    made.extend_from_slice(change.made())?;
+    Ok(Changed {
+        released,
+        taken,
+        made,
+    })
+}
+
 /// Asserts that the new blocks stand at their keys, born in the group.
 fn assert_made(rt: &impl Abort, tree: &Tree, made: &[NewBlock], group: Group) {
     for new in made {
@@ -67,9 +114,43 @@ fn assert_made(rt: &impl Abort, tree: &Tree, made: &[NewBlock], group: Group) {
     }
 }
 
+/// The byte that a leaf of a tree is filled with, or 0 where there is none.
+pub fn byte_of(rt: &impl Abort, tree: &Tree, leaf: u32) -> u8 {
+    let key = Key {
+        level: 0,
+        index: leaf,
+    };
+    let Some(cell) = tree.read(key, &mut meter()) else {
+        return 0;
+    };
+    let bytes = cell.bytes.expect(rt, "a leaf has bytes");
+    assert!(rt; bytes == [bytes[0]; 512]);
+    bytes[0]
+}
+
 impl Rig {
-    /// Puts a batch in force, and answers what that did. The numbers that it takes have to be Free once the young blocks that it drops are released.
-    pub fn apply(
+    /// Asserts what a change asks of its caller.
+    fn assert_asked(
+        &self,
+        rt: &impl Abort,
+        alloc: Global,
+        updates: &[Update],
+        group: Group,
+        young: Group,
+    ) -> Result<(), Refusal>
+        ensures batch { OnOk result (IsBatch updates.now) }
+        ensures young { OnOk result (young.0 ≤ group.0) }
+        ensures born { OnOk result ((k : Key) → IfSome (get self.now.tree k) (λ c. c.birth ≤ group.0)) }
+        ensures allocated { OnOk result ((k : Key) → IfSome (get self.now.tree k) (λ c. slice_get self.now.allocator c.number ≡ Some Allocated)) }
+    {
+        assert!(rt; young.0 <= group.0);
+        assert!(rt; is_batch(updates));
+        assert!(rt; is_ready(alloc, &self.tree, &self.allocator, group)?);
+        Ok(())
+    }
+
+    /// Puts a batch in force at once.
+    fn change(
         &mut self,
         rt: &impl Abort,
         alloc: Global,
@@ -77,9 +158,7 @@ impl Rig {
         group: Group,
         young: Group,
     ) -> Result<Changed, Refusal> {
-        assert!(rt; young.0 <= group.0);
-        assert!(rt; is_batch(updates));
-        assert!(rt; is_ready(alloc, &self.tree, &self.allocator, group)?);
+        self.assert_asked(rt, alloc, updates, group, young)?;
         let allocator = &self.allocator;
         let done = self
             .tree
@@ -89,22 +168,54 @@ impl Rig {
             take(rt, &mut self.allocator, *number);
         }
         release(rt, &mut self.allocator, &done.released, young, false);
+        Ok(done)
+    }
+
+    /// Makes a batch ready, and then puts it in force.
+    fn commit(
+        &mut self,
+        rt: &impl Abort,
+        alloc: Global,
+        updates: &[Update],
+        group: Group,
+        young: Group,
+    ) -> Result<Changed, Refusal> {
+        self.assert_asked(rt, alloc, updates, group, young)?;
+        let allocator = &self.allocator;
+        let change = self
+            .tree
+            .prepare_change(alloc, updates, group, young, allocator, &mut meter())?;
+        let done = changed_by(alloc, &change)?;
+        let blocks = change.node_count();
+        release(rt, &mut self.allocator, &done.released, young, true);
+        assert_free(rt, &self.allocator, change.taken());
+        self.tree.commit(change, &mut self.allocator);
+        release(rt, &mut self.allocator, &done.released, young, false);
+        assert_eq!(rt; self.tree.node_count(), blocks);
+        Ok(done)
+    }
+
+    /// Puts a batch in force in the rig's way, and answers what that did. The numbers that it takes have to be Free once the young
+    /// blocks that it drops are released.
+    pub fn apply(
+        &mut self,
+        rt: &impl Abort,
+        alloc: Global,
+        updates: &[Update],
+        group: Group,
+        young: Group,
+    ) -> Result<Changed, Refusal> {
+        let done = match self.way {
+            Way::AtOnce => self.change(rt, alloc, updates, group, young)?,
+            Way::Prepared => self.commit(rt, alloc, updates, group, young)?,
+        };
         assert_made(rt, &self.tree, &done.made, group);
         Ok(done)
     }
 
     /// The byte that a leaf is filled with, or 0 where there is none.
     pub fn byte(&self, rt: &impl Abort, leaf: u32) -> u8 {
-        let key = Key {
-            level: 0,
-            index: leaf,
-        };
-        let Some(cell) = self.tree.read(key, &mut meter()) else {
-            return 0;
-        };
-        let bytes = cell.bytes.expect(rt, "a leaf has bytes");
-        assert!(rt; bytes == [bytes[0]; 512]);
-        bytes[0]
+        byte_of(rt, &self.tree, leaf)
     }
 
     /// Asserts that the leaves of the places have the bytes of a plain list, that the tree has the keys above the present ones

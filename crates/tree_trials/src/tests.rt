@@ -2,7 +2,7 @@
 ghost use Rattle.std.specs.Prelude.{◌<◌, ◌≤◌};
 
 use crate::ready::meter;
-use crate::rig::{PLACES, Rig, leaf_of, rig_of};
+use crate::rig::{PLACES, Rig, WAYS, Way, leaf_of, rig_of};
 use base::number::{BlockNo, Group, Key};
 use base::refusal::Refusal;
 use std::alloc::Global;
@@ -39,7 +39,7 @@ pub fn write_of(leaf: u32, byte: u8) -> Update {
     }
 }
 
-fn punch_of(level: u8, index: u32) -> Update {
+pub fn punch_of(level: u8, index: u32) -> Update {
     Update::Punch(Key { level, index })
 }
 
@@ -81,7 +81,7 @@ pub fn rig_of_batches(rt: &impl Abort, alloc: Global, dice: &mut Dice, groups: u
     rig
 }
 
-/// As many keys as a plain list has leaves and their ancestors, after each of many batches.
+/// As many keys as a plain list has leaves and their ancestors, after each of many batches, in one way and the other by turns.
 #[test]
 fn batches_beside_a_plain_list(rt: HostRuntime) {
     let alloc = rt.alloc();
@@ -90,6 +90,7 @@ fn batches_beside_a_plain_list(rt: HostRuntime) {
     let mut rig = rig_of(&rt, alloc, 1000);
     for round in 0..400u64 {
         let group = Group(1 + round / 3);
+        rig.way = WAYS[(round % 2) as usize];
         let updates = throw(&rt, alloc, &mut dice, &mut plain);
         rig.apply(&rt, alloc, &updates, group, group)
             .expect(&rt, "room for a batch");
@@ -156,38 +157,6 @@ fn full_pools(rt: HostRuntime) {
     assert_eq!(rt; second_of(&rt, alloc, 6, &leaf, &gone, Group(2)), None);
 }
 
-/// In one group the present keys keep their numbers: only new keys take some, and only keys that go release theirs.
-#[test]
-fn numbers_of_one_group(rt: HostRuntime) {
-    let alloc = rt.alloc();
-    let mut rig = rig_of(&rt, alloc, 64);
-    assert_counts(&rt, alloc, &mut rig, &[write_of(5, 7)], 6, 6, 0);
-    let pair = [write_of(5, 8), write_of(4096, 9)];
-    assert_counts(&rt, alloc, &mut rig, &pair, 4, 10, 0);
-    assert_counts(&rt, alloc, &mut rig, &[punch_of(3, 1)], 0, 2, 4);
-    assert_counts(&rt, alloc, &mut rig, &[punch_of(0, 6)], 0, 0, 0);
-    assert_counts(&rt, alloc, &mut rig, &[punch_of(0, 5)], 0, 0, 6);
-    assert_eq!(rt; rig.tree.node_count(), 0);
-}
-
-/// Asserts how many numbers a batch of group 1 takes, and how many keys it makes and releases.
-fn assert_counts(
-    rt: &impl Abort,
-    alloc: Global,
-    rig: &mut Rig,
-    updates: &[Update],
-    taken: usize,
-    made: usize,
-    released: usize,
-) {
-    let done = rig
-        .apply(rt, alloc, updates, Group(1), Group(1))
-        .expect(rt, "room for a batch");
-    assert_eq!(rt; done.taken.len(), taken);
-    assert_eq!(rt; done.made.len(), made);
-    assert_eq!(rt; done.released.len(), released);
-}
-
 /// Writes of every block of object 0, and of the first of object 1.
 fn whole_object(rt: &impl Abort, alloc: Global) -> Vec<Update> {
     let mut updates = Vec::new(alloc);
@@ -241,7 +210,7 @@ fn second_write_of_a_group_keeps_each_number(rt: HostRuntime) {
 }
 
 /// A rig with a leaf written in one group.
-fn rig_with(rt: &impl Abort, alloc: Global, leaf: u32, byte: u8, group: Group) -> Rig {
+pub fn rig_with(rt: &impl Abort, alloc: Global, leaf: u32, byte: u8, group: Group) -> Rig {
     let mut rig = rig_of(rt, alloc, 20);
     rig.apply(rt, alloc, &[write_of(leaf, byte)], group, group)
         .expect(rt, "room for a leaf");
@@ -259,29 +228,6 @@ fn equal_trees(rt: HostRuntime) {
     assert!(rt; rig.tree != rig_with(&rt, alloc, 3, 1, Group(6)).tree);
     assert!(rt; rig.tree != Tree::new());
     assert!(rt; Tree::new() == Tree::new());
-}
-
-/// How many keys are met on the way to a leaf.
-fn steps_to(tree: &Tree, leaf: u32) -> u64 {
-    let mut meter = meter();
-    tree.read(
-        Key {
-            level: 0,
-            index: leaf,
-        },
-        &mut meter,
-    );
-    meter.count()
-}
-
-#[test]
-fn reads_are_metered(rt: HostRuntime) {
-    let rig = rig_with(&rt, rt.alloc(), 5, 7, Group(1));
-    assert_eq!(rt; steps_to(&rig.tree, 5), 6);
-    assert_eq!(rt; steps_to(&rig.tree, 6), 5);
-    assert_eq!(rt; steps_to(&rig.tree, 16), 4);
-    assert_eq!(rt; steps_to(&rig.tree, 65536), 1);
-    assert_eq!(rt; steps_to(&Tree::new(), 5), 0);
 }
 
 /// A batch that is refused memory changes nothing.
@@ -304,20 +250,27 @@ fn refused_or_done(
     assert_eq!(rt; rig.allocator.counts().allocated, rig.tree.node_count());
 }
 
-#[test]
-fn refused_memory_changes_nothing(rt: HostRuntime) {
-    let alloc = rt.alloc();
+/// Three batches in a rig's way, of which each is done or refused.
+fn refused_in(rt: &impl Abort, alloc: Global, way: Way) {
     let Ok(allocator) = Allocator::new(alloc, 100) else {
         return;
     };
     let mut rig = Rig {
         tree: Tree::new(),
         allocator,
+        way,
     };
-    refused_or_done(&rt, alloc, &mut rig, write_of(3, 1), Group(1), 6);
-    if rig.byte(&rt, 3) == 1 {
-        refused_or_done(&rt, alloc, &mut rig, write_of(5000, 2), Group(2), 10);
-        let left = if rig.byte(&rt, 5000) == 2 { 6 } else { 0 };
-        refused_or_done(&rt, alloc, &mut rig, punch_of(0, 3), Group(3), left);
+    refused_or_done(rt, alloc, &mut rig, write_of(3, 1), Group(1), 6);
+    if rig.byte(rt, 3) == 1 {
+        refused_or_done(rt, alloc, &mut rig, write_of(5000, 2), Group(2), 10);
+        let left = if rig.byte(rt, 5000) == 2 { 6 } else { 0 };
+        refused_or_done(rt, alloc, &mut rig, punch_of(0, 3), Group(3), left);
+    }
+}
+
+#[test]
+fn refused_memory_changes_nothing(rt: HostRuntime) {
+    for way in WAYS {
+        refused_in(&rt, rt.alloc(), way);
     }
 }

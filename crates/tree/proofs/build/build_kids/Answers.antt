@@ -2,14 +2,14 @@
 use Rattle.std.proofs.Common.{◌≡◌, ◌+◌, ◌-◌, ◌^◌, ◌<◌, None, get_or, length, take, drop, map, refl, sym, ap, subst, ◌∙◌, arith, length-set}
 use Rattle.std.specs.Option.{option_map}
 use Rattle.std.proofs.lemmas.List.{take_all, map-set, length-map}
-use Rattle.tree.specs.Kid.{birth_of, places_of}
-use Rattle.tree.specs.Node.{inner_part, shared_part}
-use Rattle.tree.specs.Said.{said}
-use Rattle.tree.specs.Touch.{any_kid, later_first, touched, stays}
-use Rattle.tree.specs.Build.{made_keys, parts, rebuilt, number_of, HasKeys}
-use Rattle.tree.proofs.KidLaws.{or_false, kid_sound, length-parts}
-use Rattle.tree.proofs.TouchLaws.{touched_same, stays_same, made_same, rebuilt_same, kid_words, any_back}
-use Rattle.tree.proofs.MadeLaws.{keys_here, keys_rest, next_back, parts_back, drop_past}
+use Rattle.node.specs.Kid.{birth_of, places_of}
+use Rattle.node.specs.Node.{inner_part, shared_part}
+use Rattle.batch.specs.Said.{said}
+use Rattle.batch.specs.Touch.{any_kid, later_first, touched, stays}
+use Rattle.batch.specs.Build.{made_keys, parts, rebuilt, number_of, HasKeys}
+use Rattle.batch.proofs.KidLaws.{or_false, kid_sound, length-parts}
+use Rattle.batch.proofs.TouchLaws.{touched_same, stays_same, made_same, rebuilt_same, kid_words, any_back}
+use Rattle.batch.proofs.MadeLaws.{keys_here, keys_rest, next_back, parts_back, drop_past}
 use Rattle.tree.proofs.build.build_kids.Goals as goal
 
 pub loop-back-init : goal.loop-back-init
@@ -31,7 +31,7 @@ loop-back-init g c =
 
 pub overflow_add-index : goal.overflow_add-index
 overflow_add-index g c =
-    let p = Rattle.tree.proofs.Order.span_positive c.args.level in
+    let p = Rattle.node.proofs.Order.span_positive c.args.level in
     let m = Rattle.std.proofs.Math.Nat.mul-le-mul_left {m = 1} {n = 16 ^ c.args.level} (c.args.first + 16) p in
     let w = c.requires.within in
     omega (arith, w, m)

@@ -1,11 +1,11 @@
 use Rattle.std.proofs.Common.{◌≡◌, ℕ, ◌+◌, ◌-◌, ◌*◌, ◌^◌, ◌<◌, take, drop, map, length}
 use Rattle.std.specs.Prelude.{◌||◌}
 use Rattle.std.specs.Option.{option_map}
-use Rattle.tree.specs.Kid.{places_of}
-use Rattle.tree.specs.Node.{inner_part, shared_part}
-use Rattle.tree.specs.Said.{said, AreInOrder}
-use Rattle.tree.specs.Touch.{any_kid, later_first, touched, stays}
-use Rattle.tree.specs.Build.{made_keys, parts, rebuilt, number_of, HasKeys}
+use Rattle.node.specs.Kid.{places_of}
+use Rattle.node.specs.Node.{inner_part, shared_part}
+use Rattle.batch.specs.Said.{said, AreInOrder}
+use Rattle.batch.specs.Touch.{any_kid, later_first, touched, stays}
+use Rattle.batch.specs.Build.{made_keys, parts, rebuilt, number_of, HasKeys}
 use Rattle.tree.proofs.build.build_kids.Given as goal
 
 abbrev pub invariant-loop-back : goal.invariant-loop-back

@@ -1,15 +1,15 @@
 use Rattle.std.proofs.Common.{◌≡◌, ◌+◌, suc, ◌*◌, ◌-◌, ◌^◌, [], Some, length, refl, sym, ap, subst, ◌∙◌, arith, set, Option, Result, Ok, Err}
 use Rattle.std.specs.Prelude.{OnErr}
-use Rattle.tree.specs.Entries.{key_at}
-use Rattle.tree.specs.Node.{inner_part, shared_part}
-use Rattle.tree.specs.Said.{said}
-use Rattle.tree.specs.Shape.{Part, Forest}
-use Rattle.tree.specs.Build.{made_keys, number_of, HasKeys, no_block}
-use Rattle.tree.proofs.KidLaws.{kid_sound}
-use Rattle.tree.proofs.Places.{kids_of, length-places}
-use Rattle.tree.proofs.MadeLaws.{key_place}
-use Rattle.tree.proofs.TouchLaws.{key_fits, kid_span}
-use Rattle.tree.proofs.OneWrite.{place_at, keys_below, own_key, all_passed, node_same, node_renewed}
+use Rattle.node.specs.Entries.{key_at}
+use Rattle.node.specs.Node.{inner_part, shared_part}
+use Rattle.batch.specs.Said.{said}
+use Rattle.node.specs.Shape.{Part, Forest}
+use Rattle.batch.specs.Build.{made_keys, number_of, HasKeys, no_block}
+use Rattle.batch.proofs.KidLaws.{kid_sound}
+use Rattle.node.proofs.Places.{kids_of, length-places}
+use Rattle.batch.proofs.MadeLaws.{key_place}
+use Rattle.batch.proofs.TouchLaws.{key_fits, kid_span}
+use Rattle.batch.proofs.OneWrite.{place_at, keys_below, own_key, all_passed, node_same, node_renewed}
 use Rattle.tree.proofs.renew.renew_node.Goals as goal
 
 on_err : {T E : Type 0} (r : Result T E) {P : Type 0} → P → OnErr r P
@@ -25,7 +25,7 @@ overflow_add-index g c = let b = key_fits c.args.level c.args.index c.requires.w
 pub renew-requires-clause-within : goal.renew-requires-clause-within
 renew-requires-clause-within g c =
     let w = kid_span c.args.level g.C.Level.height c.args.index c.requires.level c.requires.within in
-    (Rattle.tree.proofs.KidLaws.kid_within (16 * c.args.index) c.args.place (16 ^ (c.args.level - 1)) c.requires.way.few w).1
+    (Rattle.batch.proofs.KidLaws.kid_within (16 * c.args.index) c.args.place (16 ^ (c.args.level - 1)) c.requires.way.few w).1
 
 pub renew-requires-clause-sound : goal.renew-requires-clause-sound
 renew-requires-clause-sound g c =

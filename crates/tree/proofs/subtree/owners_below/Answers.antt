@@ -1,6 +1,6 @@
 use Rattle.std.proofs.Common.{arith}
-use Rattle.tree.specs.Node.{shared_part}
-use Rattle.tree.proofs.Sameness.{same_forest}
+use Rattle.node.specs.Node.{shared_part}
+use Rattle.node.proofs.Sameness.{same_forest}
 use Rattle.tree.proofs.subtree.owners_below.Goals as goal
 
 pub returns-clause-ok : goal.returns-clause-ok

@@ -1,7 +1,7 @@
 -- The places so far have the parts of the node.
 use Rattle.std.proofs.Common.{◌≡◌, ℕ, ◌<◌, get_or, length, None}
 use Rattle.std.specs.Option.{option_map}
-use Rattle.tree.specs.Node.{shared_part}
+use Rattle.node.specs.Node.{shared_part}
 use Rattle.tree.proofs.subtree.owners_below.Given as goal
 
 abbrev pub invariant-loop-place : goal.invariant-loop-place

@@ -1,8 +1,8 @@
 use Rattle.std.proofs.Common.{◌≡◌, suc, sym, ap, subst, ◌∙◌, arith}
 use Rattle.std.specs.Arc.{arc_value}
-use Rattle.tree.specs.Kid.{IsSound}
-use Rattle.tree.specs.Node.{inner_part}
-use Rattle.tree.specs.Shape.{part_at}
+use Rattle.node.specs.Kid.{IsSound}
+use Rattle.node.specs.Node.{inner_part}
+use Rattle.node.specs.Shape.{part_at}
 use Rattle.tree.proofs.Branches.{kid_at}
 use Rattle.tree.proofs.subtree.subtrees_below.Goals as goal
 

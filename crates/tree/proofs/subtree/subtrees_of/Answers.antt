@@ -3,10 +3,10 @@ use Rattle.std.specs.Option.{option_map}
 use Rattle.std.proofs.lemmas.List.{get_or_default}
 use Rattle.tree.specs.Branch.{Branch, child_key}
 use Rattle.tree.specs.BranchParts.{branch_at}
-use Rattle.tree.specs.Node.{shared_part}
-use Rattle.tree.specs.Shape.{part_at, forest_of}
+use Rattle.node.specs.Node.{shared_part}
+use Rattle.node.specs.Shape.{part_at, forest_of}
 use Rattle.tree.proofs.Branches.{IsFilled, filled_some, filled_none, small_index, child_is_key}
-use Rattle.tree.proofs.Places.{places-forest_of, part_at-places}
+use Rattle.node.proofs.Places.{places-forest_of, part_at-places}
 use Rattle.tree.proofs.subtree.subtrees_of.Goals as goal
 use Rattle.tree.proofs.subtree.subtrees_of.Goals.{in-Some, in_default}
 

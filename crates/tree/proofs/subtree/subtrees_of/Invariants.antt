@@ -3,8 +3,8 @@ use Rattle.std.proofs.Common.{◌≡◌, ℕ, ◌≤◌, get_or, length, None}
 use Rattle.std.specs.Option.{option_map}
 use Rattle.tree.specs.Branch.{child_key}
 use Rattle.tree.specs.BranchParts.{branch_at}
-use Rattle.tree.specs.Node.{shared_part}
-use Rattle.tree.specs.Shape.{part_at, forest_of}
+use Rattle.node.specs.Node.{shared_part}
+use Rattle.node.specs.Shape.{part_at, forest_of}
 use Rattle.tree.proofs.Branches.{IsFilled}
 use Rattle.tree.proofs.subtree.subtrees_of.Given as goal
 

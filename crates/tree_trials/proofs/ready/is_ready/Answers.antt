@@ -3,12 +3,12 @@ use Rattle.std.specs.FinMap.{len}
 use Rattle.base.specs.Surveys.{dead_block}
 use Rattle.tree.specs.Walk.{blocks_of, born_after}
 use Rattle.tree.proofs.Options.{for_some}
-use Rattle.tree_trials.proofs.Standing.{standing, one_more}
+use Rattle.tree_trials.proofs.Standing.{IsStanding, standing, one_more}
 use Rattle.tree_trials.proofs.ready.is_ready.Goals as goal
 
 pub loop-block-preserved : goal.loop-block-preserved
 loop-block-preserved c =
-    one_more c.deref-block-items.result.now c.loop-block.block-index _ _ _ c.loop-block.invariant (record { born = c.is_standing.ensures.born c.if-not-is_standing.false; allocated = c.is_standing.ensures.allocated c.if-not-is_standing.false })
+    one_more (IsStanding c.args.group.0 c.args.allocator.now) c.deref-block-items.result.now c.loop-block.block-index _ c.loop-block.invariant (record { born = c.is_standing.ensures.born c.if-not-is_standing.false; allocated = c.is_standing.ensures.allocated c.if-not-is_standing.false })
 
 pub returns-clause-born : goal.returns-clause-born
 returns-clause-born c =

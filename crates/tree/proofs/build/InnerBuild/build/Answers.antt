@@ -1,14 +1,14 @@
 use Rattle.std.proofs.Common.{suc, ◌+◌, ◌*◌, [], ◌∷◌, length, Some, sym, ap, subst, ◌∙◌, arith, length-append}
 use Rattle.std.specs.Option.{option_map}
-use Rattle.tree.specs.Entries.{key_at}
-use Rattle.tree.specs.Kid.{places_of}
-use Rattle.tree.specs.Node.{inner_part, shared_part}
-use Rattle.tree.specs.Said.{said}
-use Rattle.tree.specs.Touch.{later_first}
-use Rattle.tree.specs.Build.{made_keys, number_of, HasKeys, no_block}
-use Rattle.tree.proofs.Options.{some_mapped}
-use Rattle.tree.proofs.TouchLaws.{idle_touched, untouched_stays, untouched_made, untouched_rebuilt, fate_touched, key_fits, kid_span}
-use Rattle.tree.proofs.MadeLaws.{keys_of_kids, key_of_own, key_place, made_stays, made_goes, made_same_place, rebuilt_gone, rebuilt_anew, stays_below}
+use Rattle.node.specs.Entries.{key_at}
+use Rattle.node.specs.Kid.{places_of}
+use Rattle.node.specs.Node.{inner_part, shared_part}
+use Rattle.batch.specs.Said.{said}
+use Rattle.batch.specs.Touch.{later_first}
+use Rattle.batch.specs.Build.{made_keys, number_of, HasKeys, no_block}
+use Rattle.node.proofs.Options.{some_mapped}
+use Rattle.batch.proofs.TouchLaws.{idle_touched, untouched_stays, untouched_made, untouched_rebuilt, fate_touched, key_fits, kid_span}
+use Rattle.batch.proofs.MadeLaws.{keys_of_kids, key_of_own, key_place, made_stays, made_goes, made_same_place, rebuilt_gone, rebuilt_anew, stays_below}
 use Rattle.tree.proofs.build.InnerBuild.build.Goals as goal
 
 pub returns-then-is_idle-clause-part : goal.returns-then-is_idle-clause-part

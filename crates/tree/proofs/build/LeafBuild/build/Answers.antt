@@ -1,15 +1,15 @@
 use Rattle.std.proofs.Common.{◌≡◌, [], ◌∷◌, ◌&&◌, Bool, true, false, cond, length, Some, refl, sym, ap, subst, ◌∙◌, arith}
 use Rattle.std.specs.Prelude.{is_some}
 use Rattle.std.specs.Option.{option_map}
-use Rattle.tree.specs.Entries.{key_at}
-use Rattle.tree.specs.Node.{leaf_part}
-use Rattle.tree.specs.Said.{said, full}
-use Rattle.tree.specs.Word.{word_said}
-use Rattle.tree.specs.Touch.{leaf_touched, leaf_stays}
-use Rattle.tree.specs.Build.{leaf_rebuilt, number_of, HasKeys, no_block}
-use Rattle.tree.proofs.Options.{some_mapped}
-use Rattle.tree.proofs.TouchLaws.{touched_at_leaf, stays_at_leaf}
-use Rattle.tree.proofs.MadeLaws.{key_place, rebuilt_at_leaf, made_of_leaf}
+use Rattle.node.specs.Entries.{key_at}
+use Rattle.node.specs.Node.{leaf_part}
+use Rattle.batch.specs.Said.{said, full}
+use Rattle.batch.specs.Word.{word_said}
+use Rattle.batch.specs.Touch.{leaf_touched, leaf_stays}
+use Rattle.batch.specs.Build.{leaf_rebuilt, number_of, HasKeys, no_block}
+use Rattle.node.proofs.Options.{some_mapped}
+use Rattle.batch.proofs.TouchLaws.{touched_at_leaf, stays_at_leaf}
+use Rattle.batch.proofs.MadeLaws.{key_place, rebuilt_at_leaf, made_of_leaf}
 use Rattle.tree.proofs.build.LeafBuild.build.Goals as goal
 
 not_made : (b : Bool) → (b && false) ≡ false

@@ -1,9 +1,9 @@
 use Rattle.std.proofs.Common.{sym, ap, ◌∙◌}
 use Rattle.std.specs.FinMap as fin
 use Rattle.tree.specs.Change.{Shown}
-use Rattle.tree.specs.Kid.{birth_of}
-use Rattle.tree.specs.Node.{whole, root_forest}
-use Rattle.tree.proofs.Find.{len-map_of}
+use Rattle.node.specs.Kid.{birth_of}
+use Rattle.node.specs.Node.{whole, root_forest}
+use Rattle.node.proofs.Find.{len-map_of}
 use Rattle.tree.proofs.change.Change.node_count.Goals as goal
 
 pub returns : goal.returns

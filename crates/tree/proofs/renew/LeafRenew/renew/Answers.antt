@@ -1,11 +1,11 @@
 use Rattle.std.proofs.Common.{[], length, Some, sym, ap, subst, ◌∙◌, arith}
 use Rattle.std.specs.Option.{option_map}
-use Rattle.tree.specs.Entries.{key_at}
-use Rattle.tree.specs.Node.{leaf_part}
-use Rattle.tree.specs.Said.{said, full}
-use Rattle.tree.specs.Word.{word_said}
-use Rattle.tree.specs.Build.{leaf_rebuilt, number_of, HasKeys, no_block}
-use Rattle.tree.proofs.MadeLaws.{key_place, rebuilt_at_leaf, made_of_leaf}
+use Rattle.node.specs.Entries.{key_at}
+use Rattle.node.specs.Node.{leaf_part}
+use Rattle.batch.specs.Said.{said, full}
+use Rattle.batch.specs.Word.{word_said}
+use Rattle.batch.specs.Build.{leaf_rebuilt, number_of, HasKeys, no_block}
+use Rattle.batch.proofs.MadeLaws.{key_place, rebuilt_at_leaf, made_of_leaf}
 use Rattle.tree.proofs.renew.LeafRenew.renew.Goals as goal
 
 pub number_at-after-requires : goal.number_at-after-requires

@@ -7,7 +7,7 @@ use Rattle.base.specs.Surveys.{dead_block}
 use Rattle.tree.specs.Branch.{Branch, child_of}
 use Rattle.tree.specs.BranchParts.{node_part, node_level}
 use Rattle.tree.proofs.Branches.{branch_birth, own-branch_at, children}
-use Rattle.tree.proofs.Options.{for_some}
+use Rattle.node.proofs.Options.{for_some}
 use Rattle.tree.proofs.subtree.Subtree.peel.Goals as goal
 
 pub returns-then-block-cut-clause-old : goal.returns-then-block-cut-clause-old

@@ -1,12 +1,13 @@
 use Rattle.std.proofs.Common.{◌≡◌, map, refl, sym, ap, subst, ◌∙◌, arith}
 use Rattle.base.specs.Surveys.{AreDifferent}
-use Rattle.tree.specs.Build.{made_keys, HasKeys, number_of, rebuilt}
+use Rattle.batch.specs.Build.{made_keys, HasKeys, number_of, rebuilt}
 use Rattle.tree.specs.ChangeParts.{made_pair}
-use Rattle.tree.specs.Node.{whole}
-use Rattle.tree.specs.Said.{said}
-use Rattle.tree.proofs.Words.{batch_in_order}
-use Rattle.tree.proofs.Filled.{new_key}
-use Rattle.tree.proofs.Prepare.{IsReady, born_of, allocated_of, own_kid, ready_keys, ready_places, ready_sound, ready_change}
+use Rattle.node.specs.Node.{whole}
+use Rattle.batch.specs.Said.{said}
+use Rattle.batch.proofs.Words.{batch_in_order}
+use Rattle.batch.proofs.Filled.{new_key}
+use Rattle.batch.proofs.Prepare.{IsReady, own_kid}
+use Rattle.tree.proofs.Prepared.{born_of, allocated_of, ready_keys, ready_places, ready_sound, ready_change}
 use Rattle.tree.proofs.tree.Tree.change.Goals as goal
 use Rattle.tree.proofs.tree.Tree.change.Goals.{After-deref, After-reverse}
 

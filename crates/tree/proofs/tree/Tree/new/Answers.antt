@@ -1,5 +1,5 @@
-use Rattle.tree.proofs.Find.{map_of-empty}
-use Rattle.tree.proofs.Roots.{sound-none}
+use Rattle.node.proofs.Find.{map_of-empty}
+use Rattle.node.proofs.Roots.{sound-none}
 use Rattle.tree.proofs.tree.Tree.new.Goals as goal
 
 pub returns : goal.returns

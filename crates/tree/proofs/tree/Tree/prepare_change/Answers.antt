@@ -1,15 +1,16 @@
 use Rattle.std.proofs.Common.{◌≡◌, map, Option, refl, sym, ap, subst, ◌∙◌, arith}
 use Rattle.base.specs.Surveys.{AreDifferent}
-use Rattle.tree.specs.Build.{made_keys, HasKeys, number_of, rebuilt}
+use Rattle.batch.specs.Build.{made_keys, HasKeys, number_of, rebuilt}
 use Rattle.tree.specs.ChangeParts.{made_pair}
-use Rattle.tree.specs.Entries.{map_of}
-use Rattle.tree.specs.Kid.{IsKid, birth_of}
-use Rattle.tree.specs.Node.{whole}
-use Rattle.tree.specs.Said.{said}
-use Rattle.tree.specs.Shape.{Part}
-use Rattle.tree.proofs.Words.{batch_in_order}
-use Rattle.tree.proofs.Filled.{new_key}
-use Rattle.tree.proofs.Prepare.{IsReady, same_forest, born_of, allocated_of, own_kid, ready_keys, ready_places, ready_sound, ready_change}
+use Rattle.node.specs.Entries.{map_of}
+use Rattle.node.specs.Kid.{IsKid, birth_of}
+use Rattle.node.specs.Node.{whole}
+use Rattle.batch.specs.Said.{said}
+use Rattle.node.specs.Shape.{Part}
+use Rattle.batch.proofs.Words.{batch_in_order}
+use Rattle.batch.proofs.Filled.{new_key}
+use Rattle.batch.proofs.Prepare.{IsReady, own_kid}
+use Rattle.tree.proofs.Prepared.{same_forest, born_of, allocated_of, ready_keys, ready_places, ready_sound, ready_change}
 use Rattle.tree.proofs.tree.Tree.prepare_change.Goals as goal
 use Rattle.tree.proofs.tree.Tree.prepare_change.Goals.{After-deref, After-reverse}
 
@@ -29,9 +30,9 @@ build-requires c = (
         (
           batch_in_order c.args.updates.now c.requires.batch,
           (
-            subst (λ (o : Option Part). IsKid 5 (birth_of o) o) (sym c.owner.ensures) (own_kid _ _ _ _ _ (ready c)),
+            subst (λ (o : Option Part). IsKid 5 (birth_of o) o) (sym c.owner_in.ensures) (own_kid _ _ _ _ _ (ready c)),
             (
-              subst (λ (o : Option Part). HasKeys c.deref.result.now 0 (made_keys (said c.args.updates.now) 5 0 o)) (sym c.owner.ensures)
+              subst (λ (o : Option Part). HasKeys c.deref.result.now 0 (made_keys (said c.args.updates.now) 5 0 o)) (sym c.owner_in.ensures)
                   (subst (λ bs. HasKeys bs 0 (made_keys (said c.args.updates.now) 5 0 (whole c.self.inside.root))) (sym c.deref.ensures.value) (ready_keys _ _ _ _ _ (ready c) c.in_ok-draft.draft c.in_ok-draft.ensures.ok)),
               subst (λ bs. AreDifferent (map new_key bs)) (sym c.deref.ensures.value) (ready_places _ _ _ _ _ (ready c) c.in_ok-draft.draft c.in_ok-draft.ensures.ok),
             ),
@@ -44,7 +45,7 @@ build-requires c = (
 
 module _ (c : After-reverse) where
   built : whole c.in_ok-built.built.part ≡ rebuilt (said c.args.updates.now) (number_of c.in_ok-draft.draft.made.items) c.args.group.0 5 0 (whole c.self.inside.root)
-  built = c.in_ok-built.ensures.part ∙ (λ i. rebuilt (said c.args.updates.now) (number_of (c.deref.ensures.value i)) c.args.group.0 5 0 (c.owner.ensures i))
+  built = c.in_ok-built.ensures.part ∙ (λ i. rebuilt (said c.args.updates.now) (number_of (c.deref.ensures.value i)) c.args.group.0 5 0 (c.owner_in.ensures i))
 
 pub invariant_of-result : goal.invariant_of-result
 invariant_of-result c =
@@ -55,4 +56,4 @@ pub returns-clause-ok : goal.returns-clause-ok
 returns-clause-ok c =
     let b = (goal.at.returns-clause-ok c).After-deref in
     ready_change _ _ _ _ _ (ready b) c.in_ok-draft.draft c.in_ok-draft.ensures.ok c.args.group.0 (born_of c.self.inside.root c.args.self.now c.args.group.0 c.self.view_is c.requires.born) c.in_ok-built.built.part (built c)
-    c.args.self.now c.self.view_is _ (ap map_of (same_forest c.in_ok-old.old c.self.inside.root (c.in_ok-old.ensures.ok ∙ c.owner-2.ensures)) ∙ c.self.view_is) refl refl refl (ap (map made_pair) c.reverse.ensures.items)
+    c.args.self.now c.self.view_is _ (ap map_of (same_forest c.in_ok-old.old c.self.inside.root (c.in_ok-old.ensures.ok ∙ c.owner_in-2.ensures)) ∙ c.self.view_is) refl refl refl (ap (map made_pair) c.reverse.ensures.items)

@@ -3,15 +3,15 @@ use Rattle.std.proofs.Common.{◌≡◌, Some, subst, ◌^◌, ◌<◌, ◌≤�
 use Rattle.std.specs.FinMap as fin
 use Rattle.base.specs.Key.{key_cmp}
 use Rattle.base.specs.Counting.{counted}
-use Rattle.tree.specs.Shape.{cell_below, steps_below}
-use Rattle.tree.specs.Entries.{map_of, IsWell}
+use Rattle.node.specs.Shape.{cell_below, steps_below}
+use Rattle.node.specs.Entries.{map_of, IsWell}
 use Rattle.tree.specs.Reading.{present_on_path}
-use Rattle.tree.specs.Kid.{birth_of}
-use Rattle.tree.specs.Node.{whole, root_forest, root_part}
-use Rattle.tree.proofs.Reach.{counted-none}
-use Rattle.tree.proofs.Find.{get-map_of_high, map_of-empty}
-use Rattle.tree.proofs.Roots.{get-root, get-past}
-use Rattle.tree.proofs.Leaves.{bytes_there}
+use Rattle.node.specs.Kid.{birth_of}
+use Rattle.node.specs.Node.{whole, root_forest, root_part}
+use Rattle.node.proofs.Reach.{counted-none}
+use Rattle.node.proofs.Find.{get-map_of_high, map_of-empty}
+use Rattle.node.proofs.Roots.{get-root, get-past}
+use Rattle.node.proofs.Leaves.{bytes_there}
 use Rattle.tree.proofs.Present.{present-empty, present-high, present-past, present-root}
 use Rattle.tree.proofs.tree.Tree.read.Goals as goal
 

@@ -1,5 +1,5 @@
 use Rattle.std.proofs.Common.{sym, ◌∙◌}
-use Rattle.tree.proofs.Sameness.{same_map, map_same}
+use Rattle.node.proofs.Sameness.{same_map, map_same}
 use Rattle.tree.proofs.tree.Tree.same.Goals as goal
 
 pub returns : goal.returns

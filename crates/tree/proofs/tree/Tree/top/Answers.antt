@@ -2,13 +2,13 @@ use Rattle.std.proofs.Common.{sym, ap, ◌∙◌, arith}
 use Rattle.std.specs.Prelude.{is_some}
 use Rattle.std.specs.FinMap.{get}
 use Rattle.base.specs.declared.number.Key.{Key}
-use Rattle.tree.specs.Entries.{key_at, map_of}
-use Rattle.tree.specs.Kid.{birth_of}
-use Rattle.tree.specs.Node.{whole, root_forest, root_part}
-use Rattle.tree.specs.Shape.{grown, done}
+use Rattle.node.specs.Entries.{key_at, map_of}
+use Rattle.node.specs.Kid.{birth_of}
+use Rattle.node.specs.Node.{whole, root_forest, root_part}
+use Rattle.node.specs.Shape.{grown, done}
 use Rattle.tree.proofs.Branches.{key-branch_at, root-branch}
-use Rattle.tree.proofs.Find.{map_of-empty}
-use Rattle.tree.proofs.Roots.{get-root}
+use Rattle.node.proofs.Find.{map_of-empty}
+use Rattle.node.proofs.Roots.{get-root}
 use Rattle.tree.proofs.tree.Tree.top.Goals as goal
 
 pub returns-in_default-clause-none : goal.returns-in_default-clause-none

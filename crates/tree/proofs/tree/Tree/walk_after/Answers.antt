@@ -2,10 +2,10 @@ use Rattle.std.proofs.Common.{◌≡◌, ◌++◌, sym, ap, ◌∙◌, append-ni
 use Rattle.base.specs.Surveys.{dead_block}
 use Rattle.std.proofs.lemmas.List.{length-map}
 use Rattle.base.specs.Counting.{counted, most}
-use Rattle.tree.specs.Walk.{born_after, blocks_of, forest_blocks, part_blocks}
-use Rattle.tree.specs.Kid.{birth_of}
-use Rattle.tree.specs.Node.{whole, root_forest, root_part}
-use Rattle.tree.proofs.Walk.{blocks-map_of, born_after-none}
+use Rattle.node.specs.Walk.{born_after, blocks_of, forest_blocks, part_blocks}
+use Rattle.node.specs.Kid.{birth_of}
+use Rattle.node.specs.Node.{whole, root_forest, root_part}
+use Rattle.node.proofs.Walk.{blocks-map_of, born_after-none}
 use Rattle.tree.proofs.tree.Tree.walk_after.Goals as goal
 use Rattle.tree.proofs.tree.Tree.walk_after.Goals.{in-Some+in_ok-gather, in_default}
 

@@ -1,0 +1,20 @@
+use Rattle.std.proofs.Common.{◌-◌, [], length, arith}
+use Rattle.std.proofs.lemmas.Option.{slice_get_within}
+use Rattle.batch.specs.declared.update.Update.TheVariants.{Write}
+use Rattle.batch.proofs.SaidLaws.{ends_by, past_here}
+use Rattle.batch.proofs.update.count_before.Goals as goal
+
+pub loop-back-init : goal.loop-back-init
+loop-back-init c = λ i u h e. let w = slice_get_within c.args.updates.now i u e in absurd (omega arith)
+
+pub returns-then-past-leaf-clause-before : goal.returns-then-past-leaf-clause-before
+returns-then-past-leaf-clause-before c = ends_by c.args.updates.now (length c.args.updates.now - c.loop-back.back) c.args.leaf (Write 0 []) c.requires (omega arith) (omega arith) (omega (arith, c.past.ensures))
+
+pub returns-then-past-leaf-clause-after : goal.returns-then-past-leaf-clause-after
+returns-then-past-leaf-clause-after c = λ i u h e. c.loop-back.invariant i u h e
+
+pub loop-back-preserved : goal.loop-back-preserved
+loop-back-preserved c = λ i u h e. past_here c.args.updates.now (length c.args.updates.now - c.loop-back.back) c.args.leaf (Write 0 []) (omega arith) (omega (arith, c.past.ensures)) c.loop-back.invariant i u (omega arith) e
+
+pub returns-clause-after : goal.returns-clause-after
+returns-clause-after c = λ i u h e. c.loop-back.invariant i u (omega arith) e

@@ -1,0 +1,105 @@
+//! What a change is to make, before any node of it is made.
+ghost use Rattle.std.specs.Prelude.{◌≡◌, ◌⊎◌, Some, IfOk, IfErr, IfSome, OnOk, OnErr, slice_get};
+ghost use Rattle.std.specs.FinMap.{get};
+ghost use Rattle.std.specs.Option.{option_map};
+ghost use Rattle.base.specs.declared.number.Key.{Key};
+ghost use Rattle.base.specs.declared.refusal.Refusal.{Refusal};
+ghost use Rattle.zalloc.specs.declared.BlockState.TheVariants.{Allocated};
+ghost use Rattle.batch.specs.Room.{HasRoom, LacksRoom};
+ghost use Rattle.batch.specs.Draft.{IsDraft};
+ghost use Rattle.node.specs.Entries.{map_of};
+ghost use Rattle.node.specs.Kid.{IsKid, birth_of};
+ghost use Rattle.node.specs.Node.{root_part, root_forest, whole};
+ghost use Rattle.batch.specs.Said.{said, AreInOrder};
+ghost use Rattle.node.specs.Sound.{IsSoundTree};
+ghost use Rattle.batch.specs.Touch.{claims, released};
+ghost use Rattle.batch.specs.Updates.{changes_of, IsBatch};
+
+use crate::numbers::{NewBlock, choose, fill, fresh_count};
+use crate::plan::{Plan, Survey};
+use crate::update::{Update, write_count};
+use base::meter::Meter;
+use base::number::{BlockNo, Dead, Group};
+use base::refusal::Refusal;
+use node::Root;
+use std::alloc::Global;
+use std::sync::Arc;
+use zalloc::Allocator;
+
+/// A change before any node is made: how many blocks the tree will have, the blocks that go, the numbers that are taken, and the
+/// new blocks with their numbers, from the last key to the first.
+#[derive(Drop)]
+pub struct Draft {
+    pub count: u32,
+    pub released: Vec<Dead>,
+    pub taken: Vec<BlockNo>,
+    pub made: Vec<NewBlock>,
+}
+
+/// The root, if there is one.
+fn root_of(root: &Option<Arc<Root>>) -> Option<&Root>
+    ensures { option_map (λ n. root_part n.now) result ≡ whole root.now }
+{
+    match root {
+        Some(a) => Some(&**a),
+        None => None,
+    }
+}
+
+/// What a batch does to a root, with room for so many new blocks at first.
+fn plan_of(
+    alloc: Global,
+    root: &Option<Arc<Root>>,
+    updates: &[Update],
+    room: usize,
+    young: Group,
+    meter: &mut Meter,
+) -> Result<Plan, Refusal>
+    requires order { AreInOrder updates.now }
+    requires sound { IsKid 5 (birth_of (whole root.now)) (whole root.now) }
+    ensures claims { IfOk result (λ p. p.claims.items ≡ claims (said updates.now) young.0 5 0 (whole root.now)) }
+    ensures released { IfOk result (λ p. p.released.items ≡ released (said updates.now) young.0 5 0 (whole root.now)) }
+    ensures err { OnErr result (result ≡ Err Refusal.NoMemory) }
+{
+    let mut plan = Plan {
+        claims: Vec::with_capacity(alloc, room)?,
+        released: Vec::new(alloc),
+    };
+    Root::survey(root_of(root), 5, 0, updates, young, &mut plan, meter)?;
+    Ok(plan)
+}
+
+/// The draft of a batch on a root with so many blocks. NoSpace where the numbers are fewer than the new blocks, NoMemory where
+/// there is no memory.
+pub fn draft_of(
+    alloc: Global,
+    root: &Option<Arc<Root>>,
+    count: u32,
+    updates: &[Update],
+    young: Group,
+    allocator: &Allocator,
+    meter: &mut Meter,
+) -> Result<Draft, Refusal>
+    requires sound { IsSoundTree root.now count }
+    requires batch { IsBatch updates.now }
+    requires allocated { (k : Key) → IfSome (get (map_of (root_forest root.now)) k) (λ c. slice_get allocator.now c.number ≡ Some Allocated) }
+    ensures ok { IfOk result (IsDraft (whole root.now) updates.now young.0 allocator.now) }
+    ensures room { OnOk result (HasRoom (map_of (root_forest root.now)) (changes_of updates.now) young.0 allocator.now) }
+    ensures no_space { result ≡ Err Refusal.NoSpace → LacksRoom (map_of (root_forest root.now)) (changes_of updates.now) young.0 allocator.now }
+    ensures only { IfErr result (λ e. (e ≡ Refusal.NoSpace) ⊎ (e ≡ Refusal.NoMemory)) }
+{
+    let room = write_count(updates).saturating_add(5);
+    let plan = plan_of(alloc, root, updates, room, young, meter)?;
+    let need = fresh_count(&plan.claims);
+    let taken = match choose(alloc, allocator, &plan.released, young, need) {
+        Ok(taken) => taken,
+        Err(refusal) => return Err(refusal),
+    };
+    let made = fill(alloc, &plan.claims, &taken)?;
+    Ok(Draft {
+        count: count - plan.released.len() as u32 + need as u32,
+        released: plan.released,
+        taken,
+        made,
+    })
+}

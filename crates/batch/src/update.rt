@@ -1,0 +1,203 @@
+//! What a batch of changes says.
+ghost use Rattle.std.specs.Prelude.{◌≡◌, ◌⊎◌, ℕ, ◌+◌, ◌-◌, ◌*◌, ◌/◌, ◌^◌, ◌<◌, ◌≤◌, ◌==◌, IsTrue, IfSome, Some, slice_get, length, slice_index, false};
+ghost use Rattle.std.specs.List.{list_any};
+ghost use Rattle.base.specs.Key.{IsKey, covers};
+ghost use Rattle.batch.specs.Updates.{first_of, past_of, IsOfTree};
+ghost use Rattle.batch.specs.Said.{said, is_write, AreInOrder, AreSized, IsIdle, IsOneWrite, IsWay};
+ghost use Rattle.batch.specs.Word.{word_said};
+
+use base::number::Key;
+use node::span;
+
+/// One entry of a batch (On-Disk Specification, chapter 3: blocks of an object are written and freed).
+#[derive(Clone, Copy, PartialEq, Eq, Debug)]
+pub enum Update {
+    /// Writes a leaf.
+    Write { leaf: u32, bytes: [u8; 512] },
+    /// Punches every leaf that the key covers.
+    Punch(Key),
+}
+
+/// What a batch says of one leaf.
+#[derive(Clone, Copy)]
+pub enum Word<'a> {
+    /// Nothing.
+    Silent,
+    /// That it becomes a hole.
+    Hole,
+    /// Its new bytes.
+    Full(&'a [u8; 512]),
+}
+
+/// Whether a leaf is at or below a key.
+fn is_over(key: Key, leaf: u32) -> bool
+    requires { IsKey key }
+    ensures { result ≡ covers key leaf }
+{
+    leaf / span(u32::from(key.level)) == key.index
+}
+
+impl Update {
+    /// The first leaf that it covers.
+    fn first(&self) -> u32
+        requires { IsOfTree self.now }
+        ensures { result ≡ first_of self.now }
+    {
+        match self {
+            Update::Write { leaf, .. } => *leaf,
+            Update::Punch(key) => key.index * span(u32::from(key.level)),
+        }
+    }
+
+    /// The leaf past the last one that it covers.
+    fn past(&self) -> u32
+        requires { IsOfTree self.now }
+        ensures { result ≡ past_of self.now }
+    {
+        match self {
+            Update::Write { leaf, .. } => *leaf + 1,
+            Update::Punch(key) => {
+                let span = span(u32::from(key.level));
+                key.index * span + span
+            }
+        }
+    }
+
+    /// Whether it writes.
+    fn writes(&self) -> bool
+        ensures { result ≡ is_write self.now }
+    {
+        match self {
+            Update::Write { .. } => true,
+            Update::Punch(_) => false,
+        }
+    }
+}
+
+/// The bytes of a leaf are 512 octets.
+fn size_of(bytes: &[u8; 512]) -> usize
+    ensures size { result ≡ 512 }
+    ensures full { length bytes.now ≡ 512 }
+    ensures octets { (i : ℕ) → slice_index bytes.now i < 256 }
+{
+    // what is read is known to be octets
+    let _first = bytes[0];
+    bytes.len()
+}
+
+/// How many updates write. Contracts learn that what is written are 512 octets.
+pub fn write_count(updates: &[Update]) -> usize
+    ensures { AreSized updates.now }
+{
+    let mut count = 0;
+    for update in updates {
+        if let Update::Write { bytes, .. } = update {
+            let _octets = size_of(bytes);
+            count += 1;
+        }
+    }
+    count
+}
+
+/// The leaf that the updates write, if they are one write.
+fn one_write(updates: &[Update]) -> Option<u32>
+    ensures { IfSome result (IsOneWrite (said updates.now)) }
+{
+    if updates.len() != 1 {
+        return None;
+    }
+    match &updates[0] {
+        Update::Write { leaf, .. } => Some(*leaf),
+        Update::Punch(_) => None,
+    }
+}
+
+/// The place below a part on the way to the leaf that the updates write, if they are one write below that part. The part has a
+/// level, and an index there.
+pub fn way_of(updates: &[Update], level: u8, index: u32) -> Option<u32>
+    requires deep { 0 < level }
+    requires low { level ≤ 5 }
+    ensures { IfSome result (IsWay (said updates.now) (level - 1) index) }
+{
+    let Some(leaf) = one_write(updates) else {
+        return None;
+    };
+    let below = leaf / span(u32::from(level - 1));
+    if below / 16 == index {
+        Some(below % 16)
+    } else {
+        None
+    }
+}
+
+/// What the updates say of a leaf.
+pub fn word_of(updates: &[Update], leaf: u32) -> Word<'_>
+    requires { AreInOrder updates.now }
+    ensures { word_said result ≡ said updates.now leaf }
+{
+    for update in updates {
+        match update {
+            Update::Write { leaf: own, bytes } => {
+                if *own == leaf {
+                    return Word::Full(bytes);
+                }
+            }
+            Update::Punch(key) => {
+                if is_over(*key, leaf) {
+                    return Word::Hole;
+                }
+            }
+        }
+    }
+    Word::Silent
+}
+
+/// Whether one of the updates writes.
+fn any_writes(updates: &[Update]) -> bool
+    ensures { result ≡ list_any is_write updates.now }
+{
+    updates.iter().any(|update| update.writes())
+}
+
+/// Whether the updates do nothing to a part that is present or not. Where it is absent, a punch does nothing.
+pub fn is_idle(updates: &[Update], present: bool) -> bool
+    ensures { IsTrue result → IsIdle (said updates.now) present }
+{
+    if present {
+        updates.is_empty()
+    } else {
+        !any_writes(updates)
+    }
+}
+
+/// How many of the updates end by a leaf. It looks from the last one on.
+fn count_before(updates: &[Update], leaf: u32) -> usize
+    requires { AreInOrder updates.now }
+    ensures within { result ≤ length updates.now }
+    ensures before { (i : ℕ) (u : Update) → i < result → slice_get updates.now i ≡ Some u → past_of u ≤ leaf }
+    ensures after { (i : ℕ) (u : Update) → result ≤ i → slice_get updates.now i ≡ Some u → leaf < past_of u }
+{
+    for back in 0..updates.len() {
+        let at = updates.len() - back;
+        if updates[at - 1].past() <= leaf {
+            return at;
+        }
+    }
+    0
+}
+
+/// The updates that reach past the beginning of a leaf, and those that begin before it. One that does both is in both.
+pub fn split_at_leaf(updates: &[Update], leaf: u32) -> (&[Update], &[Update])
+    requires { AreInOrder updates.now }
+    ensures after { (n : ℕ) → leaf ≤ n → said result.0.now n ≡ said updates.now n }
+    ensures before { (n : ℕ) → n < leaf → said result.1.now n ≡ said updates.now n }
+    ensures after_order { AreInOrder result.0.now }
+    ensures before_order { AreInOrder result.1.now }
+{
+    let at = count_before(updates, leaf);
+    let mut end = at;
+    if at < updates.len() && updates[at].first() < leaf {
+        end = at + 1;
+    }
+    (&updates[at..], &updates[..end])
+}

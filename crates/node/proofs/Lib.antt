@@ -1,0 +1,12 @@
+pub mod Options
+pub mod Order
+pub mod Digits
+pub mod Places
+pub mod Parts
+pub mod Find
+pub mod Walk
+pub mod Steps
+pub mod Reach
+pub mod Leaves
+pub mod Roots
+pub mod Sameness

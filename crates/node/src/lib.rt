@@ -1,0 +1,14 @@
+//! The nodes of a tree of blocks: a leaf, or sixteen places with what is below them.
+//!
+//! A node may have many owners, as versions of a tree share what they have in common.
+#![tactic(auto)]
+
+mod cell;
+mod node;
+mod owner;
+mod same;
+
+pub use cell::Cell;
+pub use node::{Inner, Leaf, Level, Root, span};
+pub use owner::{keep, owner_at, owner_count, owner_in};
+pub use same::{Same, same_kid};

@@ -1,0 +1,245 @@
+//! The nodes, one type a level.
+ghost use Rattle.std.specs.Prelude.{◌≡◌, ℕ, ◌<◌, ◌≤◌, ◌+◌, ◌*◌, ◌/◌, ◌%◌, ◌-◌, ◌^◌, Option, Some, None, zero, suc, OnOk, OnErr, ◌++◌, length, slice_index_or, map};
+ghost use Rattle.std.specs.Option.{option_map};
+ghost use Rattle.base.specs.Counting.{counted};
+ghost use Rattle.base.specs.Surveys.{dead_block};
+ghost use Rattle.base.specs.declared.refusal.Refusal.{Refusal};
+ghost use Rattle.node.specs.Shape.{Part, part_at, cell_below, steps_below};
+ghost use Rattle.node.specs.Cells.{cell_of, dead_of};
+ghost use Rattle.node.specs.Kid.{IsSound};
+ghost use Rattle.node.specs.Walk.{born_after, part_blocks};
+
+use crate::cell::Cell;
+use base::meter::Meter;
+use base::number::{BlockNo, Dead, Group};
+use base::refusal::Refusal;
+use std::sync::Arc;
+
+/// A node of one level, with what is below it.
+pub trait Level {
+    ghost part: { Self → Part };
+
+    ghost height: { ℕ };
+
+    /// What stands at the node's own key.
+    fn cell(&self) -> Cell
+        ensures { cell_of result ≡ (part self.now).cell };
+
+    /// What stands `depth` levels below, at the index `at` of the keys that the node covers there.
+    fn find(&self, depth: u32, at: u32, meter: &mut Meter) -> Option<Cell>
+        requires shallow { depth ≤ 5 }
+        requires covered { at < 16 ^ depth }
+        ensures found { option_map cell_of result ≡ cell_below depth (part self.now) at }
+        ensures metered { meter.new ≡ counted meter.old (steps_below depth (part self.now) at) };
+
+    /// The node's own block.
+    fn block(&self) -> Dead
+        ensures { result ≡ dead_of (part self.now).cell };
+
+    /// Adds the blocks born after a group, each before those below it. A part that is no younger is not walked.
+    fn gather(&self, cut: Group, out: &mut Vec<Dead>, meter: &mut Meter) -> Result<(), Refusal>
+        requires sound { IsSound height (part self.now) }
+        ensures gathered { OnOk result (map dead_block out.new.items ≡ map dead_block out.old.items ++ born_after cut.0 (part_blocks (part self.now))) }
+        ensures metered { OnOk result (counted meter.old (length (born_after cut.0 (part_blocks (part self.now)))) ≤ meter.new) }
+        ensures err { OnErr result (result ≡ Err Refusal.NoMemory) };
+}
+
+/// A data block.
+#[derive(Drop)]
+pub struct Leaf {
+    pub block: BlockNo,
+    pub birth: Group,
+    pub bytes: [u8; 512],
+}
+
+/// The length of an array of sixteen.
+fn sixteen<T>(xs: &[T; 16]) -> u32
+    ensures sixteen { result ≡ 16 }
+    ensures all { length xs.now ≡ 16 }
+{
+    16
+}
+
+/// How many keys a part covers at a level so far below its own.
+pub fn span(depth: u32) -> u32
+    requires { depth ≤ 5 }
+    ensures { result ≡ 16 ^ depth }
+{
+    match depth {
+        0 => 1,
+        1 => 16,
+        2 => 256,
+        3 => 4096,
+        4 => 65536,
+        _ => 1048576,
+    }
+}
+
+/// The place below on the way to a key, and the key's index among those that the place covers.
+fn step(depth: u32, at: u32) -> (usize, u32)
+    requires deep { 0 < depth }
+    requires shallow { depth ≤ 5 }
+    requires covered { at < 16 ^ depth }
+    ensures place { result.0 ≡ at / 16 ^ (depth - 1) }
+    ensures within { result.0 < 16 }
+    ensures rest { result.1 ≡ at % 16 ^ (depth - 1) }
+    ensures rest_covered { result.1 < 16 ^ (depth - 1) }
+{
+    let span = span(depth - 1);
+    ((at / span) as usize, at % span)
+}
+
+impl Leaf {
+    pub fn new(block: BlockNo, birth: Group, bytes: [u8; 512]) -> Leaf
+        ensures { result ≡ record { block = block; birth = birth; bytes = bytes } }
+    {
+        Leaf {
+            block,
+            birth,
+            bytes,
+        }
+    }
+}
+
+impl Level for Leaf {
+    ghost use Rattle.node.specs.Node.{leaf_part};
+
+    ghost part = { leaf_part };
+
+    ghost height = { 0 };
+
+    fn cell(&self) -> Cell {
+        Cell {
+            block: self.block,
+            birth: self.birth,
+            bytes: Some(self.bytes),
+        }
+    }
+
+    fn find(&self, depth: u32, _at: u32, meter: &mut Meter) -> Option<Cell> {
+        meter.add_one();
+        if depth == 0 { Some(self.cell()) } else { None }
+    }
+
+    fn block(&self) -> Dead {
+        Dead {
+            block: self.block,
+            birth: self.birth,
+        }
+    }
+
+    #[tactic(auto, unfolding(crate::specs::Walk::born_after, base::specs::Counting::counted, base::specs::Counting::most))]
+    fn gather(&self, cut: Group, out: &mut Vec<Dead>, meter: &mut Meter) -> Result<(), Refusal> {
+        meter.add_one();
+        if self.birth.0 > cut.0 {
+            out.push(Dead {
+                block: self.block,
+                birth: self.birth,
+            })?;
+        }
+        Ok(())
+    }
+}
+
+/// An indirect block, with its sixteen places.
+#[derive(Drop)]
+pub struct Inner<C> {
+    pub block: BlockNo,
+    pub birth: Group,
+    pub kids: [Option<Arc<C>>; 16],
+}
+
+/// The node at the root, at level 5.
+pub type Root = Inner<Inner<Inner<Inner<Inner<Leaf>>>>>;
+
+impl<C> Inner<C> {
+    pub fn new(block: BlockNo, birth: Group, kids: [Option<Arc<C>>; 16]) -> Inner<C>
+        ensures { result ≡ record { block = block; birth = birth; kids = kids } }
+    {
+        Inner { block, birth, kids }
+    }
+
+    /// How many places there are below a node.
+    pub fn place_count(&self) -> u32
+        ensures sixteen { result ≡ 16 }
+        ensures all { length self.now.kids ≡ 16 }
+    {
+        sixteen(&self.kids)
+    }
+
+    /// What stands at a place.
+    pub fn kid(&self, place: usize) -> Option<&C>
+        requires { place < 16 }
+        ensures { option_map (λ k. k.now) result ≡ option_map (λ a. a.value) (slice_index_or self.now.kids place None) }
+    {
+        match &self.kids[place] {
+            Some(kid) => Some(&**kid),
+            None => None,
+        }
+    }
+
+    /// The owner of what stands at a place.
+    pub fn owner(&self, place: usize) -> Option<&Arc<C>>
+        requires { place < 16 }
+        ensures { option_map (λ a. a.now) result ≡ slice_index_or self.now.kids place None }
+    {
+        match &self.kids[place] {
+            Some(kid) => Some(kid),
+            None => None,
+        }
+    }
+}
+
+impl<C: Level> Level for Inner<C> {
+    ghost use Rattle.node.specs.Node.{inner_part};
+
+    ghost part = { inner_part C.part };
+
+    ghost use Rattle.std.specs.Prelude.{suc};
+
+    ghost height = { suc C.height };
+
+    fn cell(&self) -> Cell {
+        Cell {
+            block: self.block,
+            birth: self.birth,
+            bytes: None,
+        }
+    }
+
+    fn find(&self, depth: u32, at: u32, meter: &mut Meter) -> Option<Cell> {
+        meter.add_one();
+        if depth == 0 {
+            return Some(self.cell());
+        }
+        let (place, rest) = step(depth, at);
+        match &self.kids[place] {
+            Some(kid) => kid.find(depth - 1, rest, meter),
+            None => None,
+        }
+    }
+
+    fn block(&self) -> Dead {
+        Dead {
+            block: self.block,
+            birth: self.birth,
+        }
+    }
+
+    fn gather(&self, cut: Group, out: &mut Vec<Dead>, meter: &mut Meter) -> Result<(), Refusal> {
+        meter.add_one();
+        if self.birth.0 <= cut.0 {
+            return Ok(());
+        }
+        out.push(Dead {
+            block: self.block,
+            birth: self.birth,
+        })?;
+        for kid in self.kids.iter() {
+            if let Some(kid) = kid {
+                kid.gather(cut, out, meter)?;
+            }
+        }
+        Ok(())
+    }
+}
