@@ -1,13 +1,17 @@
 -- How far a batch has come.
-use Rattle.std.proofs.Common.{◌≡◌, ◌+◌, ◌∷◌, ◌++◌, [], ℕ, List, length, refl, sym, ap, ◌∙◌, arith, length-append, append_assoc, map, take, Bool, true, false, inl, inr, ◌<◌}
-use Rattle.std.specs.Prelude.{All}
+use Rattle.std.proofs.Common.{◌≡◌, ◌+◌, ◌∷◌, ◌++◌, [], ℕ, List, length, refl, sym, subst, ap, ◌∙◌, arith, length-append, append_assoc, map, take, Bool, true, false, inl, inr, ◌<◌}
+use Rattle.std.specs.Prelude.{All, Result, Ok, Err, IfOk}
 use Rattle.std.proofs.Math.Seq.{take-append_seam}
 use Rattle.std.proofs.lemmas.List.{map-append, length-map}
 use Rattle.std.proofs.lemmas.List.Elements.{All-append}
 use Rattle.model.specs.declared.entry.Entry.{Entry}
 use Rattle.model.specs.declared.request.Request.{Request}
 use Rattle.session.specs.Receipts.{Placed, Kept}
-use Rattle.session.specs.Calls.{FollowOn, IsBatch, IsPaced}
+use Rattle.model.specs.State.{State}
+use Rattle.session.specs.Calls.{FollowOn, IsBatch, AreLast, IsPaced}
+use Rattle.base.specs.declared.refusal.Refusal.{Refusal}
+use Rattle.session.specs.Books.{Pages}
+use Rattle.session.specs.History.{IsLegal}
 use Rattle.session.proofs.Alls.{all_one}
 
 abbrev pub request_in : Placed → Request
@@ -49,6 +53,25 @@ so_far_batch seat seat' history history' left left' all rest rs h =
       first = length history;
       follow = h.follow;
     }
+
+-- the receipts are those of the history's last entries
+pub so_far_last : (s u : State) (seat seat' : Kept) (history history' : List Entry) (left left' : ℕ) (all rest : List Request) (rs : List Placed)
+    → IsSoFar seat history left all rest rs seat' history' left' → IsLegal s history' u → AreLast s rs
+so_far_last s u seat seat' history history' left left' all rest rs h legal =
+    record { before = history; state = u; legal = subst (λ es. IsLegal s es u) h.entered legal; follow = h.follow }
+
+-- so it is of the receipt of one request that was entered
+pub last_entered : (s : State) (before after : Pages) (result : Result Placed Refusal)
+    → IfOk result (λ r. r.number ≡ length before.history)
+    → IfOk result (λ r. after ≡ record before { history = before.history ++ r.entry ∷ []; pool = after.pool })
+    → IsLegal s after.history after.pool → IfOk result (λ r. AreLast s (r ∷ []))
+last_entered s before after (Ok r) number book legal =
+    record { before = before.history; state = after.pool; legal = subst (λ es. IsLegal s es after.pool) (ap (λ b. b.history) book) legal; follow = (number, tt) }
+last_entered s before after (Err why) number book legal = tt
+
+-- and of none
+pub last_none : (s : State) → AreLast s []
+last_none s = record { before = []; state = s; legal = refl; follow = tt }
 
 pub more_so_far : (seat now seat' : Kept) (history middle history' : List Entry) (left left' : ℕ) (all rest : List Request) (rs : List Placed) (r : Placed)
     → IsSoFar seat history left all (r.entry.request ∷ rest) rs now middle (left' + 1)

@@ -3,6 +3,9 @@ use Rattle.std.specs.Prelude.{◌≡◌, ◌⊎◌, ◌+◌, ◌-◌, ◌<◌, �
 use Rattle.base.specs.declared.refusal.Refusal.{Refusal}
 use Rattle.base.specs.declared.refusal.Refusal.TheVariants.{SessionFull, NoMemory}
 use Rattle.model.specs.declared.request.Request.{Request}
+use Rattle.model.specs.declared.entry.Entry.{Entry}
+use Rattle.model.specs.State.{State}
+use Rattle.session.specs.History.{IsLegal}
 use Rattle.session.specs.Receipts.{Placed, Kept}
 
 -- the request ran: the seat has its receipt (profile)
@@ -25,6 +28,14 @@ pub record IsBatch (seat : Kept) (requests : List Request) (rs : List Placed) (a
   pub seated : All (λ r. r.entry.seat ≡ seat.number) rs
   pub first : ℕ
   pub follow : FollowOn first rs
+
+-- These receipts are those of the last entries of a history, in their order: a run of the pool from the state at the opening, in which
+-- each entry stands at its receipt's number, and so each reply is that of a step (profile)
+pub record AreLast (opening : State) (rs : List Placed) : Type 0 where
+  pub before : List Entry
+  pub state : State
+  pub legal : IsLegal opening (before ++ map (λ r. r.entry) rs) state
+  pub follow : FollowOn (length before) rs
 
 -- How a batch of so many requests ended, from the gate's turns before, how many requests ran, the gate's turns after and whether its
 -- last answer was no. The gate was asked once between two that ran; and where not all ran, once more: it said no, or it said yes

@@ -1,6 +1,6 @@
 //! Several requests in one hold of the lock.
 ghost use Rattle.std.specs.Prelude.{◌≡◌, ◌+◌, ◌<◌, ◌≤◌, ◌++◌, length, map, IfOk, IfErr, OnErr, Err, ◌↔◌, vec_len, vec_capacity, []};
-ghost use Rattle.session.specs.Calls.{IsBatch, IsPaced, FollowOn, IsFullOrNoMemory};
+ghost use Rattle.session.specs.Calls.{IsBatch, AreLast, IsPaced, FollowOn, IsFullOrNoMemory};
 
 use crate::book::{Book, enter};
 use crate::gate::Gate;
@@ -26,6 +26,7 @@ impl<K: Opening> Session<K> {
         gate: &mut G,
     ) -> Result<Vec<Receipt>, Refusal>
         ensures ok { IfOk result (λ rs. IsBatch seat.old requests.items rs.items seat.new) }
+        ensures last { IfOk result (λ rs. AreLast K.opening rs.items) }
         ensures paced { IfOk result (λ rs. IsPaced (vec_len requests) (G.left gate.old) (vec_len rs) (G.left gate.new) (G.stopped gate.new)) }
         ensures err { OnErr result ((seat.new ≡ seat.old) × (gate.new ≡ gate.old)) }
         ensures refusal { IfErr result (λ r. IsFullOrNoMemory r) }
@@ -51,6 +52,7 @@ fn enter_all<K: Opening, G: Gate>(
     requires room { vec_len requests ≤ vec_capacity receipts }
     ensures ok { IfOk result (λ rs. IsBatch seat.old requests.items rs.items seat.new) }
     ensures first { IfOk result (λ rs. FollowOn (length book.old.history) rs.items) }
+    ensures last { IfOk result (λ rs. AreLast K.opening rs.items) }
     ensures book { IfOk result (λ rs. book.new.history ≡ book.old.history ++ map (λ r. r.entry) rs.items) }
     ensures paced { IfOk result (λ rs. IsPaced (vec_len requests) (G.left gate.old) (vec_len rs) (G.left gate.new) (G.stopped gate.new)) }
     ensures err { OnErr result ((book.new ≡ book.old) × (seat.new ≡ seat.old) × (gate.new ≡ gate.old)) }

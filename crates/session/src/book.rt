@@ -2,6 +2,7 @@
 ghost use Rattle.std.specs.Prelude.{◌≡◌, ◌+◌, ◌<◌, ◌≤◌, ◌↔◌, ◌⊎◌, [], ◌∷◌, ◌++◌, length, Err, IfOk, IfErr, OnErr, OnOk, IfSome};
 ghost use Rattle.model.specs.Step.{Step};
 ghost use Rattle.session.specs.Calls.{IsFullOrNoMemory};
+ghost use Rattle.session.specs.History.{IsLegal};
 
 use crate::opening::Opening;
 use crate::seat::{Receipt, Seat};
@@ -110,6 +111,7 @@ pub fn enter<K: Opening>(
     ensures entry { IfOk result (λ r. (r.entry.seat ≡ seat.old.number) × (r.entry.request ≡ request)) }
     ensures number { IfOk result (λ r. r.number ≡ length book.old.history) }
     ensures step { IfOk result (λ r. Step book.old.pool request r.entry.reply book.new.pool) }
+    ensures legal { IsLegal K.opening book.new.history book.new.pool }
     ensures book { IfOk result (λ r. book.new ≡ record book.old { history = book.old.history ++ r.entry ∷ []; pool = book.new.pool }) }
     ensures seat { IfOk result (λ r. seat.new ≡ record seat.old { receipts = seat.old.receipts ++ r ∷ [] }) }
     ensures err { OnErr result ((book.new ≡ book.old) × (seat.new ≡ seat.old)) }

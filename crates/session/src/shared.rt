@@ -1,6 +1,6 @@
 //! A session, which callers in threads of their own share.
-ghost use Rattle.std.specs.Prelude.{◌≡◌, ◌<◌, ◌≤◌, ◌⊎◌, [], Err, IfOk, IfErr, OnErr};
-ghost use Rattle.session.specs.Calls.{Ran, IsFullOrNoMemory};
+ghost use Rattle.std.specs.Prelude.{◌≡◌, ◌<◌, ◌≤◌, ◌⊎◌, [], ◌∷◌, Err, IfOk, IfErr, OnErr};
+ghost use Rattle.session.specs.Calls.{Ran, AreLast, IsFullOrNoMemory};
 
 use crate::book::{Book, enter};
 use crate::opening::Opening;
@@ -51,6 +51,7 @@ impl<K: Opening> Session<K> {
         request: Request,
     ) -> Result<Receipt, Refusal>
         ensures ok { IfOk result (λ r. Ran seat.old request r seat.new) }
+        ensures last { IfOk result (λ r. AreLast K.opening (r ∷ [])) }
         ensures err { OnErr result (seat.new ≡ seat.old) }
         ensures refusal { IfErr result (λ r. IsFullOrNoMemory r) }
     {

@@ -26,8 +26,8 @@ impl Gate for Turns {
     ghost stopped = { λ g. g.stopped };
 
     fn turn(&mut self) -> bool {
-        self.stopped = self.turns == 0;
-        if self.stopped {
+        if self.turns == 0 || self.stopped {
+            self.stopped = true;
             return false;
         }
         self.turns -= 1;
