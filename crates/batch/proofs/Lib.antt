@@ -2,6 +2,7 @@ pub mod Lists
 pub mod Contents
 pub mod UpdateLaws
 pub mod SaidLaws
+pub mod Heard
 pub mod KidLaws
 pub mod TouchLaws
 pub mod MadeLaws

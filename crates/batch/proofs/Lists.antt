@@ -1,7 +1,8 @@
 -- Members of lists, by their places.
-use Rattle.std.proofs.Common.{◌≡◌, ℕ, zero, suc, ◌+◌, ◌<◌, List, [], ◌∷◌, get_or, drop, Some, refl, sym, ap, subst, arith, inl, inr, ⊎_elim}
+use Rattle.std.proofs.Common.{◌≡◌, ℕ, zero, suc, ◌+◌, ◌<◌, ◌∙◌, List, [], ◌∷◌, get_or, drop, Some, refl, sym, ap, subst, arith, inl, inr, ⊎_elim}
 use Rattle.std.specs.Prelude.{slice_get}
 use Rattle.std.proofs.lemmas.Option.{get_or_from_slice_get, slice_get-get_or}
+use Rattle.std.proofs.lemmas.Bool.{cases_lt}
 use Rattle.std.specs.List.{All}
 use Rattle.base.specs.Surveys.{IsIn, AreDifferent}
 use Rattle.node.proofs.Options.{same_value}
@@ -31,3 +32,10 @@ pub all_bytes : (xs : List ℕ) → ((i : ℕ) → get_or xs i 0 < 256) → All 
 all_bytes xs h = λ k d l.
     let e : get_or xs k d ≡ get_or xs k 0 = get_or_from_slice_get xs k (get_or xs k 0) d (slice_get-get_or xs k 0 l) in
     subst (λ n. n < 256) (sym e) (h k)
+
+-- what holds of each one so far, and of one more
+pub one_more : {A : Type 0} (P : A → Type 0) (xs : List A) (n : ℕ) (d : A) → ((i : ℕ) (x : A) → i < n → slice_get xs i ≡ Some x → P x) → P (get_or xs n d) → (i : ℕ) (x : A) → i < n + 1 → slice_get xs i ≡ Some x → P x
+one_more P xs n d below here i x h e =
+    ⊎_elim (λ l. below i x l e) (λ l. let s : i ≡ n = omega arith in
+    let same : get_or xs n d ≡ x = get_or_from_slice_get xs n x d (ap (slice_get xs) (sym s) ∙ e) in
+    subst P same here) (cases_lt i n)

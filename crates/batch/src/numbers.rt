@@ -1,6 +1,6 @@
 //! The numbers of new blocks.
-ghost use Rattle.std.specs.Prelude.{◌≡◌, ℕ, ◌+◌, ◌-◌, ◌<◌, ◌≤◌, ◌++◌, IfOk, IfSome, IfErr, OnOk, OnErr, length, map, filter, take, slice_get, count_by, Some, ◌⊎◌, nat_le};
-ghost use Rattle.base.specs.Surveys.{dead_block, IsIn, AreDifferent};
+ghost use Rattle.std.specs.Prelude.{◌≡◌, ℕ, ◌+◌, ◌-◌, ◌<◌, ◌≤◌, ◌++◌, IfOk, IfErr, OnOk, OnErr, length, map, filter, take, slice_get, count_by, Some, ◌⊎◌};
+ghost use Rattle.base.specs.Surveys.{IsIn, AreDifferent};
 ghost use Rattle.base.specs.declared.refusal.Refusal.{Refusal};
 ghost use Rattle.batch.specs.Build.{is_fresh, filled};
 ghost use Rattle.batch.specs.Numbers.{numbers, frees_from, is_young, young_numbers, IsAtHand};

@@ -1,13 +1,11 @@
 //! What a batch of changes does to a tree, before any of it is made.
-ghost use Rattle.std.specs.Prelude.{◌≡◌, ◌⊎◌, ℕ, suc, ◌+◌, ◌-◌, ◌*◌, ◌^◌, ◌<◌, ◌≤◌, ◌++◌, IfOk, OnOk, OnErr, IsTrue, Option, Some, None, slice_index_or, slice_get, length, nat_le, is_some, cond};
+ghost use Rattle.std.specs.Prelude.{◌≡◌, suc, ◌+◌, ◌-◌, ◌*◌, ◌^◌, ◌<◌, ◌≤◌, ◌++◌, IfOk, OnOk, OnErr, Option, Some, None, slice_index_or, length, is_some, cond};
 ghost use Rattle.std.specs.Option.{option_map};
-ghost use Rattle.std.specs.List.{list_any};
 ghost use Rattle.base.specs.declared.refusal.Refusal.{Refusal};
-ghost use Rattle.node.specs.Entries.{key_at};
 ghost use Rattle.node.specs.Kid.{IsKid, birth_of, places_of};
 ghost use Rattle.node.specs.Node.{inner_part, leaf_part};
-ghost use Rattle.batch.specs.Said.{said, AreInOrder, IsIdle};
-ghost use Rattle.batch.specs.Touch.{any_kid, later_first, touched, stays, claims, released, listing, claim_of, let_go, own_block, young_one};
+ghost use Rattle.batch.specs.Said.{said, AreInOrder};
+ghost use Rattle.batch.specs.Touch.{any_kid, later_first, touched, stays, claims, released, claim_of, let_go, own_block, young_one};
 
 use crate::update::{Update, Word, is_idle, split_at_leaf, way_of, word_of};
 use base::meter::Meter;

@@ -1,5 +1,5 @@
 //! What a batch of changes says.
-ghost use Rattle.std.specs.Prelude.{◌≡◌, ◌⊎◌, ℕ, ◌+◌, ◌-◌, ◌*◌, ◌/◌, ◌^◌, ◌<◌, ◌≤◌, ◌==◌, IsTrue, IfSome, Some, slice_get, length, slice_index, false};
+ghost use Rattle.std.specs.Prelude.{◌≡◌, ℕ, count_by, ◌+◌, ◌-◌, ◌*◌, ◌/◌, ◌<◌, ◌≤◌, ◌==◌, IsTrue, IfSome, IfNone, Some, slice_get, length, slice_index, false};
 ghost use Rattle.std.specs.List.{list_any};
 ghost use Rattle.base.specs.Key.{IsKey, covers};
 ghost use Rattle.batch.specs.Updates.{first_of, past_of, IsOfTree};
@@ -87,13 +87,17 @@ fn size_of(bytes: &[u8; 512]) -> usize
 
 /// How many updates write. Contracts learn that what is written are 512 octets.
 pub fn write_count(updates: &[Update]) -> usize
-    ensures { AreSized updates.now }
+    ensures count { result ≡ count_by is_write updates.now }
+    ensures sized { AreSized updates.now }
 {
     let mut count = 0;
     for update in updates {
-        if let Update::Write { bytes, .. } = update {
-            let _octets = size_of(bytes);
-            count += 1;
+        match update {
+            Update::Write { bytes, .. } => {
+                let _octets = size_of(bytes);
+                count += 1;
+            }
+            Update::Punch(_) => {}
         }
     }
     count
@@ -101,7 +105,8 @@ pub fn write_count(updates: &[Update]) -> usize
 
 /// The leaf that the updates write, if they are one write.
 fn one_write(updates: &[Update]) -> Option<u32>
-    ensures { IfSome result (IsOneWrite (said updates.now)) }
+    ensures one { IfSome result (IsOneWrite (said updates.now)) }
+    ensures none { AreInOrder updates.now → IfNone result ((leaf : ℕ) → ¬ (IsOneWrite (said updates.now) leaf)) }
 {
     if updates.len() != 1 {
         return None;
@@ -117,7 +122,8 @@ fn one_write(updates: &[Update]) -> Option<u32>
 pub fn way_of(updates: &[Update], level: u8, index: u32) -> Option<u32>
     requires deep { 0 < level }
     requires low { level ≤ 5 }
-    ensures { IfSome result (IsWay (said updates.now) (level - 1) index) }
+    ensures way { IfSome result (IsWay (said updates.now) (level - 1) index) }
+    ensures none { AreInOrder updates.now → IfNone result ((place : ℕ) → ¬ (IsWay (said updates.now) (level - 1) index place)) }
 {
     let Some(leaf) = one_write(updates) else {
         return None;
@@ -161,7 +167,8 @@ fn any_writes(updates: &[Update]) -> bool
 
 /// Whether the updates do nothing to a part that is present or not. Where it is absent, a punch does nothing.
 pub fn is_idle(updates: &[Update], present: bool) -> bool
-    ensures { IsTrue result → IsIdle (said updates.now) present }
+    ensures idle { IsTrue result → IsIdle (said updates.now) present }
+    ensures only { AreInOrder updates.now → IsIdle (said updates.now) present → IsTrue result }
 {
     if present {
         updates.is_empty()

@@ -1,10 +1,10 @@
 //! The nodes, one type a level.
-ghost use Rattle.std.specs.Prelude.{◌≡◌, ℕ, ◌<◌, ◌≤◌, ◌+◌, ◌*◌, ◌/◌, ◌%◌, ◌-◌, ◌^◌, Option, Some, None, zero, suc, OnOk, OnErr, ◌++◌, length, slice_index_or, map};
+ghost use Rattle.std.specs.Prelude.{◌≡◌, ℕ, ◌<◌, ◌≤◌, ◌+◌, ◌*◌, ◌/◌, ◌%◌, ◌-◌, ◌^◌, Option, Some, None, suc, OnOk, OnErr, ◌++◌, length, slice_index_or, map};
 ghost use Rattle.std.specs.Option.{option_map};
 ghost use Rattle.base.specs.Counting.{counted};
 ghost use Rattle.base.specs.Surveys.{dead_block};
 ghost use Rattle.base.specs.declared.refusal.Refusal.{Refusal};
-ghost use Rattle.node.specs.Shape.{Part, part_at, cell_below, steps_below};
+ghost use Rattle.node.specs.Shape.{Part, cell_below, steps_below};
 ghost use Rattle.node.specs.Cells.{cell_of, dead_of};
 ghost use Rattle.node.specs.Kid.{IsSound};
 ghost use Rattle.node.specs.Walk.{born_after, part_blocks};

@@ -1,5 +1,5 @@
 //! The nodes that a batch of changes makes.
-ghost use Rattle.std.specs.Prelude.{◌≡◌, ℕ, suc, ◌+◌, ◌-◌, ◌*◌, ◌^◌, ◌<◌, ◌≤◌, IfOk, OnErr, Option, Some, None, slice_index_or, length, map};
+ghost use Rattle.std.specs.Prelude.{◌≡◌, suc, ◌+◌, ◌-◌, ◌*◌, ◌^◌, ◌<◌, ◌≤◌, IfOk, OnErr, Option, Some, None, slice_index_or, length, map};
 ghost use Rattle.std.specs.Option.{option_map};
 ghost use Rattle.base.specs.declared.refusal.Refusal.{Refusal};
 ghost use Rattle.base.specs.Surveys.{AreDifferent};

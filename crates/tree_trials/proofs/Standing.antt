@@ -1,11 +1,9 @@
 -- A tree whose blocks all stand is ready for a change.
-use Rattle.std.proofs.Common.{◌≡◌, ℕ, zero, suc, ◌+◌, ◌<◌, ◌≤◌, Bool, true, false, cond, List, [], ◌∷◌, length, get_or, map, Some, refl, sym, ap, subst, ◌∙◌, arith, inl, inr, ⊎_elim}
+use Rattle.std.proofs.Common.{◌≡◌, ℕ, zero, suc, ◌<◌, ◌≤◌, Bool, true, false, cond, List, [], ◌∷◌, length, map, Some, refl, sym, ap, subst, ◌∙◌, arith, inl, inr, ⊎_elim}
 use Rattle.std.specs.Prelude.{slice_get, filter, nat_lt}
 use Rattle.std.specs.Ordering.{eq_by_cmp}
 use Rattle.std.specs.FinMap.{get, len, values, entries, find, get-entries, len-entries}
 use Rattle.std.proofs.lemmas.List.{length-map}
-use Rattle.std.proofs.lemmas.Bool.{cases_lt}
-use Rattle.std.proofs.lemmas.Option.{get_or_from_slice_get}
 use Rattle.base.specs.declared.number.Key.{Key}
 use Rattle.base.specs.declared.number.Dead.{Dead}
 use Rattle.base.specs.Key.{key_cmp}
@@ -78,10 +76,3 @@ module _ (m : Map) (ds : List Dead) (cut : ℕ) (listed : map dead_block ds ≡ 
       within [] i d e = cc
       within (x ∷ ds) zero d e = omega arith
       within (x ∷ ds) (suc i) d e = let h = within ds i d e in omega (arith, h)
-
--- what holds of each one so far, and of one more
-pub one_more : {A : Type 0} (P : A → Type 0) (xs : List A) (n : ℕ) (d : A) → ((i : ℕ) (x : A) → i < n → slice_get xs i ≡ Some x → P x) → P (get_or xs n d) → (i : ℕ) (x : A) → i < n + 1 → slice_get xs i ≡ Some x → P x
-one_more P xs n d below here i x h e =
-    ⊎_elim (λ l. below i x l e) (λ l. let s : i ≡ n = omega arith in
-    let same : get_or xs n d ≡ x = get_or_from_slice_get xs n x d (ap (slice_get xs) (sym s) ∙ e) in
-    subst P same here) (cases_lt i n)

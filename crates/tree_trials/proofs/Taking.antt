@@ -7,7 +7,7 @@ use Rattle.base.specs.Surveys.{AreDifferent}
 use Rattle.zalloc.specs.declared.BlockState.{BlockState}
 use Rattle.zalloc.specs.declared.BlockState.TheVariants.{Free}
 use Rattle.tree.specs.Taking.{AllFree}
-use Rattle.batch.proofs.Lists.{in_at}
+use Rattle.tree.proofs.Lists.{in_at}
 use Rattle.batch.proofs.Listing.{from_map}
 use Rattle.tree.proofs.Committed.{all_free}
 

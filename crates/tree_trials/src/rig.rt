@@ -1,5 +1,5 @@
 //! A tree with the allocator of its numbers, beside a plain list of what its leaves are to have.
-ghost use Rattle.std.specs.Prelude.{◌≡◌, ◌<◌, ◌≤◌, Some, IfSome, OnOk, length, map, slice_get};
+ghost use Rattle.std.specs.Prelude.{◌≡◌, ◌<◌, ◌≤◌, Some, IfSome, OnOk, map, slice_get};
 ghost use Rattle.std.specs.FinMap.{get};
 ghost use Rattle.base.specs.Surveys.{AreDifferent};
 ghost use Rattle.base.specs.declared.number.Key.{Key};

@@ -19,7 +19,7 @@ same_error x y e = cc
 
 module _ (c : After-deref-2) where
   ready : IsReady c.args.root.now c.args.count c.args.updates.now c.args.young.0 c.args.allocator.now
-  ready = record { sound = c.requires.sound; batch = c.requires.batch; sized = c.write_count.ensures; allocated = c.requires.allocated }
+  ready = record { sound = c.requires.sound; batch = c.requires.batch; sized = c.write_count.ensures.sized; allocated = c.requires.allocated }
 
   gone : c.deref-2.result.now ≡ released (said c.args.updates.now) c.args.young.0 5 0 (whole c.args.root.now)
   gone = c.deref-2.ensures.value ∙ c.in_ok-plan.ensures.released
@@ -83,7 +83,7 @@ returns-clause-ok c =
     let a = (goal.at.returns-clause-ok c).After-len in
     let n = need b in
     record {
-      sized = c.write_count.ensures;
+      sized = c.write_count.ensures.sized;
       released = c.in_ok-plan.ensures.released;
       enough = c.in-Ok.ensures.len ∙ need b;
       at_hand = subst (λ ds. (n : ℕ) → IsIn (numbers c.in-Ok.taken.items) n → IsAtHand c.args.allocator.now c.args.young.0 ds n) c.deref-2.ensures.value c.in-Ok.ensures.at_hand;

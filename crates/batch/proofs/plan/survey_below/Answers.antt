@@ -16,7 +16,7 @@ overflow_mul-first g c = let b = key_fits c.args.level c.args.index c.requires.w
 pub survey-requires-clause-within : goal.survey-requires-clause-within
 survey-requires-clause-within g c =
     let w = kid_span c.args.level g.C.Level.height c.args.index c.requires.level c.requires.within in
-    (kid_within (16 * c.args.index) c.in-Some.place (16 ^ (c.args.level - 1)) c.in-Some.ensures.few w).1
+    (kid_within (16 * c.args.index) c.in-Some.place (16 ^ (c.args.level - 1)) c.in-Some.ensures.way.few w).1
 
 pub survey-requires-clause-sound : goal.survey-requires-clause-sound
 survey-requires-clause-sound g c =
@@ -34,7 +34,7 @@ returns-in-Some-clause-touched g c =
     let s = said c.args.updates.now in
     let o = option_map (λ n. inner_part g.C.Level.part n.now) c.args.old in
     let j = 16 * c.args.index + c.in-Some.place in
-    let way : IsWay s h c.args.index c.in-Some.place = subst (λ l. IsWay s l c.args.index c.in-Some.place) (let e : c.args.level - 1 ≡ h = omega (arith, c.requires.level) in e) c.in-Some.ensures in
+    let way : IsWay s h c.args.index c.in-Some.place = subst (λ l. IsWay s l c.args.index c.in-Some.place) (let e : c.args.level - 1 ≡ h = omega (arith, c.requires.level) in e) c.in-Some.ensures.way in
     subst (λ b. IfOk c.survey.result (λ f. f.touched ≡ b)) (sym (touched_below s h (birth_of o) c.args.index c.in-Some.place way o c.requires.sound ∙ ap (touched s h j) (sym c.kid_at-kid.ensures))) c.survey.ensures.touched
 
 pub returns-in-Some-clause-stays : goal.returns-in-Some-clause-stays
@@ -43,7 +43,7 @@ returns-in-Some-clause-stays g c =
     let s = said c.args.updates.now in
     let o = option_map (λ n. inner_part g.C.Level.part n.now) c.args.old in
     let j = 16 * c.args.index + c.in-Some.place in
-    let way : IsWay s h c.args.index c.in-Some.place = subst (λ l. IsWay s l c.args.index c.in-Some.place) (let e : c.args.level - 1 ≡ h = omega (arith, c.requires.level) in e) c.in-Some.ensures in
+    let way : IsWay s h c.args.index c.in-Some.place = subst (λ l. IsWay s l c.args.index c.in-Some.place) (let e : c.args.level - 1 ≡ h = omega (arith, c.requires.level) in e) c.in-Some.ensures.way in
     subst (λ b. IfOk c.survey.result (λ f. f.stays ≡ b)) (sym (stays_below s h (birth_of o) c.args.index c.in-Some.place way o c.requires.sound ∙ ap (stays s h j) (sym c.kid_at-kid.ensures))) c.survey.ensures.stays
 
 pub returns-in-Some-clause-claims : goal.returns-in-Some-clause-claims
@@ -52,7 +52,7 @@ returns-in-Some-clause-claims g c =
     let s = said c.args.updates.now in
     let o = option_map (λ n. inner_part g.C.Level.part n.now) c.args.old in
     let j = 16 * c.args.index + c.in-Some.place in
-    let way : IsWay s h c.args.index c.in-Some.place = subst (λ l. IsWay s l c.args.index c.in-Some.place) (let e : c.args.level - 1 ≡ h = omega (arith, c.requires.level) in e) c.in-Some.ensures in
+    let way : IsWay s h c.args.index c.in-Some.place = subst (λ l. IsWay s l c.args.index c.in-Some.place) (let e : c.args.level - 1 ≡ h = omega (arith, c.requires.level) in e) c.in-Some.ensures.way in
     subst (λ xs. OnOk c.survey.result (c.survey.new.plan.claims.items ≡ c.args.plan.now.claims.items ++ xs)) (sym (claims_below s h (birth_of o) c.args.index c.in-Some.place way o c.requires.sound c.args.young.0 ∙ ap (claims s c.args.young.0 h j) (sym c.kid_at-kid.ensures))) c.survey.ensures.claims
 
 pub returns-in-Some-clause-released : goal.returns-in-Some-clause-released
@@ -61,5 +61,5 @@ returns-in-Some-clause-released g c =
     let s = said c.args.updates.now in
     let o = option_map (λ n. inner_part g.C.Level.part n.now) c.args.old in
     let j = 16 * c.args.index + c.in-Some.place in
-    let way : IsWay s h c.args.index c.in-Some.place = subst (λ l. IsWay s l c.args.index c.in-Some.place) (let e : c.args.level - 1 ≡ h = omega (arith, c.requires.level) in e) c.in-Some.ensures in
+    let way : IsWay s h c.args.index c.in-Some.place = subst (λ l. IsWay s l c.args.index c.in-Some.place) (let e : c.args.level - 1 ≡ h = omega (arith, c.requires.level) in e) c.in-Some.ensures.way in
     subst (λ xs. OnOk c.survey.result (c.survey.new.plan.released.items ≡ c.args.plan.now.released.items ++ xs)) (sym (released_below s h (birth_of o) c.args.index c.in-Some.place way o c.requires.sound c.args.young.0 ∙ ap (released s c.args.young.0 h j) (sym c.kid_at-kid.ensures))) c.survey.ensures.released

@@ -3,7 +3,8 @@ use Rattle.std.specs.FinMap.{len}
 use Rattle.base.specs.Surveys.{dead_block}
 use Rattle.tree.specs.Walk.{blocks_of, born_after}
 use Rattle.tree.proofs.Options.{for_some}
-use Rattle.tree_trials.proofs.Standing.{IsStanding, standing, one_more}
+use Rattle.tree.proofs.Lists.{one_more}
+use Rattle.tree_trials.proofs.Standing.{IsStanding, standing}
 use Rattle.tree_trials.proofs.ready.is_ready.Goals as goal
 
 pub loop-block-preserved : goal.loop-block-preserved

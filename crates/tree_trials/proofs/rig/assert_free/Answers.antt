@@ -2,7 +2,7 @@ use Rattle.std.proofs.Common.{◌≡◌, Some, sym, ap, ◌∙◌, arith}
 use Rattle.std.specs.Prelude.{slice_get}
 use Rattle.base.specs.declared.number.BlockNo.{BlockNo}
 use Rattle.zalloc.specs.declared.BlockState.TheVariants.{Free}
-use Rattle.tree_trials.proofs.Standing.{one_more}
+use Rattle.tree.proofs.Lists.{one_more}
 use Rattle.tree_trials.proofs.Taking.{in_turn}
 use Rattle.tree_trials.proofs.rig.assert_free.Goals as goal
 

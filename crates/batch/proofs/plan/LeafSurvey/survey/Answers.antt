@@ -9,24 +9,24 @@ use Rattle.batch.proofs.plan.LeafSurvey.survey.Goals as goal
 pub returns-then-is_idle-clause-touched : goal.returns-then-is_idle-clause-touched
 returns-then-is_idle-clause-touched c =
     let o = option_map (λ n. leaf_part n.now) c.args.old in
-    sym (idle_touched (said c.args.updates.now) 0 c.args.index o c.is_some-present.result (c.is_some-present.ensures ∙ sym (some_mapped _ c.args.old)) (c.is_idle.ensures c.if-is_idle.true))
+    sym (idle_touched (said c.args.updates.now) 0 c.args.index o c.is_some-present.result (c.is_some-present.ensures ∙ sym (some_mapped _ c.args.old)) (c.is_idle.ensures.idle c.if-is_idle.true))
 
 pub returns-then-is_idle-clause-stays : goal.returns-then-is_idle-clause-stays
 returns-then-is_idle-clause-stays c =
     let o = option_map (λ n. leaf_part n.now) c.args.old in
-    let e = idle_touched (said c.args.updates.now) 0 c.args.index o c.is_some-present.result (c.is_some-present.ensures ∙ sym (some_mapped _ c.args.old)) (c.is_idle.ensures c.if-is_idle.true) in
+    let e = idle_touched (said c.args.updates.now) 0 c.args.index o c.is_some-present.result (c.is_some-present.ensures ∙ sym (some_mapped _ c.args.old)) (c.is_idle.ensures.idle c.if-is_idle.true) in
     c.is_some-present.ensures ∙ sym (some_mapped _ c.args.old) ∙ sym (untouched_stays (said c.args.updates.now) 0 c.args.index o e)
 
 pub returns-then-is_idle-clause-claims : goal.returns-then-is_idle-clause-claims
 returns-then-is_idle-clause-claims c =
     let o = option_map (λ n. leaf_part n.now) c.args.old in
-    let e = idle_touched (said c.args.updates.now) 0 c.args.index o c.is_some-present.result (c.is_some-present.ensures ∙ sym (some_mapped _ c.args.old)) (c.is_idle.ensures c.if-is_idle.true) in
+    let e = idle_touched (said c.args.updates.now) 0 c.args.index o c.is_some-present.result (c.is_some-present.ensures ∙ sym (some_mapped _ c.args.old)) (c.is_idle.ensures.idle c.if-is_idle.true) in
     sym (append-nil c.args.plan.now.claims.items) ∙ ap (λ xs. c.args.plan.now.claims.items ++ xs) (sym (untouched_claims (said c.args.updates.now) c.args.young.0 0 c.args.index o e))
 
 pub returns-then-is_idle-clause-released : goal.returns-then-is_idle-clause-released
 returns-then-is_idle-clause-released c =
     let o = option_map (λ n. leaf_part n.now) c.args.old in
-    let e = idle_touched (said c.args.updates.now) 0 c.args.index o c.is_some-present.result (c.is_some-present.ensures ∙ sym (some_mapped _ c.args.old)) (c.is_idle.ensures c.if-is_idle.true) in
+    let e = idle_touched (said c.args.updates.now) 0 c.args.index o c.is_some-present.result (c.is_some-present.ensures ∙ sym (some_mapped _ c.args.old)) (c.is_idle.ensures.idle c.if-is_idle.true) in
     sym (append-nil c.args.plan.now.released.items) ∙ ap (λ xs. c.args.plan.now.released.items ++ xs) (sym (untouched_released (said c.args.updates.now) c.args.young.0 0 c.args.index o e))
 
 pub returns-clause-claims : goal.returns-clause-claims

@@ -15,24 +15,24 @@ pub returns-then-is_idle-clause-part : goal.returns-then-is_idle-clause-part
 returns-then-is_idle-clause-part g c =
     let h = g.C.Level.height in
     let o = option_map (λ a. inner_part g.C.Level.part a.now.value) c.args.old in
-    let e = idle_touched (said c.args.updates.now) (suc h) c.args.index o c.is_some-present.result (c.is_some-present.ensures ∙ sym (some_mapped _ c.args.old)) (c.is_idle.ensures c.if-is_idle.true) in
+    let e = idle_touched (said c.args.updates.now) (suc h) c.args.index o c.is_some-present.result (c.is_some-present.ensures ∙ sym (some_mapped _ c.args.old)) (c.is_idle.ensures.idle c.if-is_idle.true) in
     c.in_ok-keep.ensures.ok ∙ sym (untouched_rebuilt (said c.args.updates.now) (number_of c.args.made.now) c.args.group.0 (suc h) c.args.index o e)
 
 pub returns-then-is_idle-clause-touched : goal.returns-then-is_idle-clause-touched
 returns-then-is_idle-clause-touched g c =
     let o = option_map (λ a. inner_part g.C.Level.part a.now.value) c.args.old in
-    sym (idle_touched (said c.args.updates.now) (suc g.C.Level.height) c.args.index o c.is_some-present.result (c.is_some-present.ensures ∙ sym (some_mapped _ c.args.old)) (c.is_idle.ensures c.if-is_idle.true))
+    sym (idle_touched (said c.args.updates.now) (suc g.C.Level.height) c.args.index o c.is_some-present.result (c.is_some-present.ensures ∙ sym (some_mapped _ c.args.old)) (c.is_idle.ensures.idle c.if-is_idle.true))
 
 pub returns-then-is_idle-clause-stays : goal.returns-then-is_idle-clause-stays
 returns-then-is_idle-clause-stays g c =
     let o = option_map (λ a. inner_part g.C.Level.part a.now.value) c.args.old in
-    let e = idle_touched (said c.args.updates.now) (suc g.C.Level.height) c.args.index o c.is_some-present.result (c.is_some-present.ensures ∙ sym (some_mapped _ c.args.old)) (c.is_idle.ensures c.if-is_idle.true) in
+    let e = idle_touched (said c.args.updates.now) (suc g.C.Level.height) c.args.index o c.is_some-present.result (c.is_some-present.ensures ∙ sym (some_mapped _ c.args.old)) (c.is_idle.ensures.idle c.if-is_idle.true) in
     c.is_some-present.ensures ∙ sym (some_mapped _ c.args.old) ∙ sym (untouched_stays (said c.args.updates.now) (suc g.C.Level.height) c.args.index o e)
 
 pub returns-then-is_idle-clause-next : goal.returns-then-is_idle-clause-next
 returns-then-is_idle-clause-next g c =
     let o = option_map (λ a. inner_part g.C.Level.part a.now.value) c.args.old in
-    let e = idle_touched (said c.args.updates.now) (suc g.C.Level.height) c.args.index o c.is_some-present.result (c.is_some-present.ensures ∙ sym (some_mapped _ c.args.old)) (c.is_idle.ensures c.if-is_idle.true) in
+    let e = idle_touched (said c.args.updates.now) (suc g.C.Level.height) c.args.index o c.is_some-present.result (c.is_some-present.ensures ∙ sym (some_mapped _ c.args.old)) (c.is_idle.ensures.idle c.if-is_idle.true) in
     let n = ap length (untouched_made (said c.args.updates.now) (suc g.C.Level.height) c.args.index o e) in
     omega (arith, n)
 
