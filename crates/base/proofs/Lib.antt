@@ -1,2 +1,3 @@
 pub mod RewriteLaw
 pub mod LawProofs
+pub mod Contents

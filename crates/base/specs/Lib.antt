@@ -2,9 +2,8 @@ pub mod Counting
 pub mod Failing
 pub mod Key
 pub mod Map
-pub mod Names
+pub mod Codes
 pub mod Refusals
 pub mod Rewrite
 pub mod Surveys
 pub mod Laws
-pub mod Reading

@@ -1,8 +1,7 @@
 //! Readers and writers that tell how often they failed.
-ghost use Rattle.std.specs.Prelude.{◌≡◌, ◌≢◌, ℕ, List, Option, Some, IfSome, IfOk, OnOk, OnErr, MatchResult, length, ◌≤◌};
+ghost use Rattle.std.specs.Prelude.{◌≡◌, ℕ, OnOk};
 ghost use Rattle.std.specs.Io.Buffered.{reader_inner, writer_inner};
-ghost use Rattle.std.specs.Borrow.{sem};
-ghost use Rattle.std.specs.Io.{ReadsAtMost, WritesAtMost, StartsWith};
+ghost use Rattle.std.specs.Io.{ReadsAtMost, WritesAtMost};
 ghost use Rattle.std.specs.Io.KnownBytes.{Appends, Keeps, ReadConsumes, WriteAppends};
 ghost use Rattle.std.specs.IoError.{error_kind};
 ghost use Rattle.base.specs.Failing.{IsCountedKind, IsCountedCall};
@@ -36,7 +35,7 @@ impl<R: Read + Failing, A: Allocator> Failing for BufReader<R, A> {
     ghost failures = { λ r. R.failures (reader_inner r) };
 
     fn failures(&self) -> u64 {
-        self.get_ref().failures()
+        R::failures(self.get_ref())
     }
 }
 
@@ -44,7 +43,7 @@ impl<W: Write + Failing + Drop, A: Allocator> Failing for BufWriter<W, A> {
     ghost failures = { λ w. W.failures (writer_inner w) };
 
     fn failures(&self) -> u64 {
-        self.get_ref().failures()
+        W::failures(self.get_ref())
     }
 }
 
@@ -81,11 +80,7 @@ impl<R: Read> Read for Counted<R> {
         ensures bytes { ReadConsumes (R.remaining self.old.inner) (R.remaining self.new.inner) result buf.new }
         ensures count { IsCountedCall result self.old.count self.new.count }
     {
-        let result = self.inner.read(buf);
-        if let Err(e) = &result {
-            self.count = count_after(self.count, e);
-        }
-        result
+        noted(self.inner.read(buf), &mut self.count)
     }
 }
 
@@ -97,44 +92,34 @@ impl<W: Write> Write for Counted<W> {
         ensures bytes { WriteAppends (W.contents self.old.inner) (W.contents self.new.inner) result buf.now }
         ensures count { IsCountedCall result self.old.count self.new.count }
     {
-        let result = self.inner.write(buf);
-        if let Err(e) = &result {
-            self.count = count_after(self.count, e);
-        }
-        result
+        noted(self.inner.write(buf), &mut self.count)
     }
 
     fn flush(&mut self) -> io::Result<()>
         ensures bytes { Keeps (W.contents self.old.inner) (W.contents self.new.inner) }
         ensures count { IsCountedCall result self.old.count self.new.count }
     {
-        let result = self.inner.flush();
-        if let Err(e) = &result {
-            self.count = count_after(self.count, e);
-        }
-        result
+        noted(self.inner.flush(), &mut self.count)
     }
 
     fn write_all(&mut self, buf: &[u8]) -> io::Result<()>
         ensures bytes { OnOk result (Appends (W.contents self.old.inner) (W.contents self.new.inner) buf.now) }
         ensures count { IsCountedCall result self.old.count self.new.count }
     {
-        let result = self.inner.write_all(buf);
-        if let Err(e) = &result {
-            self.count = count_after(self.count, e);
-        }
-        result
+        noted(self.inner.write_all(buf), &mut self.count)
     }
 }
 
 impl<B: BufRead> BufRead for Counted<B> {
     ghost consumable_len = { λ c. B.consumable_len c.inner };
 
-    // It looks twice: once for a failure, and once for the bytes, which the first look has left in the buffer.
+    // It looks twice, unless nothing is left to read: once for a failure, and once for the bytes, which the first look has left in
+    // the buffer.
     fn fill_buf(&mut self) -> io::Result<&[u8]> {
-        if let Err(e) = self.inner.fill_buf() {
-            self.count = count_after(self.count, &e);
-            return Err(e);
+        match self.inner.fill_buf() {
+            Ok(bytes) if bytes.is_empty() => return Ok(&[]),
+            Ok(_) => {}
+            Err(e) => return noted(Err(e), &mut self.count),
         }
         self.inner.fill_buf()
     }
@@ -142,6 +127,17 @@ impl<B: BufRead> BufRead for Counted<B> {
     fn consume(&mut self, amount: usize) {
         self.inner.consume(amount);
     }
+}
+
+// What a call answered, once its failure is counted.
+fn noted<T>(outcome: io::Result<T>, count: &mut u64) -> io::Result<T>
+    ensures same { result ≡ outcome }
+    ensures count { IsCountedCall result count.old count.new }
+{
+    if let Err(e) = &outcome {
+        *count = count_after(*count, e);
+    }
+    outcome
 }
 
 // The count after a failure: one more, unless it was want of memory.

@@ -5,9 +5,6 @@ pub mod failing;
 pub mod laws;
 pub mod limit;
 pub mod meter;
-pub mod name;
 pub mod number;
 pub mod refusal;
-#[cfg(test)]
-mod tests;
 pub mod text;

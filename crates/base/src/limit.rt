@@ -1,5 +1,5 @@
 //! The amount of a limit property.
-ghost use Rattle.std.specs.Prelude.{◌≡◌, ◌≤◌, ◌^◌, ◌⊎◌, ◌<◌, IfOk, IsErrOf, ◌↔◌};
+ghost use Rattle.std.specs.Prelude.{◌≡◌, ◌≤◌, ◌^◌, ◌⊎◌, ◌<◌, IfOk, ◌↔◌};
 
 use crate::refusal::Refusal;
 use std::marker::Model;

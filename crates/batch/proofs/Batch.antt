@@ -1,9 +1,10 @@
 -- A batch on a map: what it drops and makes, and the map with the numbers chosen.
-use Rattle.std.proofs.Common.{◌≡◌, ℕ, suc, ◌+◌, ◌-◌, ◌^◌, ◌<◌, ◌≤◌, Bool, true, false, cond, List, [], ◌∷◌, length, map, Option, Some, None, refl, sym, ap, subst, ◌∙◌, arith, ⊎_elim, true≢false}
-use Rattle.std.specs.Prelude.{is_some, IfSome, slice_get, count_by}
+use Rattle.std.proofs.Common.{◌≡◌, ℕ, ◌+◌, ◌-◌, ◌^◌, ◌<◌, ◌≤◌, Bool, true, false, cond, List, [], ◌∷◌, length, map, Option, Some, None, refl, sym, ap, subst, ◌∙◌, arith, ⊎_elim, true≢false}
+use Rattle.std.specs.Prelude.{is_some, slice_get, count_by}
 use Rattle.std.specs.Option.{option_map}
 use Rattle.std.specs.FinMap.{get}
 use Rattle.std.proofs.lemmas.Bool.{cases_lt}
+use Rattle.std.proofs.lemmas.List.{length-map}
 use Rattle.base.specs.declared.number.Key.{Key}
 use Rattle.base.specs.declared.number.Dead.{Dead}
 use Rattle.base.specs.Map.{Map, Cell, Block}
@@ -12,13 +13,15 @@ use Rattle.base.specs.Surveys.{IsIn, AreDifferent, IsMadeKey, IsDropped, IsSurve
 use Rattle.zalloc.specs.declared.BlockState.{BlockState}
 use Rattle.zalloc.specs.declared.BlockState.TheVariants.{Allocated}
 use Rattle.zalloc.specs.States.{is_free}
-use Rattle.batch.specs.Room.{IsKept, IsReleased, HasRoom, LacksRoom, young_count}
+use Rattle.base.specs.Counting.{counted as counted_from}
+use Rattle.batch.specs.Cost.{CountsDropped}
+use Rattle.batch.specs.Room.{AreAllocated, IsKept, IsReleased, HasRoom, LacksRoom, young_count}
 use Rattle.batch.specs.declared.update.Update.{Update}
 use Rattle.batch.specs.declared.plan.Claim.{Claim}
 use Rattle.node.specs.Entries.{key_at}
 use Rattle.node.specs.Shape.{Part}
 use Rattle.batch.specs.Said.{Said, said, AreSized}
-use Rattle.batch.specs.Touch.{touched, stays, listing, claims, released, claim_of, let_go, own_block, young_one}
+use Rattle.batch.specs.Touch.{touched, stays, listing, claims, released, dropped, claim_of, let_go, own_block, young_one}
 use Rattle.node.specs.Cells.{dead_of}
 use Rattle.batch.specs.Build.{is_fresh}
 use Rattle.batch.specs.Numbers.{is_young}
@@ -26,9 +29,10 @@ use Rattle.node.specs.Unique.{IsUnique}
 use Rattle.batch.specs.Updates.{changes_of, IsBatchFrom}
 use Rattle.node.proofs.Options.{same_value, not_some, if_some}
 use Rattle.batch.proofs.Standing.{Stands, IsPlace, part_at_key, touched_key, rewrite_high, rewrite_past, after_is}
-use Rattle.batch.proofs.Listing.{in_map, from_map, different_by, listing_in, in_listing, listing_once, listing_map, listing_count}
+use Rattle.batch.proofs.Listing.{in_map, from_map, different_by, listing_in, in_listing, listing_falls, listing_map, listing_count}
+use Rattle.batch.proofs.Falling.{Falls, falls_once}
 use Rattle.batch.proofs.Filled.{claim_key}
-use Rattle.batch.proofs.Owned.{claim_in, in_claim, gone_in, in_gone, keyed, keyed_values, keyed_in, in_keyed, keyed_once, claim_once, own_cell, cell_own, young_of, of_young, is_kept, own_count, count_claims, young_blocks}
+use Rattle.batch.proofs.Owned.{claim_in, in_claim, gone_in, in_gone, keyed, keyed_values, keyed_in, in_keyed, keyed_falls, claim_falls, own_cell, cell_own, young_of, of_young, is_kept, own_count, count_claims, young_blocks}
 
 -- what is known of a map and of what is to be done to it
 pub record IsAsked (m : Map) (o : Option Part) (us : List Update) (g y : ℕ) (states : List BlockState) : Type 0 where
@@ -36,7 +40,7 @@ pub record IsAsked (m : Map) (o : Option Part) (us : List Update) (g y : ℕ) (s
   pub batch : IsBatchFrom 0 us
   pub sized : AreSized us
   pub unique : IsUnique m
-  pub allocated : (k : Key) → IfSome (get m k) (λ c. slice_get states c.number ≡ Some Allocated)
+  pub allocated : AreAllocated m states
 
 module _ (m : Map) (o : Option Part) (us : List Update) (g y : ℕ) (states : List BlockState) (q : IsAsked m o us g y states) where
   abbrev c : Changes
@@ -120,11 +124,14 @@ module _ (m : Map) (o : Option Part) (us : List Update) (g y : ℕ) (states : Li
   in_claims : (k : Key) → IsMade k → IsIn C (claim_at k)
   in_claims k h = in_listing m o g q.stands own_claim k (claim_at k) h.place (in_claim (t k) (p k) k y (own_block (at k.level k.index)) h.touched h.stays)
 
-  pub claim_keys_once : AreDifferent (map claim_key C)
-  claim_keys_once = listing_once m o g q.stands own_claim claim_key
-      (λ l j x. claim_once (touched s l j x) (stays s l j x) (key_at l j) y (own_block x))
+  pub claim_keys_fall : Falls (map claim_key C)
+  claim_keys_fall = listing_falls m o g q.stands own_claim claim_key
+      (λ l j x. claim_falls (touched s l j x) (stays s l j x) (key_at l j) y (own_block x))
       (λ l j x z h. ap claim_key (claim_in (touched s l j x) (stays s l j x) (key_at l j) y (own_block x) z h).2)
       5 0 root_place
+
+  pub claim_keys_once : AreDifferent (map claim_key C)
+  claim_keys_once = falls_once (map claim_key C) claim_keys_fall
 
   pub claimed_to : (k : Key) → IsIn (map claim_key C) k → IsMade k
   claimed_to k h = let x = from_map claim_key C k h in let w = claims_in x.0 x.1 in subst IsMade (sym (ap claim_key w.2) ∙ x.2) w.1
@@ -147,10 +154,10 @@ module _ (m : Map) (o : Option Part) (us : List Update) (g y : ℕ) (states : Li
     gone_values = listing_map (λ (e : Key × Dead). e.1) own_keyed own_gone (λ l j x. keyed_values (key_at l j) (own_gone l j x)) 5 0 o
 
     gone_keys : AreDifferent (map (λ (e : Key × Dead). e.0) G)
-    gone_keys = listing_once m o g q.stands own_keyed (λ e. e.0)
-        (λ l j x. keyed_once (key_at l j) (touched s l j x) (v l j x) y (own_block x))
+    gone_keys = falls_once (map (λ (e : Key × Dead). e.0) G) (listing_falls m o g q.stands own_keyed (λ e. e.0)
+        (λ l j x. keyed_falls (key_at l j) (touched s l j x) (v l j x) y (own_block x))
         (λ l j x e h. (keyed_in (key_at l j) (own_gone l j x) e h).0)
-        5 0 root_place
+        5 0 root_place)
 
     -- one block of one key
     pub record IsGone (k : Key) (d : Dead) : Type 0 where
@@ -208,7 +215,7 @@ module _ (m : Map) (o : Option Part) (us : List Update) (g y : ℕ) (states : Li
   none l j x = false
 
   abbrev D : List Dead
-  D = listing (own_gone none) 5 0 o
+  D = dropped s y 5 0 o
 
   dropped_from : (b : Block) → IsIn (map dead_block D) b → IsDropped m c b
   dropped_from b h =
@@ -232,16 +239,21 @@ module _ (m : Map) (o : Option Part) (us : List Update) (g y : ℕ) (states : Li
     made_once = claim_keys_once;
   }
 
-  length-map : {A B : Type 0} (f : A → B) (xs : List A) → length (map f xs) ≡ length xs
-  length-map f [] = refl
-  length-map f (x ∷ xs) = ap suc (length-map f xs)
+  -- what its meter has counted
+  pub counts : (before after : ℕ) → counted_from before (length D) ≤ after → CountsDropped m c before after
+  counts before after h = record {
+    dropped = map dead_block D;
+    each = λ b. (dropped_from b, dropped_to b);
+    once = gone_once none;
+    metered = subst (λ n. counted_from before n ≤ after) (sym (length-map D dead_block)) h;
+  }
 
   counted : young_count y (map dead_block D) ≡ count_by (is_young y) R + count_by is_kept C
   counted = young_blocks y D ∙ listing_count (is_young y) (is_young y) is_kept (own_gone none) (own_gone (stays s)) own_claim
       (λ l j x. own_count (touched s l j x) (stays s l j x) (key_at l j) y (own_block x)) 5 0 o
 
   made_count : length (map claim_key C) ≡ count_by is_fresh C + count_by is_kept C
-  made_count = length-map claim_key C ∙ count_claims C
+  made_count = length-map C claim_key ∙ count_claims C
 
   pub room : count_by is_fresh C ≤ count_by is_free states + count_by (is_young y) R → HasRoom m c y states
   room h = record { dropped = map dead_block D; made = map claim_key C; survey = survey; enough = omega (arith, counted, made_count, h) }

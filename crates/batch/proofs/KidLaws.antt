@@ -47,6 +47,14 @@ any_more f j os i h = ap (any_kid f j) (take_more os i None h) ∙ any_push f j 
 pub later_more : {A : Type 0} (f : ℕ → Option Part → List A) (j : ℕ) (os : List (Option Part)) (i : ℕ) → i < length os → later_first f j (take (i + 1) os) ≡ f (j + i) (get_or os i None) ++ later_first f j (take i os)
 later_more f j os i h = ap (later_first f j) (take_more os i None h) ∙ later_push f j (take i os) (get_or os i None) ∙ ap (λ n. f (j + n) (get_or os i None) ++ later_first f j (take i os)) (front os i h)
 
+-- those of a place, and those of the places before it
+pub later_split : {A : Type 0} (f : ℕ → Option Part → List A) (j back : ℕ) (os : List (Option Part)) → back < 16 → length os ≡ 16
+    → later_first f j (take (16 - back) os) ≡ f (j + (15 - back)) (get_or os (15 - back) None) ++ later_first f j (take (16 - (back + 1)) os)
+later_split f j back os h n =
+    let now : 16 - back ≡ 15 - back + 1 = omega arith in
+    let next : 15 - back ≡ 16 - (back + 1) = omega arith in
+    ap (λ k. later_first f j (take k os)) now ∙ later_more f j os (15 - back) (omega arith) ∙ ap (λ k. f (j + (15 - back)) (get_or os (15 - back) None) ++ later_first f j (take k os)) next
+
 -- a step of the walk over the places from the last to the first
 pub any_step : (f : ℕ → Option Part → Bool) (j i : ℕ) (os : List (Option Part)) (a b all : Bool) → i < length os → (a || any_kid f j (take (i + 1) os)) ≡ all → b ≡ f (j + i) (get_or os i None) → ((a || b) || any_kid f j (take i os)) ≡ all
 any_step f j i os a b all h e s = or_swap a (any_kid f j (take i os)) b ∙ ap (λ x. a || (any_kid f j (take i os) || x)) s ∙ ap (λ x. a || x) (sym (any_more f j os i h)) ∙ e

@@ -1,12 +1,13 @@
 pub mod Lists
-pub mod Contents
 pub mod UpdateLaws
 pub mod SaidLaws
 pub mod Heard
 pub mod KidLaws
 pub mod TouchLaws
 pub mod MadeLaws
+pub mod Metering
 pub mod NumberLaws
+pub mod Falling
 pub mod Heres
 pub mod Words
 pub mod Standing

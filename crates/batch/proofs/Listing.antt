@@ -5,7 +5,8 @@ use Rattle.std.proofs.lemmas.List.{map-append}
 use Rattle.std.proofs.lemmas.List.Sums.{sum_by-append}
 use Rattle.std.proofs.Math.Nat.{pow-suc, mul-le-mul_right}
 use Rattle.base.specs.declared.number.Key.{Key}
-use Rattle.base.specs.Key.{first_leaf}
+use Rattle.std.specs.declared.cmp.Ordering.TheVariants.{Less}
+use Rattle.base.specs.Key.{first_leaf, key_cmp}
 use Rattle.base.specs.Map.{Map}
 use Rattle.base.specs.Surveys.{IsIn, AreDifferent}
 use Rattle.node.specs.Entries.{key_at}
@@ -14,7 +15,8 @@ use Rattle.node.specs.Shape.{Part}
 use Rattle.batch.specs.Touch.{later_first, listing}
 use Rattle.node.proofs.Order.{span_positive}
 use Rattle.node.proofs.Places.{kids_of}
-use Rattle.batch.proofs.NumberLaws.{in_append, in_left, in_right, different_append}
+use Rattle.batch.proofs.NumberLaws.{in_append, in_left, in_right}
+use Rattle.batch.proofs.Falling.{Falls, falls_append, before_leaf, before_below}
 use Rattle.batch.proofs.TouchLaws.{listing_down, listing_at_leaf}
 use Rattle.batch.proofs.Heres.{kid_of}
 use Rattle.batch.proofs.Standing.{Stands, IsPlace, part_at_key, place_up, place_down, at_kid, at_sound}
@@ -75,30 +77,31 @@ under_up l j i k h u =
 under_self : (l j : ℕ) → IsUnder l j (key_at l j)
 under_self l j = let p = span_positive l in record { level = omega arith; from = omega arith; to = omega (arith, p) }
 
--- the lists of places under different keys
-later_once : {A : Type 0} (f : ℕ → Option Part → List A) (g : A → Key) (l j : ℕ) (os : List (Option Part))
-    → ((i : ℕ) → i < length os → AreDifferent (map g (f (j + i) (get_or os i None))))
-    → ((i : ℕ) (x : A) → i < length os → IsIn (f (j + i) (get_or os i None)) x → IsUnder l (j + i) (g x)) → AreDifferent (map g (later_first f j os))
-later_once f g l j [] each under = tt
-later_once f g l j (o ∷ os) each under =
+-- the lists of places under rising keys, the last of them first
+later_falls : {A : Type 0} (f : ℕ → Option Part → List A) (g : A → Key) (l j : ℕ) (os : List (Option Part))
+    → ((i : ℕ) → i < length os → Falls (map g (f (j + i) (get_or os i None))))
+    → ((i : ℕ) (x : A) → i < length os → IsIn (f (j + i) (get_or os i None)) x → IsUnder l (j + i) (g x)) → Falls (map g (later_first f j os))
+later_falls f g l j [] each under = tt
+later_falls f g l j (o ∷ os) each under =
     let z : j + 0 ≡ j = omega arith in
-    subst AreDifferent (sym (map-append g (later_first f (j + 1) os) (f j o)))
-    (different_append (map g (later_first f (j + 1) os)) (map g (f j o))
-    (later_once f g l (j + 1) os
-    (λ i h. let s : j + suc i ≡ j + 1 + i = omega arith in subst (λ n. AreDifferent (map g (f n (get_or os i None)))) s (each (suc i) (omega arith)))
+    subst Falls (sym (map-append g (later_first f (j + 1) os) (f j o)))
+    (falls_append (map g (later_first f (j + 1) os)) (map g (f j o))
+    (later_falls f g l (j + 1) os
+    (λ i h. let s : j + suc i ≡ j + 1 + i = omega arith in subst (λ n. Falls (map g (f n (get_or os i None)))) s (each (suc i) (omega arith)))
     (λ i x h m. let s : j + suc i ≡ j + 1 + i = omega arith in subst (λ n. IsUnder l n (g x)) s (under (suc i) x (omega arith) (subst (λ n. IsIn (f n (get_or os i None)) x) (sym s) m))))
-    (subst (λ n. AreDifferent (map g (f n o))) z (each 0 (omega arith)))
-    (λ k a b.
+    (subst (λ n. Falls (map g (f n o))) z (each 0 (omega arith)))
+    (λ k q a b.
     let x = from_map g (later_first f (j + 1) os) k a in
-    let y = from_map g (f j o) k b in
+    let y = from_map g (f j o) q b in
     let p = later_in f (j + 1) os x.0 x.1 in
     let s : j + suc p.0 ≡ j + 1 + p.0 = omega arith in
     let u = under (suc p.0) x.0 (let q = p.1 in omega arith) (subst (λ n. IsIn (f n (get_or os p.0 None)) x.0) (sym s) p.2) in
     let v = under 0 y.0 (omega arith) (subst (λ n. IsIn (f n o) y.0) (sym z) y.1) in
-    let e = ap first_leaf (x.2 ∙ sym y.2) in
+    let e = ap first_leaf x.2 in
+    let w = ap first_leaf y.2 in
     let m = mul-le-mul_right {m = j + 0 + 1} {n = j + suc p.0} (16 ^ l) (omega arith) in
     let c = u.from in let d = v.to in
-    absurd (omega (arith, e, m, c, d))))
+    before_leaf q k (omega (arith, e, w, m, c, d))))
 
 module _ (m : Map) (o : Option Part) (h : ℕ) (st : Stands m o h) {A : Type 0} (own : ℕ → ℕ → Option Part → List A) where
   abbrev at : ℕ → ℕ → Option Part
@@ -150,29 +153,31 @@ module _ (m : Map) (o : Option Part) (h : ℕ) (st : Stands m o h) {A : Type 0} 
   pub in_listing : (k : Key) (x : A) → IsPlace k.level k.index → IsIn (own k.level k.index (at k.level k.index)) x → IsIn (listing own 5 0 o) x
   in_listing k x p i = let a = p.level in climb (5 - k.level) k.level k.index x (omega arith) p (own_in k.level k.index x i)
 
-  -- each key stands once
-  pub listing_once : (g : A → Key) → ((l j : ℕ) (q : Option Part) → AreDifferent (map g (own l j q))) → ((l j : ℕ) (q : Option Part) (x : A) → IsIn (own l j q) x → g x ≡ key_at l j)
-      → (l j : ℕ) → IsPlace l j → AreDifferent (map g (listing own l j (at l j)))
-  listing_once g one is zero j p = subst (λ xs. AreDifferent (map g xs)) (sym (listing_at_leaf own j (at 0 j))) (one 0 j (at 0 j))
-  listing_once g one is (suc l) j p =
+  -- the keys fall
+  pub listing_falls : (g : A → Key) → ((l j : ℕ) (q : Option Part) → Falls (map g (own l j q))) → ((l j : ℕ) (q : Option Part) (x : A) → IsIn (own l j q) x → g x ≡ key_at l j)
+      → (l j : ℕ) → IsPlace l j → Falls (map g (listing own l j (at l j)))
+  listing_falls g one is zero j p = subst (λ xs. Falls (map g xs)) (sym (listing_at_leaf own j (at 0 j))) (one 0 j (at 0 j))
+  listing_falls g one is (suc l) j p =
       let a = p.level in
       let os = places_of (at (suc l) j) in
       let w = wide l j (omega arith) in
-      subst (λ xs. AreDifferent (map g xs)) (sym (listing_down own l j (at (suc l) j)))
-      (subst AreDifferent (sym (map-append g (later_first (listing own l) (16 * j) os) (own (suc l) j (at (suc l) j))))
-      (different_append _ (map g (own (suc l) j (at (suc l) j)))
-      (later_once (listing own l) g l (16 * j) os
-      (λ i b. let q : i < 16 = omega arith in subst (λ t. AreDifferent (map g (listing own l (16 * j + i) t))) (at_kid o l j i p q) (listing_once g one is l (16 * j + i) (place_up l j i p q)))
+      subst (λ xs. Falls (map g xs)) (sym (listing_down own l j (at (suc l) j)))
+      (subst Falls (sym (map-append g (later_first (listing own l) (16 * j) os) (own (suc l) j (at (suc l) j))))
+      (falls_append _ (map g (own (suc l) j (at (suc l) j)))
+      (later_falls (listing own l) g l (16 * j) os
+      (λ i b. let q : i < 16 = omega arith in subst (λ t. Falls (map g (listing own l (16 * j + i) t))) (at_kid o l j i p q) (listing_falls g one is l (16 * j + i) (place_up l j i p q)))
       (λ i x b r. let q : i < 16 = omega arith in below l (16 * j + i) x (place_up l j i p q) (subst (λ t. IsIn (listing own l (16 * j + i) t) x) (sym (at_kid o l j i p q)) r)))
       (one (suc l) j (at (suc l) j))
-      (λ k b d.
+      (λ k r b d.
       let x = from_map g _ k b in
-      let y = from_map g _ k d in
+      let y = from_map g _ r d in
       let q = later_in (listing own l) (16 * j) os x.0 x.1 in
       let z : q.0 < 16 = let t = q.1 in omega arith in
-      let u = (below l (16 * j + q.0) x.0 (place_up l j q.0 p z) (subst (λ t. IsIn (listing own l (16 * j + q.0) t) x.0) (sym (at_kid o l j q.0 p z)) q.2)).level in
-      let e = ap (λ (k : Key). k.level) (x.2 ∙ sym y.2 ∙ is (suc l) j (at (suc l) j) y.0 y.1) in
-      absurd (omega (arith, e, u)))))
+      let u = below l (16 * j + q.0) x.0 (place_up l j q.0 p z) (subst (λ t. IsIn (listing own l (16 * j + q.0) t) x.0) (sym (at_kid o l j q.0 p z)) q.2) in
+      let v = (under_up l j q.0 (g x.0) z u).from in
+      let n = u.level in
+      let own_key : key_at (suc l) j ≡ r = sym (is (suc l) j (at (suc l) j) y.0 y.1) ∙ y.2 in
+      subst (λ (k : Key). key_cmp r k ≡ Less) x.2 (subst (λ (t : Key). key_cmp t (g x.0) ≡ Less) own_key (before_below (key_at (suc l) j) (g x.0) (omega (arith, v)) (omega (arith, n)))))))
     where
       below : (l j : ℕ) (x : A) → IsPlace l j → IsIn (listing own l j (at l j)) x → IsUnder l j (g x)
       below l j x p i = let k = listing_in l j x p i in subst (IsUnder l j) (sym (is k.0.level k.0.index (at k.0.level k.0.index) x k.3)) k.2

@@ -1,5 +1,5 @@
 -- Members of lists, by their places.
-use Rattle.std.proofs.Common.{◌≡◌, ℕ, zero, suc, ◌+◌, ◌<◌, ◌∙◌, List, [], ◌∷◌, get_or, drop, Some, refl, sym, ap, subst, arith, inl, inr, ⊎_elim}
+use Rattle.std.proofs.Common.{◌≡◌, ℕ, zero, suc, ◌+◌, ◌<◌, ◌∙◌, ◌≤◌, List, [], ◌∷◌, length, get_or, drop, Some, refl, sym, ap, subst, arith, inl, inr, ⊎_elim}
 use Rattle.std.specs.Prelude.{slice_get}
 use Rattle.std.proofs.lemmas.Option.{get_or_from_slice_get, slice_get-get_or}
 use Rattle.std.proofs.lemmas.Bool.{cases_lt}
@@ -39,3 +39,10 @@ one_more P xs n d below here i x h e =
     ⊎_elim (λ l. below i x l e) (λ l. let s : i ≡ n = omega arith in
     let same : get_or xs n d ≡ x = get_or_from_slice_get xs n x d (ap (slice_get xs) (sym s) ∙ e) in
     subst P same here) (cases_lt i n)
+
+-- nothing is left past the end
+pub drop_past : {A : Type 0} (n : ℕ) (xs : List A) → length xs ≤ n → drop n xs ≡ []
+drop_past zero [] h = refl
+drop_past (suc n) [] h = refl
+drop_past zero (x ∷ xs) h = absurd (omega arith)
+drop_past (suc n) (x ∷ xs) h = drop_past n xs (omega arith)

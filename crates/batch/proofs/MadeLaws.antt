@@ -3,6 +3,7 @@ use Rattle.std.proofs.Common.{◌≡◌, ℕ, zero, suc, ◌+◌, ◌-◌, ◌*�
 use Rattle.std.specs.Prelude.{slice_get, is_some, ◌&&◌, ◌==◌}
 use Rattle.std.specs.Option.{option_map}
 use Rattle.std.proofs.lemmas.Bool.{eqb-true, eq-eqb, and_parts}
+use Rattle.std.proofs.lemmas.List.{map-set, length-map}
 use Rattle.std.proofs.lemmas.Option.{slice_get-get_or, slice_get_within}
 use Rattle.base.specs.declared.number.Key.{Key}
 use Rattle.base.specs.Surveys.{IsIn, AreDifferent}
@@ -15,7 +16,7 @@ use Rattle.batch.specs.Said.{Said}
 use Rattle.batch.specs.Touch.{any_kid, later_first, touched, stays, leaf_touched, leaf_stays}
 use Rattle.batch.specs.Build.{made_keys, parts, rebuilt, remade, leaf_rebuilt, number_of, HasKeys, is_same}
 use Rattle.node.proofs.Options.{same_value, mapped}
-use Rattle.batch.proofs.KidLaws.{later_more, parts_step}
+use Rattle.batch.proofs.KidLaws.{later_split, parts_step}
 use Rattle.batch.proofs.TouchLaws.{listing_down, listing_at_leaf, stays_down, touched_at_leaf, stays_at_leaf}
 
 -- the keys of two lists, one after another
@@ -34,42 +35,37 @@ keys_joined bs i (x ∷ xs) ys h k =
     let e : i + suc (length xs) ≡ i + 1 + length xs = omega arith in
     (h.0, keys_joined bs (i + 1) xs ys h.1 (subst (λ n. HasKeys bs n ys) e k))
 
--- those of a place, and those of the places before it
-keys_more : (f : ℕ → Option Part → List Key) (j back : ℕ) (os : List (Option Part)) → back < 16 → length os ≡ 16
-    → later_first f j (take (16 - back) os) ≡ f (j + (15 - back)) (get_or os (15 - back) None) ++ later_first f j (take (16 - (back + 1)) os)
-keys_more f j back os h n =
-    let now : 16 - back ≡ 15 - back + 1 = omega arith in
-    let next : 15 - back ≡ 16 - (back + 1) = omega arith in
-    ap (λ k. later_first f j (take k os)) now ∙ later_more f j os (15 - back) (omega arith) ∙ ap (λ k. f (j + (15 - back)) (get_or os (15 - back) None) ++ later_first f j (take k os)) next
+-- the keys of a place, and those of the places before it, where two batches make the same at the place
+pub keys_here : (f f' : ℕ → Option Part → List Key) (j back : ℕ) (os : List (Option Part)) (kid : Option Part) (bs : List NewBlock) (i : ℕ) → back < 16 → length os ≡ 16 → kid ≡ get_or os (15 - back) None
+    → HasKeys bs i (later_first f j (take (16 - back) os)) → f' (j + (15 - back)) kid ≡ f (j + (15 - back)) kid → HasKeys bs i (f' (j + (15 - back)) kid)
+keys_here f f' j back os kid bs i h n at k same =
+    subst (HasKeys bs i) (sym (same ∙ ap (f (j + (15 - back))) at)) (keys_split bs i _ _ (subst (HasKeys bs i) (later_split f j back os h n) k)).0
 
-pub keys_here : (f : ℕ → Option Part → List Key) (j back : ℕ) (os : List (Option Part)) (bs : List NewBlock) (i : ℕ) → back < 16 → length os ≡ 16
-    → HasKeys bs i (later_first f j (take (16 - back) os)) → HasKeys bs i (f (j + (15 - back)) (get_or os (15 - back) None))
-keys_here f j back os bs i h n k = (keys_split bs i _ _ (subst (HasKeys bs i) (keys_more f j back os h n) k)).0
+pub keys_rest : (f f' : ℕ → Option Part → List Key) (j back : ℕ) (os : List (Option Part)) (kid : Option Part) (bs : List NewBlock) (i to : ℕ) → back < 16 → length os ≡ 16 → kid ≡ get_or os (15 - back) None
+    → HasKeys bs i (later_first f j (take (16 - back) os)) → to ≡ i + length (f' (j + (15 - back)) kid) → f' (j + (15 - back)) kid ≡ f (j + (15 - back)) kid → HasKeys bs to (later_first f j (take (16 - (back + 1)) os))
+keys_rest f f' j back os kid bs i to h n at k passed same =
+    subst (λ x. HasKeys bs x (later_first f j (take (16 - (back + 1)) os))) (sym (passed ∙ ap (λ xs. i + length xs) (same ∙ ap (f (j + (15 - back))) at)))
+    (keys_split bs i _ _ (subst (HasKeys bs i) (later_split f j back os h n) k)).1
 
-pub keys_rest : (f : ℕ → Option Part → List Key) (j back : ℕ) (os : List (Option Part)) (bs : List NewBlock) (i : ℕ) → back < 16 → length os ≡ 16
-    → HasKeys bs i (later_first f j (take (16 - back) os)) → HasKeys bs (i + length (f (j + (15 - back)) (get_or os (15 - back) None))) (later_first f j (take (16 - (back + 1)) os))
-keys_rest f j back os bs i h n k = (keys_split bs i _ _ (subst (HasKeys bs i) (keys_more f j back os h n) k)).1
-
-pub next_back : (f : ℕ → Option Part → List Key) (j back : ℕ) (os : List (Option Part)) (at all to : ℕ) → back < 16 → length os ≡ 16
-    → at + length (later_first f j (take (16 - back) os)) ≡ all → to ≡ at + length (f (j + (15 - back)) (get_or os (15 - back) None)) → to + length (later_first f j (take (16 - (back + 1)) os)) ≡ all
-next_back f j back os at all to h n e t =
-    let m = ap length (keys_more f j back os h n) in
+pub next_back : (f f' : ℕ → Option Part → List Key) (j back : ℕ) (os : List (Option Part)) (kid : Option Part) (i all to : ℕ) → back < 16 → length os ≡ 16 → kid ≡ get_or os (15 - back) None
+    → i + length (later_first f j (take (16 - back) os)) ≡ all → to ≡ i + length (f' (j + (15 - back)) kid) → f' (j + (15 - back)) kid ≡ f (j + (15 - back)) kid → to + length (later_first f j (take (16 - (back + 1)) os)) ≡ all
+next_back f f' j back os kid i all to h n at e passed same =
+    let m = ap length (later_split f j back os h n) in
     let a = length-append (f (j + (15 - back)) (get_or os (15 - back) None)) (later_first f j (take (16 - (back + 1)) os)) in
-    omega (arith, m, a, e, t)
+    let k = ap length (same ∙ ap (f (j + (15 - back))) at) in
+    omega (arith, m, a, k, e, passed)
 
-pub parts_back : (f : ℕ → Option Part → Option Part) (j back : ℕ) (os kids : List (Option Part)) (new : Option Part) → back < 16 → length os ≡ 16 → length kids ≡ 16
-    → drop (16 - back) kids ≡ drop (16 - back) (parts f j os) → new ≡ f (j + (15 - back)) (get_or os (15 - back) None) → drop (16 - (back + 1)) (set kids (15 - back) new) ≡ drop (16 - (back + 1)) (parts f j os)
-parts_back f j back os kids new h n m e s =
+pub parts_back : {A : Type 0} (p : A → Part) (f f' : ℕ → Option Part → Option Part) (j back : ℕ) (os : List (Option Part)) (kid : Option Part) (kids : List (Option A)) (new : Option A) → back < 16 → length os ≡ 16 → kid ≡ get_or os (15 - back) None → length kids ≡ 16
+    → drop (16 - back) (map (option_map p) kids) ≡ drop (16 - back) (parts f j os) → option_map p new ≡ f' (j + (15 - back)) kid → f' (j + (15 - back)) kid ≡ f (j + (15 - back)) kid
+    → drop (16 - (back + 1)) (map (option_map p) (set kids (15 - back) new)) ≡ drop (16 - (back + 1)) (parts f j os)
+parts_back p f f' j back os kid kids new h n at m e given same =
     let now : 16 - back ≡ 15 - back + 1 = omega arith in
     let next : 15 - back ≡ 16 - (back + 1) = omega arith in
-    let step = parts_step f j (15 - back) os kids new (omega arith) (m ∙ sym n) (ap (λ k. drop k kids) (sym now) ∙ e ∙ ap (λ k. drop k (parts f j os)) now) s in
-    ap (λ k. drop k (set kids (15 - back) new)) (sym next) ∙ step ∙ ap (λ k. drop k (parts f j os)) next
-
-pub drop_past : {A : Type 0} (n : ℕ) (xs : List A) → length xs ≤ n → drop n xs ≡ []
-drop_past zero [] h = refl
-drop_past (suc n) [] h = refl
-drop_past zero (x ∷ xs) h = absurd (omega arith)
-drop_past (suc n) (x ∷ xs) h = drop_past n xs (omega arith)
+    let wide = length-map kids (option_map p) in
+    let here : option_map p new ≡ f (j + (15 - back)) (get_or os (15 - back) None) = given ∙ same ∙ ap (f (j + (15 - back))) at in
+    let step = parts_step f j (15 - back) os (map (option_map p) kids) (option_map p new) (omega arith) (wide ∙ m ∙ sym n) (ap (λ k. drop k (map (option_map p) kids)) (sym now) ∙ e ∙ ap (λ k. drop k (parts f j os)) now) here in
+    ap (drop (16 - (back + 1))) (map-set (option_map p) kids (15 - back) new)
+    ∙ ap (λ k. drop k (set (map (option_map p) kids) (15 - back) (option_map p new))) (sym next) ∙ step ∙ ap (λ k. drop k (parts f j os)) next
 
 is_same-self : (k : Key) → is_same k k ≡ true
 is_same-self k = let a = eq-eqb k.level k.level refl in let b = eq-eqb k.index k.index refl in rw (a, b) refl

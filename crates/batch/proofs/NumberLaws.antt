@@ -17,7 +17,7 @@ use Rattle.zalloc.specs.States.{is_free}
 use Rattle.zalloc.specs.Tallies.{IsTaken}
 use Rattle.batch.specs.Numbers.{numbers, frees, frees_from, is_young, young_numbers, IsAtHand}
 use Rattle.node.proofs.Options.{same_value}
-use Rattle.batch.proofs.Lists.{at_drop}
+use Rattle.batch.proofs.Lists.{at_drop, drop_past}
 
 -- one number more of those wanted
 pub take_step : (need k n : ℕ) (xs ys : List ℕ) → k < need → xs ++ take (need - k) (n ∷ ys) ≡ (xs ++ n ∷ []) ++ take (need - (k + 1)) ys
@@ -48,15 +48,9 @@ young_skip y i ds d h b =
     let s : i + 1 ≡ suc i = omega arith in
     rw (drop-cons ds i d h, t, s) refl
 
-drop_over : {A : Type 0} (n : ℕ) (xs : List A) → length xs ≤ n → drop n xs ≡ []
-drop_over zero [] h = refl
-drop_over (suc n) [] h = refl
-drop_over zero (x ∷ xs) h = absurd (omega arith)
-drop_over (suc n) (x ∷ xs) h = drop_over n xs (omega arith)
-
 pub young_over : (y i : ℕ) (ds : List Dead) → length ds ≤ i → young_numbers y (drop i ds) ≡ []
 unfolding young_numbers
-young_over y i ds h = ap (λ xs. map (λ (d : Dead). d.block.0) (filter (is_young y) xs)) (drop_over i ds h)
+young_over y i ds h = ap (λ xs. map (λ (d : Dead). d.block.0) (filter (is_young y) xs)) (drop_past i ds h)
 
 pub young_all : (y : ℕ) (ds : List Dead) → length (young_numbers y ds) ≡ count_by (is_young y) ds
 unfolding young_numbers
@@ -124,7 +118,7 @@ frees_skip states i h =
     (λ (l : i < length states).
     let n : is_free (get_or states i Allocated) ≡ false = not_free _ (λ e. h (slice_get-get_or states i Allocated l ∙ ap Some e)) in
     ap (frees i) (drop-cons states i Allocated l) ∙ (rw n (ap (λ k. frees (i + 1) (drop k states)) (sym s))))
-    (λ (l : length states ≤ i). ap (frees i) (drop_over i states l) ∙ sym (ap (frees (i + 1)) (drop_over (i + 1) states (omega arith))))
+    (λ (l : length states ≤ i). ap (frees i) (drop_past i states l) ∙ sym (ap (frees (i + 1)) (drop_past (i + 1) states (omega arith))))
     (cases_lt i (length states))
 
 frees_to : (states : List BlockState) (i n : ℕ) → IsTaken states i (i + n) → frees_from i states ≡ frees_from (i + n) states
@@ -142,7 +136,7 @@ frees_found states from b le f t =
 pub frees_none : (states : List BlockState) (from : ℕ) → ((k : ℕ) → from ≤ k → slice_get states k ≡ Some Free → ⊥) → frees_from from states ≡ []
 unfolding frees_from
 frees_none states from h =
-    frees_to states from (length states) (λ k a b. h k a) ∙ ap (frees (from + length states)) (drop_over (from + length states) states (omega arith))
+    frees_to states from (length states) (λ k a b. h k a) ∙ ap (frees (from + length states)) (drop_past (from + length states) states (omega arith))
 
 frees_append : (i : ℕ) (xs ys : List BlockState) → frees i (xs ++ ys) ≡ frees i xs ++ frees (i + length xs) ys
 frees_append i [] ys = let e : i ≡ i + 0 = omega arith in ap (λ k. frees k ys) e
@@ -298,8 +292,9 @@ pub record AreChosen (states : List BlockState) (y need : ℕ) (ds : List Dead) 
   pub at_hand : (n : ℕ) → IsIn ns n → IsAtHand states y ds n
   pub once : AreDifferent ns
 
-apart : (s : Option BlockState) → s ≡ Some Free → s ≡ Some Allocated → ⊥
-apart s a b = let e : Free ≡ Allocated = same_value Free Allocated (sym a ∙ b) in cc
+-- no number is Free and Allocated
+pub free_apart : (s : Option BlockState) → s ≡ Some Free → s ≡ Some Allocated → ⊥
+free_apart s a b = let e : Free ≡ Allocated = same_value Free Allocated (sym a ∙ b) in cc
 
 pub all_chosen : (states : List BlockState) (y need : ℕ) (ds : List Dead) (fs : List ℕ) → ((d : Dead) → IsIn ds d → slice_get states d.block.0 ≡ Some Allocated) → AreDifferent (map (λ (d : Dead). d.block.0) ds)
     → AreFree states (need - length (take need (young_numbers y ds))) fs → AreChosen states y need ds (take need (young_numbers y ds) ++ fs)
@@ -307,7 +302,7 @@ all_chosen states y need ds fs allocated once f = record {
   len = let k = length-take need (young_numbers y ds) in let m = length-append (take need (young_numbers y ds)) fs in let l = f.len in omega (arith, k, m, l);
   at_hand = λ n h. ⊎_elim (λ i. inr (young_in y n ds (in_take need _ n i))) (λ j. inl (f.free n j)) (in_append (take need (young_numbers y ds)) fs n h);
   once = different_append (take need (young_numbers y ds)) fs (different_take need _ (young_once y ds once)) f.once
-      (λ n i j. let d = young_in y n ds (in_take need _ n i) in apart (slice_get states n) (f.free n j) (ap (slice_get states) (sym d.3) ∙ allocated d.0 d.1));
+      (λ n i j. let d = young_in y n ds (in_take need _ n i) in free_apart (slice_get states n) (f.free n j) (ap (slice_get states) (sym d.3) ∙ allocated d.0 d.1));
 }
 
 pub length-numbers : (xs : List BlockNo) → length (numbers xs) ≡ length xs
@@ -367,7 +362,7 @@ filled_step cs ts i next to d k block out new all h e b a n g =
 
 pub filled_end : (cs : List Claim) (ts : List BlockNo) (i : ℕ) (out all : List NewBlock) → length cs ≤ i → out ++ filled (drop i cs) ts ≡ all → out ≡ all
 unfolding filled
-filled_end cs ts i out all h g = sym (append-nil out) ∙ ap (λ zs. out ++ filled zs ts) (sym (drop_over i cs h)) ∙ g
+filled_end cs ts i out all h g = sym (append-nil out) ∙ ap (λ zs. out ++ filled zs ts) (sym (drop_past i cs h)) ∙ g
 
 pub fresh_step : (cs : List Claim) (i : ℕ) (d : Claim) (k : Option Dead) → i < length cs → (get_or cs i d).kept ≡ k → count_by is_fresh (drop i cs) ≡ cond (not (is_some k)) 1 0 + count_by is_fresh (drop (i + 1) cs)
 fresh_step cs i d k h e =
@@ -379,6 +374,6 @@ first_here ts n d h = ap first_number (sym (drop-cons ts n d h))
 
 pub drop_one : (ts : List BlockNo) (n : ℕ) → drop (n + 1) ts ≡ drop 1 (drop n ts)
 drop_one [] zero = refl
-drop_one [] (suc n) = drop_over (suc n + 1) [] (omega arith)
+drop_one [] (suc n) = drop_past (suc n + 1) [] (omega arith)
 drop_one (t ∷ ts) zero = refl
 drop_one (t ∷ ts) (suc n) = let e : suc n + 1 ≡ suc (n + 1) = omega arith in ap (λ k. drop k (t ∷ ts)) e ∙ drop_one ts n

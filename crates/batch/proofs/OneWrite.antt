@@ -14,11 +14,11 @@ use Rattle.node.specs.Entries.{key_at}
 use Rattle.node.specs.Kid.{IsKid, places, places_of}
 use Rattle.batch.specs.Said.{Said, silent, full, said, said_by, first_said, IsOneWrite, IsWay}
 use Rattle.node.specs.Shape.{Part, Forest, forest_of}
-use Rattle.batch.specs.Touch.{any_kid, later_first, touched, stays, leaf_touched, leaf_stays, claims, released}
+use Rattle.batch.specs.Touch.{any_kid, later_first, touched, stays, leaf_touched, leaf_stays, claims, released, dropped}
 use Rattle.batch.specs.Build.{made_keys, parts, rebuilt, HasKeys}
 use Rattle.node.proofs.Digits.{high_digits, eq_not}
 use Rattle.node.proofs.Places.{AreKids, AreKids-at, kids_of, forest_of-map}
-use Rattle.batch.proofs.TouchLaws.{touched_same, silent_touched, touched_down, touched_at_leaf, stays_down, stays_at_leaf, untouched_made, untouched_claims, untouched_released, untouched_rebuilt}
+use Rattle.batch.proofs.TouchLaws.{touched_same, silent_touched, touched_down, touched_at_leaf, stays_down, stays_at_leaf, untouched_made, untouched_claims, untouched_released, untouched_dropped, untouched_rebuilt}
 use Rattle.batch.proofs.MadeLaws.{made_stays, keys_of_kids, key_of_own, rebuilt_anew}
 use Rattle.batch.proofs.Heres.{any_false}
 
@@ -161,6 +161,9 @@ module _ (s : ℕ → Said) (l g j p : ℕ) (way : IsWay s l j p) (o : Option Pa
 
   pub released_below : (y : ℕ) → later_first (released s y l) (16 * j) os ≡ released s y l (16 * j + p) (get_or os p None)
   released_below y = below (released s y l) (λ q x e. untouched_released s y l q x e)
+
+  pub dropped_below : (y : ℕ) → later_first (dropped s y l) (16 * j) os ≡ dropped s y l (16 * j + p) (get_or os p None)
+  dropped_below y = below (dropped s y l) (λ q x e. untouched_dropped s y l q x e)
 
   made_below : later_first (made_keys s l) (16 * j) os ≡ made_keys s l (16 * j + p) (get_or os p None)
   made_below = below (made_keys s l) (λ q x e. untouched_made s l q x e)

@@ -7,7 +7,7 @@ use Rattle.std.proofs.lemmas.List.Sums.{sum_by-cons}
 use Rattle.base.specs.declared.number.Key.{Key}
 use Rattle.base.specs.declared.number.Dead.{Dead}
 use Rattle.base.specs.Map.{Cell, Block}
-use Rattle.base.specs.Surveys.{IsIn, AreDifferent, dead_block}
+use Rattle.base.specs.Surveys.{IsIn, dead_block}
 use Rattle.batch.specs.declared.plan.Claim.{Claim}
 use Rattle.node.specs.Shape.{Part}
 use Rattle.batch.specs.Touch.{claim_of, let_go, own_block, young_one}
@@ -15,6 +15,7 @@ use Rattle.node.specs.Cells.{dead_of}
 use Rattle.batch.specs.Build.{is_fresh}
 use Rattle.batch.specs.Numbers.{is_young}
 use Rattle.node.proofs.Options.{same_value}
+use Rattle.batch.proofs.Falling.{Falls}
 
 pub claim_in : (t p : Bool) (k : Key) (y : ℕ) (d : Option Dead) (c : Claim) → IsIn (claim_of t p k y d) c → (t ≡ true) × (p ≡ true) × (c ≡ record { key = k; kept = young_one y d })
 claim_in true true k y d c h = ⊎_elim (λ e. (refl, refl, e)) (λ r. absurd r) h
@@ -81,19 +82,19 @@ unfolding keyed
 in_keyed k [] d h = absurd h
 in_keyed k (x ∷ ds) d h = ⊎_elim (λ s. inl (ap (λ (z : Dead). (k, z)) s)) (λ r. inr (in_keyed k ds d r)) h
 
-pub keyed_once : (k : Key) (t p : Bool) (y : ℕ) (d : Option Dead) → AreDifferent (map (λ (e : Key × Dead). e.0) (keyed k (let_go t p y d)))
+pub keyed_falls : (k : Key) (t p : Bool) (y : ℕ) (d : Option Dead) → Falls (map (λ (e : Key × Dead). e.0) (keyed k (let_go t p y d)))
 unfolding keyed
-keyed_once k t p y None = tt
-keyed_once k t p y (Some d) = one (t && not (p && nat_le y d.birth.0))
+keyed_falls k t p y None = tt
+keyed_falls k t p y (Some d) = one (t && not (p && nat_le y d.birth.0))
   where
-    one : (b : Bool) → AreDifferent (map (λ (e : Key × Dead). e.0) (map (λ d. (k, d)) (cond b (d ∷ []) [])))
-    one true = ((λ h. h), tt)
+    one : (b : Bool) → Falls (map (λ (e : Key × Dead). e.0) (map (λ d. (k, d)) (cond b (d ∷ []) [])))
+    one true = ((λ x h. absurd h), tt)
     one false = tt
 
-pub claim_once : (t p : Bool) (k : Key) (y : ℕ) (d : Option Dead) → AreDifferent (map (λ (c : Claim). c.key) (claim_of t p k y d))
-claim_once true true k y d = ((λ h. h), tt)
-claim_once true false k y d = tt
-claim_once false p k y d = tt
+pub claim_falls : (t p : Bool) (k : Key) (y : ℕ) (d : Option Dead) → Falls (map (λ (c : Claim). c.key) (claim_of t p k y d))
+claim_falls true true k y d = ((λ x h. absurd h), tt)
+claim_falls true false k y d = tt
+claim_falls false p k y d = tt
 
 -- a cell's block
 pub own_cell : (q : Option Part) (d : Dead) → own_block q ≡ Some d → (c : Cell) × (option_map (λ (p : Part). p.cell) q ≡ Some c) × (dead_of c ≡ d)

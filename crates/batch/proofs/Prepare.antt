@@ -1,7 +1,6 @@
 -- What is known of a root before a batch is drafted: the room, and how many blocks go and come.
 use Rattle.std.proofs.Common.{◌≡◌, ℕ, zero, suc, ◌+◌, ◌*◌, ◌^◌, ◌<◌, ◌≤◌, Bool, true, false, cond, List, [], ◌∷◌, length, map, Option, Some, None, refl, ap, arith, length-append}
-use Rattle.std.specs.Prelude.{slice_get, IfSome, count_by, nat_le, not, ◌&&◌}
-use Rattle.std.specs.FinMap as fin
+use Rattle.std.specs.Prelude.{slice_get, count_by, nat_le, not, ◌&&◌}
 use Rattle.std.specs.declared.sync.Arc.{Arc}
 use Rattle.std.specs.declared.alloc.Global.{Global}
 use Rattle.base.specs.declared.number.Key.{Key}
@@ -21,13 +20,15 @@ use Rattle.node.proofs.Places.{cells-cons, cells-below}
 use Rattle.node.proofs.Roots.{root_kid, root_cells}
 use Rattle.batch.specs.Build.{rebuilt, is_fresh}
 use Rattle.batch.specs.Numbers.{is_young}
-use Rattle.batch.specs.Room.{HasRoom, LacksRoom}
+use Rattle.base.specs.Counting.{counted}
+use Rattle.batch.specs.Cost.{CountsDropped}
+use Rattle.batch.specs.Room.{AreAllocated, HasRoom, LacksRoom}
 use Rattle.batch.specs.Said.{Said, said, AreSized}
-use Rattle.batch.specs.Touch.{later_first, touched, stays, claims, released, let_go, own_block}
+use Rattle.batch.specs.Touch.{later_first, touched, stays, claims, released, dropped, let_go, own_block}
 use Rattle.batch.specs.Updates.{changes_of, IsBatch}
 use Rattle.batch.specs.declared.plan.Claim.{Claim}
 use Rattle.batch.specs.declared.update.Update.{Update}
-use Rattle.batch.proofs.Batch.{IsAsked, room, no_room, released_allocated, released_once}
+use Rattle.batch.proofs.Batch.{IsAsked, counts, room, no_room, released_allocated, released_once}
 use Rattle.batch.proofs.Remade.{rebuilt_sound, rebuilt_cells}
 use Rattle.batch.proofs.Standing.{stands_of}
 use Rattle.batch.proofs.TouchLaws.{released_down, released_at_leaf}
@@ -65,7 +66,7 @@ pub record IsReady (root : Option (Arc Root Global)) (count : ℕ) (us : List Up
   pub sound : IsSoundTree root count
   pub batch : IsBatch us
   pub sized : AreSized us
-  pub allocated : (k : Key) → IfSome (fin.get (map_of (root_forest root)) k) (λ c. slice_get states c.number ≡ Some Allocated)
+  pub allocated : AreAllocated (map_of (root_forest root)) states
 
 module _ (root : Option (Arc Root Global)) (count : ℕ) (us : List Update) (y : ℕ) (states : List BlockState) (r : IsReady root count us y states) where
   abbrev m : Map
@@ -97,6 +98,9 @@ module _ (root : Option (Arc Root Global)) (count : ℕ) (us : List Update) (y :
 
   pub ready_no_room : count_by is_free states + count_by (is_young y) R < count_by is_fresh C → LacksRoom m (changes_of us) y states
   ready_no_room h = no_room m o us b y states (asked b own_kid) h
+
+  pub ready_counts : (before after : ℕ) → counted before (length (dropped s y 5 0 o)) ≤ after → CountsDropped m (changes_of us) before after
+  ready_counts before after h = counts m o us b y states (asked b own_kid) before after h
 
   pub ready_allocated : (d : Dead) → IsIn R d → slice_get states d.block.0 ≡ Some Allocated
   ready_allocated = released_allocated m o us b y states (asked b own_kid)

@@ -32,7 +32,7 @@ use Rattle.batch.proofs.SaidLaws.{covers_from}
 use Rattle.batch.proofs.TouchLaws.{touched_down, touched_at_leaf, stays_down, stays_at_leaf, untouched_stays}
 use Rattle.batch.proofs.MadeLaws.{rebuilt_down, rebuilt_at_leaf}
 use Rattle.batch.proofs.Heres.{kid_of, part_down, cell_down, part_up, down_sound, kids_at, any_split, any_present, any_false, rebuilt_kid}
-use Rattle.batch.proofs.Contents.{get-contents, leaf_key}
+use Rattle.base.proofs.Contents.{get-contents, leaf_key}
 use Rattle.batch.proofs.Words.{touches, touched_by, leaf_touch, leaf_left, leaf_after, leaf_of_keys, far_silent, said_bytes, said_hole}
 
 -- the part at a key of a root

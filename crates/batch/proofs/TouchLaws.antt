@@ -9,7 +9,7 @@ use Rattle.node.specs.Entries.{key_at}
 use Rattle.node.specs.Kid.{IsKid, places_of}
 use Rattle.node.specs.Shape.{Part}
 use Rattle.batch.specs.Said.{Said, silent, hole, full, said, IsIdle}
-use Rattle.batch.specs.Touch.{any_kid, later_first, leaf_touched, leaf_stays, touched, stays, listing, claims, released, claim_of, let_go, own_block}
+use Rattle.batch.specs.Touch.{any_kid, later_first, leaf_touched, leaf_stays, touched, stays, listing, claims, released, dropped, claim_of, let_go, own_block}
 use Rattle.batch.specs.Build.{made_keys, leaf_rebuilt, remade, rebuilt}
 use Rattle.node.proofs.Places.{kids_of}
 use Rattle.batch.proofs.KidLaws.{AgreeOn, kid_agrees, kids_same, any_step, later_step}
@@ -53,6 +53,10 @@ module _ (s t : ℕ → Said) where
   pub released_same : (y l j g : ℕ) (o : Option Part) → IsKid l g o → AgreeOn s t l j → released s y l j o ≡ released t y l j o
   released_same y = listing_same (λ l j o. let_go (touched s l j o) (stays s l j o) y (own_block o)) (λ l j o. let_go (touched t l j o) (stays t l j o) y (own_block o))
       (λ l j g o k h i. let_go (touched_same l j g o k h i) (stays_same l j g o k h i) y (own_block o))
+
+  pub dropped_same : (y l j g : ℕ) (o : Option Part) → IsKid l g o → AgreeOn s t l j → dropped s y l j o ≡ dropped t y l j o
+  dropped_same y = listing_same (λ l j o. let_go (touched s l j o) false y (own_block o)) (λ l j o. let_go (touched t l j o) false y (own_block o))
+      (λ l j g o k h i. let_go (touched_same l j g o k h i) false y (own_block o))
 
   pub made_same : (l j g : ℕ) (o : Option Part) → IsKid l g o → AgreeOn s t l j → made_keys s l j o ≡ made_keys t l j o
   made_same = listing_same (λ l j o. cond (touched s l j o && stays s l j o) (key_at l j ∷ []) []) (λ l j o. cond (touched t l j o && stays t l j o) (key_at l j ∷ []) [])
@@ -148,6 +152,9 @@ untouched_claims s y = untouched_listing s _ (λ l j o e. untouched_own (touched
 pub untouched_released : (s : ℕ → Said) (y l j : ℕ) (o : Option Part) → touched s l j o ≡ false → released s y l j o ≡ []
 untouched_released s y = untouched_listing s _ (λ l j o e. untouched_goes (touched s l j o) (stays s l j o) y (own_block o) e)
 
+pub untouched_dropped : (s : ℕ → Said) (y l j : ℕ) (o : Option Part) → touched s l j o ≡ false → dropped s y l j o ≡ []
+untouched_dropped s y = untouched_listing s _ (λ l j o e. untouched_goes (touched s l j o) false y (own_block o) e)
+
 pub untouched_made : (s : ℕ → Said) (l j : ℕ) (o : Option Part) → touched s l j o ≡ false → made_keys s l j o ≡ []
 untouched_made s = untouched_listing s _ (λ l j o e. untouched_own (touched s l j o) (stays s l j o) _ e)
 
@@ -190,20 +197,22 @@ kid_words rest mine earlier us first back span h b e after before same =
     let m = mul-le-mul_right {m = first + (15 - back)} {n = first + (16 - back)} (16 ^ h) (omega arith) in
     ((λ n low high. after n (omega arith) ∙ same n (omega arith)), (λ n l. before n (omega arith) ∙ same n (omega arith)))
 
--- a step over the places, by how many were passed
-pub any_back : (f : ℕ → Option Part → Bool) (j back : ℕ) (os : List (Option Part)) (a b all : Bool) → back < 16 → length os ≡ 16 → (a || any_kid f j (take (16 - back) os)) ≡ all → b ≡ f (j + (15 - back)) (get_or os (15 - back) None)
-    → ((a || b) || any_kid f j (take (16 - (back + 1)) os)) ≡ all
-any_back f j back os a b all h n e s =
+-- a step over the places, by how many were passed, where two batches give the same at the place
+pub any_back : (f f' : ℕ → Option Part → Bool) (j back : ℕ) (os : List (Option Part)) (kid : Option Part) (a b all : Bool) → back < 16 → length os ≡ 16 → kid ≡ get_or os (15 - back) None
+    → (a || any_kid f j (take (16 - back) os)) ≡ all → b ≡ f' (j + (15 - back)) kid → f' (j + (15 - back)) kid ≡ f (j + (15 - back)) kid → ((a || b) || any_kid f j (take (16 - (back + 1)) os)) ≡ all
+any_back f f' j back os kid a b all h n at e given same =
     let now : 15 - back + 1 ≡ 16 - back = omega arith in
     let next : 15 - back ≡ 16 - (back + 1) = omega arith in
-    ap (λ k. (a || b) || any_kid f j (take k os)) (sym next) ∙ any_step f j (15 - back) os a b all (omega arith) (ap (λ k. a || any_kid f j (take k os)) now ∙ e) s
+    ap (λ k. (a || b) || any_kid f j (take k os)) (sym next)
+    ∙ any_step f j (15 - back) os a b all (omega arith) (ap (λ k. a || any_kid f j (take k os)) now ∙ e) (given ∙ same ∙ ap (f (j + (15 - back))) at)
 
-pub later_back : {A : Type 0} (f : ℕ → Option Part → List A) (j back : ℕ) (os : List (Option Part)) (xs ys here all : List A) → back < 16 → length os ≡ 16 → xs ++ later_first f j (take (16 - back) os) ≡ all → ys ≡ xs ++ here → here ≡ f (j + (15 - back)) (get_or os (15 - back) None)
-    → ys ++ later_first f j (take (16 - (back + 1)) os) ≡ all
-later_back f j back os xs ys here all h n e y s =
+pub later_back : {A : Type 0} (f f' : ℕ → Option Part → List A) (j back : ℕ) (os : List (Option Part)) (kid : Option Part) (xs ys all : List A) → back < 16 → length os ≡ 16 → kid ≡ get_or os (15 - back) None
+    → xs ++ later_first f j (take (16 - back) os) ≡ all → ys ≡ xs ++ f' (j + (15 - back)) kid → f' (j + (15 - back)) kid ≡ f (j + (15 - back)) kid → ys ++ later_first f j (take (16 - (back + 1)) os) ≡ all
+later_back f f' j back os kid xs ys all h n at e given same =
     let now : 15 - back + 1 ≡ 16 - back = omega arith in
     let next : 15 - back ≡ 16 - (back + 1) = omega arith in
-    ap (λ k. ys ++ later_first f j (take k os)) (sym next) ∙ later_step f j (15 - back) os xs ys here all (omega arith) (ap (λ k. xs ++ later_first f j (take k os)) now ∙ e) y s
+    ap (λ k. ys ++ later_first f j (take k os)) (sym next)
+    ∙ later_step f j (15 - back) os xs ys (f' (j + (15 - back)) kid) all (omega arith) (ap (λ k. xs ++ later_first f j (take k os)) now ∙ e) given (same ∙ ap (f (j + (15 - back))) at)
 
 -- what a key itself gives
 pub own_claims : (s : ℕ → Said) (y l j level : ℕ) (o : Option Part) (t p : Bool) (d : Option Dead) → level ≡ l → t ≡ touched s l j o → p ≡ stays s l j o → d ≡ own_block o
@@ -225,6 +234,12 @@ claims_down s y l j o = listing_down _ l j o
 
 pub released_down : (s : ℕ → Said) (y l j : ℕ) (o : Option Part) → released s y (suc l) j o ≡ later_first (released s y l) (16 * j) (places_of o) ++ let_go (touched s (suc l) j o) (stays s (suc l) j o) y (own_block o)
 released_down s y l j o = listing_down _ l j o
+
+pub dropped_at_leaf : (s : ℕ → Said) (y j : ℕ) (o : Option Part) → dropped s y 0 j o ≡ let_go (touched s 0 j o) false y (own_block o)
+dropped_at_leaf s y j o = listing_at_leaf _ j o
+
+pub dropped_down : (s : ℕ → Said) (y l j : ℕ) (o : Option Part) → dropped s y (suc l) j o ≡ later_first (dropped s y l) (16 * j) (places_of o) ++ let_go (touched s (suc l) j o) false y (own_block o)
+dropped_down s y l j o = listing_down _ l j o
 
 -- a key's fate, by that of its places
 pub fate_touched : (s : ℕ → Said) (l j : ℕ) (o : Option Part) (t : Bool) → t ≡ any_kid (touched s l) (16 * j) (places_of o) → t ≡ touched s (suc l) j o

@@ -18,7 +18,7 @@ use Rattle.batch.specs.Updates.{changes_of, written, punches, first_of, past_of,
 use Rattle.node.specs.Entries.{key_at}
 use Rattle.batch.specs.Said.{Said, silent, hole, full, first_said, said, AreInOrder}
 use Rattle.batch.proofs.SaidLaws.{silent_apart, key_bound}
-use Rattle.batch.proofs.Contents.{get-contents, leaf_key}
+use Rattle.base.proofs.Contents.{get-contents, leaf_key}
 use Rattle.node.proofs.Digits.{both_ways}
 use Rattle.std.specs.Prelude.{slice_get}
 

@@ -5,4 +5,5 @@ pub mod Touch
 pub mod Build
 pub mod Numbers
 pub mod Room
+pub mod Cost
 pub mod Draft

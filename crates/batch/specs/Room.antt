@@ -1,12 +1,19 @@
 -- What becomes of the numbers of touched keys, and when there is room for the new ones.
-use Rattle.std.specs.Prelude.{◌≡◌, ◌+◌, ◌<◌, ◌≤◌, ℕ, true, List, Some, length, count_by, nat_le}
+use Rattle.std.specs.Prelude.{◌≡◌, ◌+◌, ◌<◌, ◌≤◌, ◌⊎◌, ℕ, true, List, Some, IfSome, length, count_by, nat_le, slice_get}
 use Rattle.std.specs.FinMap.{get}
 use Rattle.base.specs.declared.number.Key.{Key}
+use Rattle.base.specs.declared.refusal.Refusal.{Refusal}
+use Rattle.base.specs.declared.refusal.Refusal.TheVariants.{NoSpace, NoMemory}
 use Rattle.base.specs.Map.{Map, Cell, Block, block_of}
 use Rattle.base.specs.Rewrite.{Changes, is_touched}
 use Rattle.base.specs.Surveys.{IsMadeKey, IsSurvey}
 use Rattle.zalloc.specs.declared.BlockState.{BlockState}
+use Rattle.zalloc.specs.declared.BlockState.TheVariants.{Allocated}
 use Rattle.zalloc.specs.States.{is_free}
+
+-- the number of each block of a map is Allocated (profile)
+abbrev pub AreAllocated : Map → List BlockState → Type 0
+AreAllocated m states = (k : Key) → IfSome (get m k) (λ c. slice_get states c.number ≡ Some Allocated)
 
 -- a touched key that keeps its number: it is there before and after, and its block was born from the group `young` on (profile)
 pub record IsKept (m : Map) (c : Changes) (young : ℕ) (k : Key) : Type 0 where
@@ -41,3 +48,7 @@ pub record LacksRoom (m : Map) (c : Changes) (young : ℕ) (states : List BlockS
   pub made : List Key
   pub survey : IsSurvey m c dropped made
   pub short : count_by is_free states + young_count young dropped < length made
+
+-- there are too few numbers, or there is no memory (profile)
+abbrev pub IsNoSpaceOrNoMemory : Refusal → Type 0
+IsNoSpaceOrNoMemory e = (e ≡ NoSpace) ⊎ (e ≡ NoMemory)

@@ -75,3 +75,7 @@ claims s y = listing (λ l j o. claim_of (touched s l j o) (stays s l j o) (key_
 -- the blocks that are let go (profile)
 abbrev pub released : (ℕ → Said) → ℕ → ℕ → ℕ → Option Part → List Dead
 released s y = listing (λ l j o. let_go (touched s l j o) (stays s l j o) y (own_block o))
+
+-- the blocks that the touched keys had, also those that stay in place (profile)
+abbrev pub dropped : (ℕ → Said) → ℕ → ℕ → ℕ → Option Part → List Dead
+dropped s y = listing (λ l j o. let_go (touched s l j o) false y (own_block o))

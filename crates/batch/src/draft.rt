@@ -1,18 +1,16 @@
 //! What a change is to make, before any node of it is made.
-ghost use Rattle.std.specs.Prelude.{◌≡◌, ◌⊎◌, Some, IfOk, IfErr, IfSome, OnOk, OnErr, slice_get};
-ghost use Rattle.std.specs.FinMap.{get};
-ghost use Rattle.std.specs.Option.{option_map};
-ghost use Rattle.base.specs.declared.number.Key.{Key};
+ghost use Rattle.std.specs.Prelude.{◌≡◌, ◌≤◌, IfOk, IfErr, OnOk, OnErr, length};
+ghost use Rattle.base.specs.Counting.{counted};
 ghost use Rattle.base.specs.declared.refusal.Refusal.{Refusal};
-ghost use Rattle.zalloc.specs.declared.BlockState.TheVariants.{Allocated};
-ghost use Rattle.batch.specs.Room.{HasRoom, LacksRoom};
+ghost use Rattle.batch.specs.Cost.{CountsDropped};
+ghost use Rattle.batch.specs.Room.{AreAllocated, HasRoom, LacksRoom, IsNoSpaceOrNoMemory};
 ghost use Rattle.batch.specs.Draft.{IsDraft};
 ghost use Rattle.node.specs.Entries.{map_of};
-ghost use Rattle.node.specs.Kid.{IsKid, birth_of};
-ghost use Rattle.node.specs.Node.{root_part, root_forest, whole};
+ghost use Rattle.node.specs.Kid.{IsSoundKid};
+ghost use Rattle.node.specs.Node.{root_part, root_forest, whole, part_of_node};
 ghost use Rattle.batch.specs.Said.{said, AreInOrder};
 ghost use Rattle.node.specs.Sound.{IsSoundTree};
-ghost use Rattle.batch.specs.Touch.{claims, released};
+ghost use Rattle.batch.specs.Touch.{claims, released, dropped};
 ghost use Rattle.batch.specs.Updates.{changes_of, IsBatch};
 
 use crate::numbers::{NewBlock, choose, fill, fresh_count};
@@ -38,7 +36,7 @@ pub struct Draft {
 
 /// The root, if there is one.
 fn root_of(root: &Option<Arc<Root>>) -> Option<&Root>
-    ensures { option_map (λ n. root_part n.now) result ≡ whole root.now }
+    ensures { part_of_node root_part result ≡ whole root.now }
 {
     match root {
         Some(a) => Some(&**a),
@@ -56,9 +54,11 @@ fn plan_of(
     meter: &mut Meter,
 ) -> Result<Plan, Refusal>
     requires order { AreInOrder updates.now }
-    requires sound { IsKid 5 (birth_of (whole root.now)) (whole root.now) }
+    requires sound { IsSoundKid 5 (whole root.now) }
     ensures claims { IfOk result (λ p. p.claims.items ≡ claims (said updates.now) young.0 5 0 (whole root.now)) }
     ensures released { IfOk result (λ p. p.released.items ≡ released (said updates.now) young.0 5 0 (whole root.now)) }
+    ensures metered { OnOk result (counted meter.old (length (dropped (said updates.now) young.0 5 0 (whole root.now))) ≤ meter.new) }
+    ensures never_lower { meter.old ≤ meter.new }
     ensures err { OnErr result (result ≡ Err Refusal.NoMemory) }
 {
     let mut plan = Plan {
@@ -70,7 +70,7 @@ fn plan_of(
 }
 
 /// The draft of a batch on a root with so many blocks. NoSpace where the numbers are fewer than the new blocks, NoMemory where
-/// there is no memory.
+/// there is no memory. The meter rises by at least one for each block that goes; at `Err` it is at least never lower.
 pub fn draft_of(
     alloc: Global,
     root: &Option<Arc<Root>>,
@@ -82,11 +82,13 @@ pub fn draft_of(
 ) -> Result<Draft, Refusal>
     requires sound { IsSoundTree root.now count }
     requires batch { IsBatch updates.now }
-    requires allocated { (k : Key) → IfSome (get (map_of (root_forest root.now)) k) (λ c. slice_get allocator.now c.number ≡ Some Allocated) }
+    requires allocated { AreAllocated (map_of (root_forest root.now)) allocator.now }
     ensures ok { IfOk result (IsDraft (whole root.now) updates.now young.0 allocator.now) }
     ensures room { OnOk result (HasRoom (map_of (root_forest root.now)) (changes_of updates.now) young.0 allocator.now) }
     ensures no_space { result ≡ Err Refusal.NoSpace → LacksRoom (map_of (root_forest root.now)) (changes_of updates.now) young.0 allocator.now }
-    ensures only { IfErr result (λ e. (e ≡ Refusal.NoSpace) ⊎ (e ≡ Refusal.NoMemory)) }
+    ensures only { IfErr result IsNoSpaceOrNoMemory }
+    ensures metered { OnOk result (CountsDropped (map_of (root_forest root.now)) (changes_of updates.now) meter.old meter.new) }
+    ensures never_lower { meter.old ≤ meter.new }
 {
     let room = write_count(updates).saturating_add(5);
     let plan = plan_of(alloc, root, updates, room, young, meter)?;

@@ -1,8 +1,9 @@
 //! The numbers of new blocks.
-ghost use Rattle.std.specs.Prelude.{◌≡◌, ℕ, ◌+◌, ◌-◌, ◌<◌, ◌≤◌, ◌++◌, IfOk, IfErr, OnOk, OnErr, length, map, filter, take, slice_get, count_by, Some, ◌⊎◌};
+ghost use Rattle.std.specs.Prelude.{◌≡◌, ℕ, ◌+◌, ◌-◌, ◌<◌, ◌≤◌, ◌++◌, IfOk, IfErr, OnOk, OnErr, length, map, filter, take, slice_get, count_by, Some};
 ghost use Rattle.base.specs.Surveys.{IsIn, AreDifferent};
 ghost use Rattle.base.specs.declared.refusal.Refusal.{Refusal};
 ghost use Rattle.batch.specs.Build.{is_fresh, filled};
+ghost use Rattle.batch.specs.Room.{IsNoSpaceOrNoMemory};
 ghost use Rattle.batch.specs.Numbers.{numbers, frees_from, is_young, young_numbers, IsAtHand};
 ghost use Rattle.zalloc.specs.States.{is_free};
 ghost use Rattle.zalloc.specs.declared.BlockState.TheVariants.{Free, Allocated};
@@ -86,7 +87,7 @@ pub fn choose(
     ensures once { IfOk result (λ v. AreDifferent (numbers v.items)) }
     ensures room { OnOk result (need ≤ count_by is_free allocator.now + count_by (is_young young.0) released.now) }
     ensures no_space { result ≡ Err Refusal.NoSpace → count_by is_free allocator.now + count_by (is_young young.0) released.now < need }
-    ensures only { IfErr result (λ e. (e ≡ Refusal.NoSpace) ⊎ (e ≡ Refusal.NoMemory)) }
+    ensures only { IfErr result IsNoSpaceOrNoMemory }
 {
     let mut out = Vec::with_capacity(alloc, need)?;
     reuse(released, young, need, &mut out)?;

@@ -1,11 +1,11 @@
 //! What a batch of changes does to a tree, before any of it is made.
-ghost use Rattle.std.specs.Prelude.{◌≡◌, suc, ◌+◌, ◌-◌, ◌*◌, ◌^◌, ◌<◌, ◌≤◌, ◌++◌, IfOk, OnOk, OnErr, Option, Some, None, slice_index_or, length, is_some, cond};
-ghost use Rattle.std.specs.Option.{option_map};
+ghost use Rattle.std.specs.Prelude.{◌≡◌, suc, ◌+◌, ◌-◌, ◌*◌, ◌^◌, ◌<◌, ◌≤◌, ◌++◌, IfOk, OnOk, OnErr, Option, Some, None, slice_index_or, length, is_some, cond, if◌then◌else◌};
+ghost use Rattle.base.specs.Counting.{counted};
 ghost use Rattle.base.specs.declared.refusal.Refusal.{Refusal};
-ghost use Rattle.node.specs.Kid.{IsKid, birth_of, places_of};
-ghost use Rattle.node.specs.Node.{inner_part, leaf_part};
+ghost use Rattle.node.specs.Kid.{IsSoundKid, places_of};
+ghost use Rattle.node.specs.Node.{inner_part, leaf_part, part_of_node};
 ghost use Rattle.batch.specs.Said.{said, AreInOrder};
-ghost use Rattle.batch.specs.Touch.{any_kid, later_first, touched, stays, claims, released, claim_of, let_go, own_block, young_one};
+ghost use Rattle.batch.specs.Touch.{any_kid, later_first, touched, stays, claims, released, dropped, claim_of, let_go, own_block, young_one};
 
 use crate::update::{Update, Word, is_idle, split_at_leaf, way_of, word_of};
 use base::meter::Meter;
@@ -78,12 +78,19 @@ fn close(
     Ok(())
 }
 
-/// The block of a part that may be absent.
-fn block_of<C: Level>(old: Option<&C>) -> Option<Dead>
-    ensures { result ≡ own_block (option_map (λ n. C.part n.now) old.entry) }
+/// The block of a part that may be absent. A node that is there is counted.
+#[tactic(auto, unfolding(base::specs::Counting::counted, base::specs::Counting::most))]
+fn block_of<C: Level>(old: Option<&C>, meter: &mut Meter) -> Option<Dead>
+    ensures block { result ≡ own_block (part_of_node C.part old.entry) }
+    ensures metered { meter.new ≡ counted meter.old (if is_some old.entry then 1 else 0) }
+    ensures never_lower { meter.old ≤ meter.new }
 {
+    let _reached = meter.count();
     match old {
-        Some(node) => Some(node.block()),
+        Some(node) => {
+            meter.add_one();
+            Some(node.block())
+        }
         None => None,
     }
 }
@@ -91,7 +98,7 @@ fn block_of<C: Level>(old: Option<&C>) -> Option<Dead>
 /// What stands at a place of a part that may be absent.
 fn kid_at<C: Level>(old: Option<&Inner<C>>, place: usize) -> Option<&C>
     requires { place < 16 }
-    ensures { option_map (λ k. C.part k.now) result ≡ slice_index_or (places_of (option_map (λ n. inner_part C.part n.now) old.entry)) place None }
+    ensures { part_of_node C.part result ≡ slice_index_or (places_of (part_of_node (inner_part C.part) old.entry)) place None }
 {
     match old {
         Some(node) => node.kid(place),
@@ -102,7 +109,7 @@ fn kid_at<C: Level>(old: Option<&Inner<C>>, place: usize) -> Option<&C>
 /// How many places a part has, also one that is absent.
 fn place_count<C: Level>(old: Option<&Inner<C>>) -> u32
     ensures sixteen { result ≡ 16 }
-    ensures all { length (places_of (option_map (λ n. inner_part C.part n.now) old.entry)) ≡ 16 }
+    ensures all { length (places_of (part_of_node (inner_part C.part) old.entry)) ≡ 16 }
 {
     match old {
         Some(node) => node.place_count(),
@@ -110,16 +117,10 @@ fn place_count<C: Level>(old: Option<&Inner<C>>) -> u32
     }
 }
 
-/// Counts a node that is there.
-fn count<C>(old: Option<&C>, meter: &mut Meter) {
-    if old.is_some() {
-        meter.add_one();
-    }
-}
-
 /// A level whose parts can be surveyed.
 pub trait Survey: Level {
-    /// Adds to a plan what a batch does to the part with an index among those of its level.
+    /// Adds to a plan what a batch does to the part with an index among those of its level. The meter rises by at least one for
+    /// each block whose key is touched.
     fn survey(
         old: Option<&Self>,
         level: u8,
@@ -133,19 +134,21 @@ pub trait Survey: Level {
         requires within { (index + 1) * 16 ^ level ≤ 1048576 }
         requires low { level ≤ 5 }
         requires order { AreInOrder updates.now }
-        requires sound { IsKid Self.height (birth_of (option_map (λ n. Self.part n.now) old)) (option_map (λ n. Self.part n.now) old) }
-        ensures touched { IfOk result (λ f. f.touched ≡ touched (said updates.now) Self.height index (option_map (λ n. Self.part n.now) old.entry)) }
-        ensures stays { IfOk result (λ f. f.stays ≡ stays (said updates.now) Self.height index (option_map (λ n. Self.part n.now) old.entry)) }
-        ensures claims { OnOk result (plan.new.claims.items ≡ plan.old.claims.items ++ claims (said updates.now) young.0 Self.height index (option_map (λ n. Self.part n.now) old.entry)) }
-        ensures released { OnOk result (plan.new.released.items ≡ plan.old.released.items ++ released (said updates.now) young.0 Self.height index (option_map (λ n. Self.part n.now) old.entry)) }
+        requires sound { IsSoundKid Self.height (part_of_node Self.part old) }
+        ensures touched { IfOk result (λ f. f.touched ≡ touched (said updates.now) Self.height index (part_of_node Self.part old.entry)) }
+        ensures stays { IfOk result (λ f. f.stays ≡ stays (said updates.now) Self.height index (part_of_node Self.part old.entry)) }
+        ensures claims { OnOk result (plan.new.claims.items ≡ plan.old.claims.items ++ claims (said updates.now) young.0 Self.height index (part_of_node Self.part old.entry)) }
+        ensures released { OnOk result (plan.new.released.items ≡ plan.old.released.items ++ released (said updates.now) young.0 Self.height index (part_of_node Self.part old.entry)) }
+        ensures metered { OnOk result (counted meter.old (length (dropped (said updates.now) young.0 Self.height index (part_of_node Self.part old.entry))) ≤ meter.new) }
+        ensures never_lower { meter.old ≤ meter.new }
         ensures err { OnErr result (result ≡ Err Refusal.NoMemory) };
 }
 
 /// What becomes of a leaf.
 fn leaf_fate(old: Option<&Leaf>, index: u32, updates: &[Update]) -> Fate
     requires { AreInOrder updates.now }
-    ensures touched { result.touched ≡ touched (said updates.now) 0 index (option_map (λ n. leaf_part n.now) old.entry) }
-    ensures stays { result.stays ≡ stays (said updates.now) 0 index (option_map (λ n. leaf_part n.now) old.entry) }
+    ensures touched { result.touched ≡ touched (said updates.now) 0 index (part_of_node leaf_part old.entry) }
+    ensures stays { result.stays ≡ stays (said updates.now) 0 index (part_of_node leaf_part old.entry) }
 {
     let present = old.is_some();
     match word_of(updates, index) {
@@ -195,9 +198,9 @@ impl Survey for Leaf {
                 stays: present,
             });
         }
-        count(old, meter);
+        let own = block_of(old, meter);
         let fate = leaf_fate(old, index, updates);
-        close(block_of(old), Key { level, index }, fate, young, plan)?;
+        close(own, Key { level, index }, fate, young, plan)?;
         Ok(fate)
     }
 }
@@ -217,11 +220,13 @@ fn survey_kids<C: Survey>(
     requires within { (first + 16) * 16 ^ level ≤ 1048576 }
     requires low { level ≤ 5 }
     requires order { AreInOrder updates.now }
-    requires sound { IsKid (suc C.height) (birth_of (option_map (λ n. inner_part C.part n.now) old)) (option_map (λ n. inner_part C.part n.now) old) }
-    ensures touched { IfOk result (λ f. f.touched ≡ any_kid (touched (said updates.now) C.height) first (places_of (option_map (λ n. inner_part C.part n.now) old.entry))) }
-    ensures stays { IfOk result (λ f. f.stays ≡ any_kid (stays (said updates.now) C.height) first (places_of (option_map (λ n. inner_part C.part n.now) old.entry))) }
-    ensures claims { OnOk result (plan.new.claims.items ≡ plan.old.claims.items ++ later_first (claims (said updates.now) young.0 C.height) first (places_of (option_map (λ n. inner_part C.part n.now) old.entry))) }
-    ensures released { OnOk result (plan.new.released.items ≡ plan.old.released.items ++ later_first (released (said updates.now) young.0 C.height) first (places_of (option_map (λ n. inner_part C.part n.now) old.entry))) }
+    requires sound { IsSoundKid (suc C.height) (part_of_node (inner_part C.part) old) }
+    ensures touched { IfOk result (λ f. f.touched ≡ any_kid (touched (said updates.now) C.height) first (places_of (part_of_node (inner_part C.part) old.entry))) }
+    ensures stays { IfOk result (λ f. f.stays ≡ any_kid (stays (said updates.now) C.height) first (places_of (part_of_node (inner_part C.part) old.entry))) }
+    ensures claims { OnOk result (plan.new.claims.items ≡ plan.old.claims.items ++ later_first (claims (said updates.now) young.0 C.height) first (places_of (part_of_node (inner_part C.part) old.entry))) }
+    ensures released { OnOk result (plan.new.released.items ≡ plan.old.released.items ++ later_first (released (said updates.now) young.0 C.height) first (places_of (part_of_node (inner_part C.part) old.entry))) }
+    ensures metered { OnOk result (counted meter.old (length (later_first (dropped (said updates.now) young.0 C.height) first (places_of (part_of_node (inner_part C.part) old.entry)))) ≤ meter.new) }
+    ensures never_lower { meter.old ≤ meter.new }
     ensures err { OnErr result (result ≡ Err Refusal.NoMemory) }
 {
     let mut touched = false;
@@ -255,11 +260,13 @@ fn survey_below<C: Survey>(
     requires within { (index + 1) * 16 ^ level ≤ 1048576 }
     requires low { level ≤ 5 }
     requires order { AreInOrder updates.now }
-    requires sound { IsKid (suc C.height) (birth_of (option_map (λ n. inner_part C.part n.now) old)) (option_map (λ n. inner_part C.part n.now) old) }
-    ensures touched { IfOk result (λ f. f.touched ≡ any_kid (touched (said updates.now) C.height) (16 * index) (places_of (option_map (λ n. inner_part C.part n.now) old.entry))) }
-    ensures stays { IfOk result (λ f. f.stays ≡ any_kid (stays (said updates.now) C.height) (16 * index) (places_of (option_map (λ n. inner_part C.part n.now) old.entry))) }
-    ensures claims { OnOk result (plan.new.claims.items ≡ plan.old.claims.items ++ later_first (claims (said updates.now) young.0 C.height) (16 * index) (places_of (option_map (λ n. inner_part C.part n.now) old.entry))) }
-    ensures released { OnOk result (plan.new.released.items ≡ plan.old.released.items ++ later_first (released (said updates.now) young.0 C.height) (16 * index) (places_of (option_map (λ n. inner_part C.part n.now) old.entry))) }
+    requires sound { IsSoundKid (suc C.height) (part_of_node (inner_part C.part) old) }
+    ensures touched { IfOk result (λ f. f.touched ≡ any_kid (touched (said updates.now) C.height) (16 * index) (places_of (part_of_node (inner_part C.part) old.entry))) }
+    ensures stays { IfOk result (λ f. f.stays ≡ any_kid (stays (said updates.now) C.height) (16 * index) (places_of (part_of_node (inner_part C.part) old.entry))) }
+    ensures claims { OnOk result (plan.new.claims.items ≡ plan.old.claims.items ++ later_first (claims (said updates.now) young.0 C.height) (16 * index) (places_of (part_of_node (inner_part C.part) old.entry))) }
+    ensures released { OnOk result (plan.new.released.items ≡ plan.old.released.items ++ later_first (released (said updates.now) young.0 C.height) (16 * index) (places_of (part_of_node (inner_part C.part) old.entry))) }
+    ensures metered { OnOk result (counted meter.old (length (later_first (dropped (said updates.now) young.0 C.height) (16 * index) (places_of (part_of_node (inner_part C.part) old.entry)))) ≤ meter.new) }
+    ensures never_lower { meter.old ≤ meter.new }
     ensures err { OnErr result (result ≡ Err Refusal.NoMemory) }
 {
     let first = 16 * index;
@@ -289,10 +296,10 @@ impl<C: Survey> Survey for Inner<C> {
                 stays: present,
             });
         }
-        count(old, meter);
+        let own = block_of(old, meter);
         let below = survey_below(old, level, index, updates, young, plan, meter)?;
         let fate = fate_above(below, present);
-        close(block_of(old), Key { level, index }, fate, young, plan)?;
+        close(own, Key { level, index }, fate, young, plan)?;
         Ok(fate)
     }
 }

@@ -1,5 +1,5 @@
 //! The dead list of a dataset.
-ghost use Rattle.std.specs.Prelude.{◌≡◌, ◌+◌, ◌≤◌, ◌<◌, ◌++◌, ◌∷◌, [], length, filter, map, OnOk, OnErr, IfOk, IfErr, IsOk, MatchResult, nat_le, nat_lt, ◌==◌, if◌then◌else◌, true, false};
+ghost use Rattle.std.specs.Prelude.{◌≡◌, ◌+◌, ◌^◌, ◌≤◌, ◌<◌, ◌++◌, ◌∷◌, ◌⊎◌, [], length, filter, OnOk, OnErr, IfOk, IfErr, IsOk, nat_le, nat_lt, ◌==◌, if◌then◌else◌, true, false};
 ghost use Rattle.std.specs.List.{list_any};
 ghost use Rattle.std.specs.List.Sorted.{IsPermutation, IsStrictlyIncreasing};
 ghost use Rattle.base.specs.Counting.{counted};
@@ -16,7 +16,6 @@ use base::number::{Dead, Group};
 use base::refusal::Refusal;
 use std::alloc::{AllocError, Global};
 use std::marker::Model;
-use std::mem;
 
 /// How many new entries a list takes before it sorts them into their segments, at least.
 const FEW: usize = 64;
@@ -68,12 +67,15 @@ impl Deadlist {
         }
     }
 
-    /// An equal list. It costs the segments, and not their entries. 25 where memory is refused.
-    pub fn copy(&self) -> Result<Deadlist, Refusal>
+    /// An equal list. It costs the segments, and not their entries; the meter counts them all, also at an error. NoMemory where memory
+    /// is refused.
+    pub fn copy(&self, meter: &mut SegMeter) -> Result<Deadlist, Refusal>
         ensures entries { IfOk result (λ d. d.entries ≡ self.now.entries) }
         ensures cuts { IfOk result (λ d. d.cuts ≡ self.now.cuts) }
         ensures err { IfErr result (λ e. e ≡ NoMemory) }
+        ensures meter { meter.new ≡ counted meter.old (length self.now.cuts + 1) }
     {
+        reach(meter, self.segments());
         let parts = self.parts.copy(self.alloc)?;
         let fresh = Vec::from_slice(self.alloc, self.fresh.as_slice())?;
         Ok(Deadlist {
@@ -86,22 +88,40 @@ impl Deadlist {
     }
 
     /// Makes room for that many pushes, until another call that changes the list. Once about as many entries were put in as the list
-    /// has segments and full chunks, it also sorts these in, each by a binary search over the cuts. 25 where memory is refused, and
-    /// then nothing is changed.
-    pub fn reserve(&mut self, n: usize) -> Result<(), Refusal>
+    /// has segments and full chunks, it also sorts these in, each by a binary search over the cuts, and the meter counts all segments.
+    /// NoMemory where memory is refused, and then nothing is changed.
+    pub fn reserve(&mut self, n: usize, meter: &mut SegMeter) -> Result<(), Refusal>
         ensures entries { IsPermutation self.old.entries self.new.entries }
         ensures cuts { self.new.cuts ≡ self.old.cuts }
         ensures room { OnOk result (n ≤ self.new.room) }
         ensures unchanged { OnErr result (self.new ≡ self.old) }
         ensures err { IfErr result (λ e. e ≡ NoMemory) }
+
+        // It reaches no segment, and the entries stand as they stood, or it reaches all.
+        ensures meter { ((meter.new ≡ meter.old) × (self.new.entries ≡ self.old.entries))
+            ⊎ (meter.new ≡ counted meter.old (length self.old.cuts + 1)) }
     {
         if n as u64 > u64::MAX - self.count {
             return Err(Refusal::NoMemory);
         }
-        if self.fresh.len() < self.limit.max(self.parts.closed.len()) {
+        let segments = self.segments();
+        if self.fresh.len() < self.limit.max(segments) {
             self.fresh.reserve(n)?;
             return Ok(());
         }
+        reach(meter, segments);
+        self.sort(n)?;
+        Ok(())
+    }
+
+    // Sorts the new entries into their segments, and makes room for that many pushes.
+    fn sort(&mut self, n: usize) -> Result<(), AllocError>
+        requires { n + length self.old.entries < 2 ^ 64 }
+        ensures entries { IsPermutation self.old.entries self.new.entries }
+        ensures cuts { self.new.cuts ≡ self.old.cuts }
+        ensures room { OnOk result (n ≤ self.new.room) }
+        ensures unchanged { OnErr result (self.new ≡ self.old) }
+    {
         let sorted = self.parts.sorted(self.alloc, self.fresh.as_slice())?;
         self.fresh.reserve(n)?;
         self.fresh.clear();
@@ -122,7 +142,7 @@ impl Deadlist {
     }
 
     /// Adds the other's entries and cuts: whole segments where the cuts agree, and its new entries by a binary search each. The meter
-    /// counts the segments of both. 25 where memory is refused, and then the other is handed back, and both are unchanged.
+    /// counts the segments of both. NoMemory where memory is refused, and then the other is handed back, and both are unchanged.
     pub fn append(
         &mut self,
         other: Deadlist,
@@ -164,7 +184,7 @@ impl Deadlist {
     }
 
     /// Takes out the entries born after the cut, and keeps the others; each list has the cuts on its side. The meter counts the
-    /// segments that end after the cut. 25 where memory is refused, and then nothing is changed.
+    /// segments that end after the cut. NoMemory where memory is refused, and then nothing is changed.
     pub fn take_after(&mut self, cut: Group, meter: &mut SegMeter) -> Result<Deadlist, Refusal>
         ensures kept { OnOk result (self.new.entries ≡ filter (is_upto cut.0) self.old.entries) }
         ensures kept_cuts { OnOk result (self.new.cuts ≡ filter (λ c. nat_le c cut.0) self.old.cuts) }
@@ -211,10 +231,13 @@ impl Deadlist {
         self.parts.sum_upto(cut.0, meter) + (fresh.len() as u64 - count_in(fresh, cut.0))
     }
 
-    /// The entries, segment by segment, and then those that no `reserve` has sorted in yet.
-    pub fn iter(&self) -> Iter<'_>
-        ensures { left result ≡ self.now.entries }
+    /// The entries, segment by segment, and then those that no `reserve` has sorted in yet. The meter counts all segments at once,
+    /// however many of the entries are then asked for.
+    pub fn iter(&self, meter: &mut SegMeter) -> Iter<'_>
+        ensures entries { left result ≡ self.now.entries }
+        ensures meter { meter.new ≡ counted meter.old (length self.now.cuts + 1) }
     {
+        reach(meter, self.segments());
         Iter::new(&self.parts, self.fresh.as_slice())
     }
 
@@ -226,8 +249,8 @@ impl Deadlist {
         self.parts.closed.len() + 1
     }
 
-    /// Sets a cut, where it doesn't stand; the meter then counts the segment that it divides, whose entries are gone through. 25 where
-    /// memory is refused, and then nothing is changed. Where the cut stands it takes no memory.
+    /// Sets a cut, where it doesn't stand; the meter then counts the segment that it divides, whose entries are gone through. NoMemory
+    /// where memory is refused, and then nothing is changed. Where the cut stands it takes no memory.
     pub fn cut(&mut self, group: Group, meter: &mut SegMeter) -> Result<(), Refusal>
         ensures entries { IsPermutation self.old.entries self.new.entries }
         ensures cuts { OnOk result (self.new.cuts ≡ with_cut group.0 self.old.cuts) }
@@ -247,8 +270,8 @@ impl Deadlist {
         Ok(())
     }
 
-    /// Removes a cut, where it stands; the meter then counts the two segments that become one. 25 where memory is refused, and then
-    /// nothing is changed. Where the cut doesn't stand it takes no memory.
+    /// Removes a cut, where it stands; the meter then counts the two segments that become one. NoMemory where memory is refused, and
+    /// then nothing is changed. Where the cut doesn't stand it takes no memory.
     pub fn join(&mut self, group: Group, meter: &mut SegMeter) -> Result<(), Refusal>
         ensures entries { self.new.entries ≡ self.old.entries }
         ensures cuts { OnOk result (self.new.cuts ≡ without_cut group.0 self.old.cuts) }

@@ -1,5 +1,5 @@
 //! The entries of a dead list, one after the other.
-ghost use Rattle.std.specs.Prelude.{◌≡◌, ◌+◌, ◌<◌, ◌++◌, ◌∷◌, [], List, Option, None, Some, length, IsTrue, MatchOption, false};
+ghost use Rattle.std.specs.Prelude.{◌≡◌, ◌+◌, ◌<◌, ◌++◌, ◌∷◌, [], Option, None, Some, IsTrue, MatchOption, false};
 ghost use Rattle.base.specs.declared.number.Dead.{Dead};
 ghost use Rattle.deadlist.specs.Segments.{entries_of};
 ghost use Rattle.deadlist.specs.Left.{left, left_here, left_beyond, unopened};

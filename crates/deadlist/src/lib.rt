@@ -7,5 +7,3 @@ mod merge;
 mod parts;
 mod pile;
 mod sums;
-#[cfg(test)]
-mod tests;

@@ -1,8 +1,8 @@
 //! Entries put into the segments that they lie in, one by one or a whole segment at a time.
-ghost use Rattle.std.specs.Prelude.{◌≡◌, ◌+◌, ◌≤◌, ◌<◌, ◌++◌, ◌∷◌, [], List, length, OnOk, OnErr, IfOk, IsTrue};
+ghost use Rattle.std.specs.Prelude.{◌≡◌, ◌+◌, ◌<◌, ◌++◌, List, OnOk, IfOk, IsTrue};
 ghost use Rattle.std.specs.List.Sorted.{IsPermutation};
 ghost use Rattle.base.specs.declared.number.Dead.{Dead};
-ghost use Rattle.deadlist.specs.Segments.{IsCut, AreBornFrom, AreBornByIf, FitsAt, entries_of, cuts_of, begun, with_cuts, pile_at, with_pile, last_with};
+ghost use Rattle.deadlist.specs.Segments.{IsCut, AreBornFrom, AreBornByIf, FitsAt, entries_of, cuts_of, with_cuts, pile_at, with_pile, last_with};
 
 use crate::parts::Parts;
 use crate::pile::Pile;

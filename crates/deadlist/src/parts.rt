@@ -1,5 +1,5 @@
 //! Segments of a dead list.
-ghost use Rattle.std.specs.Prelude.{◌≡◌, ◌+◌, ◌≤◌, ◌<◌, ◌++◌, ◌∷◌, [], length, filter, OnOk, OnErr, IfOk, IsOk, vec_len, nat_le, nat_lt, true, false};
+ghost use Rattle.std.specs.Prelude.{◌≡◌, ◌+◌, ◌<◌, ◌++◌, ◌∷◌, [], filter, OnOk, OnErr, IfOk, IsOk, nat_le, nat_lt, true, false};
 ghost use Rattle.std.specs.List.Sorted.{IsPermutation};
 ghost use Rattle.deadlist.specs.Entries.{is_after, is_upto};
 ghost use Rattle.deadlist.specs.Segments.{IsCut, entries_of, cuts_of, ended, begun, has_cut, with_cut, without_cut, pile_at, with_pile, last_with};

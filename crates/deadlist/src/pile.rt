@@ -1,5 +1,5 @@
 //! The entries of one segment.
-ghost use Rattle.std.specs.Prelude.{◌≡◌, ◌++◌, ◌∷◌, [], length, filter, OnOk, OnErr, IfOk};
+ghost use Rattle.std.specs.Prelude.{◌≡◌, ◌≤◌, ◌++◌, ◌∷◌, [], length, filter, OnOk, OnErr, IfOk};
 ghost use Rattle.deadlist.specs.Entries.{is_after, is_upto, chunk_entries};
 
 use base::number::Dead;
@@ -214,7 +214,8 @@ fn deal(
 
 /// How many of the entries were born after the cut.
 pub fn count_in(entries: &[Dead], cut: u64) -> u64
-    ensures { result ≡ length (filter (is_after cut) entries.now) }
+    ensures count { result ≡ length (filter (is_after cut) entries.now) }
+    ensures few { result ≤ length entries.now }
 {
     let mut count = 0;
     for dead in entries {

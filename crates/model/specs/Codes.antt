@@ -4,35 +4,13 @@ use Rattle.std.specs.Ordering.{nat_cmp}
 use Rattle.std.proofs.Common.{refl}
 use Rattle.std.specs.Coded.{Coded, code_by, coded×, coded_ℕ, coded_bool, coded_list, coded_option}
 use Rattle.std.specs.FinMap as finmap
-use Rattle.std.specs.FinSet as finset
-use Rattle.base.specs.declared.number.Key.{Key}
-use Rattle.base.specs.Names.{name_cmp}
-use Rattle.base.specs.Map.{Block, Cell, Map, BlockSet}
+use Rattle.name.specs.Names.{name_cmp}
+use Rattle.base.specs.Map.{Map, BlockSet}
+use Rattle.base.specs.Codes.{blocks_code, map_code}
 use Rattle.model.specs.World.{SnapId, Snap, Bookmark, Limits, FileSystem, World}
 use Rattle.model.specs.State.{State}
 
 -- each code is that of the tuple of the fields
-abbrev pub key_code : Coded Key
-key_code =
-    code_by (ℕ × ℕ) (coded× coded_ℕ coded_ℕ) (λ x. (x.level, x.index)) (λ p. record { level = p.0; index = p.1 }) (λ _. refl)
-
-abbrev pub block_code : Coded Block
-block_code =
-    code_by (ℕ × ℕ) (coded× coded_ℕ coded_ℕ) (λ x. (x.number, x.birth)) (λ p. record { number = p.0; birth = p.1 }) (λ _. refl)
-
-abbrev pub cell_code : Coded Cell
-cell_code =
-    code_by (ℕ × (ℕ × List ℕ)) (coded× coded_ℕ (coded× coded_ℕ (coded_list coded_ℕ)))
-    (λ x. (x.number, (x.birth, x.bytes)))
-    (λ p. record { number = p.0; birth = p.1.0; bytes = p.1.1 })
-    (λ _. refl)
-
-abbrev pub map_code : Coded Map
-map_code = finmap.code key_code cell_code
-
-abbrev pub blocks_code : Coded BlockSet
-blocks_code = finset.code block_code
-
 abbrev pub id_code : Coded SnapId
 id_code =
     code_by (ℕ × ℕ) (coded× coded_ℕ coded_ℕ) (λ x. (x.group, x.guid)) (λ p. record { group = p.0; guid = p.1 }) (λ _. refl)

@@ -2,6 +2,7 @@
 -- ZFS On-Disk Specification (2006) or an OpenZFS manual page.
 pub mod World
 pub mod State
+pub mod Hierarchy
 pub mod Codes
 pub mod Sums
 pub mod Fits

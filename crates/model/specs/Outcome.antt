@@ -5,8 +5,8 @@ use Rattle.std.specs.Option.{option_map_or}
 use Rattle.std.specs.FinMap.{entries, insert, from_entries}
 use Rattle.std.specs.FinSet as set
 use Rattle.base.specs.declared.number.Key.{Key}
-use Rattle.base.specs.declared.name.Target.{Target}
-use Rattle.base.specs.declared.name.Target.TheVariants.{FileSystem as OfFileSystem, Snapshot as OfSnapshot, Bookmark as OfBookmark}
+use Rattle.name.specs.declared.target.Target.{Target}
+use Rattle.name.specs.declared.target.Target.TheVariants.{FileSystem as OfFileSystem, Snapshot as OfSnapshot, Bookmark as OfBookmark}
 use Rattle.base.specs.Key.{leaf_index}
 use Rattle.base.specs.Rewrite.{Changes, rewrite, writes_leaf, punches_leaf, frees_object}
 use Rattle.model.specs.declared.request.Request.{Request}

@@ -5,15 +5,15 @@ use Rattle.std.specs.declared.cmp.Ordering.{Ordering}
 use Rattle.std.specs.Ordering.{nat_cmp, ordering_then}
 use Rattle.std.specs.FinMap.{entries, keys, from_entries}
 use Rattle.std.specs.Option.{option_map_or}
-use Rattle.base.specs.declared.name.Target.{Target}
-use Rattle.base.specs.declared.name.Target.TheVariants.{FileSystem as OfFileSystem, Snapshot as OfSnapshot, Bookmark as OfBookmark}
+use Rattle.name.specs.declared.target.Target.{Target}
+use Rattle.name.specs.declared.target.Target.TheVariants.{FileSystem as OfFileSystem, Snapshot as OfSnapshot, Bookmark as OfBookmark}
 use Rattle.model.specs.declared.request.Property.{Property}
 use Rattle.model.specs.declared.request.Property.TheVariants.{Referenced}
 use Rattle.model.specs.declared.request.PoolProperty.{PoolProperty}
 use Rattle.model.specs.declared.request.PoolProperty.TheVariants.{Size as PoolSize, Allocated, Free, Freeing, Waiting, Group}
 use Rattle.model.specs.declared.reply.Value.{Value}
 use Rattle.model.specs.declared.reply.Value.TheVariants.{Size, Number, NotApplicable}
-use Rattle.base.specs.Names.{name_cmp, snap_text, mark_text}
+use Rattle.name.specs.Names.{name_cmp, snap_text, mark_text}
 use Rattle.model.specs.World.{World, FileSystem, Snap, Live, Snapped, id_of, file_system_at, snap_named}
 use Rattle.model.specs.State.{State}
 use Rattle.model.specs.Sums.{referenced_of, allocated_of, free_of, freeing_of, waiting_count}

@@ -1,18 +1,18 @@
 -- Which refusal a request gets: the first of its row whose condition holds (the conditions are those of the zfs-SUBCOMMAND(8)
 -- pages; numbers and order are profile).
-use Rattle.std.specs.Prelude.{ℕ, ◌+◌, ◌-◌, ◌*◌, ◌^◌, Bool, true, false, not, ◌&&◌, List, [], ◌∷◌, Option, None, Some, is_some, nat_lt, if◌then◌else◌}
-use Rattle.std.specs.Option.{option_map, option_map_or}
+use Rattle.std.specs.Prelude.{ℕ, ◌+◌, ◌-◌, ◌*◌, ◌^◌, Bool, true, false, not, ◌&&◌, List, [], ◌∷◌, Option, None, Some, is_some, nat_lt, nat_le, if◌then◌else◌}
+use Rattle.std.specs.Option.{option_map}
 use Rattle.std.specs.FinMap.{contains_key, len}
 use Rattle.base.specs.declared.number.Key.{Key}
 use Rattle.base.specs.declared.refusal.Refusal.{Refusal}
 use Rattle.base.specs.declared.refusal.Refusal.TheVariants.{NoDataset, Exists, NoParent, BadKey, ReadOnly, Quota, RefQuota, NoSpace, TooMany}
-use Rattle.base.specs.declared.name.Target.{Target}
-use Rattle.base.specs.declared.name.Target.TheVariants.{FileSystem as OfFileSystem, Snapshot as OfSnapshot, Bookmark as OfBookmark}
-use Rattle.base.specs.declared.name.Member.{Member}
-use Rattle.base.specs.Names.{parent_of}
+use Rattle.name.specs.declared.target.Target.{Target}
+use Rattle.name.specs.declared.target.Target.TheVariants.{FileSystem as OfFileSystem, Snapshot as OfSnapshot, Bookmark as OfBookmark}
+use Rattle.name.specs.declared.member.Member.{Member}
 use Rattle.model.specs.declared.request.Request.{Request}
 use Rattle.model.specs.declared.request.Request.TheVariants.{Create, Write, Punch, FreeObject, Read, Get, PoolGet, List as ListNames, Sync}
 use Rattle.model.specs.World.{Dataset, Live, Snapped, id_of, snap_named, bookmark_named}
+use Rattle.model.specs.Hierarchy.{FileSystems, file_system_limit, has_parent}
 use Rattle.model.specs.State.{State}
 use Rattle.model.specs.Fits.{quotas_hold, refquotas_hold, pool_holds}
 use Rattle.model.specs.Outcome.{state_before_sweep}
@@ -31,10 +31,6 @@ first_of (r ∷ rs) = if r.0 then Some r.1 else first_of rs
 -- a file system of that name is there (zfs(8))
 abbrev pub has_file_system : State → List ℕ → Bool
 has_file_system s name = contains_key s.now.file_systems name
-
--- the file system that it would be a child of is there (zfs-create(8), without -p)
-abbrev pub has_parent : State → List ℕ → Bool
-has_parent s name = option_map_or (has_file_system s) (parent_of name) false
 
 -- a snapshot of that name is there (zfs(8))
 abbrev pub has_snap : State → Member → Bool
@@ -80,14 +76,6 @@ is_block object block = is_object object && nat_lt block 4096
 
 -- ---- limits of numbers
 
--- of file systems in a pool, the root among them (profile)
-abbrev pub file_system_limit : ℕ
-file_system_limit = 1024
-
--- one file system more would be too many (profile)
-abbrev pub has_no_room_for_file_system : State → Bool
-has_no_room_for_file_system s = nat_lt file_system_limit (len s.now.file_systems + 1)
-
 -- of open groups (profile)
 abbrev pub number_limit : ℕ
 number_limit = 2 ^ 63 - 1
@@ -112,10 +100,14 @@ limit_row asked = (not (quotas_hold asked.now), Quota) ∷ (not (refquotas_hold 
 
 -- ---- one row for each request
 
--- zfs-create(8)
-abbrev pub create_row : State → List ℕ → Row
-create_row s name =
-    (has_file_system s name, Exists) ∷ (not (has_parent s name), NoParent) ∷ (has_no_room_for_file_system s, TooMany) ∷ []
+-- a file system of this name among these (zfs-create(8), without -p; the limit is profile)
+abbrev pub create_row : FileSystems → List ℕ → Row
+create_row m name =
+    (contains_key m name, Exists) ∷ (not (has_parent m name), NoParent) ∷ (nat_le file_system_limit (len m), TooMany) ∷ []
+
+-- why it can't be created, if it can't (zfs-create(8))
+unfoldable pub create_refusal : FileSystems → List ℕ → Option Refusal
+create_refusal m name = first_of (create_row m name)
 
 -- a change of a live map (profile)
 abbrev pub write_row : State → State → Target → Bool → Row
@@ -136,7 +128,7 @@ sync_row s = (has_no_next_group s, TooMany) ∷ []
 
 -- the row of a request, with the state that its limits are asked of (profile)
 unfoldable pub row_of : State → State → Request → Row
-row_of s asked (Create name) = create_row s name
+row_of s asked (Create name) = create_row s.now.file_systems name
 row_of s asked (Write target object block bytes) = write_row s asked target (is_block object block)
 row_of s asked (Punch target object block) = write_row s asked target (is_block object block)
 row_of s asked (FreeObject target object) = write_row s asked target (is_object object)

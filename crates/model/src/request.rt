@@ -1,7 +1,7 @@
 //! What a pool can be asked.
 ghost use Rattle.std.specs.Prelude.{◌≡◌, ◌↔◌, IsTrue};
 
-use base::name::{DsName, Target};
+use name::{DsName, Target};
 
 /// What `Get` may ask of a dataset or bookmark (zfsprops(7)).
 #[derive(Clone, Copy, PartialEq, Eq, Debug)]

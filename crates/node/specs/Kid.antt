@@ -22,6 +22,10 @@ abbrev pub birth_of : Option Part → ℕ
 birth_of None = 0
 birth_of (Some p) = p.cell.birth
 
+-- it has its level's shape, under whatever parent (profile)
+abbrev pub IsSoundKid : ℕ → Option Part → Type 0
+IsSoundKid l o = IsKid l (birth_of o) o
+
 -- the places of a forest (profile)
 abbrev pub places : Forest → List (Option Part)
 places done = []

@@ -3,7 +3,8 @@ use Rattle.std.specs.Prelude.{[], ◌∷◌, Option}
 use Rattle.std.specs.Option.{option_map}
 use Rattle.std.specs.declared.sync.Arc.{Arc}
 use Rattle.std.specs.declared.alloc.Global.{Global}
-use Rattle.node.specs.declared.node.Leaf.{Leaf}
+use Rattle.std.specs.Borrow.{Bor}
+use Rattle.node.specs.declared.leaf.Leaf.{Leaf}
 use Rattle.node.specs.declared.node.Inner.{Inner}
 use Rattle.node.specs.Shape.{Part, Forest, done, forest_of}
 
@@ -14,6 +15,18 @@ leaf_part n = record { cell = record { number = n.block.0; birth = n.birth.0; by
 -- (profile)
 abbrev pub shared_part : {C : Type 0} → (C → Part) → Arc C Global → Part
 shared_part part a = part a.value
+
+-- what a place has: the part of its node, where there is one (profile)
+abbrev pub part_of_slot : {C : Type 0} → (C → Part) → Option (Arc C Global) → Option Part
+part_of_slot part = option_map (shared_part part)
+
+-- the part of a node, by a reference to one of its owners (profile)
+abbrev pub part_of_owner : {C : Type 0} → (C → Part) → Option (Bor (Arc C Global)) → Option Part
+part_of_owner part = option_map (λ a. part a.now.value)
+
+-- the part of a node, by a reference to it (profile)
+abbrev pub part_of_node : {C : Type 0} → (C → Part) → Option (Bor C) → Option Part
+part_of_node part = option_map (λ n. part n.now)
 
 -- (profile)
 abbrev pub inner_part : {C : Type 0} → (C → Part) → Inner C → Part
@@ -33,4 +46,4 @@ root_forest root = forest_of (shared_part root_part) (root ∷ [])
 
 -- the part of the root, where there is one (profile)
 abbrev pub whole : Option (Arc Root Global) → Option Part
-whole = option_map (shared_part root_part)
+whole = part_of_slot root_part

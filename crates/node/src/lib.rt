@@ -4,11 +4,13 @@
 #![tactic(auto)]
 
 mod cell;
+mod leaf;
 mod node;
 mod owner;
 mod same;
 
 pub use cell::Cell;
-pub use node::{Inner, Leaf, Level, Root, span};
+pub use leaf::Leaf;
+pub use node::{Inner, Level, Root, span};
 pub use owner::{keep, owner_at, owner_count, owner_in};
 pub use same::{Same, same_kid};

@@ -10,6 +10,7 @@ ghost use Rattle.node.specs.Kid.{IsSound};
 ghost use Rattle.node.specs.Walk.{born_after, part_blocks};
 
 use crate::cell::Cell;
+use crate::leaf::Leaf;
 use base::meter::Meter;
 use base::number::{BlockNo, Dead, Group};
 use base::refusal::Refusal;
@@ -36,20 +37,31 @@ pub trait Level {
     fn block(&self) -> Dead
         ensures { result ≡ dead_of (part self.now).cell };
 
-    /// Adds the blocks born after a group, each before those below it. A part that is no younger is not walked.
+    /// Adds the blocks born after a group, each before those below it. A part that is no younger is not walked. The meter rises
+    /// by at least one for each block that is added.
     fn gather(&self, cut: Group, out: &mut Vec<Dead>, meter: &mut Meter) -> Result<(), Refusal>
         requires sound { IsSound height (part self.now) }
         ensures gathered { OnOk result (map dead_block out.new.items ≡ map dead_block out.old.items ++ born_after cut.0 (part_blocks (part self.now))) }
         ensures metered { OnOk result (counted meter.old (length (born_after cut.0 (part_blocks (part self.now)))) ≤ meter.new) }
+        ensures never_lower { meter.old ≤ meter.new }
         ensures err { OnErr result (result ≡ Err Refusal.NoMemory) };
 }
 
-/// A data block.
-#[derive(Drop)]
-pub struct Leaf {
-    pub block: BlockNo,
-    pub birth: Group,
-    pub bytes: [u8; 512],
+/// A block by its number and birth.
+pub(crate) fn dead(block: BlockNo, birth: Group) -> Dead
+    ensures { result ≡ record { block = block; birth = birth } }
+{
+    Dead { block, birth }
+}
+
+/// Counts one more node.
+#[tactic(auto, unfolding(base::specs::Counting::counted, base::specs::Counting::most))]
+pub(crate) fn reach(meter: &mut Meter)
+    ensures metered { meter.new ≡ counted meter.old 1 }
+    ensures never_lower { meter.old ≤ meter.new }
+{
+    let _reached = meter.count();
+    meter.add_one();
 }
 
 /// The length of an array of sixteen.
@@ -89,58 +101,6 @@ fn step(depth: u32, at: u32) -> (usize, u32)
     ((at / span) as usize, at % span)
 }
 
-impl Leaf {
-    pub fn new(block: BlockNo, birth: Group, bytes: [u8; 512]) -> Leaf
-        ensures { result ≡ record { block = block; birth = birth; bytes = bytes } }
-    {
-        Leaf {
-            block,
-            birth,
-            bytes,
-        }
-    }
-}
-
-impl Level for Leaf {
-    ghost use Rattle.node.specs.Node.{leaf_part};
-
-    ghost part = { leaf_part };
-
-    ghost height = { 0 };
-
-    fn cell(&self) -> Cell {
-        Cell {
-            block: self.block,
-            birth: self.birth,
-            bytes: Some(self.bytes),
-        }
-    }
-
-    fn find(&self, depth: u32, _at: u32, meter: &mut Meter) -> Option<Cell> {
-        meter.add_one();
-        if depth == 0 { Some(self.cell()) } else { None }
-    }
-
-    fn block(&self) -> Dead {
-        Dead {
-            block: self.block,
-            birth: self.birth,
-        }
-    }
-
-    #[tactic(auto, unfolding(crate::specs::Walk::born_after, base::specs::Counting::counted, base::specs::Counting::most))]
-    fn gather(&self, cut: Group, out: &mut Vec<Dead>, meter: &mut Meter) -> Result<(), Refusal> {
-        meter.add_one();
-        if self.birth.0 > cut.0 {
-            out.push(Dead {
-                block: self.block,
-                birth: self.birth,
-            })?;
-        }
-        Ok(())
-    }
-}
-
 /// An indirect block, with its sixteen places.
 #[derive(Drop)]
 pub struct Inner<C> {
@@ -153,6 +113,7 @@ pub struct Inner<C> {
 pub type Root = Inner<Inner<Inner<Inner<Inner<Leaf>>>>>;
 
 impl<C> Inner<C> {
+    /// An indirect block with what stands at its sixteen places.
     pub fn new(block: BlockNo, birth: Group, kids: [Option<Arc<C>>; 16]) -> Inner<C>
         ensures { result ≡ record { block = block; birth = birth; kids = kids } }
     {
@@ -220,21 +181,15 @@ impl<C: Level> Level for Inner<C> {
     }
 
     fn block(&self) -> Dead {
-        Dead {
-            block: self.block,
-            birth: self.birth,
-        }
+        dead(self.block, self.birth)
     }
 
     fn gather(&self, cut: Group, out: &mut Vec<Dead>, meter: &mut Meter) -> Result<(), Refusal> {
-        meter.add_one();
+        reach(meter);
         if self.birth.0 <= cut.0 {
             return Ok(());
         }
-        out.push(Dead {
-            block: self.block,
-            birth: self.birth,
-        })?;
+        out.push(self.block())?;
         for kid in self.kids.iter() {
             if let Some(kid) = kid {
                 kid.gather(cut, out, meter)?;

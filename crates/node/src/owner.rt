@@ -1,9 +1,8 @@
 //! Owners of nodes that others may own too.
 ghost use Rattle.std.specs.Prelude.{◌≡◌, ◌<◌, IfOk, OnErr, None, slice_index_or, length};
-ghost use Rattle.std.specs.Option.{option_map};
 ghost use Rattle.base.specs.declared.refusal.Refusal.{Refusal};
 ghost use Rattle.node.specs.Kid.{places_of};
-ghost use Rattle.node.specs.Node.{inner_part};
+ghost use Rattle.node.specs.Node.{inner_part, part_of_owner, part_of_slot};
 
 use crate::node::{Inner, Level};
 use base::refusal::Refusal;
@@ -11,7 +10,7 @@ use std::sync::Arc;
 
 /// The owner of what a place has.
 pub fn owner_in<C: Level>(slot: &Option<Arc<C>>) -> Option<&Arc<C>>
-    ensures { option_map (λ a. C.part a.now.value) result ≡ option_map (λ a. C.part a.value) slot.now }
+    ensures { part_of_owner C.part result ≡ part_of_slot C.part slot.now }
 {
     match slot {
         Some(node) => Some(node),
@@ -21,7 +20,7 @@ pub fn owner_in<C: Level>(slot: &Option<Arc<C>>) -> Option<&Arc<C>>
 
 /// One more owner of a part that may be absent.
 pub fn keep<C: Level>(old: Option<&Arc<C>>) -> Result<Option<Arc<C>>, Refusal>
-    ensures ok { IfOk result (λ r. option_map (λ a. C.part a.value) r ≡ option_map (λ a. C.part a.now.value) old.entry) }
+    ensures ok { IfOk result (λ r. part_of_slot C.part r ≡ part_of_owner C.part old.entry) }
     ensures err { OnErr result (result ≡ Err Refusal.NoMemory) }
 {
     match old {
@@ -33,7 +32,7 @@ pub fn keep<C: Level>(old: Option<&Arc<C>>) -> Result<Option<Arc<C>>, Refusal>
 /// The owner of what stands at a place of a part that may be absent.
 pub fn owner_at<C: Level>(old: Option<&Arc<Inner<C>>>, place: usize) -> Option<&Arc<C>>
     requires { place < 16 }
-    ensures { option_map (λ a. C.part a.now.value) result ≡ slice_index_or (places_of (option_map (λ a. inner_part C.part a.now.value) old.entry)) place None }
+    ensures { part_of_owner C.part result ≡ slice_index_or (places_of (part_of_owner (inner_part C.part) old.entry)) place None }
 {
     match old {
         Some(node) => node.owner(place),
@@ -44,7 +43,7 @@ pub fn owner_at<C: Level>(old: Option<&Arc<Inner<C>>>, place: usize) -> Option<&
 /// How many places a shared part has, also one that is absent.
 pub fn owner_count<C: Level>(old: Option<&Arc<Inner<C>>>) -> u32
     ensures sixteen { result ≡ 16 }
-    ensures all { length (places_of (option_map (λ a. inner_part C.part a.now.value) old.entry)) ≡ 16 }
+    ensures all { length (places_of (part_of_owner (inner_part C.part) old.entry)) ≡ 16 }
 {
     match old {
         Some(node) => node.place_count(),

@@ -1,10 +1,10 @@
 //! Whether two parts of a tree are the same.
 ghost use Rattle.std.specs.Prelude.{◌≡◌, ◌↔◌, IsTrue};
-ghost use Rattle.std.specs.Option.{option_map};
-ghost use Rattle.node.specs.Node.{shared_part};
+ghost use Rattle.node.specs.Node.{part_of_slot, shared_part};
 ghost use Rattle.node.specs.Shape.{forest_of};
 
-use crate::node::{Inner, Leaf, Level};
+use crate::leaf::Leaf;
+use crate::node::{Inner, Level};
 use std::sync::Arc;
 
 /// A level whose parts can be compared.
@@ -16,7 +16,7 @@ pub trait Same: Level {
 
 /// Whether the same part stands at two places, or none at either.
 pub fn same_kid<C: Same>(one: &Option<Arc<C>>, other: &Option<Arc<C>>) -> bool
-    ensures { IsTrue result ↔ (option_map (shared_part C.part) one.now ≡ option_map (shared_part C.part) other.now) }
+    ensures { IsTrue result ↔ (part_of_slot C.part one.now ≡ part_of_slot C.part other.now) }
 {
     match (one, other) {
         (Some(one), Some(other)) => one.same(other),

@@ -4,14 +4,10 @@
 //! `4096 * o + i` of the tree (On-Disk Specification, chapter 3). A block that isn't there is a hole.
 #![tactic(auto)]
 
-mod changes;
 mod leaf;
 mod reading;
-#[cfg(test)]
-mod tests;
 mod updates;
 
-pub use changes::{free_object, punch, write};
 pub use leaf::{BLOCK_LIMIT, OBJECT_LIMIT};
 pub use reading::read;
 pub use updates::{free_of, punch_of, write_of};

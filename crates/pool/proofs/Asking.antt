@@ -3,7 +3,7 @@ use Rattle.std.proofs.Common.{◌≡◌, ◌≤◌, ◌↔◌, ℕ, List, Result
 use Rattle.std.specs.Prelude.{IfOk, IfErr}
 use Rattle.base.specs.Key.{leaf_index}
 use Rattle.base.specs.Rewrite.{writes_leaf, punches_leaf, frees_object}
-use Rattle.base.specs.declared.name.Target.{Target}
+use Rattle.name.specs.declared.target.Target.{Target}
 use Rattle.base.specs.declared.refusal.Refusal.{Refusal}
 use Rattle.base.specs.declared.refusal.Refusal.TheVariants.{BadKey}
 use Rattle.batch.specs.declared.update.Update.{Update}

@@ -2,7 +2,7 @@
 use Rattle.std.proofs.Common.{◌≡◌, ◌≤◌, ◌⊎◌, ◌↔◌, ℕ, Bool, true, false, ◌&&◌, List, Result, Ok, Err, Some, None, refl, sym, ap, subst, [], ◌∷◌, inl, inr, ⊎_elim, ◌∙◌}
 use Rattle.std.specs.Prelude.{IfOk, IfErr, IfSome, OnOk, nat_lt, slice_get}
 use Rattle.std.proofs.lemmas.Bool.{ltb-false, le-ltb}
-use Rattle.base.specs.declared.name.Target.{Target}
+use Rattle.name.specs.declared.target.Target.{Target}
 use Rattle.base.specs.declared.refusal.Refusal.{Refusal}
 use Rattle.base.specs.declared.refusal.Refusal.TheVariants.{NoDataset, BadKey, NoSpace, NoMemory}
 use Rattle.std.specs.FinMap.{get}
@@ -162,7 +162,7 @@ module _ (c : Systems) (states : List BlockState) (sound : IsSound c states) (q 
   plan_steps (Err why) prepared reply plan planned =
       stays why (update_refused c states sound q target u asks row is why (λ e. prepared.no_space (ap Err e)) prepared.only) reply plan planned.err
 
-module _ (s : Shown) (c : Systems) (view : shown c ≡ s) (states : List BlockState) (sound : IsSound c states) (target : Target) where
+module _ (s : Shown) (c : Systems) (states : List BlockState) (view : shown c states ≡ s) (sound : IsSound c states) (target : Target) where
   -- an answer with the pool as it was, told of what contracts see
   pub told : (q : Request) (reply : Reply) → Step (systems_state c) q reply (systems_state c) → Step s.state q reply s.state
   told q reply step = subst (λ (x : Shown). Step x.state q reply x.state) view step

@@ -11,7 +11,7 @@ use Rattle.world.specs.Settles.{releases}
 use Rattle.world.specs.Systems.{Systems, with_live}
 use Rattle.world.specs.SystemsSteps.{CanChange}
 use Rattle.world.proofs.SystemsWrite.{change_states}
-use Rattle.world.proofs.SystemsCreate.{create_good, create_numbers}
+use Rattle.world.proofs.SystemsCreate.{create_good, create_states}
 use Rattle.world.proofs.SystemsSync.{sync_keeps, sync_states}
 use Rattle.pool.specs.Pools.{IsSound}
 use Rattle.pool.specs.Plans.{CanCreate}
@@ -27,8 +27,8 @@ module _ (c : Systems) (states : List BlockState) (sound : IsSound c states) whe
   sound_created f can =
       subst (λ (x : FileSystem). IsSound (record c { now = insert c.now f.0 x }) states) (sym can.empty)
       (record {
-        core = create_good c f.0 can.may sound.core;
-        states = create_numbers c f.0 can.may sound.core states sound.states;
+        core = create_good c f.0 sound.core can.may;
+        states = create_states c f.0 sound.core can.may states sound.states;
       })
 
   -- after a sync every number has the state that the worlds give it

@@ -3,7 +3,7 @@ use Rattle.std.proofs.Common.{◌≡◌, ◌≤◌, ◌<◌, ◌+◌, ◌*◌, �
 use Rattle.std.specs.Prelude.{count_by, map}
 use Rattle.std.specs.FinMap.{get, entries, insert}
 use Rattle.std.specs.FinMap.{len as map_len}
-use Rattle.base.specs.declared.name.Target.{Target}
+use Rattle.name.specs.declared.target.Target.{Target}
 use Rattle.base.specs.declared.refusal.Refusal.{Refusal}
 use Rattle.base.specs.declared.refusal.Refusal.TheVariants.{NoDataset, BadKey, TooMany, NoMemory}
 use Rattle.base.specs.Key.{leaf_index}
@@ -23,12 +23,14 @@ use Rattle.model.specs.World.{empty_file_system}
 use Rattle.model.specs.Refusals.{is_block, number_limit}
 use Rattle.model.specs.Step.{Step}
 use Rattle.model.specs.Sums.{IsBalanced}
+use Rattle.model.specs.Numbers.{IsNumbered, HasStates}
 use Rattle.table.specs.Rows.{Row, FileSystems}
-use Rattle.table.specs.Create.{create_refusal}
-use Rattle.world.specs.Systems.{Systems, systems_state}
+use Rattle.model.specs.Refusals.{create_refusal}
+use Rattle.world.specs.Systems.{Systems, systems_state, AreStates}
 use Rattle.world.proofs.SystemsCreate as creates
 use Rattle.world.proofs.SystemsReads as reads
 use Rattle.world.proofs.SystemsRequests.{create_creates, list_no_memory, list_done}
+use Rattle.world.proofs.SystemsNumbered.{systems_numbered}
 use Rattle.world.proofs.SystemsSyncSteps as sync
 use Rattle.pool.specs.Named.{row_named}
 use Rattle.pool.specs.Pools.{IsSound}
@@ -37,11 +39,16 @@ use Rattle.pool.specs.Shown.{Shown, shown}
 use Rattle.pool.proofs.Changes.{not_false, block_tells}
 use Rattle.pool.proofs.Names.{IsFound, found, absent}
 
+-- the numbers' states are those of the pool's state
+has_states : (c : Systems) (states : List BlockState) → AreStates c states → HasStates (systems_state c) states
+unfolding systems_state
+has_states c states known = record { count = known.count; each = known.each }
+
 -- a read that was refused
 abbrev no_bytes : Refusal → Result (Option (List ℕ)) Refusal
 no_bytes why = Err why
 
-module _ (s : Shown) (c : Systems) (view : shown c ≡ s) (states : List BlockState) (sound : IsSound c states) where
+module _ (s : Shown) (c : Systems) (states : List BlockState) (view : shown c states ≡ s) (sound : IsSound c states) where
   at : (q : Request) (r : Reply) → Step (systems_state c) q r (systems_state c) → Step s.state q r (systems_state s.core)
   at q r step = subst (λ (x : Shown). Step x.state q r (systems_state x.core)) view step
 
@@ -90,6 +97,14 @@ module _ (s : Shown) (c : Systems) (view : shown c ≡ s) (states : List BlockSt
   -- each block is allocated, free or waiting
   pub balanced : IsBalanced s.state
   balanced = subst (λ (x : Shown). IsBalanced x.state) view (sync.are_balanced c sound.core states sound.states)
+
+  -- one number names one block
+  pub numbered : IsNumbered s.state
+  numbered = subst (λ (x : Shown). IsNumbered x.state) view (systems_numbered c sound.core)
+
+  -- each number is in the state that the worlds give it
+  pub in_states : HasStates s.state s.numbers
+  in_states = subst (λ (x : Shown). HasStates x.state x.numbers) view (has_states c states sound.states)
 
   -- a property of the pool, by a variable that stands for it
   module _ (p : PoolProperty) (r : Reply) where

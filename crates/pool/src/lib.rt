@@ -6,8 +6,6 @@
 
 mod named;
 mod pool;
-#[cfg(test)]
-mod tests;
 
 pub use pool::{Pool, Ready};
 pub use zalloc::MOST_BLOCKS;

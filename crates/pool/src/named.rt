@@ -3,10 +3,10 @@ ghost use Rattle.std.specs.Prelude.{◌≡◌, ◌*◌, IfOk, IfErr, map};
 ghost use Rattle.std.specs.Option.{option_copied};
 ghost use Rattle.pool.specs.Named.{row_named};
 
-use base::name::Target;
 use base::refusal::Refusal;
 use base::text::Bytes;
 use model::reply::{Reply, Value};
+use name::Target;
 use std::alloc::Global;
 use table::{FileSystem, Table};
 

@@ -6,6 +6,7 @@ ghost use Rattle.tree.specs.Updates.{IsBatch};
 ghost use Rattle.model.specs.declared.request.Request.{Request};
 ghost use Rattle.model.specs.State.{fresh_state};
 ghost use Rattle.model.specs.Step.{Step};
+ghost use Rattle.model.specs.Numbers.{IsNumbered, HasStates};
 ghost use Rattle.model.specs.Sums.{IsBalanced};
 ghost use Rattle.model.specs.Run.{Run};
 ghost use Rattle.world.specs.Settles.{AllAllocated, releases};
@@ -16,12 +17,12 @@ ghost use Rattle.pool.specs.Prepared.{IsPlanned};
 
 use crate::named::{find, in_bytes, names_of};
 use base::meter::Meter;
-use base::name::{DsName, Target};
 use base::number::{Dead, Group};
 use base::refusal::Refusal;
 use model::names::Names;
 use model::reply::{Reply, Value};
 use model::request::{PoolProperty, Property, Request};
+use name::{DsName, Target};
 use objset::{free_of, punch_of, write_of};
 use std::alloc::Global;
 use std::marker::Model;
@@ -35,7 +36,8 @@ use zalloc::{Allocator, MOST_BLOCKS};
 /// The last group, which no sync closes (profile).
 const LAST_GROUP: u64 = 9223372036854775807;
 
-/// A pool of blocks with its file systems. Contracts see its state, and beside it what its steps need.
+/// A pool of blocks with its file systems. Contracts see its state, the state of each block number, and beside them what its
+/// steps need.
 #[derive(Drop)]
 pub struct Pool {
     present: Table,
@@ -56,7 +58,7 @@ impl Model for Pool {
 
     ghost coded = { shown_code };
 
-    ghost view = { λ p. shown (core_of p) };
+    ghost view = { λ p. shown (core_of p) p.allocator };
 
     ghost invariant = { λ p. IsSound (core_of p) p.allocator };
 }
@@ -136,6 +138,8 @@ impl Pool {
         ensures same { self.new ≡ self.old }
         ensures from { result.1.from ≡ self.new }
         ensures step { Step self.old.state request.now result.0 result.1.to }
+        ensures numbered { IsNumbered self.old.state }
+        ensures states { HasStates self.old.state self.old.numbers }
         ensures balanced { IsBalanced self.old.state }
     {
         let _group = self.group;
@@ -311,6 +315,8 @@ impl Pool {
     /// once, and cost the path to the leaf or the object's nodes; every other request costs what `prepare` and `commit` do.
     pub fn apply(&mut self, alloc: Global, request: &Request) -> Reply
         ensures step { Step self.old.state request.now result self.new.state }
+        ensures numbered { IsNumbered self.new.state }
+        ensures states { HasStates self.new.state self.new.numbers }
         ensures balanced { IsBalanced self.new.state }
     {
         let reply = self.answer(alloc, request);

@@ -2,7 +2,7 @@
 use Rattle.std.proofs.Common.{refl}
 use Rattle.std.specs.Fmt.{digits}
 use Rattle.hex.proofs.OnLiterals.{hex_on_literals}
-use Rattle.base.specs.Reading.{name_of, target_of}
+use Rattle.name.specs.Reading.{name_of, target_of}
 use Rattle.script.specs.Lines.{lines, line_limit}
 use Rattle.script.specs.Words.{number_of_word, block_of_word, property_of_word, pool_property_of_word}
 use Rattle.script.specs.Meaning.{meaning, request_of, words_meaning, command_of, create_of, write_of, block_request_of, free_object_of, get_of, pool_get_of}

@@ -2,7 +2,7 @@
 use Rattle.std.specs.Prelude.{◌≡◌, ◌↔◌, ◌≤◌, ℕ, List, Some, ◌++◌, [], ◌∷◌, codes, replicate}
 use Rattle.std.specs.Fmt.{decimal}
 use Rattle.base.specs.declared.refusal.Refusal.TheVariants.{BadName, NoDataset, BadLine}
-use Rattle.base.specs.declared.name.Target.TheVariants.{FileSystem, Snapshot}
+use Rattle.name.specs.declared.target.Target.TheVariants.{FileSystem, Snapshot}
 use Rattle.model.specs.declared.request.Property.TheVariants.{Referenced}
 use Rattle.model.specs.declared.request.PoolProperty.TheVariants.{Free, Freeing}
 use Rattle.model.specs.declared.request.Request.TheVariants.{Create, Write, Punch, FreeObject, Read, Get, PoolGet, List as ListNames, Sync}

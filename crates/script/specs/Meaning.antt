@@ -4,8 +4,8 @@ use Rattle.std.specs.List.{list_all}
 use Rattle.std.specs.Str.{bytes_eq}
 use Rattle.base.specs.declared.refusal.Refusal.{Refusal}
 use Rattle.base.specs.declared.refusal.Refusal.TheVariants.{BadName, BadLine}
-use Rattle.base.specs.declared.name.Target.{Target}
-use Rattle.base.specs.Reading.{name_of, target_of}
+use Rattle.name.specs.declared.target.Target.{Target}
+use Rattle.name.specs.Reading.{name_of, target_of}
 use Rattle.model.specs.declared.request.Request.{Request}
 use Rattle.model.specs.declared.request.Request.TheVariants.{Create, Write, Punch, FreeObject, Read, Get, PoolGet, List as ListNames, Sync}
 use Rattle.script.specs.Lines.{line_limit}

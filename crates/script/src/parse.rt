@@ -9,10 +9,10 @@ ghost use Rattle.script.specs.Meaning.{request_of, command_of, create_of, write_
 ghost use Rattle.script.specs.Reading.{words_left, Means, MeansBlock};
 
 use crate::lines::LINE_LIMIT;
-use base::name::{DsName, Target};
 use base::refusal::Refusal;
 use memchr::memchr;
 use model::request::{PoolProperty, Property, Request};
+use name::{DsName, Target};
 use std::alloc::Global;
 
 /// Reads the request of a line, or its fault; NoMemory where there is no memory for its name.

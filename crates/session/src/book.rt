@@ -119,9 +119,11 @@ pub fn enter<K: Opening>(
     ensures refusal { IfErr result (λ r. IsFullOrNoMemory r) }
 {
     if book.history.len() >= book.limit {
+        drop(request);
         return Err(Refusal::SessionFull);
     }
     if seat.receipts.reserve(1).is_err() {
+        drop(request);
         return Err(Refusal::NoMemory);
     }
     let (reply, ready) = book.pool.prepare(alloc, &request);

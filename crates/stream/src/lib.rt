@@ -21,6 +21,3 @@ pub use reader::read_stream;
 pub use record::Record;
 pub use sending::{Stream, StreamFault};
 pub use writer::write_stream;
-
-#[cfg(test)]
-mod tests;

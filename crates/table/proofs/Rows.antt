@@ -1,6 +1,6 @@
 -- Rows in byte order as a map of file systems.
 use Rattle.std.proofs.Common.{◌≡◌, ◌⊎◌, inl, inr, ⊎_elim, ℕ, ◌+◌, ◌<◌, ◌≤◌, Bool, true, false, cond, T, List, [], ◌∷◌, length, get_or, set, Option, Some, None, is_some, refl, sym, ap, subst, ◌∙◌, arith, true≢false}
-use Rattle.std.specs.Prelude.{IsSome, IsTrue, nat_lt, if◌then◌else◌}
+use Rattle.std.specs.Prelude.{IsSome, IsTrue, nat_le, not, if◌then◌else◌}
 use Rattle.std.specs.Bool.{passes}
 use Rattle.std.specs.Option.{option_map, option_map_or}
 use Rattle.std.specs.Ordering.{eq_by_cmp, is_eq}
@@ -15,13 +15,13 @@ use Rattle.std.specs.FinMap.Entries.{is_sorted-put}
 use Rattle.std.proofs.lemmas.Bool.Decides.{nat_tests}
 use Rattle.base.specs.declared.refusal.Refusal.{Refusal}
 use Rattle.base.specs.declared.refusal.Refusal.TheVariants.{Exists, NoParent, TooMany}
-use Rattle.base.specs.Names.{name_cmp, parent_of, root_name}
+use Rattle.name.specs.Names.{name_cmp, parent_of, root_name}
 use Rattle.base.specs.Map.{Map}
 use Rattle.model.specs.World.{FileSystem, empty_file_system}
 use Rattle.table.specs.Rows.{Row, FileSystems, live_of, with_live}
 use Rattle.table.specs.Places.{IsAt, IsGapFor}
-use Rattle.table.specs.Hierarchy.{IsHierarchy, has_parent, file_system_limit}
-use Rattle.table.specs.Create.{create_refusal}
+use Rattle.model.specs.Hierarchy.{IsHierarchy, has_parent, file_system_limit}
+use Rattle.model.specs.Refusals.{create_refusal}
 use Rattle.table.proofs.Sorted.{comparisons_rise, find_at, put_at, find_gap, put_gap}
 
 -- only equal names tie
@@ -207,13 +207,13 @@ pub record CanAdd (m : FileSystems) (k : List ℕ) : Type 0 where
 -- nothing refuses it exactly then
 pub can_add : (m : FileSystems) (k : List ℕ) → create_refusal m k ≡ None → CanAdd m k
 unfolding create_refusal
-can_add m k e = from (contains_key m k) (has_parent m k) (nat_lt (len m) file_system_limit) refl refl refl e
+can_add m k e = from (contains_key m k) (has_parent m k) (nat_le file_system_limit (len m)) refl refl refl e
   where
-    from : (a b c : Bool) → contains_key m k ≡ a → has_parent m k ≡ b → nat_lt (len m) file_system_limit ≡ c
-        → ◌≡◌ {A = Option Refusal} (if a then Some Exists else if b then (if c then None else Some TooMany) else Some NoParent) None → CanAdd m k
+    from : (a b c : Bool) → contains_key m k ≡ a → has_parent m k ≡ b → nat_le file_system_limit (len m) ≡ c
+        → ◌≡◌ {A = Option Refusal} (if a then Some Exists else if not b then Some NoParent else if c then Some TooMany else None) None → CanAdd m k
     from true b c p q r is = absurd (cc)
-    from false true true p q r is = record { absent = none_from _ p; parent = q; room = grind (arith, nat_tests) }
-    from false true false p q r is = absurd (cc)
+    from false true true p q r is = absurd (cc)
+    from false true false p q r is = record { absent = none_from _ p; parent = q; room = grind (arith, nat_tests) }
     from false false c p q r is = absurd (cc)
 
 -- adding one keeps the hierarchy

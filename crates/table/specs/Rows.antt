@@ -2,20 +2,16 @@
 use Rattle.std.specs.Prelude.{ℕ, List}
 use Rattle.std.specs.Option.{option_map_or}
 use Rattle.std.specs.Coded.{Coded, coded×, coded_ℕ, coded_list}
-use Rattle.std.specs.FinMap.{FinMap, get, insert}
+use Rattle.std.specs.FinMap.{get, insert}
 use Rattle.std.specs.FinMap as finmap
-use Rattle.base.specs.Names.{name_cmp}
 use Rattle.base.specs.Map.{Map}
 use Rattle.model.specs.World.{FileSystem}
+pub use Rattle.model.specs.Hierarchy.{FileSystems}
 use Rattle.model.specs.Codes.{file_system_code}
 
 -- a name, and the file system under it (On-Disk Specification, chapter 4)
 abbrev pub Row : Type 0
 Row = List ℕ × FileSystem
-
--- a world's file systems, by their names (On-Disk Specification, chapter 4)
-abbrev pub FileSystems : Type 0
-FileSystems = FinMap name_cmp FileSystem
 
 -- the code of a name with its file system (profile)
 abbrev pub row_code : Coded Row

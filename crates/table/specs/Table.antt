@@ -1,9 +1,9 @@
 -- What a table keeps.
 use Rattle.std.specs.Prelude.{◌≤◌, IsTrue, vec_capacity}
 use Rattle.std.specs.FinMap.{is_sorted, from_sorted}
-use Rattle.base.specs.Names.{name_cmp}
+use Rattle.name.specs.Names.{name_cmp}
 use Rattle.table.specs.declared.table.Table.TheInside.{Inside}
-use Rattle.table.specs.Hierarchy.{IsHierarchy, file_system_limit}
+use Rattle.model.specs.Hierarchy.{IsHierarchy, file_system_limit}
 
 -- the names rise, there is room for as many file systems as there may be, and the hierarchy holds (profile)
 pub record IsTable (t : Inside) : Type 0 where

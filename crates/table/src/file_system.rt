@@ -1,20 +1,18 @@
 //! One file system of a table.
-ghost use Rattle.std.specs.Prelude.{◌≡◌, ◌≤◌, ◌⊎◌, Some, IfOk, IfErr, IfSome, OnOk, OnErr, slice_get};
-ghost use Rattle.std.specs.FinMap.{get};
-ghost use Rattle.base.specs.Names.{name_cmp};
-ghost use Rattle.base.specs.declared.number.Key.{Key};
+ghost use Rattle.std.specs.Prelude.{◌≡◌, IfOk, IfErr, OnOk, OnErr};
+ghost use Rattle.name.specs.Names.{name_cmp};
 ghost use Rattle.base.specs.declared.refusal.Refusal.{Refusal};
 ghost use Rattle.model.specs.World.{empty_file_system};
-ghost use Rattle.tree.specs.Change.{IsChange, HasRoom, LacksRoom};
-ghost use Rattle.tree.specs.ChangeParts.{change_done};
+ghost use Rattle.tree.specs.Asking.{AllowsChange, IsNoSpaceOrNoMemory};
+ghost use Rattle.tree.specs.Change.{HasRoom, LacksRoom};
+ghost use Rattle.tree.specs.ChangeParts.{HasChanged};
 ghost use Rattle.tree.specs.Taking.{AllFree, takes};
-ghost use Rattle.tree.specs.Updates.{changes_of, IsBatch};
-ghost use Rattle.zalloc.specs.declared.BlockState.TheVariants.{Allocated};
+ghost use Rattle.tree.specs.Updates.{changes_of};
 
 use base::meter::Meter;
-use base::name::DsName;
 use base::number::Group;
 use base::refusal::Refusal;
+use name::DsName;
 use std::alloc::Global;
 use std::cmp::Ordering;
 use std::marker::Model;
@@ -69,21 +67,13 @@ impl FileSystem {
         &self.live
     }
 
-    /// One more owner of its name. NoMemory where there is none for that. Constant time.
-    pub fn share_name(&self) -> Result<Arc<DsName>, Refusal>
-        ensures ok { IfOk result (λ a. a.value ≡ self.now.0) }
-        ensures err { IfErr result (λ e. e ≡ Refusal.NoMemory) }
-    {
-        Ok(Arc::try_clone(&self.name)?)
-    }
-
     /// An equal file system, by one more owner of its name and of its tree: no block is visited. NoMemory where there is none
     /// for that. Constant time.
     pub fn copy(&self) -> Result<FileSystem, Refusal>
         ensures ok { IfOk result (λ f. f ≡ self.now) }
         ensures err { IfErr result (λ e. e ≡ Refusal.NoMemory) }
     {
-        let name = self.share_name()?;
+        let name = Arc::try_clone(&self.name)?;
         let live = self.live.copy()?;
         Ok(FileSystem { name, live })
     }
@@ -115,16 +105,13 @@ impl FileSystem {
         allocator: &Allocator,
         meter: &mut Meter,
     ) -> Result<Changed, Refusal>
-        requires batch { IsBatch updates.now }
-        requires young { young.0 ≤ group.0 }
-        requires born { (k : Key) → IfSome (get self.old.1.live k) (λ c. c.birth ≤ group.0) }
-        requires allocated { (k : Key) → IfSome (get self.old.1.live k) (λ c. slice_get allocator.now c.number ≡ Some Allocated) }
-        ensures ok { IfOk result (λ done. IsChange self.old.1.live (changes_of updates.now) group.0 young.0 allocator.now (change_done self.old.1.live self.new.1.live done)) }
+        requires { AllowsChange self.old.1.live updates.now group.0 young.0 allocator.now }
+        ensures ok { IfOk result (HasChanged self.old.1.live self.new.1.live (changes_of updates.now) group.0 young.0 allocator.now) }
         ensures others { self.new ≡ (self.old.0, record self.old.1 { live = self.new.1.live }) }
         ensures room { OnOk result (HasRoom self.old.1.live (changes_of updates.now) young.0 allocator.now) }
         ensures err { OnErr result (self.new ≡ self.old) }
         ensures no_space { result ≡ Err Refusal.NoSpace → LacksRoom self.old.1.live (changes_of updates.now) young.0 allocator.now }
-        ensures only { IfErr result (λ e. (e ≡ Refusal.NoSpace) ⊎ (e ≡ Refusal.NoMemory)) }
+        ensures only { IfErr result IsNoSpaceOrNoMemory }
     {
         self.live
             .change(alloc, updates, group, young, allocator, meter)

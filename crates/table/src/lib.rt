@@ -5,8 +5,6 @@ mod file_system;
 mod parent;
 mod place;
 mod table;
-#[cfg(test)]
-mod tests;
 
 pub use file_system::FileSystem;
 pub use table::{FILE_SYSTEM_LIMIT, Table};

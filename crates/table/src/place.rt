@@ -1,7 +1,7 @@
 //! The search for a name among file systems in byte order.
 ghost use Rattle.std.specs.Prelude.{◌≡◌, None, IsTrue, IsSome, IfOk, IfErr};
 ghost use Rattle.std.specs.FinMap.{get, is_sorted, from_sorted};
-ghost use Rattle.base.specs.Names.{name_cmp};
+ghost use Rattle.name.specs.Names.{name_cmp};
 ghost use Rattle.table.specs.Places.{IsAt, IsGapFor};
 
 use crate::file_system::FileSystem;

@@ -1,32 +1,30 @@
 //! The file systems of a pool.
-ghost use Rattle.std.specs.Prelude.{◌≡◌, ◌⊎◌, ◌↔◌, ◌<◌, ◌≤◌, Some, None, IfSome, IfOk, IfErr, OnOk, OnErr, map, length, slice_get, vec_len, vec_capacity};
+ghost use Rattle.std.specs.Prelude.{◌≡◌, ◌⊎◌, ◌↔◌, ◌<◌, ◌≤◌, Some, None, IfSome, IfOk, IfErr, OnOk, OnErr, map, length, vec_len, vec_capacity};
 ghost use Rattle.std.specs.Option.{option_map, option_copied};
 ghost use Rattle.std.specs.List as list;
 ghost use Rattle.std.specs.FinMap as finmap;
 ghost use Rattle.std.specs.FinMap.{get, insert, entries, keys, len};
-ghost use Rattle.base.specs.declared.number.Key.{Key};
 ghost use Rattle.base.specs.declared.refusal.Refusal.{Refusal};
-ghost use Rattle.base.specs.Names.{root_name};
+ghost use Rattle.name.specs.Names.{root_name};
 ghost use Rattle.model.specs.World.{empty_file_system};
 ghost use Rattle.table.specs.Rows.{live_of, with_live};
-ghost use Rattle.table.specs.Create.{create_refusal};
-ghost use Rattle.table.specs.Hierarchy.{IsHierarchy, has_parent};
-ghost use Rattle.tree.specs.Change.{IsChange, HasRoom, LacksRoom};
-ghost use Rattle.tree.specs.ChangeParts.{change_done};
+ghost use Rattle.model.specs.Refusals.{create_refusal};
+ghost use Rattle.model.specs.Hierarchy.{IsHierarchy, has_parent};
+ghost use Rattle.tree.specs.Asking.{AllowsChange, IsNoSpaceOrNoMemory};
+ghost use Rattle.tree.specs.Change.{HasRoom, LacksRoom};
+ghost use Rattle.tree.specs.ChangeParts.{HasChanged};
 ghost use Rattle.tree.specs.Taking.{AllFree, takes};
-ghost use Rattle.tree.specs.Updates.{changes_of, IsBatch};
-ghost use Rattle.zalloc.specs.declared.BlockState.TheVariants.{Allocated};
+ghost use Rattle.tree.specs.Updates.{changes_of};
 
 use crate::file_system::FileSystem;
 use crate::parent::parent_of;
 use crate::place::{gap, place, standing};
 use base::meter::Meter;
-use base::name::DsName;
 use base::number::Group;
 use base::refusal::Refusal;
+use name::DsName;
 use std::alloc::Global;
 use std::marker::Model;
-use std::sync::Arc;
 use tree::{Change, Changed, Update};
 use zalloc::Allocator;
 
@@ -97,15 +95,6 @@ impl Table {
         &self.file_systems
     }
 
-    /// All names, in byte order. NoMemory where there is none for the list or an owner of a name. It costs the number of file
-    /// systems.
-    pub fn names(&self, alloc: Global) -> Result<Vec<Arc<DsName>>, Refusal>
-        ensures ok { IfOk result (λ v. map (λ a. a.value) v.items ≡ keys self.now) }
-        ensures err { IfErr result (λ e. e ≡ Refusal.NoMemory) }
-    {
-        names_of(alloc, self.file_systems())
-    }
-
     /// The file system of this name, or none. It costs the logarithm of their number.
     pub fn find(&self, name: &DsName) -> Option<&FileSystem>
         ensures { option_copied result ≡ option_map (λ f. (name.now, f)) (get self.now name.now) }
@@ -119,7 +108,7 @@ impl Table {
     /// Why a file system of this name can't be added, if it can't: Exists where one of that name is there, else NoParent where
     /// its parent isn't, else TooMany where there are `FILE_SYSTEM_LIMIT` already (zfs-create(8); the limit is profile). It
     /// costs the logarithm of their number.
-    #[tactic(auto, unfolding(crate::specs::Create::create_refusal))]
+    #[tactic(auto, unfolding(model::specs::Refusals::create_refusal))]
     pub fn create_refusal(&self, name: &DsName) -> Option<Refusal>
         ensures { result ≡ create_refusal self.now name.now }
     {
@@ -159,19 +148,6 @@ impl Table {
         insert_within(&mut self.file_systems, place, file_system);
     }
 
-    /// Creates an empty file system of this name (zfs-create(8)). Refused as `create_refusal` says; else NoMemory where there is
-    /// none for the name. It costs the logarithm of their number, and a move of each that stands after it.
-    pub fn create(&mut self, name: &DsName) -> Result<(), Refusal>
-        ensures ok { OnOk result (self.new ≡ insert self.old name.now empty_file_system) }
-        ensures refused { IfSome (create_refusal self.old name.now) (λ e. result ≡ Err e) }
-        ensures only { IfErr result (λ e. (create_refusal self.old name.now ≡ Some e) ⊎ (e ≡ Refusal.NoMemory)) }
-        ensures unchanged { OnErr result (self.new ≡ self.old) }
-    {
-        let file_system = self.prepare_create(name)?;
-        self.add(file_system);
-        Ok(())
-    }
-
     /// Puts a change in force that was made ready on the live tree of this file system, and takes its numbers. It takes no memory.
     /// It costs the logarithm of the number of file systems, and the numbers.
     pub fn change_live(&mut self, name: &DsName, change: Change, allocator: &mut Allocator)
@@ -198,17 +174,14 @@ impl Table {
         allocator: &Allocator,
         meter: &mut Meter,
     ) -> Result<Changed, Refusal>
-        requires batch { IsBatch updates.now }
-        requires young { young.0 ≤ group.0 }
-        requires born { (k : Key) → IfSome (get (live_of self.old name.now) k) (λ c. c.birth ≤ group.0) }
-        requires allocated { (k : Key) → IfSome (get (live_of self.old name.now) k) (λ c. slice_get allocator.now c.number ≡ Some Allocated) }
-        ensures ok { IfOk result (λ done. IsChange (live_of self.old name.now) (changes_of updates.now) group.0 young.0 allocator.now (change_done (live_of self.old name.now) (live_of self.new name.now) done)) }
+        requires { AllowsChange (live_of self.old name.now) updates.now group.0 young.0 allocator.now }
+        ensures ok { IfOk result (HasChanged (live_of self.old name.now) (live_of self.new name.now) (changes_of updates.now) group.0 young.0 allocator.now) }
         ensures others { OnOk result (self.new ≡ with_live self.old name.now (live_of self.new name.now)) }
         ensures room { OnOk result (HasRoom (live_of self.old name.now) (changes_of updates.now) young.0 allocator.now) }
         ensures err { OnErr result (self.new ≡ self.old) }
         ensures no_dataset { (result ≡ Err Refusal.NoDataset) ↔ (get self.old name.now ≡ None) }
         ensures no_space { result ≡ Err Refusal.NoSpace → LacksRoom (live_of self.old name.now) (changes_of updates.now) young.0 allocator.now }
-        ensures only { IfErr result (λ e. (e ≡ Refusal.NoDataset) ⊎ ((e ≡ Refusal.NoSpace) ⊎ (e ≡ Refusal.NoMemory))) }
+        ensures only { IfErr result (λ e. (e ≡ Refusal.NoDataset) ⊎ IsNoSpaceOrNoMemory e) }
     {
         let Ok(place) = place(&self.file_systems, name.as_bytes()) else {
             return Err(Refusal::NoDataset);
@@ -235,7 +208,7 @@ impl Table {
 }
 
 // The name of the root.
-#[tactic(auto, unfolding(base::specs::Reading::name_of))]
+#[tactic(auto, unfolding(name::specs::Reading::name_of))]
 fn root_of(alloc: Global) -> Result<DsName, Refusal>
     ensures ok { IfOk result (λ name. name ≡ root_name) }
     ensures err { IfErr result (λ e. e ≡ Refusal.NoMemory) }
@@ -267,16 +240,4 @@ fn insert_within(file_systems: &mut Vec<FileSystem>, place: usize, file_system: 
     if file_systems.insert(place, file_system).is_err() {
         unreachable!();
     }
-}
-
-// The names of the file systems, in their order.
-fn names_of(alloc: Global, file_systems: &[FileSystem]) -> Result<Vec<Arc<DsName>>, Refusal>
-    ensures ok { IfOk result (λ v. map (λ a. a.value) v.items ≡ map (λ f. f.0) file_systems.now) }
-    ensures err { IfErr result (λ e. e ≡ Refusal.NoMemory) }
-{
-    let mut names = Vec::with_capacity(alloc, file_systems.len())?;
-    for file_system in file_systems {
-        names.push_reserved(file_system.share_name()?);
-    }
-    Ok(names)
 }

@@ -15,6 +15,7 @@ use Rattle.zalloc.specs.declared.BlockState.{BlockState}
 use Rattle.zalloc.specs.declared.BlockState.TheVariants.{Free, Allocated}
 use Rattle.tree.specs.Change.{Shown, IsChange}
 use Rattle.batch.specs.Room.{IsKept}
+use Rattle.batch.proofs.NumberLaws.{free_apart}
 use Rattle.tree.specs.Taking.{AllFree, takes}
 use Rattle.node.proofs.Options.{same_value, if_some, for_some}
 
@@ -37,9 +38,6 @@ all_free states (n ∷ ns) f d = (
   f n (inl refl),
   all_free (slice_set states n Allocated) ns (λ k h. set_other states n k Allocated (λ e. d.0 (subst (IsIn ns) e h)) ∙ f k (inr h)) d.1,
 )
-
-free_apart : (s : Option BlockState) → s ≡ Some Free → s ≡ Some Allocated → ⊥
-free_apart s a b = let e : Free ≡ Allocated = same_value Free Allocated (sym a ∙ b) in cc
 
 pub still_allocated : (states : List BlockState) (ns : List ℕ) (n : ℕ) → slice_get states n ≡ Some Allocated → AllFree states ns → slice_get (takes states ns) n ≡ Some Allocated
 still_allocated states [] n h f = h

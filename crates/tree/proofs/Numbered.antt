@@ -4,11 +4,12 @@ use Rattle.std.specs.Prelude.{is_some, IsSome, unwrap_or, ◌||◌, slice_get, c
 use Rattle.std.specs.List.{list_any, All}
 use Rattle.std.specs.FinMap.{get, keys}
 use Rattle.std.proofs.lemmas.Bool.{eqb-true, eq-eqb, cases_lt, or_cases, or_right}
-use Rattle.std.proofs.lemmas.List.{reverse-append, map-append}
+use Rattle.std.proofs.lemmas.List.{map-append}
+use Rattle.std.specs.List.Sorted.{IsStrictlySortedBy}
 use Rattle.base.specs.declared.number.Key.{Key}
 use Rattle.base.specs.declared.number.BlockNo.{BlockNo}
 use Rattle.base.specs.declared.number.Dead.{Dead}
-use Rattle.base.specs.Key.{covers}
+use Rattle.base.specs.Key.{covers, key_cmp}
 use Rattle.base.specs.Map.{Map, Cell, IsTree, Contents, contents}
 use Rattle.base.specs.Rewrite.{Changes, rewrite, changed_contents}
 use Rattle.base.specs.Surveys.{IsIn, AreDifferent, IsMadeKey, dead_block}
@@ -37,12 +38,10 @@ use Rattle.batch.proofs.TouchLaws.{touched_at_leaf, stays_at_leaf, untouched_sta
 use Rattle.batch.proofs.Words.{leaf_left, leaf_after}
 use Rattle.batch.proofs.Standing.{Stands, IsPlace, part_at_key, stays_here, after_is, new_bytes, new_map}
 use Rattle.batch.proofs.Listing.{in_map}
-use Rattle.batch.proofs.NumberLaws.{in_append, in_left, in_right, different_append}
-use Rattle.batch.proofs.Filled.{claim_key, kept_number, fresh_number, used_number, once_number, placed, in_placed, placed_keys, new_key}
-use Rattle.batch.proofs.Batch.{IsAsked, IsMade, made_to, made_from, claim_keys_once, claimed_to, claimed_from, kept_claim, claim_kept, fresh_claim, claim_fresh, claim_of_key, key_claim, released_to, released_from, released_blocks_once, gone_of, here_is}
-
-no_free : (x : Option BlockState) → x ≡ Some Free → x ≡ Some Allocated → ⊥
-no_free x a b = let e : Free ≡ Allocated = same_value Free Allocated (sym a ∙ b) in cc
+use Rattle.batch.proofs.NumberLaws.{free_apart, in_left, in_right}
+use Rattle.batch.proofs.Falling.{reverse_step, in_unreversed, rises}
+use Rattle.batch.proofs.Filled.{claim_key, filled_keys, kept_number, fresh_number, used_number, once_number, placed, in_placed, new_key}
+use Rattle.batch.proofs.Batch.{IsAsked, IsMade, made_to, made_from, claim_keys_fall, claim_keys_once, claimed_to, claimed_from, kept_claim, claim_kept, fresh_claim, claim_fresh, claim_of_key, key_claim, released_to, released_from, released_blocks_once, gone_of, here_is}
 
 any_up : (l j : ℕ) (ns : List ℕ) → list_any (covers (key_at l j)) ns ≡ true → list_any (covers (key_at (suc l) (j / 16))) ns ≡ true
 any_up l j [] e = absurd (true≢false (sym e))
@@ -62,37 +61,23 @@ any_child l j (n ∷ ns) e = ⊎_elim
     (λ r. let x = any_child l j ns r in (x.0, x.1, or_right _ _ x.2))
     (or_cases _ _ e)
 
--- a list turned round
-reverse_step : {A : Type 0} (x : A) (xs : List A) → reverse (x ∷ xs) ≡ reverse xs ++ x ∷ []
-reverse_step x xs = reverse-append (x ∷ []) xs
+-- the new blocks turned round: the same, by their keys in order
+pub map-reversed : {A B : Type 0} (f : A → B) (xs : List A) → map f (reverse xs) ≡ reverse (map f xs)
+map-reversed f [] = refl
+map-reversed f (x ∷ xs) =
+    ap (map f) (reverse_step x xs) ∙ map-append f (reverse xs) (x ∷ []) ∙ ap (λ ys. ys ++ f x ∷ []) (map-reversed f xs) ∙ sym (reverse_step (f x) (map f xs))
 
-in_reversed : (bs : List NewBlock) (e : Key × ℕ) → IsIn (map made_pair bs) e → IsIn (map made_pair (reverse bs)) e
-in_reversed [] e h = h
-in_reversed (b ∷ bs) e h =
-    subst (λ xs. IsIn (map made_pair xs) e) (sym (reverse_step b bs)) (subst (λ xs. IsIn xs e) (sym (map-append made_pair (reverse bs) (b ∷ [])))
-    (⊎_elim (λ s. in_right (map made_pair (reverse bs)) (made_pair b ∷ []) e (inl s)) (λ r. in_left (map made_pair (reverse bs)) (made_pair b ∷ []) e (in_reversed bs e r)) h))
+in_reversed : {A : Type 0} (xs : List A) (a : A) → IsIn xs a → IsIn (reverse xs) a
+in_reversed [] a h = h
+in_reversed (x ∷ xs) a h = subst (λ ys. IsIn ys a) (sym (reverse_step x xs))
+    (⊎_elim (λ s. in_right (reverse xs) (x ∷ []) a (inl s)) (λ r. in_left (reverse xs) (x ∷ []) a (in_reversed xs a r)) h)
 
-in_unreversed : (bs : List NewBlock) (e : Key × ℕ) → IsIn (map made_pair (reverse bs)) e → IsIn (map made_pair bs) e
-in_unreversed [] e h = h
-in_unreversed (b ∷ bs) e h = ⊎_elim
-    (λ r. inr (in_unreversed bs e r))
-    (λ r. ⊎_elim (λ s. inl s) (λ n. absurd n) r)
-    (in_append (map made_pair (reverse bs)) (made_pair b ∷ []) e (subst (λ xs. IsIn xs e) (map-append made_pair (reverse bs) (b ∷ [])) (subst (λ xs. IsIn (map made_pair xs) e) (reverse_step b bs) h)))
-
-key_in : (bs : List NewBlock) (k : Key) → IsIn (map (λ (z : Key × ℕ). z.0) (map made_pair (reverse bs))) k → IsIn (map new_key bs) k
-key_in [] k h = h
-key_in (b ∷ bs) k h = ⊎_elim
-    (λ r. inr (key_in bs k r))
-    (λ r. ⊎_elim (λ s. inl s) (λ n. absurd n) r)
-    (in_append (map (λ (z : Key × ℕ). z.0) (map made_pair (reverse bs))) (b.key ∷ []) k
-    (subst (λ xs. IsIn xs k) (ap (map (λ (z : Key × ℕ). z.0)) (ap (map made_pair) (reverse_step b bs) ∙ map-append made_pair (reverse bs) (b ∷ [])) ∙ map-append (λ (z : Key × ℕ). z.0) (map made_pair (reverse bs)) (made_pair b ∷ [])) h))
-
-reversed_once : (bs : List NewBlock) → AreDifferent (map new_key bs) → AreDifferent (map (λ (z : Key × ℕ). z.0) (map made_pair (reverse bs)))
-reversed_once [] h = tt
-reversed_once (b ∷ bs) h =
-    subst AreDifferent (sym (ap (map (λ (z : Key × ℕ). z.0)) (ap (map made_pair) (reverse_step b bs) ∙ map-append made_pair (reverse bs) (b ∷ [])) ∙ map-append (λ (z : Key × ℕ). z.0) (map made_pair (reverse bs)) (made_pair b ∷ [])))
-    (different_append (map (λ (z : Key × ℕ). z.0) (map made_pair (reverse bs))) (b.key ∷ []) (reversed_once bs h.1) ((λ n. n), tt)
-    (λ k i j. ⊎_elim (λ s. h.0 (subst (IsIn (map new_key bs)) s (key_in bs k i))) (λ n. n) j))
+keys_reversed : (bs : List NewBlock) → map (λ (z : Key × ℕ). z.0) (map made_pair (reverse bs)) ≡ reverse (map new_key bs)
+keys_reversed bs = two_maps (reverse bs) ∙ map-reversed new_key bs
+  where
+    two_maps : (xs : List NewBlock) → map (λ (z : Key × ℕ). z.0) (map made_pair xs) ≡ map new_key xs
+    two_maps [] = refl
+    two_maps (x ∷ xs) = ap (λ ks. x.key ∷ ks) (two_maps xs)
 
 module _ (m : Map) (o : Option Part) (us : List Update) (g y : ℕ) (states : List BlockState) (q : IsAsked m o us g y states)
     (ns : List BlockNo) (len : length ns ≡ count_by is_fresh (claims (said us) y 5 0 o)) (hand : (n : ℕ) → IsIn (numbers ns) n → IsAtHand states y (released (said us) y 5 0 o) n) (nums : AreDifferent (numbers ns))
@@ -132,6 +117,10 @@ module _ (m : Map) (o : Option Part) (us : List Update) (g y : ℕ) (states : Li
 
   keys_once : AreDifferent (map claim_key C)
   keys_once = claim_keys_once m o us g y states q
+
+  -- the new blocks' keys, once they are turned round
+  pub keys_rise : IsStrictlySortedBy key_cmp (reverse (map new_key (filled C ns)))
+  keys_rise = subst (λ ks. IsStrictlySortedBy key_cmp (reverse ks)) (sym (filled_keys C ns)) (rises (map claim_key C) (claim_keys_fall m o us g y states q))
 
   kept_n : (k : Key) (x : Cell) → Made k → get m k ≡ Some x → y ≤ x.birth → N k ≡ x.number
   kept_n k x h e b = kept_number C ns len keys_once nums (claim_at k) (dead_of x) (key_claim m o us g y states q k h) (kept_claim m o us g y states q k x h e b)
@@ -207,7 +196,7 @@ module _ (m : Map) (o : Option Part) (us : List Update) (g y : ℕ) (states : Li
     where
       by : Source j → j ≡ k
       by (stays_put x f l r) = q.unique.one j k x b f e (sym r ∙ n)
-      by (was_free z f) = absurd (no_free _ f (ap (slice_get states) n ∙ is_allocated k b e))
+      by (was_free z f) = absurd (free_apart _ f (ap (slice_get states) n ∙ is_allocated k b e))
       by (was_let_go z i x f v w l r) =
           let same : i ≡ k = q.unique.one i k x b f e (r ∙ n) in
           absurd (true≢false (sym v ∙ ap t same ∙ u))
@@ -223,9 +212,9 @@ module _ (m : Map) (o : Option Part) (us : List Update) (g y : ℕ) (states : Li
 
       by : Source j → Source k → j ≡ k
       by (stays_put x e l r) (stays_put z f v u) = q.unique.one j k x z e f (sym r ∙ n ∙ u)
-      by (stays_put x e l r) (was_free w f) = absurd (no_free _ f (ap (slice_get states) (sym n ∙ r) ∙ is_allocated j x e))
+      by (stays_put x e l r) (was_free w f) = absurd (free_apart _ f (ap (slice_get states) (sym n ∙ r) ∙ is_allocated j x e))
       by (stays_put x e l r) (was_let_go w i z f v d u h) = absurd (mixed j k x a b e l r n i z f d u h)
-      by (was_free w f) (stays_put x e l r) = absurd (no_free _ f (ap (slice_get states) (n ∙ r) ∙ is_allocated k x e))
+      by (was_free w f) (stays_put x e l r) = absurd (free_apart _ f (ap (slice_get states) (n ∙ r) ∙ is_allocated k x e))
       by (was_free w f) (was_free z h) = once_n j k a b w z n
       by (was_free w f) (was_let_go z i x e v d u h) = once_n j k a b w z n
       by (was_let_go w i z f v d u h) (stays_put x e l r) = absurd (mixed k j x b a e l r (sym n) i z f d u h)
@@ -346,12 +335,13 @@ module _ (m : Map) (o : Option Part) (us : List Update) (g y : ℕ) (states : Li
     released = λ x. ((λ h. released_to m o us g y states q x (subst (λ xs. IsIn xs x) e h)), (λ h. subst (λ xs. IsIn xs x) (sym e) (released_from m o us g y states q x h)));
     released_once = subst AreDifferent (sym e) (released_blocks_once m o us g y states q);
     made = λ k n.
-        let x : Key × ℕ = (k, n) in (
+        let x : Key × ℕ = (k, n) in
+        let turned : v.made ≡ reverse (map made_pair (filled C ns)) = f ∙ map-reversed made_pair (filled C ns) in (
           (λ h.
-              let w = placed C ns len keys_once nums x (in_unreversed (filled C ns) x (subst (λ xs. IsIn xs x) f h)) in
+              let w = placed C ns len keys_once nums x (in_unreversed (map made_pair (filled C ns)) x (subst (λ xs. IsIn xs x) turned h)) in
               (made_from m o us g y states q k (claimed_to m o us g y states q k w.0), w.1)),
-          (λ h. subst (λ xs. IsIn xs x) (sym f) (in_reversed (filled C ns) x (in_placed C ns len keys_once nums x (claimed_from m o us g y states q k (made_to m o us g y states q k h.0)) h.1))),
+          (λ h. subst (λ xs. IsIn xs x) (sym turned) (in_reversed (map made_pair (filled C ns)) x (in_placed C ns len keys_once nums x (claimed_from m o us g y states q k (made_to m o us g y states q k h.0)) h.1))),
         );
-    made_once = subst (λ (xs : List (Key × ℕ)). AreDifferent (map (λ (z : Key × ℕ). z.0) xs)) (sym f) (reversed_once (filled C ns) (placed_keys C ns len keys_once nums));
+    made_order = subst (IsStrictlySortedBy key_cmp) (sym (ap (map (λ (z : Key × ℕ). z.0)) f ∙ keys_reversed (filled C ns))) keys_rise;
     tree = λ n h z. subst (IsTree n) (sym b) (tree_after n h (λ k i. z k (subst (λ xs. IsIn xs k) (sym d) i)));
   }

@@ -1,15 +1,15 @@
 -- A prepared change, from what a draft has given.
-use Rattle.std.proofs.Common.{◌≡◌, ℕ, ◌+◌, ◌≤◌, Bool, true, false, cond, List, [], ◌∷◌, length, map, reverse, Option, Some, refl, sym, ap, subst, ◌∙◌, arith}
-use Rattle.std.specs.Prelude.{slice_get, IfSome, ◌&&◌}
-use Rattle.std.specs.FinMap as fin
+use Rattle.std.proofs.Common.{◌≡◌, ℕ, ◌+◌, Bool, true, false, cond, List, [], ◌∷◌, length, map, reverse, Option, refl, sym, ap, subst, ◌∙◌, arith}
+use Rattle.std.specs.Prelude.{◌&&◌}
+use Rattle.std.specs.List.Sorted.{IsStrictlySortedBy}
 use Rattle.std.specs.declared.sync.Arc.{Arc}
 use Rattle.std.specs.declared.alloc.Global.{Global}
 use Rattle.base.specs.declared.number.Key.{Key}
 use Rattle.base.specs.declared.number.Dead.{Dead}
+use Rattle.base.specs.Key.{key_cmp}
 use Rattle.base.specs.Map.{Map}
 use Rattle.base.specs.Surveys.{IsIn, AreDifferent, dead_block}
 use Rattle.zalloc.specs.declared.BlockState.{BlockState}
-use Rattle.zalloc.specs.declared.BlockState.TheVariants.{Allocated}
 use Rattle.node.specs.Entries.{map_of, key_at, cell_count}
 use Rattle.node.specs.Kid.{IsKid, birth_of, cells}
 use Rattle.node.specs.Node.{Root, whole, root_forest, root_part, shared_part}
@@ -34,9 +34,10 @@ use Rattle.batch.proofs.Prepare.{IsReady, asked, own_kid}
 use Rattle.batch.proofs.Remade.{rebuilt_sound, rebuilt_cells}
 use Rattle.batch.proofs.Standing.{Stands, stands_of}
 use Rattle.batch.proofs.SaidLaws.{full_size}
+use Rattle.tree.specs.Asking.{AreAllocated, AreBornBy}
 use Rattle.tree.specs.Change.{Shown, IsChange}
 use Rattle.tree.specs.ChangeParts.{made_pair}
-use Rattle.tree.proofs.Numbered.{is_change, unique_after}
+use Rattle.tree.proofs.Numbered.{map-reversed, keys_rise, is_change, unique_after}
 
 claim_keys : (t p : Bool) (k : Key) (y : ℕ) (d : Option Dead) → map claim_key (claim_of t p k y d) ≡ cond (t && p) (k ∷ []) []
 claim_keys true true k y d = refl
@@ -52,11 +53,11 @@ same_forest o o' e =
     sym (forest_of-map (shared_part root_part) (o ∷ [])) ∙ ap (λ (p : Option Part). forest_of (λ q. q) (p ∷ [])) e ∙ forest_of-map (shared_part root_part) (o' ∷ [])
 
 -- what is known of a map, of the root that it is the map of
-pub born_of : (root : Option (Arc Root Global)) (m : Map) (g : ℕ) → map_of (root_forest root) ≡ m → ((k : Key) → IfSome (fin.get m k) (λ c. c.birth ≤ g)) → (k : Key) → IfSome (fin.get (map_of (root_forest root)) k) (λ c. c.birth ≤ g)
-born_of root m g e = subst (λ (n : Map). (k : Key) → IfSome (fin.get n k) (λ c. c.birth ≤ g)) (sym e)
+pub born_of : (root : Option (Arc Root Global)) (m : Map) (g : ℕ) → map_of (root_forest root) ≡ m → AreBornBy m g → AreBornBy (map_of (root_forest root)) g
+born_of root m g e = subst (λ (n : Map). AreBornBy n g) (sym e)
 
-pub allocated_of : (root : Option (Arc Root Global)) (m : Map) (states : List BlockState) → map_of (root_forest root) ≡ m → ((k : Key) → IfSome (fin.get m k) (λ c. slice_get states c.number ≡ Some Allocated)) → (k : Key) → IfSome (fin.get (map_of (root_forest root)) k) (λ c. slice_get states c.number ≡ Some Allocated)
-allocated_of root m states e = subst (λ (n : Map). (k : Key) → IfSome (fin.get n k) (λ c. slice_get states c.number ≡ Some Allocated)) (sym e)
+pub allocated_of : (root : Option (Arc Root Global)) (m : Map) (states : List BlockState) → map_of (root_forest root) ≡ m → AreAllocated m states → AreAllocated (map_of (root_forest root)) states
+allocated_of root m states e = subst (λ (n : Map). AreAllocated n states) (sym e)
 
 module _ (root : Option (Arc Root Global)) (count : ℕ) (us : List Update) (y : ℕ) (states : List BlockState) (r : IsReady root count us y states) where
   abbrev m : Map
@@ -93,7 +94,7 @@ module _ (root : Option (Arc Root Global)) (count : ℕ) (us : List Update) (y :
     hand : (n : ℕ) → IsIn (numbers d.taken.items) n → IsAtHand states y R n
     hand n i = subst (λ ds. IsAtHand states y ds n) h.released (h.at_hand n i)
 
-    module _ (g : ℕ) (born : (k : Key) → IfSome (fin.get m k) (λ c. c.birth ≤ g)) (root' : Option (Arc Root Global)) (made : whole root' ≡ rebuilt s (number_of d.made.items) g 5 0 o) where
+    module _ (g : ℕ) (born : AreBornBy m g) (root' : Option (Arc Root Global)) (made : whole root' ≡ rebuilt s (number_of d.made.items) g 5 0 o) where
       kid : IsKid 5 g o
       kid = root_kid (shared_part root_part) root g r.sound.well (root_birth root _ g r.sound.well born)
 
@@ -123,6 +124,12 @@ module _ (root : Option (Arc Root Global)) (count : ℕ) (us : List Update) (y :
         counted = new_count;
         unique = unique_after m o us g y states (known g kid) d.taken.items h.enough hand h.once m' stands';
       }
+
+      -- the new blocks, turned round, stand in the order of their keys
+      pub ready_order : (bs : List NewBlock) → bs ≡ reverse d.made.items → IsStrictlySortedBy key_cmp (map new_key bs)
+      ready_order bs e =
+          subst (IsStrictlySortedBy key_cmp) (sym (ap (map new_key) (e ∙ ap reverse h.made) ∙ map-reversed new_key P))
+          (keys_rise m o us g y states (known g kid) d.taken.items h.enough hand h.once m' stands')
 
       pub ready_change : (n : Map) → m ≡ n → (v : Shown) → v.old ≡ n → v.new ≡ m' → v.taken ≡ numbers d.taken.items → v.released ≡ map dead_block d.released.items → v.made ≡ map made_pair (reverse d.made.items) → IsChange n (changes_of us) g y states v
       ready_change n is v p q t w x =

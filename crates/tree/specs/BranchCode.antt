@@ -4,7 +4,7 @@ use Rattle.std.specs.Coded.{Coded, code_by, coded×}
 use Rattle.base.specs.declared.number.Key.{Key}
 use Rattle.base.specs.Map.{Map}
 use Rattle.tree.specs.Branch.{Branch}
-use Rattle.tree.specs.Codes.{key_code, map_code}
+use Rattle.base.specs.Codes.{key_code, map_code}
 
 -- a branch as the pair of its fields
 abbrev pub branch_code : Coded Branch

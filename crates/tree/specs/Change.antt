@@ -1,13 +1,16 @@
 -- What a prepared change of a tree names, and what holds of it.
 use Rattle.std.specs.Prelude.{◌≡◌, ◌<◌, ◌≤◌, ◌↔◌, ◌⊎◌, ℕ, List, Some, map, slice_get}
 use Rattle.std.specs.FinMap.{get}
+use Rattle.std.specs.List.Sorted.{IsStrictlySortedBy}
 use Rattle.base.specs.declared.number.Key.{Key}
+use Rattle.base.specs.Key.{key_cmp}
 use Rattle.base.specs.Map.{Map, Cell, Block, IsTree}
 use Rattle.base.specs.Rewrite.{Changes, rewrite}
 use Rattle.base.specs.Surveys.{IsIn, AreDifferent, IsMadeKey}
 use Rattle.zalloc.specs.declared.BlockState.{BlockState}
 use Rattle.zalloc.specs.declared.BlockState.TheVariants.{Free}
 pub use Rattle.batch.specs.Room.{IsKept, IsReleased, young_count, HasRoom, LacksRoom}
+pub use Rattle.batch.specs.Cost.{CountsDropped}
 
 -- what contracts see of a prepared change: the map that it was prepared on, the map that it leads to, the numbers that it takes, the blocks that it drops without keeping their numbers in place, and its new blocks in the order of their keys, each with its number (profile)
 pub record Shown : Type 0 where
@@ -17,7 +20,7 @@ pub record Shown : Type 0 where
   pub released : List Block
   pub made : List (Key × ℕ)
 
--- The change is the rewrite in group g: a touched key whose block is young keeps its number, each other key that is made has a number of its own, which is Free or that of a young block that is released (profile, after the births of chapter 2 of the On-Disk Specification)
+-- The change is the rewrite in group g: a touched key whose block is young keeps its number, each other key that is made has a number of its own, which is Free or that of a young block that is released; the new blocks stand in the order of their keys, each once (profile, after the births of chapter 2 of the On-Disk Specification)
 pub record IsChange (m : Map) (c : Changes) (g young : ℕ) (states : List BlockState) (v : Shown) : Type 0 where
   pub old_is : v.old ≡ m
   pub number : Key → ℕ
@@ -31,5 +34,5 @@ pub record IsChange (m : Map) (c : Changes) (g young : ℕ) (states : List Block
   pub released : (b : Block) → IsIn v.released b ↔ IsReleased m c young b
   pub released_once : AreDifferent v.released
   pub made : (k : Key) (n : ℕ) → IsIn v.made (k, n) ↔ (IsMadeKey m c k × (number k ≡ n))
-  pub made_once : AreDifferent (map (λ e. e.0) v.made)
+  pub made_order : IsStrictlySortedBy key_cmp (map (λ e. e.0) v.made)
   pub tree : (n : ℕ) → IsTree n m → ((k : ℕ) → IsIn v.taken k → k < n) → IsTree n v.new

@@ -3,7 +3,7 @@ use Rattle.std.specs.Prelude.{ℕ, List, refl}
 use Rattle.std.specs.Coded.{Coded, code_by, coded×, coded_ℕ, coded_list}
 use Rattle.base.specs.declared.number.Key.{Key}
 use Rattle.base.specs.Map.{Block, Map}
-use Rattle.tree.specs.Codes.{block_code, key_code, map_code}
+use Rattle.base.specs.Codes.{block_code, key_code, map_code}
 use Rattle.tree.specs.Change.{Shown}
 
 -- a change as the tuple of its fields

@@ -1,12 +1,16 @@
 -- What the fields of a prepared change stand for.
-use Rattle.std.specs.Prelude.{ℕ, map}
+use Rattle.std.specs.Prelude.{ℕ, List, map}
+use Rattle.std.specs.List.Sorted.{IsStrictlySortedBy}
+use Rattle.base.specs.Key.{key_cmp}
 use Rattle.base.specs.Surveys.{dead_block}
 use Rattle.base.specs.declared.number.Key.{Key}
 use Rattle.tree.specs.declared.change.Change.TheInside.{Inside}
 use Rattle.batch.specs.declared.numbers.NewBlock.{NewBlock}
 use Rattle.tree.specs.declared.change.Changed.{Changed}
 use Rattle.base.specs.Map.{Map}
-use Rattle.tree.specs.Change.{Shown}
+use Rattle.base.specs.Rewrite.{Changes}
+use Rattle.zalloc.specs.declared.BlockState.{BlockState}
+use Rattle.tree.specs.Change.{Shown, IsChange}
 use Rattle.node.specs.Entries.{map_of}
 use Rattle.node.specs.Node.{root_forest}
 use Rattle.node.specs.Sound.{IsSoundTree}
@@ -25,9 +29,10 @@ shown c = record {
   made = map made_pair c.made.items;
 }
 
--- the new tree is sound (profile)
+-- the new tree is sound, and the new blocks stand in the order of their keys (profile)
 pub record IsSoundChange (c : Inside) : Type 0 where
   pub sound : IsSoundTree c.root c.count
+  pub order : IsStrictlySortedBy key_cmp (map (λ b. b.key) c.made.items)
 
 -- what a change in force has done, between the maps before and after (profile)
 abbrev pub change_done : Map → Map → Changed → Shown
@@ -38,3 +43,7 @@ change_done old new done = record {
   released = map dead_block done.released.items;
   made = map made_pair done.made.items;
 }
+
+-- a change is in force between the maps before and after, and this is what it has done (profile)
+abbrev pub HasChanged : Map → Map → Changes → ℕ → ℕ → List BlockState → Changed → Type 0
+HasChanged old new c g young states done = IsChange old c g young states (change_done old new done)

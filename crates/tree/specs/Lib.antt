@@ -1,7 +1,7 @@
 pub use Rattle.node.specs.Cells
 pub use Rattle.node.specs.Walk
 pub use Rattle.batch.specs.Updates
-pub mod Codes
+pub mod Asking
 pub mod Taking
 pub mod Reading
 pub mod Change

@@ -1,10 +1,9 @@
 //! The nodes that a batch of changes makes.
 ghost use Rattle.std.specs.Prelude.{◌≡◌, suc, ◌+◌, ◌-◌, ◌*◌, ◌^◌, ◌<◌, ◌≤◌, IfOk, OnErr, Option, Some, None, slice_index_or, length, map};
-ghost use Rattle.std.specs.Option.{option_map};
 ghost use Rattle.base.specs.declared.refusal.Refusal.{Refusal};
 ghost use Rattle.base.specs.Surveys.{AreDifferent};
-ghost use Rattle.node.specs.Kid.{IsKid, birth_of, places_of};
-ghost use Rattle.node.specs.Node.{inner_part};
+ghost use Rattle.node.specs.Kid.{IsSoundKid, places_of};
+ghost use Rattle.node.specs.Node.{inner_part, part_of_owner, part_of_slot};
 ghost use Rattle.batch.specs.Said.{said, AreInOrder};
 ghost use Rattle.batch.specs.Touch.{any_kid, later_first, touched, stays};
 ghost use Rattle.batch.specs.Build.{made_keys, parts, rebuilt, number_of, no_block, HasKeys};
@@ -61,13 +60,13 @@ pub trait Build: Level + Drop {
         requires within { (index + 1) * 16 ^ level ≤ 1048576 }
         requires low { level ≤ 5 }
         requires order { AreInOrder updates.now }
-        requires sound { IsKid Self.height (birth_of (option_map (λ a. Self.part a.now.value) old)) (option_map (λ a. Self.part a.now.value) old) }
-        requires keys { HasKeys made.now next (made_keys (said updates.now) Self.height index (option_map (λ a. Self.part a.now.value) old)) }
+        requires sound { IsSoundKid Self.height (part_of_owner Self.part old) }
+        requires keys { HasKeys made.now next (made_keys (said updates.now) Self.height index (part_of_owner Self.part old)) }
         requires once { AreDifferent (map (λ b. b.key) made.now) }
-        ensures part { IfOk result (λ b. option_map (λ a. Self.part a.value) b.part ≡ rebuilt (said updates.now) (number_of made.now) group.0 Self.height index (option_map (λ a. Self.part a.now.value) old.entry)) }
-        ensures touched { IfOk result (λ b. b.touched ≡ touched (said updates.now) Self.height index (option_map (λ a. Self.part a.now.value) old.entry)) }
-        ensures stays { IfOk result (λ b. b.stays ≡ stays (said updates.now) Self.height index (option_map (λ a. Self.part a.now.value) old.entry)) }
-        ensures next { IfOk result (λ b. b.next ≡ next + length (made_keys (said updates.now) Self.height index (option_map (λ a. Self.part a.now.value) old.entry))) }
+        ensures part { IfOk result (λ b. part_of_slot Self.part b.part ≡ rebuilt (said updates.now) (number_of made.now) group.0 Self.height index (part_of_owner Self.part old.entry)) }
+        ensures touched { IfOk result (λ b. b.touched ≡ touched (said updates.now) Self.height index (part_of_owner Self.part old.entry)) }
+        ensures stays { IfOk result (λ b. b.stays ≡ stays (said updates.now) Self.height index (part_of_owner Self.part old.entry)) }
+        ensures next { IfOk result (λ b. b.next ≡ next + length (made_keys (said updates.now) Self.height index (part_of_owner Self.part old.entry))) }
         ensures err { OnErr result (result ≡ Err Refusal.NoMemory) };
 }
 
@@ -124,13 +123,13 @@ fn build_kids<C: Build>(
     requires within { (first + 16) * 16 ^ level ≤ 1048576 }
     requires low { level ≤ 5 }
     requires order { AreInOrder updates.now }
-    requires sound { IsKid (suc C.height) (birth_of (option_map (λ a. inner_part C.part a.now.value) old)) (option_map (λ a. inner_part C.part a.now.value) old) }
-    requires keys { HasKeys made.now next (later_first (made_keys (said updates.now) C.height) first (places_of (option_map (λ a. inner_part C.part a.now.value) old))) }
+    requires sound { IsSoundKid (suc C.height) (part_of_owner (inner_part C.part) old) }
+    requires keys { HasKeys made.now next (later_first (made_keys (said updates.now) C.height) first (places_of (part_of_owner (inner_part C.part) old))) }
     requires once { AreDifferent (map (λ b. b.key) made.now) }
-    ensures kids { IfOk result (λ b. map (option_map (λ a. C.part a.value)) b.kids ≡ parts (rebuilt (said updates.now) (number_of made.now) group.0 C.height) first (places_of (option_map (λ a. inner_part C.part a.now.value) old.entry))) }
-    ensures touched { IfOk result (λ b. b.touched ≡ any_kid (touched (said updates.now) C.height) first (places_of (option_map (λ a. inner_part C.part a.now.value) old.entry))) }
-    ensures stays { IfOk result (λ b. b.stays ≡ any_kid (stays (said updates.now) C.height) first (places_of (option_map (λ a. inner_part C.part a.now.value) old.entry))) }
-    ensures next { IfOk result (λ b. b.next ≡ next + length (later_first (made_keys (said updates.now) C.height) first (places_of (option_map (λ a. inner_part C.part a.now.value) old.entry)))) }
+    ensures kids { IfOk result (λ b. map (part_of_slot C.part) b.kids ≡ parts (rebuilt (said updates.now) (number_of made.now) group.0 C.height) first (places_of (part_of_owner (inner_part C.part) old.entry))) }
+    ensures touched { IfOk result (λ b. b.touched ≡ any_kid (touched (said updates.now) C.height) first (places_of (part_of_owner (inner_part C.part) old.entry))) }
+    ensures stays { IfOk result (λ b. b.stays ≡ any_kid (stays (said updates.now) C.height) first (places_of (part_of_owner (inner_part C.part) old.entry))) }
+    ensures next { IfOk result (λ b. b.next ≡ next + length (later_first (made_keys (said updates.now) C.height) first (places_of (part_of_owner (inner_part C.part) old.entry)))) }
     ensures err { OnErr result (result ≡ Err Refusal.NoMemory) }
 {
     let mut kids = [

@@ -1,6 +1,8 @@
 //! A change of a tree that is made ready and not yet in force.
 ghost use Rattle.std.specs.Prelude.{◌≡◌, map};
 ghost use Rattle.std.specs.FinMap.{len};
+ghost use Rattle.std.specs.List.Sorted.{IsStrictlySortedBy};
+ghost use Rattle.base.specs.Key.{key_cmp};
 ghost use Rattle.base.specs.Surveys.{dead_block};
 ghost use Rattle.tree.specs.ChangeParts.{made_pair};
 
@@ -54,14 +56,16 @@ impl Change {
         &self.taken
     }
 
-    /// Its new blocks. They stand in the order of their keys, which no clause says yet.
+    /// Its new blocks, in the order of their keys: by the first leaf that they cover, and a parent before its children. Tests look
+    /// at them.
     pub fn made(&self) -> &[NewBlock]
-        ensures { map made_pair result.now ≡ self.now.made }
+        ensures made { map made_pair result.now ≡ self.now.made }
+        ensures order { IsStrictlySortedBy key_cmp (map (λ b. b.key) result.now) }
     {
         &self.made
     }
 
-    /// How many blocks the tree will have.
+    /// How many blocks the tree will have. Tests look at it.
     pub fn node_count(&self) -> u32
         ensures { result ≡ len self.now.new }
     {
@@ -70,7 +74,7 @@ impl Change {
 }
 
 /// What a change that is in force has done to the numbers: the blocks that it dropped without keeping their numbers in place, the
-/// numbers that its new blocks have beside those kept, and its new blocks.
+/// numbers that its new blocks have beside those kept, and its new blocks in the order of their keys.
 #[derive(Drop)]
 pub struct Changed {
     pub released: Vec<Dead>,

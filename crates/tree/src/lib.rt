@@ -3,6 +3,7 @@
 
 mod build;
 mod change;
+mod reading;
 mod renew;
 mod same;
 mod subtree;

@@ -1,10 +1,9 @@
 //! The nodes that a batch of changes makes, with those that nobody else has changed where they are.
 ghost use Rattle.std.specs.Prelude.{◌≡◌, suc, ◌+◌, ◌*◌, ◌^◌, ◌≤◌, IfOk, OnOk, OnErr, Some, length, map};
-ghost use Rattle.std.specs.Option.{option_map};
 ghost use Rattle.base.specs.declared.refusal.Refusal.{Refusal};
 ghost use Rattle.base.specs.Surveys.{AreDifferent};
-ghost use Rattle.node.specs.Kid.{IsKid, birth_of};
-ghost use Rattle.node.specs.Node.{inner_part};
+ghost use Rattle.node.specs.Kid.{IsSoundKid};
+ghost use Rattle.node.specs.Node.{inner_part, part_of_slot};
 ghost use Rattle.batch.specs.Said.{said, AreInOrder, IsWay};
 ghost use Rattle.batch.specs.Build.{made_keys, rebuilt, number_of, HasKeys};
 
@@ -31,12 +30,12 @@ fn replace<C: Build>(
     requires within { (index + 1) * 16 ^ level ≤ 1048576 }
     requires low { level ≤ 5 }
     requires order { AreInOrder updates.now }
-    requires sound { IsKid C.height (birth_of (option_map (λ a. C.part a.value) slot.old)) (option_map (λ a. C.part a.value) slot.old) }
-    requires keys { HasKeys made.now next (made_keys (said updates.now) C.height index (option_map (λ a. C.part a.value) slot.old)) }
+    requires sound { IsSoundKid C.height (part_of_slot C.part slot.old) }
+    requires keys { HasKeys made.now next (made_keys (said updates.now) C.height index (part_of_slot C.part slot.old)) }
     requires once { AreDifferent (map (λ b. b.key) made.now) }
-    ensures part { OnOk result (option_map (λ a. C.part a.value) slot.new ≡ rebuilt (said updates.now) (number_of made.now) group.0 C.height index (option_map (λ a. C.part a.value) slot.old)) }
-    ensures next { IfOk result (λ n. n ≡ next + length (made_keys (said updates.now) C.height index (option_map (λ a. C.part a.value) slot.old))) }
-    ensures same { OnErr result (option_map (λ a. C.part a.value) slot.new ≡ option_map (λ a. C.part a.value) slot.old) }
+    ensures part { OnOk result (part_of_slot C.part slot.new ≡ rebuilt (said updates.now) (number_of made.now) group.0 C.height index (part_of_slot C.part slot.old)) }
+    ensures next { IfOk result (λ n. n ≡ next + length (made_keys (said updates.now) C.height index (part_of_slot C.part slot.old))) }
+    ensures same { OnErr result (part_of_slot C.part slot.new ≡ part_of_slot C.part slot.old) }
     ensures err { OnErr result (result ≡ Err Refusal.NoMemory) }
 {
     let built = C::build(
@@ -72,12 +71,12 @@ pub trait Renew: Build {
         requires within { (index + 1) * 16 ^ level ≤ 1048576 }
         requires low { level ≤ 5 }
         requires order { AreInOrder updates.now }
-        requires sound { IsKid Self.height (birth_of (option_map (λ a. Self.part a.value) slot.old)) (option_map (λ a. Self.part a.value) slot.old) }
-        requires keys { HasKeys made.now next (made_keys (said updates.now) Self.height index (option_map (λ a. Self.part a.value) slot.old)) }
+        requires sound { IsSoundKid Self.height (part_of_slot Self.part slot.old) }
+        requires keys { HasKeys made.now next (made_keys (said updates.now) Self.height index (part_of_slot Self.part slot.old)) }
         requires once { AreDifferent (map (λ b. b.key) made.now) }
-        ensures part { OnOk result (option_map (λ a. Self.part a.value) slot.new ≡ rebuilt (said updates.now) (number_of made.now) group.0 Self.height index (option_map (λ a. Self.part a.value) slot.old)) }
-        ensures next { IfOk result (λ n. n ≡ next + length (made_keys (said updates.now) Self.height index (option_map (λ a. Self.part a.value) slot.old))) }
-        ensures same { OnErr result (option_map (λ a. Self.part a.value) slot.new ≡ option_map (λ a. Self.part a.value) slot.old) }
+        ensures part { OnOk result (part_of_slot Self.part slot.new ≡ rebuilt (said updates.now) (number_of made.now) group.0 Self.height index (part_of_slot Self.part slot.old)) }
+        ensures next { IfOk result (λ n. n ≡ next + length (made_keys (said updates.now) Self.height index (part_of_slot Self.part slot.old))) }
+        ensures same { OnErr result (part_of_slot Self.part slot.new ≡ part_of_slot Self.part slot.old) }
         ensures err { OnErr result (result ≡ Err Refusal.NoMemory) };
 }
 
@@ -122,7 +121,7 @@ fn renew_node<C: Renew>(
     requires within { (index + 1) * 16 ^ level ≤ 1048576 }
     requires low { level ≤ 5 }
     requires order { AreInOrder updates.now }
-    requires sound { IsKid (suc C.height) (inner_part C.part node.old).cell.birth (Some (inner_part C.part node.old)) }
+    requires sound { IsSoundKid (suc C.height) (Some (inner_part C.part node.old)) }
     requires keys { HasKeys made.now next (made_keys (said updates.now) (suc C.height) index (Some (inner_part C.part node.old))) }
     requires once { AreDifferent (map (λ b. b.key) made.now) }
     ensures part { OnOk result (Some (inner_part C.part node.new) ≡ rebuilt (said updates.now) (number_of made.now) group.0 (suc C.height) index (Some (inner_part C.part node.old))) }

@@ -7,7 +7,7 @@ use node::same_kid;
 impl Tree {
     /// Whether the other tree has the same map: the same keys, with the same numbers, births and bytes. It costs the nodes that
     /// both have up to the first difference. Nodes that both trees share are compared like others: nothing that a contract could
-    /// name tells one owner's node from another's.
+    /// name tells one owner's node from another's. It is for tests.
     pub fn same(&self, other: &Tree) -> bool
         ensures { IsTrue result ↔ (self.now ≡ other.now) }
     {

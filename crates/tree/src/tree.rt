@@ -1,30 +1,21 @@
 //! A version of a tree, seen as the map from its present keys to their cells.
-ghost use Rattle.std.specs.Prelude.{◌≡◌, ◌<◌, ◌≤◌, ◌⊎◌, Some, IfOk, IfSome, IsSome, IfErr, OnOk, OnErr, slice_get, map, length};
-ghost use Rattle.base.specs.declared.number.Key.{Key};
-ghost use Rattle.base.specs.declared.refusal.Refusal.{Refusal};
-ghost use Rattle.batch.specs.Updates.{changes_of, IsBatch};
-ghost use Rattle.zalloc.specs.declared.BlockState.TheVariants.{Allocated};
-ghost use Rattle.tree.specs.Change.{IsChange};
-ghost use Rattle.batch.specs.Room.{HasRoom, LacksRoom};
-ghost use Rattle.tree.specs.ChangeParts.{change_done};
-ghost use Rattle.base.specs.Surveys.{dead_block};
-ghost use Rattle.node.specs.Walk.{born_after, blocks_of};
-ghost use Rattle.tree.specs.Taking.{AllFree, takes};
+ghost use Rattle.std.specs.Prelude.{◌≡◌, ◌≤◌, IfOk, IfErr, OnOk, OnErr, map};
 ghost use Rattle.std.specs.FinMap as finmap;
-ghost use Rattle.std.specs.FinMap.{get, len};
-ghost use Rattle.std.specs.Option.{option_map};
-ghost use Rattle.base.specs.Counting.{counted};
-ghost use Rattle.node.specs.Cells.{cell_of};
-ghost use Rattle.tree.specs.Reading.{present_on_path};
+ghost use Rattle.base.specs.declared.refusal.Refusal.{Refusal};
+ghost use Rattle.batch.specs.Updates.{changes_of};
+ghost use Rattle.tree.specs.Asking.{AllowsChange, IsNoSpaceOrNoMemory};
+ghost use Rattle.tree.specs.Change.{IsChange, HasRoom, LacksRoom, CountsDropped};
+ghost use Rattle.tree.specs.ChangeParts.{HasChanged};
+ghost use Rattle.tree.specs.Taking.{AllFree, takes};
 
 use crate::build::Build;
 use crate::change::{Change, Changed};
 use crate::renew::Renew;
 use base::meter::Meter;
-use base::number::{BlockNo, Dead, Group, Key};
+use base::number::{BlockNo, Group};
 use base::refusal::Refusal;
 use batch::{Update, draft_of};
-use node::{Cell, Level, Root, keep, owner_in, span};
+use node::{Root, keep, owner_in};
 use std::alloc::Global;
 use std::marker::Model;
 use std::sync::Arc;
@@ -34,12 +25,12 @@ use zalloc::Allocator;
 #[derive(Drop)]
 pub struct Tree {
     pub(crate) root: Option<Arc<Root>>,
-    count: u32,
+    pub(crate) count: u32,
 }
 
 impl Model for Tree {
     ghost use Rattle.base.specs.Map.{Map};
-    ghost use Rattle.tree.specs.Codes.{map_code};
+    ghost use Rattle.base.specs.Codes.{map_code};
 
     ghost Value = { Map };
 
@@ -87,59 +78,12 @@ impl Tree {
         })
     }
 
-    /// What stands at a key, or none. It costs a step for each level from the root down.
-    pub fn read(&self, key: Key, meter: &mut Meter) -> Option<Cell>
-        ensures cell { option_map cell_of result ≡ get self.now key }
-        ensures bytes { IfSome result (λ c. key.level ≡ 0 → IsSome c.bytes) }
-        ensures metered { meter.new ≡ counted meter.old (present_on_path self.now key) }
-    {
-        let _reached = meter.count();
-        let Some(root) = &self.root else {
-            return None;
-        };
-        if key.level > 5 {
-            return None;
-        }
-        let depth = u32::from(5 - key.level);
-        if key.index < span(depth) {
-            root.find(depth, key.index, meter)
-        } else {
-            None
-        }
-    }
-
-    /// How many blocks the tree has.
-    pub fn node_count(&self) -> u32
-        ensures { result ≡ len self.now }
-    {
-        self.count
-    }
-
-    /// The blocks born after a group, each before those below it (On-Disk Specification, chapter 2). Parts that are no younger
-    /// are not walked. NoMemory where there is none for the list.
-    pub fn walk_after(
-        &self,
-        alloc: Global,
-        cut: Group,
-        meter: &mut Meter,
-    ) -> Result<Vec<Dead>, Refusal>
-        ensures ok { IfOk result (λ v. map dead_block v.items ≡ born_after cut.0 (blocks_of self.now)) }
-        ensures metered { IfOk result (λ v. counted meter.old (length v.items) ≤ meter.new) }
-        ensures err { OnErr result (result ≡ Err Refusal.NoMemory) }
-    {
-        let _reached = meter.count();
-        let mut out = Vec::new(alloc);
-        if let Some(root) = &self.root {
-            root.gather(cut, &mut out, meter)?;
-        }
-        Ok(out)
-    }
-
     /// Makes a batch of changes ready: new blocks for the changed leaves and all their ancestors that stay, born in `group`
     /// (On-Disk Specification, chapter 3). A block that was there and was born from `young` on keeps its number, and the others
     /// take those of young blocks that go, and then Free ones. Nothing is changed yet. NoSpace where these numbers are fewer
     /// than the new blocks, NoMemory where there is no memory. It costs the nodes on the way to the changes, each with its
-    /// sixteen places.
+    /// sixteen places. The meter counts these nodes: it rises by at least one for each block that the change drops, and at `Err`
+    /// is never lower.
     pub fn prepare_change(
         &self,
         alloc: Global,
@@ -149,14 +93,13 @@ impl Tree {
         allocator: &Allocator,
         meter: &mut Meter,
     ) -> Result<Change, Refusal>
-        requires batch { IsBatch updates.now }
-        requires young { young.0 ≤ group.0 }
-        requires born { (k : Key) → IfSome (get self.now k) (λ c. c.birth ≤ group.0) }
-        requires allocated { (k : Key) → IfSome (get self.now k) (λ c. slice_get allocator.now c.number ≡ Some Allocated) }
-        ensures ok { IfOk result (λ change. IsChange self.now (changes_of updates.now) group.0 young.0 allocator.now change) }
+        requires { AllowsChange self.now updates.now group.0 young.0 allocator.now }
+        ensures ok { IfOk result (IsChange self.now (changes_of updates.now) group.0 young.0 allocator.now) }
         ensures room { OnOk result (HasRoom self.now (changes_of updates.now) young.0 allocator.now) }
         ensures no_space { result ≡ Err Refusal.NoSpace → LacksRoom self.now (changes_of updates.now) young.0 allocator.now }
-        ensures only { IfErr result (λ e. (e ≡ Refusal.NoSpace) ⊎ (e ≡ Refusal.NoMemory)) }
+        ensures only { IfErr result IsNoSpaceOrNoMemory }
+        ensures metered { OnOk result (CountsDropped self.now (changes_of updates.now) meter.old meter.new) }
+        ensures never_lower { meter.old ≤ meter.new }
     {
         let mut draft = draft_of(
             alloc, &self.root, self.count, updates, young, allocator, meter,
@@ -176,8 +119,9 @@ impl Tree {
     }
 
     /// Puts a batch of changes in force at once, as `prepare_change` and `commit` would, but takes no number: the answer names those
-    /// that the new blocks have. At `Err` the tree is as it was. NoSpace and NoMemory come as at `prepare_change`. A batch that
-    /// is one write costs the nodes on its way, and changes those where they are that no other version of the tree shares.
+    /// that the new blocks have. At `Err` the tree is as it was. NoSpace and NoMemory come as at `prepare_change`, and the meter
+    /// counts the same. A batch that is one write costs the nodes on its way, and changes those where they are that no other
+    /// version of the tree shares.
     pub fn change(
         &mut self,
         alloc: Global,
@@ -187,15 +131,14 @@ impl Tree {
         allocator: &Allocator,
         meter: &mut Meter,
     ) -> Result<Changed, Refusal>
-        requires batch { IsBatch updates.now }
-        requires young { young.0 ≤ group.0 }
-        requires born { (k : Key) → IfSome (get self.old k) (λ c. c.birth ≤ group.0) }
-        requires allocated { (k : Key) → IfSome (get self.old k) (λ c. slice_get allocator.now c.number ≡ Some Allocated) }
-        ensures ok { IfOk result (λ done. IsChange self.old (changes_of updates.now) group.0 young.0 allocator.now (change_done self.old self.new done)) }
+        requires { AllowsChange self.old updates.now group.0 young.0 allocator.now }
+        ensures ok { IfOk result (HasChanged self.old self.new (changes_of updates.now) group.0 young.0 allocator.now) }
         ensures room { OnOk result (HasRoom self.old (changes_of updates.now) young.0 allocator.now) }
         ensures err { OnErr result (self.new ≡ self.old) }
         ensures no_space { result ≡ Err Refusal.NoSpace → LacksRoom self.old (changes_of updates.now) young.0 allocator.now }
-        ensures only { IfErr result (λ e. (e ≡ Refusal.NoSpace) ⊎ (e ≡ Refusal.NoMemory)) }
+        ensures only { IfErr result IsNoSpaceOrNoMemory }
+        ensures metered { OnOk result (CountsDropped self.old (changes_of updates.now) meter.old meter.new) }
+        ensures never_lower { meter.old ≤ meter.new }
     {
         let mut draft = draft_of(
             alloc, &self.root, self.count, updates, young, allocator, meter,

@@ -1,6 +1,6 @@
 ghost use Rattle.std.specs.Prelude.{◌≡◌, ◌+◌, ◌<◌, ◌^◌};
 
-use base::name::Target;
+use name::Target;
 use base::refusal::Refusal;
 use model::entry::Entry;
 use model::reply::Reply;

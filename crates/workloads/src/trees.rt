@@ -5,7 +5,7 @@ use base::number::Group;
 use base::refusal::Refusal;
 use std::alloc::Global;
 use tree::{Tree, Update};
-use tree_trials::ready::{is_batch, is_ready, meter};
+use tree_tests::ready::{is_batch, is_ready, meter};
 use zalloc::{Allocator, MOST_BLOCKS};
 
 const BATCH_LEAVES: u32 = 4096;

@@ -5,7 +5,7 @@ use Rattle.std.specs.Cmp.{IsTotalOrder}
 use Rattle.std.specs.FinMap.{entries, empty, from_entries, put, entries-insert, len-entries, len-empty, nat_cmp-IsAntisymmetric, slice_cmp-IsAntisymmetric}
 use Rattle.std.specs.Cmp.Lexicographic.{nat_list_cmp_total}
 use Rattle.base.specs.Key.{key_cmp, key_cmp_total, key_cmp-IsAntisymmetric}
-use Rattle.base.specs.Names.{name_cmp}
+use Rattle.name.specs.Names.{name_cmp}
 use Rattle.base.specs.Map.{block_cmp, block_cmp_total, block_cmp-IsAntisymmetric}
 use Rattle.world.specs.Sets.{IsExactOrder}
 

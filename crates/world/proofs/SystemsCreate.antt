@@ -7,36 +7,24 @@ use Rattle.std.specs.FinMap as finmap
 use Rattle.std.proofs.lemmas.Bool.{ltb-true, lt-ltb, cases_lt, false_from_ne_true}
 use Rattle.base.specs.declared.refusal.Refusal.{Refusal}
 use Rattle.base.specs.declared.refusal.Refusal.TheVariants.{Exists, NoParent, TooMany, NoMemory}
-use Rattle.base.specs.Names.{parent_of}
+use Rattle.name.specs.Names.{parent_of}
 use Rattle.base.specs.Map.{IsTree}
 use Rattle.zalloc.specs.declared.BlockState.{BlockState}
 use Rattle.model.specs.declared.request.Request.{Request}
 use Rattle.model.specs.declared.reply.Reply.TheVariants.{Done, Refused}
 use Rattle.model.specs.World.{FileSystem, empty_file_system}
 use Rattle.model.specs.Outcome.{Choice, with_now, with_new_file_system, state_after, state_after_sweep, state_before_sweep}
-use Rattle.model.specs.Refusals.{refusal_of}
 use Rattle.model.specs.Step.{Step, done, refused, out_of_memory}
 use Rattle.world.specs.SystemsChange.{AreReached, AreKeysOne, AreStatesOf}
-use Rattle.world.specs.Systems.{FileSystems, HasParent, blocks_of_systems, Systems, systems_world, systems_state, IsSystems, AreStates, with_new}
-use Rattle.table.specs.Create.{create_refusal}
+use Rattle.world.specs.Systems.{FileSystems, blocks_of_systems, Systems, systems_world, systems_state, IsSystems, AreStates, with_new}
+use Rattle.model.specs.Refusals.{create_refusal, refusal_of}
+use Rattle.table.proofs.Rows.{can_add}
 use Rattle.world.specs.SystemsSteps.{Creates}
 use Rattle.world.proofs.Maps.{no_value}
 use Rattle.world.proofs.SystemsEmpty.{none_tree, none_once}
 use Rattle.world.proofs.SystemsWorld.{states_of, of_states, state_after_sweep-systems}
 use Rattle.world.proofs.SystemsKeep.{put_cases, new_blocks, new_keeps}
 use Rattle.world.proofs.SystemsNumbered.{systems_numbered}
-
-absent : (x : Option FileSystem) → is_some x ≡ false → x ≡ None
-absent None e = refl
-absent (Some s) e = absurd (true≢false e)
-
--- a test of a name's parent, as a fact
-pub parent_there : (ss : FileSystems) (name : List ℕ) → option_map_or (contains_key ss) (parent_of name) false ≡ true → HasParent ss name
-parent_there ss name e = at (parent_of name) refl e
-  where
-    at : (p : Option (List ℕ)) → parent_of name ≡ p → option_map_or (contains_key ss) p false ≡ true → HasParent ss name
-    at None h f = absurd (true≢false (sym f))
-    at (Some q) h f = record { parent = q; named = h; there = f }
 
 module _ (c : Systems) (name : List ℕ) where
   -- the pool once the file system is there
@@ -47,9 +35,9 @@ module _ (c : Systems) (name : List ℕ) where
   unfolding systems_state systems_world
   created-state = refl
 
-  module _ (good : IsSystems c) (none : contains_key c.now name ≡ false) where
+  module _ (good : IsSystems c) (may : create_refusal c.now name ≡ None) where
     not_there : get c.now name ≡ None
-    not_there = absent (get c.now name) none
+    not_there = (can_add c.now name may).absent
 
     same_blocks : blocks_of_systems c.now ≡ blocks_of_systems (with_new c.now name)
     same_blocks = sym (new_blocks c.now good.now.named name not_there)
@@ -59,45 +47,24 @@ module _ (c : Systems) (name : List ℕ) where
     create_states states known = of_states with_created states
         (subst (λ s. AreStatesOf s (blocks_of_systems c.last) c.size states) same_blocks (states_of c states known))
 
-    module _ (parent : option_map_or (contains_key c.now) (parent_of name) false ≡ true) (room : finmap.len c.now < 1024) where
-      -- what holds of the pool between two steps holds again
-      pub create_keeps : IsSystems with_created
-      create_keeps = record {
-        now = record {
-          named = new_keeps c.now good.now.named name not_there (parent_there c.now name parent) room;
-          trees = λ q x h. ⊎_elim
-              (λ w. subst (λ (y : FileSystem). IsTree c.size y.live) (sym w.1) (none_tree c.size))
-              (λ w. good.now.trees q x w.1)
-              (put_cases c.now name empty_file_system q x h);
-          keys_one = λ q x h. ⊎_elim
-              (λ w. subst (λ (y : FileSystem). AreKeysOne y.live) (sym w.1) none_once)
-              (λ w. good.now.keys_one q x w.1)
-              (put_cases c.now name empty_file_system q x h);
-        };
-        last = good.last;
-        reached = subst (λ s. AreReached s (blocks_of_systems c.last) c.last_group c.group c.size) same_blocks good.reached;
-        begun = good.begun;
-      }
-
--- what a test of a name says where it finds no fault: the name is new, its parent is there, and there is room for one more
-create_parts : {E : Type 0} (exists parent room : Bool) (a b d : E) → cond {A = Option E} exists (Some a) (cond parent (cond room None (Some d)) (Some b)) ≡ None
-    → (exists ≡ false) × (parent ≡ true) × (room ≡ true)
-create_parts true parent room a b d e = absurd (no_value a (sym e))
-create_parts false false room a b d e = absurd (no_value b (sym e))
-create_parts false true true a b d e = (refl, refl, refl)
-create_parts false true false a b d e = absurd (no_value d (sym e))
-
-module _ (c : Systems) (name : List ℕ) (may : create_refusal c.now name ≡ None) where
-  parts : (contains_key c.now name ≡ false) × (option_map_or (contains_key c.now) (parent_of name) false ≡ true) × (nat_lt (finmap.len c.now) 1024 ≡ true)
-  unfolding create_refusal
-  parts = create_parts _ _ _ Exists NoParent TooMany may
-
-  -- where the definition has no fault, what holds of the pool between two steps holds once it is created, and no number's state changes
-  pub create_good : IsSystems c → IsSystems (with_created c name)
-  create_good good = create_keeps c name good parts.0 parts.1 (ltb-true (finmap.len c.now) 1024 parts.2)
-
-  pub create_numbers : IsSystems c → (states : List BlockState) → AreStates c states → AreStates (with_created c name) states
-  create_numbers good = create_states c name good parts.0
+    -- where the definition has no fault, what holds of the pool between two steps holds again
+    pub create_good : IsSystems with_created
+    create_good = record {
+      now = record {
+        named = new_keeps c.now good.now.named name not_there may;
+        trees = λ q x h. ⊎_elim
+            (λ w. subst (λ (y : FileSystem). IsTree c.size y.live) (sym w.1) (none_tree c.size))
+            (λ w. good.now.trees q x w.1)
+            (put_cases c.now name empty_file_system q x h);
+        keys_one = λ q x h. ⊎_elim
+            (λ w. subst (λ (y : FileSystem). AreKeysOne y.live) (sym w.1) none_once)
+            (λ w. good.now.keys_one q x w.1)
+            (put_cases c.now name empty_file_system q x h);
+      };
+      last = good.last;
+      reached = subst (λ s. AreReached s (blocks_of_systems c.last) c.last_group c.group c.size) same_blocks good.reached;
+      begun = good.begun;
+    }
 
 -- ---- steps
 
@@ -134,24 +101,6 @@ module _ (c : Systems) (q : Request) (name : List ℕ) (creates : Creates q name
     choice = record { number = λ _. 0 };
     not_refused = row-create ∙ may;
     reply_is = sym (creates.reply (systems_state c));
-    new_is = after-create (record { number = λ _. 0 }) (create_good c name may good);
-    numbered = systems_numbered (with_created c name) (create_good c name may good);
+    new_is = after-create (record { number = λ _. 0 }) (create_good c name good may);
+    numbered = systems_numbered (with_created c name) (create_good c name good may);
   })
-
--- ---- the row as a list of conditions
-
--- the conditions in the order of the definition's row come to the same
-pub create_row : (exists parent room full : Bool) → full ≡ not room
-    → cond {A = Option Refusal} exists (Some Exists) (cond (not parent) (Some NoParent) (cond full (Some TooMany) None))
-    ≡ cond exists (Some Exists) (cond parent (cond room None (Some TooMany)) (Some NoParent))
-create_row true parent room full e = refl
-create_row false false room full e = refl
-create_row false true true full e = rw e refl
-create_row false true false full e = rw e refl
-
--- there are as many file systems as may be, said in either way
-pub no_room : (n limit : ℕ) → nat_lt limit (n + 1) ≡ not (nat_lt n limit)
-no_room n limit = ⊎_elim
-    (λ l. rw (lt-ltb n limit l) (false_from_ne_true (nat_lt limit (n + 1)) (λ t. let k = ltb-true limit (n + 1) t in absurd (omega arith))))
-    (λ l. lt-ltb limit (n + 1) (omega arith) ∙ sym (ap not (false_from_ne_true (nat_lt n limit) (λ t. let k = ltb-true n limit t in absurd (omega arith)))))
-    (cases_lt n limit)

@@ -6,7 +6,7 @@ use Rattle.std.specs.FinMap as finmap
 use Rattle.std.specs.FinSet.{union, difference}
 use Rattle.std.proofs.lemmas.Bool.{false_from_ne_true}
 use Rattle.std.proofs.lemmas.List.{length-replicate}
-use Rattle.base.specs.Names.{root_name, name_cmp}
+use Rattle.name.specs.Names.{root_name, name_cmp}
 use Rattle.base.specs.Map.{Block, BlockSet, blocks, IsTree}
 use Rattle.zalloc.specs.declared.BlockState.{BlockState}
 use Rattle.zalloc.specs.declared.BlockState.TheVariants.{Free}
@@ -22,7 +22,8 @@ use Rattle.world.proofs.SetCounts.{from_union, from_difference}
 use Rattle.world.proofs.BlockSets.{from_number}
 use Rattle.world.proofs.SystemsEmpty.{no_blocks, none_tree, none_once}
 use Rattle.world.proofs.SystemsWorld.{from_systems, live_is_plain, of_states}
-use Rattle.world.proofs.SystemsKeep.{put_here, put_other, put_cases}
+use Rattle.table.proofs.Rows.{hierarchy_fresh}
+use Rattle.world.proofs.SystemsKeep.{put_cases}
 
 -- the root alone
 abbrev pub first_systems : FileSystems
@@ -45,16 +46,7 @@ first_plain name s h = subst (λ x. IsPlain x) (sym (only name s h).1) (live_is_
 
 named : AreFileSystems first_systems
 named = record {
-  root = ap is_some (put_here finmap.empty root_name empty_file_system);
-  parents = λ name h. ⊎_elim
-      (λ is. inl is)
-      (λ other. absurd (true≢false (sym h ∙ ap is_some (put_other finmap.empty root_name empty_file_system name other ∙ get-empty name_cmp name))))
-      (key_cases name_order name root_name);
-  few =
-      let e = len-insert name_order.total (finmap.empty {X = FileSystem}) root_name empty_file_system in
-      let n = ap (λ b. cond b (finmap.len (finmap.empty {X = FileSystem} {R = name_cmp})) (finmap.len (finmap.empty {X = FileSystem} {R = name_cmp}) + 1)) (ap is_some (get-empty {X = FileSystem} name_cmp root_name)) in
-      let z = len-empty name_cmp FileSystem in
-      omega (arith, e, n, z);
+  hierarchy = hierarchy_fresh empty_file_system;
   plain = first_plain;
   births = λ name s b h k. absurd (no_block name s b h k);
   once = λ p q s t b h g k l _ _. absurd (no_block p s b h k);

@@ -3,12 +3,15 @@ use Rattle.std.proofs.Common.{◌≡◌, ℕ, ◌+◌, ◌<◌, ◌≤◌, cond,
 use Rattle.std.specs.Prelude.{IsSome, is_some}
 use Rattle.std.specs.FinMap.{get, len-insert}
 use Rattle.std.specs.FinMap as finmap
-use Rattle.base.specs.Names.{root_name}
+use Rattle.name.specs.Names.{root_name}
 use Rattle.base.specs.Map.{Map, Block, blocks}
 use Rattle.model.specs.World.{FileSystem, empty_file_system}
 use Rattle.world.specs.Sets.{Has}
 use Rattle.world.specs.SystemsChange.{GivesWay}
-use Rattle.world.specs.Systems.{FileSystems, IsPlain, HasParent, AreFileSystems, base_of, blocks_of_systems, with_live, with_new}
+use Rattle.world.specs.Systems.{FileSystems, IsPlain, AreFileSystems, base_of, blocks_of_systems, with_live, with_new}
+use Rattle.model.specs.Hierarchy.{IsHierarchy}
+use Rattle.model.specs.Refusals.{create_refusal}
+use Rattle.table.proofs.Rows.{hierarchy_with, hierarchy_add}
 use Rattle.world.proofs.Maps.{same_value, no_value, key_cases, get-insert_same, get-insert_other}
 use Rattle.world.proofs.Orders.{block_order as o, name_order}
 use Rattle.world.proofs.SetCounts.{same_members}
@@ -49,9 +52,6 @@ module _ (ss : FileSystems) (name : List ℕ) (t : FileSystem) where
       (λ other. ap is_some (put_other q other) ∙ h)
       (key_cases name_order q name)
 
-  pub put_parent : (q : List ℕ) → HasParent ss q → HasParent (finmap.insert ss name t) q
-  put_parent q p = record { parent = p.parent; named = p.named; there = put_there p.parent p.there }
-
 -- ---- a live map changed
 
 module _ (ss : FileSystems) (name : List ℕ) (s : FileSystem) (was : get ss name ≡ Some s) (m : Map) where
@@ -80,12 +80,6 @@ module _ (ss : FileSystems) (good : AreFileSystems ss) (name : List ℕ) (s : Fi
 
   abbrev with_map : FileSystems
   with_map = with_live ss name m
-
-  there_before : (q : List ℕ) → IsSome (get with_map q) → IsSome (get ss q)
-  there_before q h = ⊎_elim
-      (λ is. ap (λ n. is_some (get ss n)) is ∙ ap is_some was)
-      (λ other. ap is_some (sym (live_other ss name s was m q other)) ∙ h)
-      (key_cases name_order q name)
 
   plain_after : (q : List ℕ) (x : FileSystem) → get with_map q ≡ Some x → IsPlain x
   plain_after q x h = ⊎_elim
@@ -135,20 +129,10 @@ module _ (ss : FileSystems) (good : AreFileSystems ss) (name : List ℕ) (s : Fi
         meets : (r : List ℕ) (z : FileSystem) → ¬ (r ≡ name) → get ss r ≡ Some z → Has (blocks z.live) b → Has (blocks m) b → ⊥
         meets r z other e k l = other (alone ss good r name z s b e was k (apart b l (in_systems ss r z b e k)))
 
-    few : finmap.len (finmap.insert ss name t) ≤ 1024
-    few =
-        let e = len-insert name_order.total ss name t ∙ ap (λ b. cond b (finmap.len ss) (finmap.len ss + 1)) (ap is_some was) in
-        let f = good.few in omega (arith, e, f)
-
     -- what holds of file systems between two steps holds again
     pub live_keeps : AreFileSystems with_map
     live_keeps = record {
-      root = subst (λ x. IsSome (get x root_name)) (sym (live_put ss name s was m)) (put_there ss name t root_name good.root);
-      parents = λ q h. ⊎_elim
-          (λ is. inl is)
-          (λ p. inr (subst (λ x. HasParent x q) (sym (live_put ss name s was m)) (put_parent ss name t q p)))
-          (good.parents q (there_before q h));
-      few = subst (λ x. finmap.len x ≤ 1024) (sym (live_put ss name s was m)) few;
+      hierarchy = subst (λ x. IsHierarchy x) (sym (live_put ss name s was m)) (hierarchy_with ss name t good.hierarchy (ap is_some was));
       plain = plain_after;
       births = births;
       once = λ p q x y b g h i j _ _. once p q x y b g h i j;
@@ -180,14 +164,9 @@ module _ (ss : FileSystems) (good : AreFileSystems ss) (name : List ℕ) (none :
       (λ b h. let r = from_systems ss good.plain b h in
       in_systems after_new r.0 r.1 b (put_other ss name empty_file_system r.0 (λ is. no_value r.1 (sym none ∙ ap (get ss) (sym is) ∙ r.2)) ∙ r.2) r.3)
 
-  pub new_keeps : HasParent ss name → finmap.len ss < 1024 → AreFileSystems after_new
-  new_keeps parent room = record {
-    root = put_there ss name empty_file_system root_name good.root;
-    parents = λ q h. ⊎_elim
-        (λ is. inr (put_parent ss name empty_file_system q (subst (λ n. HasParent ss n) (sym is) parent)))
-        (λ other. ⊎_elim (λ is. inl is) (λ p. inr (put_parent ss name empty_file_system q p)) (good.parents q (ap is_some (sym (put_other ss name empty_file_system q other)) ∙ h)))
-        (key_cases name_order q name);
-    few = let e = len-insert name_order.total ss name empty_file_system ∙ ap (λ b. cond b (finmap.len ss) (finmap.len ss + 1)) (ap is_some none) in omega (arith, e);
+  pub new_keeps : create_refusal ss name ≡ None → AreFileSystems after_new
+  new_keeps may = record {
+    hierarchy = hierarchy_add ss name empty_file_system good.hierarchy may;
     plain = plain_new;
     births = λ q x b g h. good.births q x b (own q x b g h) h;
     once = λ p q x y b g h i j k l. good.once p q x y b (own p x b g i) (own q y b h j) i j k l;

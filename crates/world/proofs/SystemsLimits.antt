@@ -7,7 +7,7 @@ use Rattle.std.specs.FinMap.{get, entries, keys}
 use Rattle.std.specs.FinMap as finmap
 use Rattle.std.specs.FinSet.{union, len, len-empty}
 use Rattle.std.proofs.lemmas.List.Sums.{sum_by-cons}
-use Rattle.base.specs.Names.{root_name}
+use Rattle.name.specs.Names.{root_name}
 use Rattle.base.specs.Map.{Map, Block, blocks, block_cmp}
 use Rattle.model.specs.World.{FileSystem, Live, empty_file_system, maps_of}
 use Rattle.model.specs.State.{waiting_of}

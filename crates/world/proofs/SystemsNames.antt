@@ -2,16 +2,17 @@
 use Rattle.std.proofs.Common.{◌≡◌, ℕ, ◌+◌, Bool, true, false, cond, List, [], ◌∷◌, Option, Some, None, map, refl, sym, ap, ◌∙◌, true≢false, inl, inr, ⊎_elim, arith}
 use Rattle.std.specs.Prelude.{IsSome, is_some, ◌==◌}
 use Rattle.std.specs.Option.{option_map_or}
-use Rattle.std.specs.FinMap.{get, entries, keys}
+use Rattle.std.specs.FinMap.{get, contains_key, entries, keys}
 use Rattle.std.specs.FinMap as finmap
 use Rattle.std.specs.Cmp.Lexicographic.{same_text}
 use Rattle.std.proofs.lemmas.Bool.{eqb-true, eq-eqb}
 use Rattle.base.specs.Surveys.{IsIn, AreDifferent}
-use Rattle.base.specs.Names.{slash, root_name, same_name, before_slash, parent_of}
+use Rattle.name.specs.Names.{slash, root_name, same_name, before_slash, parent_of}
 use Rattle.model.specs.World.{FileSystem}
 use Rattle.world.specs.Entries.{IsEntry, AreApart}
 use Rattle.world.specs.Hierarchies.{IsHierarchy, slashes}
-use Rattle.world.specs.Systems.{FileSystems, HasParent, AreFileSystems}
+use Rattle.world.specs.Systems.{FileSystems, AreFileSystems}
+use Rattle.model.specs.Hierarchy.{has_parent}
 use Rattle.world.proofs.Lists.{length-mapped}
 use Rattle.world.proofs.SystemsLists.{some_of}
 use Rattle.world.proofs.Maps.{same_value, no_value, entry_of, at_entry, entries_apart}
@@ -95,6 +96,19 @@ entry_of_key : (es : List (List ℕ × FileSystem)) (q : List ℕ) → IsIn (map
 entry_of_key [] q i = absurd i
 entry_of_key (e ∷ es) q i = ⊎_elim (λ is. (e.1, inl (is, refl))) (λ r. let k = entry_of_key es q r in (k.0, inr k.1)) i
 
+-- a name's parent, which is there
+record HasParent (ss : FileSystems) (name : List ℕ) : Type 0 where
+  parent : List ℕ
+  named : parent_of name ≡ Some parent
+  there : IsSome (get ss parent)
+
+parent_there : (ss : FileSystems) (name : List ℕ) → has_parent ss name ≡ true → HasParent ss name
+parent_there ss name e = at (parent_of name) refl e
+  where
+    at : (p : Option (List ℕ)) → parent_of name ≡ p → option_map_or (contains_key ss) p false ≡ true → HasParent ss name
+    at None h f = absurd (true≢false (sym f))
+    at (Some q) h f = record { parent = q; named = h; there = f }
+
 module _ (ss : FileSystems) where
   pub in_keys : (name : List ℕ) → IsSome (get ss name) → IsIn (keys ss) name
   in_keys name h = let s = some_of (get ss name) h in key_of_entry (entries ss) name s.0 (entry_of name_order ss name s.0 s.1)
@@ -110,8 +124,8 @@ module _ (ss : FileSystems) where
     parent_at : (c : List ℕ) → IsIn (keys ss) c → (d : ℕ) → slashes c ≡ d + 1 → HasParent ss c
     parent_at c i d e = ⊎_elim
         (λ is. let z = ap slashes is in absurd (omega (arith, z, e)))
-        (λ p. p)
-        (good.parents c (ap is_some (from_keys c i).1))
+        (λ p. parent_there ss c p)
+        (good.hierarchy.parents c (ap is_some (from_keys c i).1))
 
     up : (c : List ℕ) → IsIn (keys ss) c → (d : ℕ) → slashes c ≡ d + 1 → (p : List ℕ) × IsIn (keys ss) p × (slashes p ≡ d)
     up c i d e =
@@ -122,8 +136,8 @@ module _ (ss : FileSystems) where
     only_root : (c : List ℕ) → IsIn (keys ss) c → (slashes c == 0) ≡ true → c ≡ root_name
     only_root c i e = ⊎_elim
         (λ is. is)
-        (λ p. let l = level_up c p.parent p.named in let z = eqb-true (slashes c) 0 e in absurd (omega (arith, l, z)))
-        (good.parents c (ap is_some (from_keys c i).1))
+        (λ h. let p = parent_there ss c h in let l = level_up c p.parent p.named in let z = eqb-true (slashes c) 0 e in absurd (omega (arith, l, z)))
+        (good.hierarchy.parents c (ap is_some (from_keys c i).1))
 
     pub are_hierarchy : IsHierarchy is_child slashes (keys ss) root_name (finmap.len ss)
     are_hierarchy = record {
@@ -132,7 +146,7 @@ module _ (ss : FileSystems) where
           let p = parent_at c i d e in
           total_one (λ x. is_child x c) (λ _. v) (keys ss) p.parent keys_once (in_keys p.parent p.there) (is_child_of p.parent c p.named)
           (λ x k t. same_value x p.parent (sym (child_is x c t) ∙ p.named));
-      one_root = λ v. total_one (λ x. slashes x == 0) v (keys ss) root_name keys_once (in_keys root_name good.root) refl only_root;
+      one_root = λ v. total_one (λ x. slashes x == 0) v (keys ss) root_name keys_once (in_keys root_name good.hierarchy.root) refl only_root;
       high = λ c i.
           let l = levels_few slashes (keys ss) up c i in
           let n = length-mapped (λ (e : List ℕ × FileSystem). e.0) (entries ss) in

@@ -3,10 +3,10 @@ use Rattle.std.proofs.Common.{◌≡◌, ℕ, List, [], ◌∷◌, ◌++◌, ref
 use Rattle.std.specs.List.{flat_map}
 use Rattle.std.specs.Option.{option_map_or}
 use Rattle.std.specs.FinMap.{keys, entries, contains_key, len, from_entries}
-use Rattle.base.specs.declared.name.Target.{Target}
+use Rattle.name.specs.declared.target.Target.{Target}
 use Rattle.base.specs.declared.refusal.Refusal.TheVariants.{NoMemory}
 use Rattle.base.specs.Key.{leaf_index}
-use Rattle.base.specs.Names.{name_cmp, parent_of, snap_text, mark_text}
+use Rattle.name.specs.Names.{name_cmp, parent_of, snap_text, mark_text}
 use Rattle.base.specs.Rewrite.{punches_leaf, frees_object}
 use Rattle.model.specs.declared.request.Request.TheVariants.{Create, Punch, FreeObject, List as ListNames}
 use Rattle.model.specs.declared.reply.Reply.TheVariants.{Refused, Names as NamesAre}
@@ -16,12 +16,11 @@ use Rattle.model.specs.Outcome.{state_before_sweep}
 use Rattle.model.specs.Refusals.{refusal_of, row_of, is_block, is_object}
 use Rattle.model.specs.Step.{Step, out_of_memory, reply_of}
 use Rattle.world.specs.Entries.{IsEntry}
-use Rattle.world.specs.Systems.{IsPlain, Systems, systems_world, systems_state, IsSystems, file_system_limit}
-use Rattle.table.specs.Create.{create_refusal}
+use Rattle.world.specs.Systems.{IsPlain, Systems, systems_world, systems_state, IsSystems}
+use Rattle.model.specs.Refusals.{create_refusal}
 use Rattle.world.specs.SystemsSteps.{ChangesLive, Creates}
 use Rattle.world.proofs.Maps.{at_entry}
 use Rattle.world.proofs.Orders.{name_order, entries-empty}
-use Rattle.world.proofs.SystemsCreate.{create_row, no_room}
 use Rattle.world.proofs.SystemsReads.{read_only}
 
 -- ---- a creation
@@ -30,9 +29,7 @@ pub create_creates : (name : List ℕ) → Creates (Create name) name
 unfolding state_before_sweep refusal_of row_of reply_of create_refusal
 create_creates name = record {
   before = λ s choice. refl;
-  row = λ s.
-      create_row (contains_key s.now.file_systems name) (option_map_or (contains_key s.now.file_systems) (parent_of name) _) _ _
-      (no_room (len s.now.file_systems) file_system_limit);
+  row = λ s. refl;
   reply = λ s. refl;
   writes = refl;
   memory = refl;

@@ -6,8 +6,8 @@ use Rattle.std.specs.FinMap.{get, entries, get-empty}
 use Rattle.std.specs.FinMap as finmap
 use Rattle.std.specs.FinSet.{union, difference}
 use Rattle.std.specs.FinSet as set
-use Rattle.base.specs.declared.name.Member.{Member}
-use Rattle.base.specs.Names.{name_cmp, same_name}
+use Rattle.name.specs.declared.member.Member.{Member}
+use Rattle.name.specs.Names.{name_cmp, same_name}
 use Rattle.base.specs.Map.{Map, Block, BlockSet, blocks}
 use Rattle.model.specs.World.{FileSystem, Snap, SnapId, Bookmark, Live, Snapped, empty_file_system, file_system_at, snaps_of, snap_at, snap_named, bookmark_named, union_of, reach_of, map_of, maps_of, blocks_of_all}
 use Rattle.model.specs.State.{waiting_of, block_state, is_number_of}

@@ -7,7 +7,7 @@ use Rattle.std.specs.FinSet.{union, len}
 use Rattle.std.proofs.lemmas.Bool.{le-leb}
 use Rattle.std.proofs.lemmas.Bool.Decides.{leb_tells}
 use Rattle.base.specs.declared.number.Key.{Key}
-use Rattle.base.specs.declared.name.Target.TheVariants.{FileSystem as OfFileSystem}
+use Rattle.name.specs.declared.target.Target.TheVariants.{FileSystem as OfFileSystem}
 use Rattle.base.specs.Map.{Map, Cell, Block, BlockSet, block_of, blocks, IsTree}
 use Rattle.base.specs.Rewrite.{Changes, rewrite}
 use Rattle.base.specs.Surveys.{IsIn, IsDropped, IsSurvey}

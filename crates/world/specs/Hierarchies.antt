@@ -1,7 +1,7 @@
 -- Sums down a hierarchy whose nodes stand in a list, as file systems do by their names.
 use Rattle.std.specs.Prelude.{◌≡◌, ◌==◌, ℕ, zero, suc, ◌+◌, ◌≤◌, Bool, true, List, [], ◌∷◌, cond}
 use Rattle.base.specs.Surveys.{IsIn}
-use Rattle.base.specs.Names.{slash}
+use Rattle.name.specs.Names.{slash}
 
 -- the sum of a number of each element (profile)
 abbrev pub total : {A : Type 0} → (A → ℕ) → List A → ℕ

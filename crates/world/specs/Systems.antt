@@ -5,13 +5,12 @@ use Rattle.std.specs.Option.{option_map_or}
 use Rattle.std.specs.FinMap.{get, values}
 use Rattle.std.specs.FinMap as finmap
 use Rattle.std.specs.FinSet as set
-use Rattle.base.specs.Names.{root_name, parent_of}
 use Rattle.base.specs.Map.{Block, BlockSet, blocks, IsTree}
 use Rattle.zalloc.specs.declared.BlockState.{BlockState}
 use Rattle.model.specs.World.{World, FileSystem, no_limits, maps_of, blocks_of_all, newest_or_origin, empty_file_system}
 use Rattle.model.specs.State.{State, block_state}
 pub use Rattle.table.specs.Rows.{FileSystems, with_live}
-pub use Rattle.table.specs.Hierarchy.{file_system_limit}
+use Rattle.model.specs.Hierarchy.{IsHierarchy}
 use Rattle.world.specs.Sets.{Has}
 use Rattle.world.specs.SystemsChange.{AreReached, AreKeysOne}
 
@@ -31,18 +30,10 @@ blocks_of_systems ss = blocks_of_all (flat_map maps_of (values ss))
 abbrev pub base_of : FileSystem → ℕ
 base_of s = option_map_or (λ id. id.group) (newest_or_origin s s.snaps) 0
 
--- a name's parent is there (zfs(8))
-pub record HasParent (ss : FileSystems) (name : List ℕ) : Type 0 where
-  pub parent : List ℕ
-  pub named : parent_of name ≡ Some parent
-  pub there : IsSome (get ss parent)
-
--- What holds of one world's file systems between two steps: the root and each parent is there, and a block that two live maps have
+-- What holds of one world's file systems between two steps: the hierarchy holds, and a block that two live maps have
 -- was born before one of them began (profile)
 pub record AreFileSystems (ss : FileSystems) : Type 0 where
-  pub root : IsSome (get ss root_name)
-  pub parents : (name : List ℕ) → IsSome (get ss name) → (name ≡ root_name) ⊎ HasParent ss name
-  pub few : finmap.len ss ≤ file_system_limit
+  pub hierarchy : IsHierarchy ss
   pub plain : (name : List ℕ) (s : FileSystem) → get ss name ≡ Some s → IsPlain s
   pub births : (name : List ℕ) (s : FileSystem) (b : Block) → get ss name ≡ Some s → Has (blocks s.live) b → 0 < b.birth
   pub once :

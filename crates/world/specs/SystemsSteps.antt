@@ -2,8 +2,8 @@
 use Rattle.std.specs.Prelude.{◌≡◌, ◌<◌, ◌≤◌, ◌⊎◌, ℕ, Bool, true, false, List, Some, None}
 use Rattle.std.specs.Option.{option_map}
 use Rattle.std.specs.FinMap.{get}
-use Rattle.base.specs.declared.name.Target.{Target}
-use Rattle.base.specs.declared.name.Target.TheVariants.{FileSystem as OfFileSystem, Snapshot as OfSnapshot, Bookmark as OfBookmark}
+use Rattle.name.specs.declared.target.Target.{Target}
+use Rattle.name.specs.declared.target.Target.TheVariants.{FileSystem as OfFileSystem, Snapshot as OfSnapshot, Bookmark as OfBookmark}
 use Rattle.base.specs.Map.{Block}
 use Rattle.base.specs.Rewrite.{Changes}
 use Rattle.base.specs.Surveys.{IsIn}
@@ -15,7 +15,7 @@ use Rattle.model.specs.State.{State, block_state}
 use Rattle.model.specs.Outcome.{Choice, with_now, with_new_file_system, only_reads, state_after_change, state_before_sweep}
 use Rattle.model.specs.Refusals.{row_of, refusal_of, write_row}
 use Rattle.model.specs.Step.{reply_of, takes_memory}
-use Rattle.table.specs.Create.{create_refusal}
+use Rattle.model.specs.Refusals.{create_refusal}
 use Rattle.world.specs.Settles.{IsSettling}
 use Rattle.world.specs.Systems.{FileSystems, blocks_of_systems, Systems, systems_state, IsSystems, with_live}
 

@@ -12,8 +12,6 @@ ghost use Rattle.zalloc.specs.Tallies.{IsTaken};
 ghost use Rattle.zalloc.specs.declared.BlockState.TheVariants.{Free, Allocated, Waiting};
 
 mod state_map;
-#[cfg(test)]
-mod tests;
 
 use base::number::BlockNo;
 use base::refusal::Refusal;

@@ -2,17 +2,10 @@
 #![tactic(auto)]
 
 ghost use Rattle.std.specs.Prelude.{◌≡◌, ◌≤◌, ◌↔◌, IsTrue, IfOk, slice_get, option_and_then, option_copied};
-ghost use Rattle.zfsp.specs.Args.{is_bad};
+ghost use Rattle.runner.specs.Args.{is_bad};
 
-pub mod args;
-mod caller;
-pub mod run;
-#[cfg(test)]
-mod tests;
-
-use crate::args::{Args, read_args};
-use crate::run::{print_fault, print_usage, run_args};
 use base::failing::Counted;
+use runner::{Args, print_fault, print_usage, read_args, run_args};
 use script::run::ScriptFault;
 use std::io::{BufReader, BufWriter, ErrorKind, Read};
 use std::process::ExitCode;

@@ -10,7 +10,7 @@ use Rattle.batch.specs.Numbers.{numbers, is_young, IsAtHand}
 use Rattle.batch.specs.Said.{said}
 use Rattle.batch.specs.Touch.{claims, released}
 use Rattle.batch.proofs.Words.{batch_in_order}
-use Rattle.batch.proofs.Prepare.{IsReady, ready_room, ready_no_room, ready_allocated, ready_once, ready_count, few, new_bound, old_bound}
+use Rattle.batch.proofs.Prepare.{IsReady, ready_counts, ready_room, ready_no_room, ready_allocated, ready_once, ready_count, few, new_bound, old_bound}
 use Rattle.batch.proofs.draft.draft_of.Goals as goal
 use Rattle.batch.proofs.draft.draft_of.Goals.{After-deref-2, After-len}
 
@@ -51,6 +51,11 @@ returns-clause-room c =
     let k = ap (count_by (is_young c.args.young.0)) (gone b) in
     let l = c.in-Ok.ensures.room in
     ready_room _ _ _ _ _ (ready b) (omega (arith, n, k, l))
+
+pub returns-clause-metered : goal.returns-clause-metered
+returns-clause-metered c =
+    let b = (goal.at.returns-clause-metered c).After-deref-2 in
+    ready_counts _ _ _ _ _ (ready b) _ _ c.in_ok-plan.ensures.metered
 
 module _ (c : After-len) where
   abbrev base : After-deref-2

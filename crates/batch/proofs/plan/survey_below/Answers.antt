@@ -1,13 +1,13 @@
-use Rattle.std.proofs.Common.{◌≡◌, ◌+◌, ◌-◌, ◌*◌, ◌++◌, ◌^◌, sym, ap, subst, ◌∙◌, arith}
+use Rattle.std.proofs.Common.{◌≡◌, ◌≤◌, length, ◌+◌, ◌-◌, ◌*◌, ◌++◌, ◌^◌, sym, ap, subst, ◌∙◌, arith}
 use Rattle.std.specs.Prelude.{IfOk, OnOk}
-use Rattle.std.specs.Option.{option_map}
+use Rattle.base.specs.Counting.{counted}
 use Rattle.node.specs.Kid.{birth_of}
-use Rattle.node.specs.Node.{inner_part}
+use Rattle.node.specs.Node.{inner_part, part_of_node}
 use Rattle.batch.specs.Said.{said, IsWay}
-use Rattle.batch.specs.Touch.{touched, stays, claims, released}
+use Rattle.batch.specs.Touch.{touched, stays, claims, released, dropped}
 use Rattle.batch.proofs.KidLaws.{kid_sound, kid_within}
 use Rattle.batch.proofs.TouchLaws.{key_fits, kid_span}
-use Rattle.batch.proofs.OneWrite.{touched_below, stays_below, claims_below, released_below}
+use Rattle.batch.proofs.OneWrite.{touched_below, stays_below, claims_below, released_below, dropped_below}
 use Rattle.batch.proofs.plan.survey_below.Goals as goal
 
 pub overflow_mul-first : goal.overflow_mul-first
@@ -20,7 +20,7 @@ survey-requires-clause-within g c =
 
 pub survey-requires-clause-sound : goal.survey-requires-clause-sound
 survey-requires-clause-sound g c =
-    let o = option_map (λ n. inner_part g.C.Level.part n.now) c.args.old in
+    let o = part_of_node (inner_part g.C.Level.part) c.args.old in
     kid_sound g.C.Level.height (birth_of o) c.in-Some.place o _ c.requires.sound c.kid_at-kid.ensures
 
 pub survey_kids-requires : goal.survey_kids-requires
@@ -32,7 +32,7 @@ pub returns-in-Some-clause-touched : goal.returns-in-Some-clause-touched
 returns-in-Some-clause-touched g c =
     let h = g.C.Level.height in
     let s = said c.args.updates.now in
-    let o = option_map (λ n. inner_part g.C.Level.part n.now) c.args.old in
+    let o = part_of_node (inner_part g.C.Level.part) c.args.old in
     let j = 16 * c.args.index + c.in-Some.place in
     let way : IsWay s h c.args.index c.in-Some.place = subst (λ l. IsWay s l c.args.index c.in-Some.place) (let e : c.args.level - 1 ≡ h = omega (arith, c.requires.level) in e) c.in-Some.ensures.way in
     subst (λ b. IfOk c.survey.result (λ f. f.touched ≡ b)) (sym (touched_below s h (birth_of o) c.args.index c.in-Some.place way o c.requires.sound ∙ ap (touched s h j) (sym c.kid_at-kid.ensures))) c.survey.ensures.touched
@@ -41,7 +41,7 @@ pub returns-in-Some-clause-stays : goal.returns-in-Some-clause-stays
 returns-in-Some-clause-stays g c =
     let h = g.C.Level.height in
     let s = said c.args.updates.now in
-    let o = option_map (λ n. inner_part g.C.Level.part n.now) c.args.old in
+    let o = part_of_node (inner_part g.C.Level.part) c.args.old in
     let j = 16 * c.args.index + c.in-Some.place in
     let way : IsWay s h c.args.index c.in-Some.place = subst (λ l. IsWay s l c.args.index c.in-Some.place) (let e : c.args.level - 1 ≡ h = omega (arith, c.requires.level) in e) c.in-Some.ensures.way in
     subst (λ b. IfOk c.survey.result (λ f. f.stays ≡ b)) (sym (stays_below s h (birth_of o) c.args.index c.in-Some.place way o c.requires.sound ∙ ap (stays s h j) (sym c.kid_at-kid.ensures))) c.survey.ensures.stays
@@ -50,7 +50,7 @@ pub returns-in-Some-clause-claims : goal.returns-in-Some-clause-claims
 returns-in-Some-clause-claims g c =
     let h = g.C.Level.height in
     let s = said c.args.updates.now in
-    let o = option_map (λ n. inner_part g.C.Level.part n.now) c.args.old in
+    let o = part_of_node (inner_part g.C.Level.part) c.args.old in
     let j = 16 * c.args.index + c.in-Some.place in
     let way : IsWay s h c.args.index c.in-Some.place = subst (λ l. IsWay s l c.args.index c.in-Some.place) (let e : c.args.level - 1 ≡ h = omega (arith, c.requires.level) in e) c.in-Some.ensures.way in
     subst (λ xs. OnOk c.survey.result (c.survey.new.plan.claims.items ≡ c.args.plan.now.claims.items ++ xs)) (sym (claims_below s h (birth_of o) c.args.index c.in-Some.place way o c.requires.sound c.args.young.0 ∙ ap (claims s c.args.young.0 h j) (sym c.kid_at-kid.ensures))) c.survey.ensures.claims
@@ -59,7 +59,16 @@ pub returns-in-Some-clause-released : goal.returns-in-Some-clause-released
 returns-in-Some-clause-released g c =
     let h = g.C.Level.height in
     let s = said c.args.updates.now in
-    let o = option_map (λ n. inner_part g.C.Level.part n.now) c.args.old in
+    let o = part_of_node (inner_part g.C.Level.part) c.args.old in
     let j = 16 * c.args.index + c.in-Some.place in
     let way : IsWay s h c.args.index c.in-Some.place = subst (λ l. IsWay s l c.args.index c.in-Some.place) (let e : c.args.level - 1 ≡ h = omega (arith, c.requires.level) in e) c.in-Some.ensures.way in
     subst (λ xs. OnOk c.survey.result (c.survey.new.plan.released.items ≡ c.args.plan.now.released.items ++ xs)) (sym (released_below s h (birth_of o) c.args.index c.in-Some.place way o c.requires.sound c.args.young.0 ∙ ap (released s c.args.young.0 h j) (sym c.kid_at-kid.ensures))) c.survey.ensures.released
+
+pub returns-in-Some-clause-metered : goal.returns-in-Some-clause-metered
+returns-in-Some-clause-metered g c =
+    let h = g.C.Level.height in
+    let s = said c.args.updates.now in
+    let o = part_of_node (inner_part g.C.Level.part) c.args.old in
+    let j = 16 * c.args.index + c.in-Some.place in
+    let way : IsWay s h c.args.index c.in-Some.place = subst (λ l. IsWay s l c.args.index c.in-Some.place) (let e : c.args.level - 1 ≡ h = omega (arith, c.requires.level) in e) c.in-Some.ensures.way in
+    subst (λ xs. OnOk c.survey.result (counted c.args.meter.now (length xs) ≤ c.survey.new.meter)) (sym (dropped_below s h (birth_of o) c.args.index c.in-Some.place way o c.requires.sound c.args.young.0 ∙ ap (dropped s c.args.young.0 h j) (sym c.kid_at-kid.ensures))) c.survey.ensures.metered

@@ -1,16 +1,16 @@
-use Rattle.std.proofs.Common.{◌≡◌, ℕ, ◌+◌, ◌-◌, ◌*◌, ◌^◌, ◌<◌, ◌++◌, take}
+use Rattle.std.proofs.Common.{◌≡◌, ℕ, ◌+◌, ◌-◌, ◌*◌, ◌^◌, ◌<◌, ◌≤◌, ◌++◌, length, take}
 use Rattle.std.specs.Prelude.{◌||◌}
-use Rattle.std.specs.Option.{option_map}
+use Rattle.base.specs.Counting.{counted}
 use Rattle.node.specs.Kid.{places_of}
-use Rattle.node.specs.Node.{inner_part}
+use Rattle.node.specs.Node.{inner_part, part_of_node}
 use Rattle.batch.specs.Said.{said, AreInOrder}
-use Rattle.batch.specs.Touch.{any_kid, later_first, touched, stays, claims, released}
+use Rattle.batch.specs.Touch.{any_kid, later_first, touched, stays, claims, released, dropped}
 use Rattle.batch.proofs.plan.survey_kids.Given as goal
 
 abbrev pub invariant-loop-back : goal.invariant-loop-back
 invariant-loop-back g l =
     let h = g.C.Level.height in
-    let os = places_of (option_map (λ n. inner_part g.C.Level.part n.now) l.fn.old) in
+    let os = places_of (part_of_node (inner_part g.C.Level.part) l.fn.old) in
     let s = said l.fn.updates in
     record {
       order : AreInOrder l.rest;
@@ -19,4 +19,6 @@ invariant-loop-back g l =
       stays : (l.stays || any_kid (stays s h) l.fn.first (take (16 - l.back) os)) ≡ any_kid (stays s h) l.fn.first os;
       claims : l.plan.claims.items ++ later_first (claims s l.fn.young.0 h) l.fn.first (take (16 - l.back) os) ≡ l.fn.plan.claims.items ++ later_first (claims s l.fn.young.0 h) l.fn.first os;
       released : l.plan.released.items ++ later_first (released s l.fn.young.0 h) l.fn.first (take (16 - l.back) os) ≡ l.fn.plan.released.items ++ later_first (released s l.fn.young.0 h) l.fn.first os;
+      metered : counted l.fn.meter (length (later_first (dropped s l.fn.young.0 h) l.fn.first os)) ≤ counted l.meter (length (later_first (dropped s l.fn.young.0 h) l.fn.first (take (16 - l.back) os)));
+      never_lower : l.fn.meter ≤ l.meter;
     }

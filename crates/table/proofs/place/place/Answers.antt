@@ -1,6 +1,6 @@
 use Rattle.std.proofs.Common.{rules}
 use Rattle.std.proofs.lemmas.Fn.{always_returns_same}
-use Rattle.base.specs.Names.{name_cmp}
+use Rattle.name.specs.Names.{name_cmp}
 use Rattle.table.specs.Rows.{Row}
 use Rattle.table.proofs.Rows.{searched}
 use Rattle.table.proofs.place.place.Goals as goal

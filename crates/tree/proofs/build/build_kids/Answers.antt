@@ -1,21 +1,21 @@
 -- The places are made from the last to the first.
-use Rattle.std.proofs.Common.{◌≡◌, ◌+◌, ◌-◌, ◌^◌, ◌<◌, None, get_or, length, take, drop, map, refl, sym, ap, subst, ◌∙◌, arith, length-set}
-use Rattle.std.specs.Option.{option_map}
-use Rattle.std.proofs.lemmas.List.{take_all, map-set, length-map}
+use Rattle.std.proofs.Common.{◌≡◌, ◌+◌, ◌-◌, ◌^◌, ◌<◌, None, get_or, length, take, refl, sym, ap, subst, ◌∙◌, arith, length-set}
+use Rattle.std.proofs.lemmas.List.{take_all}
 use Rattle.node.specs.Kid.{birth_of, places_of}
-use Rattle.node.specs.Node.{inner_part, shared_part}
+use Rattle.node.specs.Node.{inner_part, shared_part, part_of_owner}
 use Rattle.batch.specs.Said.{said}
 use Rattle.batch.specs.Touch.{any_kid, later_first, touched, stays}
 use Rattle.batch.specs.Build.{made_keys, parts, rebuilt, number_of, HasKeys}
 use Rattle.batch.proofs.KidLaws.{or_false, kid_sound, length-parts}
 use Rattle.batch.proofs.TouchLaws.{touched_same, stays_same, made_same, rebuilt_same, kid_words, any_back}
-use Rattle.batch.proofs.MadeLaws.{keys_here, keys_rest, next_back, parts_back, drop_past}
+use Rattle.batch.proofs.MadeLaws.{keys_here, keys_rest, next_back, parts_back}
+use Rattle.batch.proofs.Lists.{drop_past}
 use Rattle.tree.proofs.build.build_kids.Goals as goal
 
 pub loop-back-init : goal.loop-back-init
 loop-back-init g c =
     let h = g.C.Level.height in
-    let os = places_of (option_map (λ a. inner_part g.C.Level.part a.now.value) c.args.old) in
+    let os = places_of (part_of_owner (inner_part g.C.Level.part) c.args.old) in
     let s = said c.args.updates.now in
     let all : take 16 os ≡ os = take_all 16 os (omega (arith, c.owner_count-back-end.ensures.all)) in
     record {
@@ -41,32 +41,30 @@ split_at_leaf-requires g c = c.loop-back.invariant.order
 
 pub build-requires-clause-sound : goal.build-requires-clause-sound
 build-requires-clause-sound g c =
-    let old = option_map (λ a. inner_part g.C.Level.part a.now.value) c.args.old in
+    let old = part_of_owner (inner_part g.C.Level.part) c.args.old in
     kid_sound g.C.Level.height (birth_of old) (15 - c.loop-back.back) old _ c.requires.sound c.owner_at-kid.ensures
 
 pub build-requires-clause-keys : goal.build-requires-clause-keys
 build-requires-clause-keys g c =
     let h = g.C.Level.height in
-    let old = option_map (λ a. inner_part g.C.Level.part a.now.value) c.args.old in
+    let old = part_of_owner (inner_part g.C.Level.part) c.args.old in
     let os = places_of old in
     let back = c.loop-back.back in
     let first = c.args.first in
     let s = said c.args.updates.now in
     let mine = said c.split_at_leaf.result.0.now in
-    let kid = option_map (λ a. g.C.Level.part a.now.value) c.owner_at-kid.result in
+    let kid = part_of_owner g.C.Level.part c.owner_at-kid.result in
     let few : back < 16 = omega (arith, c.loop-back-test.true, c.owner_count-back-end.ensures.sixteen) in
     let at : kid ≡ get_or os (15 - back) None = c.owner_at-kid.ensures in
     let sound = kid_sound h (birth_of old) (15 - back) old kid c.requires.sound at in
     let span : c.span-span.result ≡ 16 ^ h = c.span-span.ensures ∙ ap (λ n. 16 ^ n) (c.from.ensures ∙ c.requires.level) in
     let words = kid_words c.loop-back.rest.now c.split_at_leaf.result.0.now c.split_at_leaf.result.1.now c.args.updates.now first back c.span-span.result h few span c.split_at_leaf.ensures.after c.split_at_leaf.ensures.before c.loop-back.invariant.same in
-    subst (HasKeys c.args.made.now c.loop-back.at) (sym (made_same mine s h (first + (15 - back)) _ kid sound words.0 ∙ ap (made_keys s h (first + (15 - back))) at))
-    (keys_here (made_keys s h) first back os c.args.made.now c.loop-back.at few c.owner_count-back-end.ensures.all c.loop-back.invariant.keys)
+    keys_here (made_keys s h) (made_keys mine h) first back os kid c.args.made.now c.loop-back.at few c.owner_count-back-end.ensures.all at c.loop-back.invariant.keys (made_same mine s h (first + (15 - back)) _ kid sound words.0)
 
 pub loop-back-preserved : goal.loop-back-preserved
 loop-back-preserved g c =
     let h = g.C.Level.height in
-    let sp = shared_part g.C.Level.part in
-    let old = option_map (λ a. inner_part g.C.Level.part a.now.value) c.args.old in
+    let old = part_of_owner (inner_part g.C.Level.part) c.args.old in
     let os = places_of old in
     let back = c.loop-back.back in
     let first = c.args.first in
@@ -74,28 +72,26 @@ loop-back-preserved g c =
     let number = number_of c.args.made.now in
     let b = c.args.group.0 in
     let mine = said c.split_at_leaf.result.0.now in
-    let kid = option_map (λ a. g.C.Level.part a.now.value) c.owner_at-kid.result in
+    let kid = part_of_owner g.C.Level.part c.owner_at-kid.result in
     let few : back < 16 = omega (arith, c.loop-back-test.true, c.owner_count-back-end.ensures.sixteen) in
     let at : kid ≡ get_or os (15 - back) None = c.owner_at-kid.ensures in
     let sound = kid_sound h (birth_of old) (15 - back) old kid c.requires.sound at in
     let span : c.span-span.result ≡ 16 ^ h = c.span-span.ensures ∙ ap (λ n. 16 ^ n) (c.from.ensures ∙ c.requires.level) in
     let words = kid_words c.loop-back.rest.now c.split_at_leaf.result.0.now c.split_at_leaf.result.1.now c.args.updates.now first back c.span-span.result h few span c.split_at_leaf.ensures.after c.split_at_leaf.ensures.before c.loop-back.invariant.same in
     let n = c.owner_count-back-end.ensures.all in
-    let made = made_same mine s h (first + (15 - back)) _ kid sound words.0 ∙ ap (made_keys s h (first + (15 - back))) at in
-    let next : c.in_ok-built.built.next ≡ c.loop-back.at + length (made_keys s h (first + (15 - back)) (get_or os (15 - back) None)) = c.in_ok-built.ensures.next ∙ ap (λ xs. c.loop-back.at + length xs) made in
-    let wide = length-map c.loop-back.kids (option_map sp) in
+    let i = first + (15 - back) in
+    let inv = c.loop-back.invariant in
+    let given = c.in_ok-built.ensures in
+    let made = made_same mine s h i _ kid sound words.0 in
     record {
       order = c.split_at_leaf.ensures.before_order;
       same = words.1;
-      touched = any_back (touched s h) first back os _ _ _ few n c.loop-back.invariant.touched (c.in_ok-built.ensures.touched ∙ touched_same mine s h (first + (15 - back)) _ kid sound words.0 ∙ ap (touched s h (first + (15 - back))) at);
-      stays = any_back (stays s h) first back os _ _ _ few n c.loop-back.invariant.stays (c.in_ok-built.ensures.stays ∙ stays_same mine s h (first + (15 - back)) _ kid sound words.0 ∙ ap (stays s h (first + (15 - back))) at);
-      next = next_back (made_keys s h) first back os _ _ _ few n c.loop-back.invariant.next next;
-      keys = subst (λ k. HasKeys c.args.made.now k (later_first (made_keys s h) first (take (16 - (back + 1)) os))) (sym next) (keys_rest (made_keys s h) first back os c.args.made.now c.loop-back.at few n c.loop-back.invariant.keys);
-      sixteen = length-set c.loop-back.kids (15 - back) c.in_ok-built.built.part ∙ c.loop-back.invariant.sixteen;
-      parts =
-          ap (drop (16 - (back + 1))) (map-set (option_map sp) c.loop-back.kids (15 - back) c.in_ok-built.built.part)
-          ∙ parts_back (rebuilt s number b h) first back os (map (option_map sp) c.loop-back.kids) (option_map sp c.in_ok-built.built.part) few n (wide ∙ c.loop-back.invariant.sixteen) c.loop-back.invariant.parts
-          (c.in_ok-built.ensures.part ∙ rebuilt_same mine s number b h (first + (15 - back)) _ kid sound words.0 ∙ ap (rebuilt s number b h (first + (15 - back))) at);
+      touched = any_back (touched s h) (touched mine h) first back os kid _ _ _ few n at inv.touched given.touched (touched_same mine s h i _ kid sound words.0);
+      stays = any_back (stays s h) (stays mine h) first back os kid _ _ _ few n at inv.stays given.stays (stays_same mine s h i _ kid sound words.0);
+      next = next_back (made_keys s h) (made_keys mine h) first back os kid _ _ _ few n at inv.next given.next made;
+      keys = keys_rest (made_keys s h) (made_keys mine h) first back os kid c.args.made.now _ _ few n at inv.keys given.next made;
+      sixteen = length-set c.loop-back.kids (15 - back) c.in_ok-built.built.part ∙ inv.sixteen;
+      parts = parts_back (shared_part g.C.Level.part) (rebuilt s number b h) (rebuilt mine number b h) first back os kid _ _ few n at inv.sixteen inv.parts given.part (rebuilt_same mine s number b h i _ kid sound words.0);
     }
 
 pub returns-clause-kids : goal.returns-clause-kids

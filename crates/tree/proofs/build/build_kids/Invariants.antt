@@ -1,8 +1,7 @@
 use Rattle.std.proofs.Common.{◌≡◌, ℕ, ◌+◌, ◌-◌, ◌*◌, ◌^◌, ◌<◌, take, drop, map, length}
 use Rattle.std.specs.Prelude.{◌||◌}
-use Rattle.std.specs.Option.{option_map}
 use Rattle.node.specs.Kid.{places_of}
-use Rattle.node.specs.Node.{inner_part, shared_part}
+use Rattle.node.specs.Node.{inner_part, part_of_owner, part_of_slot}
 use Rattle.batch.specs.Said.{said, AreInOrder}
 use Rattle.batch.specs.Touch.{any_kid, later_first, touched, stays}
 use Rattle.batch.specs.Build.{made_keys, parts, rebuilt, number_of, HasKeys}
@@ -11,7 +10,7 @@ use Rattle.tree.proofs.build.build_kids.Given as goal
 abbrev pub invariant-loop-back : goal.invariant-loop-back
 invariant-loop-back g l =
     let h = g.C.Level.height in
-    let os = places_of (option_map (λ a. inner_part g.C.Level.part a.now.value) l.fn.old) in
+    let os = places_of (part_of_owner (inner_part g.C.Level.part) l.fn.old) in
     let s = said l.fn.updates in
     record {
       order : AreInOrder l.rest;
@@ -21,5 +20,5 @@ invariant-loop-back g l =
       next : l.at + length (later_first (made_keys s h) l.fn.first (take (16 - l.back) os)) ≡ l.fn.next + length (later_first (made_keys s h) l.fn.first os);
       keys : HasKeys l.fn.made l.at (later_first (made_keys s h) l.fn.first (take (16 - l.back) os));
       sixteen : length l.kids ≡ 16;
-      parts : drop (16 - l.back) (map (option_map (shared_part g.C.Level.part)) l.kids) ≡ drop (16 - l.back) (parts (rebuilt s (number_of l.fn.made) l.fn.group.0 h) l.fn.first os);
+      parts : drop (16 - l.back) (map (part_of_slot g.C.Level.part) l.kids) ≡ drop (16 - l.back) (parts (rebuilt s (number_of l.fn.made) l.fn.group.0 h) l.fn.first os);
     }

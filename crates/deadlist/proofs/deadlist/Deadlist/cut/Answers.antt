@@ -1,5 +1,6 @@
-use Rattle.std.proofs.Common.{arith, sym, ◌∙◌, length-append}
-use Rattle.deadlist.specs.Segments.{entries_of}
+use Rattle.std.proofs.Common.{arith, ap, sym, ◌∙◌, length-append}
+use Rattle.deadlist.specs.Held.{Held}
+use Rattle.deadlist.specs.Segments.{entries_of, with_cut}
 use Rattle.std.proofs.lemmas.Bool.{false≢true}
 use Rattle.std.proofs.lemmas.List.Sorted.{length_permutation, IsPermutation-append_left}
 use Rattle.deadlist.proofs.Counts.{has_cut_any}
@@ -60,3 +61,7 @@ pub returns-in_err-cut-clause-stands : goal.returns-in_err-cut-clause-stands
 returns-in_err-cut-clause-stands c =
     let p = c.self.inside.parts in
     rw (← c.self.view_is) (λ h. absurd (false≢true (c.in_err-cut.ensures.stands (has_cut_any p.closed.items c.args.group.0 ∙ h))))
+
+pub returns-clause-cuts : goal.returns-clause-cuts
+returns-clause-cuts c =
+    c.in_ok-cut.ensures.cuts ∙ ap (λ (h : Held). with_cut c.args.group.0 h.cuts) c.self.view_is

@@ -1,13 +1,12 @@
-use Rattle.std.proofs.Common.{◌++◌, length, ap, sym, ◌∙◌}
-use Rattle.deadlist.specs.Segments.{entries_of}
-use Rattle.std.proofs.lemmas.List.Sorted.{length_permutation}
-use Rattle.std.proofs.lemmas.List.{append-nil}
+use Rattle.std.proofs.Common.{arith, inr, ap, ◌∙◌}
+use Rattle.base.specs.Counting.{counted}
 use Rattle.deadlist.proofs.deadlist.Deadlist.reserve.Goals as goal
 
-pub invariant_of-self-2 : goal.invariant_of-self-2
-invariant_of-self-2 c =
-    let es = entries_of c.self.inside.parts in
-    let n = length_permutation (es ++ c.as_slice.result.now) (entries_of c.in_ok-sorted.sorted) c.in_ok-sorted.ensures.entries in
-    let fresh = ap (λ ds. length (es ++ ds)) c.as_slice.ensures.value in
-    let none = append-nil (entries_of c.in_ok-sorted.sorted) in
-    (c.in_ok-sorted.ensures.cut, rw (c.clear.ensures.items, none) (c.self.invariant.1 ∙ sym fresh ∙ sym n))
+pub returns-then-len-max-clause-room : goal.returns-then-len-max-clause-room
+returns-then-len-max-clause-room c = omega (arith, c.in_ok-reserve.ensures.ok)
+
+pub returns-in_err-sort-clause-meter : goal.returns-in_err-sort-clause-meter
+returns-in_err-sort-clause-meter c = inr (c.reach.ensures ∙ ap (counted c.args.meter.now) c.segments-segments.ensures.count)
+
+pub returns-clause-meter : goal.returns-clause-meter
+returns-clause-meter c = inr (c.reach.ensures ∙ ap (counted c.args.meter.now) c.segments-segments.ensures.count)

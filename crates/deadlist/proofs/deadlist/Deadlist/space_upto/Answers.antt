@@ -6,10 +6,7 @@ use Rattle.deadlist.proofs.Filters.{filter_le, split_length}
 use Rattle.deadlist.proofs.deadlist.Deadlist.space_upto.Goals as goal
 
 pub overflow_sub-result : goal.overflow_sub-result
-overflow_sub-result c =
-    let le = filter_le (is_after c.args.cut.0) c.as_slice-fresh.result.now in
-    let some = c.count_in.ensures in
-    omega (arith, le, some)
+overflow_sub-result c = omega (arith, c.count_in.ensures.few)
 
 pub overflow_add-result : goal.overflow_add-result
 overflow_add-result c =
@@ -32,5 +29,5 @@ returns-clause-space c =
     let split = split_length c.args.cut.0 fs in
     let sum = c.sum_upto.ensures.sum in
     let same = ap length c.as_slice-fresh.ensures.value in
-    let some = c.count_in.ensures ∙ ap (λ ds. length (filter (is_after c.args.cut.0) ds)) c.as_slice-fresh.ensures.value in
+    let some = c.count_in.ensures.count ∙ ap (λ ds. length (filter (is_after c.args.cut.0) ds)) c.as_slice-fresh.ensures.value in
     rw (← c.self.view_is) (omega (arith, two, split, sum, same, some))

@@ -1,5 +1,6 @@
 use Rattle.std.proofs.Common.{◌≡◌, ◌++◌, length, filter, arith, ap, ◌∙◌}
 use Rattle.deadlist.specs.Entries.{is_after, is_upto}
+use Rattle.deadlist.specs.Held.{Held}
 use Rattle.deadlist.specs.Segments.{entries_of}
 use Rattle.deadlist.proofs.Filters.{filter_le, split_length}
 use Rattle.std.proofs.lemmas.List.Elements.{filter-append}
@@ -25,3 +26,10 @@ invariant_of-self-2 c =
     let low = c.in_ok-low.ensures.0 ∙ ap (filter (is_upto cut)) c.as_slice.ensures.value in
     let two = filter-append (is_upto cut) es fs in
     (c.in_ok-parts.ensures.kept_cut, rw (c.in_ok-parts.ensures.kept, low, ← two) (omega (arith, space, all, split)))
+
+pub returns-clause-kept : goal.returns-clause-kept
+returns-clause-kept c =
+    let cut = c.args.cut.0 in
+    let low = c.in_ok-low.ensures.0 ∙ ap (filter (is_upto cut)) c.as_slice.ensures.value in
+    let two = filter-append (is_upto cut) (entries_of c.self.inside.parts) c.self.inside.fresh.items in
+    rw (c.in_ok-parts.ensures.kept, low, ← two) (ap (λ (h : Held). filter (is_upto cut) h.entries) c.self.view_is)

@@ -17,15 +17,16 @@ returns-then-self-cut-clause-gathered g c =
 pub returns-then-self-cut-clause-metered : goal.returns-then-self-cut-clause-metered
 unfolding counted most
 returns-then-self-cut-clause-metered g c =
-    rw (part_old (suc g.C.Level.height) c.args.cut.0 (inner_part g.C.Level.part c.args.self.now) c.requires.sound c.if-self-cut.true) (omega (arith, c.add_one.ensures))
+    rw (part_old (suc g.C.Level.height) c.args.cut.0 (inner_part g.C.Level.part c.args.self.now) c.requires.sound c.if-self-cut.true) (omega (arith, c.reach.ensures.metered))
 
 pub loop-kid-init : goal.loop-kid-init
 unfolding counted most
 loop-kid-init g c =
     let young = part_young c.args.cut.0 (inner_part g.C.Level.part c.args.self.now) c.if-self-cut.false in
     record {
-      gathered = first_lists _ _ _ _ _ (follow_push _ _ _ c.in_ok-push.ensures.items) young;
-      metered = rw young (omega (arith, c.add_one.ensures));
+      gathered = first_lists _ _ _ _ _ (follow_push _ _ _ _ c.in_ok-push.ensures.items c.block.ensures) young;
+      metered = rw young (omega (arith, c.reach.ensures.metered));
+      never_lower = c.reach.ensures.never_lower;
     }
 
 pub gather-requires : goal.gather-requires
@@ -48,12 +49,14 @@ loop-kid-preserved g c =
           record {
             gathered = rw w.out-is (step_lists _ _ _ _ _ _ c.loop-kid.invariant.gathered rest (rw same at new));
             metered = rw w.meter-is (step_meter _ _ _ _ _ _ _ c.loop-kid.invariant.metered (ap length rest ∙ length-append (born_after cut (part_blocks (part w.in-Some.kid))) _) (rw same at steps));
+            never_lower = omega (arith, w.meter-is, w.in_ok-gather.ensures.never_lower, c.loop-kid.invariant.never_lower);
           }
       | in_default w ↦
           let rest = rest_none part kids cut i _ (omega arith) w.in_default.is in
           record {
             gathered = rw (w.out-is, ← rest) c.loop-kid.invariant.gathered;
             metered = rw (w.meter-is, ← rest) c.loop-kid.invariant.metered;
+            never_lower = rw w.meter-is c.loop-kid.invariant.never_lower;
           }
     ]
 

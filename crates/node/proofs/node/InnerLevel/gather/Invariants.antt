@@ -11,4 +11,5 @@ abbrev pub invariant-loop-kid : goal.invariant-loop-kid
 invariant-loop-kid g l = record {
   gathered : map dead_block l.out.items ++ born_after l.cut.0 (forest_blocks (forest_of (shared_part g.C.Level.part) (drop l.kid-index l.self.kids))) ≡ map dead_block l.fn.out.items ++ born_after l.cut.0 (part_blocks (inner_part g.C.Level.part l.self));
   metered : counted l.fn.meter (length (born_after l.cut.0 (part_blocks (inner_part g.C.Level.part l.self)))) ≤ counted l.meter (length (born_after l.cut.0 (forest_blocks (forest_of (shared_part g.C.Level.part) (drop l.kid-index l.self.kids)))));
+  never_lower : l.fn.meter ≤ l.meter;
 }

@@ -1,4 +1,4 @@
-use Rattle.std.proofs.Common.{sym, subst}
+use Rattle.std.proofs.Common.{sym, subst, rules}
 use Rattle.model.specs.declared.reply.Reply.TheVariants.{Done, Refused}
 use Rattle.model.specs.Step.{Step}
 use Rattle.table.specs.Rows.{FileSystems}
@@ -13,15 +13,17 @@ use Rattle.pool.proofs.pool.Pool.change_now.Goals as goal
 
 pub returns-in_default : goal.returns-in_default
 returns-in_default c q asks =
-    told c.args.self.now (core_of c.self.inside) c.self.view_is c.self.inside.allocator c.self.invariant c.args.target.now q _
+    told c.args.self.now (core_of c.self.inside) c.self.inside.allocator c.self.view_is c.self.invariant c.args.target.now q _
     (update_absent (core_of c.self.inside) c.self.inside.allocator c.self.invariant q c.args.target.now c.in-Ok.update (subst (λ r. Asks q c.args.target.now r) c.in-Ok.is asks)
     (absent_other c.self.inside.present c.args.target.now c.in_default.not-FileSystem))
 
-pub apply_live-changed-requires-clause-born : goal.apply_live-changed-requires-clause-born
-apply_live-changed-requires-clause-born c = live_born (core_of c.self.inside) c.self.inside.allocator c.self.invariant c.in-FileSystem.name
-
-pub apply_live-changed-requires-clause-allocated : goal.apply_live-changed-requires-clause-allocated
-apply_live-changed-requires-clause-allocated c = live_allocated (core_of c.self.inside) c.self.inside.allocator c.self.invariant c.in-FileSystem.name
+pub apply_live-changed-requires : goal.apply_live-changed-requires
+apply_live-changed-requires c = record {
+  batch = search rules;
+  young = search rules;
+  born = live_born (core_of c.self.inside) c.self.inside.allocator c.self.invariant c.in-FileSystem.name;
+  allocated = live_allocated (core_of c.self.inside) c.self.inside.allocator c.self.invariant c.in-FileSystem.name;
+}
 
 pub release_all-requires : goal.release_all-requires
 release_all-requires c =

@@ -1,11 +1,10 @@
-use Rattle.std.proofs.Common.{◌≡◌, ◌⊎◌, ◌≤◌, Result, Ok, Err, Some, refl, sym, ap, subst, ◌∙◌, ⊎_elim}
-use Rattle.std.specs.Prelude.{IfErr, IfSome, OnOk, slice_get}
+use Rattle.std.proofs.Common.{◌≡◌, ◌⊎◌, Result, Ok, Err, refl, sym, ap, subst, ◌∙◌, ⊎_elim}
+use Rattle.std.specs.Prelude.{IfErr, OnOk}
 use Rattle.std.specs.FinMap.{get}
 use Rattle.base.specs.Map.{Map}
-use Rattle.base.specs.declared.number.Key.{Key}
 use Rattle.base.specs.declared.refusal.Refusal.{Refusal}
 use Rattle.base.specs.declared.refusal.Refusal.TheVariants.{NoDataset, NoSpace, NoMemory}
-use Rattle.zalloc.specs.declared.BlockState.TheVariants.{Allocated}
+use Rattle.tree.specs.Asking.{AllowsChange}
 use Rattle.tree.proofs.Options.{not_some}
 use Rattle.tree.specs.declared.change.Changed.{Changed}
 use Rattle.table.specs.Places.{IsAt, IsGapFor}
@@ -30,17 +29,11 @@ returns-in_default-clause-no_dataset c =
     let gap : IsGapFor c.self.inside.file_systems.items c.args.name.now c.in_default.field-0 = rw (← c.deref.ensures.value, ← c.as_bytes.ensures) c.in_default.ensures.absent in
     (λ _. rw (← c.self.view_is) (get_gap _ c.self.invariant.sorted c.args.name.now c.in_default.field-0 gap), λ _. refl)
 
-pub apply-requires-clause-born : goal.apply-requires-clause-born
-apply-requires-clause-born c =
+pub apply-requires : goal.apply-requires
+apply-requires c =
     let at : IsAt c.self.inside.file_systems.items c.args.name.now c.in-Ok.place = rw (← c.deref.ensures.value, ← c.as_bytes.ensures) c.in-Ok.ensures.found in
     let same = live_is _ c.self.invariant.sorted c.args.name.now c.in-Ok.place at c.index_mut.result.now c.index_mut.ensures.value in
-    subst (λ (m : Map). (k : Key) → IfSome (get m k) (λ x. x.birth ≤ c.args.group.0)) (ap (λ m. live_of m c.args.name.now) (sym c.self.view_is) ∙ same) c.requires.born
-
-pub apply-requires-clause-allocated : goal.apply-requires-clause-allocated
-apply-requires-clause-allocated c =
-    let at : IsAt c.self.inside.file_systems.items c.args.name.now c.in-Ok.place = rw (← c.deref.ensures.value, ← c.as_bytes.ensures) c.in-Ok.ensures.found in
-    let same = live_is _ c.self.invariant.sorted c.args.name.now c.in-Ok.place at c.index_mut.result.now c.index_mut.ensures.value in
-    subst (λ (m : Map). (k : Key) → IfSome (get m k) (λ x. slice_get c.args.allocator.now x.number ≡ Some Allocated)) (ap (λ m. live_of m c.args.name.now) (sym c.self.view_is) ∙ same) c.requires.allocated
+    subst (λ (m : Map). AllowsChange m c.args.updates.now c.args.group.0 c.args.young.0 c.args.allocator.now) (ap (λ m. live_of m c.args.name.now) (sym c.self.view_is) ∙ same) c.requires
 
 pub invariant_of-self : goal.invariant_of-self
 invariant_of-self c =

@@ -1,5 +1,5 @@
 use Rattle.std.specs.FinMap.{get, from_sorted}
-use Rattle.base.specs.Names.{name_cmp}
+use Rattle.name.specs.Names.{name_cmp}
 use Rattle.model.specs.World.{FileSystem}
 use Rattle.table.specs.Places.{IsAt}
 use Rattle.table.proofs.Rows.{some_from, live_here, changed_is, changed_sorted, hierarchy_live}

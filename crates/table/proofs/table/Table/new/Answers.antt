@@ -1,7 +1,7 @@
 use Rattle.std.proofs.Common.{◌≡◌, [], ◌∷◌, ◌++◌, ap, sym, subst, ◌∙◌, refl, arith}
-use Rattle.base.specs.Names.{root_name}
+use Rattle.name.specs.Names.{root_name}
 use Rattle.model.specs.World.{empty_file_system}
-use Rattle.table.specs.Hierarchy.{IsHierarchy}
+use Rattle.model.specs.Hierarchy.{IsHierarchy}
 use Rattle.table.proofs.Rows.{fresh_is, hierarchy_fresh}
 use Rattle.table.proofs.table.Table.new.Goals as goal
 

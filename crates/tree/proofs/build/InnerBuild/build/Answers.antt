@@ -1,8 +1,7 @@
 use Rattle.std.proofs.Common.{suc, ◌+◌, ◌*◌, [], ◌∷◌, length, Some, sym, ap, subst, ◌∙◌, arith, length-append}
-use Rattle.std.specs.Option.{option_map}
 use Rattle.node.specs.Entries.{key_at}
 use Rattle.node.specs.Kid.{places_of}
-use Rattle.node.specs.Node.{inner_part, shared_part}
+use Rattle.node.specs.Node.{inner_part, shared_part, part_of_owner}
 use Rattle.batch.specs.Said.{said}
 use Rattle.batch.specs.Touch.{later_first}
 use Rattle.batch.specs.Build.{made_keys, number_of, HasKeys, no_block}
@@ -14,24 +13,24 @@ use Rattle.tree.proofs.build.InnerBuild.build.Goals as goal
 pub returns-then-is_idle-clause-part : goal.returns-then-is_idle-clause-part
 returns-then-is_idle-clause-part g c =
     let h = g.C.Level.height in
-    let o = option_map (λ a. inner_part g.C.Level.part a.now.value) c.args.old in
+    let o = part_of_owner (inner_part g.C.Level.part) c.args.old in
     let e = idle_touched (said c.args.updates.now) (suc h) c.args.index o c.is_some-present.result (c.is_some-present.ensures ∙ sym (some_mapped _ c.args.old)) (c.is_idle.ensures.idle c.if-is_idle.true) in
     c.in_ok-keep.ensures.ok ∙ sym (untouched_rebuilt (said c.args.updates.now) (number_of c.args.made.now) c.args.group.0 (suc h) c.args.index o e)
 
 pub returns-then-is_idle-clause-touched : goal.returns-then-is_idle-clause-touched
 returns-then-is_idle-clause-touched g c =
-    let o = option_map (λ a. inner_part g.C.Level.part a.now.value) c.args.old in
+    let o = part_of_owner (inner_part g.C.Level.part) c.args.old in
     sym (idle_touched (said c.args.updates.now) (suc g.C.Level.height) c.args.index o c.is_some-present.result (c.is_some-present.ensures ∙ sym (some_mapped _ c.args.old)) (c.is_idle.ensures.idle c.if-is_idle.true))
 
 pub returns-then-is_idle-clause-stays : goal.returns-then-is_idle-clause-stays
 returns-then-is_idle-clause-stays g c =
-    let o = option_map (λ a. inner_part g.C.Level.part a.now.value) c.args.old in
+    let o = part_of_owner (inner_part g.C.Level.part) c.args.old in
     let e = idle_touched (said c.args.updates.now) (suc g.C.Level.height) c.args.index o c.is_some-present.result (c.is_some-present.ensures ∙ sym (some_mapped _ c.args.old)) (c.is_idle.ensures.idle c.if-is_idle.true) in
     c.is_some-present.ensures ∙ sym (some_mapped _ c.args.old) ∙ sym (untouched_stays (said c.args.updates.now) (suc g.C.Level.height) c.args.index o e)
 
 pub returns-then-is_idle-clause-next : goal.returns-then-is_idle-clause-next
 returns-then-is_idle-clause-next g c =
-    let o = option_map (λ a. inner_part g.C.Level.part a.now.value) c.args.old in
+    let o = part_of_owner (inner_part g.C.Level.part) c.args.old in
     let e = idle_touched (said c.args.updates.now) (suc g.C.Level.height) c.args.index o c.is_some-present.result (c.is_some-present.ensures ∙ sym (some_mapped _ c.args.old)) (c.is_idle.ensures.idle c.if-is_idle.true) in
     let n = ap length (untouched_made (said c.args.updates.now) (suc g.C.Level.height) c.args.index o e) in
     omega (arith, n)
@@ -41,7 +40,7 @@ overflow_mul-index g c = let b = key_fits c.args.level c.args.index c.requires.w
 
 pub build_kids-requires : goal.build_kids-requires
 build_kids-requires g c =
-    let o = option_map (λ a. inner_part g.C.Level.part a.now.value) c.args.old in
+    let o = part_of_owner (inner_part g.C.Level.part) c.args.old in
     let w = kid_span c.args.level g.C.Level.height c.args.index c.requires.level c.requires.within in (
       omega arith,
       (
@@ -68,24 +67,24 @@ build_kids-requires g c =
 pub returns-then-not-below-clause-part : goal.returns-then-not-below-clause-part
 returns-then-not-below-clause-part g c =
     let h = g.C.Level.height in
-    let o = option_map (λ a. inner_part g.C.Level.part a.now.value) c.args.old in
+    let o = part_of_owner (inner_part g.C.Level.part) c.args.old in
     let e = sym (fate_touched (said c.args.updates.now) h c.args.index o _ c.in_ok-below.ensures.touched) ∙ c.if-not-below.true in
     c.in_ok-keep-2.ensures.ok ∙ sym (untouched_rebuilt (said c.args.updates.now) (number_of c.args.made.now) c.args.group.0 (suc h) c.args.index o e)
 
 pub returns-then-not-below-clause-touched : goal.returns-then-not-below-clause-touched
 returns-then-not-below-clause-touched g c =
-    let o = option_map (λ a. inner_part g.C.Level.part a.now.value) c.args.old in
+    let o = part_of_owner (inner_part g.C.Level.part) c.args.old in
     sym (sym (fate_touched (said c.args.updates.now) g.C.Level.height c.args.index o _ c.in_ok-below.ensures.touched) ∙ c.if-not-below.true)
 
 pub returns-then-not-below-clause-stays : goal.returns-then-not-below-clause-stays
 returns-then-not-below-clause-stays g c =
-    let o = option_map (λ a. inner_part g.C.Level.part a.now.value) c.args.old in
+    let o = part_of_owner (inner_part g.C.Level.part) c.args.old in
     let e = sym (fate_touched (said c.args.updates.now) g.C.Level.height c.args.index o _ c.in_ok-below.ensures.touched) ∙ c.if-not-below.true in
     c.is_some-present.ensures ∙ sym (some_mapped _ c.args.old) ∙ sym (untouched_stays (said c.args.updates.now) (suc g.C.Level.height) c.args.index o e)
 
 pub returns-then-not-below-clause-next : goal.returns-then-not-below-clause-next
 returns-then-not-below-clause-next g c =
-    let o = option_map (λ a. inner_part g.C.Level.part a.now.value) c.args.old in
+    let o = part_of_owner (inner_part g.C.Level.part) c.args.old in
     let e = sym (fate_touched (said c.args.updates.now) g.C.Level.height c.args.index o _ c.in_ok-below.ensures.touched) ∙ c.if-not-below.true in
     c.in_ok-below.ensures.next ∙ ap (λ xs. c.args.next + length xs) (sym (made_same_place (said c.args.updates.now) g.C.Level.height c.args.index o e))
 
@@ -93,21 +92,21 @@ pub returns-then-not-below-2-clause-part : goal.returns-then-not-below-2-clause-
 returns-then-not-below-2-clause-part g c =
     let h = g.C.Level.height in
     let s = said c.args.updates.now in
-    let o = option_map (λ a. inner_part g.C.Level.part a.now.value) c.args.old in
+    let o = part_of_owner (inner_part g.C.Level.part) c.args.old in
     let t = sym (fate_touched s h c.args.index o _ c.in_ok-below.ensures.touched) ∙ c.if-not-below.false in
     let p = sym (stays_below s h c.args.index o _ t c.in_ok-below.ensures.stays) ∙ c.if-not-below-2.true in
     sym (rebuilt_gone s (number_of c.args.made.now) c.args.group.0 h c.args.index o t p)
 
 pub returns-then-not-below-2-clause-touched : goal.returns-then-not-below-2-clause-touched
 returns-then-not-below-2-clause-touched g c =
-    let o = option_map (λ a. inner_part g.C.Level.part a.now.value) c.args.old in
+    let o = part_of_owner (inner_part g.C.Level.part) c.args.old in
     sym (sym (fate_touched (said c.args.updates.now) g.C.Level.height c.args.index o _ c.in_ok-below.ensures.touched) ∙ c.if-not-below.false)
 
 pub returns-then-not-below-2-clause-stays : goal.returns-then-not-below-2-clause-stays
 returns-then-not-below-2-clause-stays g c =
     let h = g.C.Level.height in
     let s = said c.args.updates.now in
-    let o = option_map (λ a. inner_part g.C.Level.part a.now.value) c.args.old in
+    let o = part_of_owner (inner_part g.C.Level.part) c.args.old in
     let t = sym (fate_touched s h c.args.index o _ c.in_ok-below.ensures.touched) ∙ c.if-not-below.false in
     sym (sym (stays_below s h c.args.index o _ t c.in_ok-below.ensures.stays) ∙ c.if-not-below-2.true)
 
@@ -115,7 +114,7 @@ pub returns-then-not-below-2-clause-next : goal.returns-then-not-below-2-clause-
 returns-then-not-below-2-clause-next g c =
     let h = g.C.Level.height in
     let s = said c.args.updates.now in
-    let o = option_map (λ a. inner_part g.C.Level.part a.now.value) c.args.old in
+    let o = part_of_owner (inner_part g.C.Level.part) c.args.old in
     let t = sym (fate_touched s h c.args.index o _ c.in_ok-below.ensures.touched) ∙ c.if-not-below.false in
     let p = sym (stays_below s h c.args.index o _ t c.in_ok-below.ensures.stays) ∙ c.if-not-below-2.true in
     c.in_ok-below.ensures.next ∙ ap (λ xs. c.args.next + length xs) (sym (made_goes s h c.args.index o p))
@@ -124,7 +123,7 @@ pub number_at-after-requires : goal.number_at-after-requires
 number_at-after-requires g c =
     let h = g.C.Level.height in
     let s = said c.args.updates.now in
-    let o = option_map (λ a. inner_part g.C.Level.part a.now.value) c.args.old in
+    let o = part_of_owner (inner_part g.C.Level.part) c.args.old in
     let t = sym (fate_touched s h c.args.index o _ c.in_ok-below.ensures.touched) ∙ c.if-not-below.false in
     let p = sym (stays_below s h c.args.index o _ t c.in_ok-below.ensures.stays) ∙ c.if-not-below-2.false in
     let k = key_of_own s h c.args.index o c.args.made.now c.args.next t p c.requires.keys in
@@ -135,7 +134,7 @@ pub returns-clause-part : goal.returns-clause-part
 returns-clause-part g c =
     let h = g.C.Level.height in
     let s = said c.args.updates.now in
-    let o = option_map (λ a. inner_part g.C.Level.part a.now.value) c.args.old in
+    let o = part_of_owner (inner_part g.C.Level.part) c.args.old in
     let t = sym (fate_touched s h c.args.index o _ c.in_ok-below.ensures.touched) ∙ c.if-not-below.false in
     let p = sym (stays_below s h c.args.index o _ t c.in_ok-below.ensures.stays) ∙ c.if-not-below-2.false in
     let k = subst (λ n. HasKeys c.args.made.now n (key_at (suc h) c.args.index ∷ [])) (sym c.in_ok-below.ensures.next) (key_of_own s h c.args.index o c.args.made.now c.args.next t p c.requires.keys) in
@@ -145,14 +144,14 @@ returns-clause-part g c =
 
 pub returns-clause-touched : goal.returns-clause-touched
 returns-clause-touched g c =
-    let o = option_map (λ a. inner_part g.C.Level.part a.now.value) c.args.old in
+    let o = part_of_owner (inner_part g.C.Level.part) c.args.old in
     sym (sym (fate_touched (said c.args.updates.now) g.C.Level.height c.args.index o _ c.in_ok-below.ensures.touched) ∙ c.if-not-below.false)
 
 pub returns-clause-stays : goal.returns-clause-stays
 returns-clause-stays g c =
     let h = g.C.Level.height in
     let s = said c.args.updates.now in
-    let o = option_map (λ a. inner_part g.C.Level.part a.now.value) c.args.old in
+    let o = part_of_owner (inner_part g.C.Level.part) c.args.old in
     let t = sym (fate_touched s h c.args.index o _ c.in_ok-below.ensures.touched) ∙ c.if-not-below.false in
     sym (sym (stays_below s h c.args.index o _ t c.in_ok-below.ensures.stays) ∙ c.if-not-below-2.false)
 
@@ -160,7 +159,7 @@ pub returns-clause-next : goal.returns-clause-next
 returns-clause-next g c =
     let h = g.C.Level.height in
     let s = said c.args.updates.now in
-    let o = option_map (λ a. inner_part g.C.Level.part a.now.value) c.args.old in
+    let o = part_of_owner (inner_part g.C.Level.part) c.args.old in
     let t = sym (fate_touched s h c.args.index o _ c.in_ok-below.ensures.touched) ∙ c.if-not-below.false in
     let p = sym (stays_below s h c.args.index o _ t c.in_ok-below.ensures.stays) ∙ c.if-not-below-2.false in
     let m = ap length (made_stays s h c.args.index o t p) in

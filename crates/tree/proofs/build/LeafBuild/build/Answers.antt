@@ -1,8 +1,7 @@
 use Rattle.std.proofs.Common.{◌≡◌, [], ◌∷◌, ◌&&◌, Bool, true, false, cond, length, Some, refl, sym, ap, subst, ◌∙◌, arith}
 use Rattle.std.specs.Prelude.{is_some}
-use Rattle.std.specs.Option.{option_map}
 use Rattle.node.specs.Entries.{key_at}
-use Rattle.node.specs.Node.{leaf_part}
+use Rattle.node.specs.Node.{leaf_part, part_of_owner}
 use Rattle.batch.specs.Said.{said, full}
 use Rattle.batch.specs.Word.{word_said}
 use Rattle.batch.specs.Touch.{leaf_touched, leaf_stays}
@@ -18,62 +17,62 @@ not_made false = refl
 
 pub number_at-after-requires : goal.number_at-after-requires
 number_at-after-requires c =
-    let o = option_map (λ a. leaf_part a.now.value) c.args.old in
+    let o = part_of_owner leaf_part c.args.old in
     let w = sym c.word_of.ensures ∙ ap word_said c.in-Full.is in
     let k = subst (HasKeys c.args.made.now c.args.next) (made_of_leaf (said c.args.updates.now) c.args.index o _ w) c.requires.keys in
     (key_place c.args.made.now c.args.next (key_at 0 c.args.index) [] no_block c.requires.once k).0
 
 pub returns-in_ok-keep-in-Silent-clause-part : goal.returns-in_ok-keep-in-Silent-clause-part
 returns-in_ok-keep-in-Silent-clause-part c =
-    let o = option_map (λ a. leaf_part a.now.value) c.args.old in
+    let o = part_of_owner leaf_part c.args.old in
     let w = sym c.word_of.ensures ∙ ap word_said c.in-Silent.is in
     c.in_ok-keep-in-Silent.ensures.ok ∙ sym (rebuilt_at_leaf (said c.args.updates.now) (number_of c.args.made.now) c.args.group.0 c.args.index o _ w)
 
 pub returns-in_ok-keep-in-Silent-clause-touched : goal.returns-in_ok-keep-in-Silent-clause-touched
 returns-in_ok-keep-in-Silent-clause-touched c =
-    let o = option_map (λ a. leaf_part a.now.value) c.args.old in
+    let o = part_of_owner leaf_part c.args.old in
     sym (touched_at_leaf (said c.args.updates.now) c.args.index o ∙ ap (λ w. leaf_touched w o) (sym c.word_of.ensures ∙ ap word_said c.in-Silent.is))
 
 pub returns-in_ok-keep-in-Silent-clause-stays : goal.returns-in_ok-keep-in-Silent-clause-stays
 returns-in_ok-keep-in-Silent-clause-stays c =
-    let o = option_map (λ a. leaf_part a.now.value) c.args.old in
+    let o = part_of_owner leaf_part c.args.old in
     c.is_some-present.ensures ∙ sym (some_mapped _ c.args.old)
     ∙ sym (stays_at_leaf (said c.args.updates.now) c.args.index o ∙ ap (λ w. leaf_stays w o) (sym c.word_of.ensures ∙ ap word_said c.in-Silent.is))
 
 pub returns-in_ok-keep-in-Silent-clause-next : goal.returns-in_ok-keep-in-Silent-clause-next
 returns-in_ok-keep-in-Silent-clause-next c =
-    let o = option_map (λ a. leaf_part a.now.value) c.args.old in
+    let o = part_of_owner leaf_part c.args.old in
     let w = sym c.word_of.ensures ∙ ap word_said c.in-Silent.is in
     let n = ap length (made_of_leaf (said c.args.updates.now) c.args.index o _ w) in
     omega (arith, n)
 
 pub returns-in-Hole-clause-part : goal.returns-in-Hole-clause-part
 returns-in-Hole-clause-part c =
-    let o = option_map (λ a. leaf_part a.now.value) c.args.old in
+    let o = part_of_owner leaf_part c.args.old in
     let w = sym c.word_of.ensures ∙ ap word_said c.in-Hole.is in
     sym (rebuilt_at_leaf (said c.args.updates.now) (number_of c.args.made.now) c.args.group.0 c.args.index o _ w)
 
 pub returns-in-Hole-clause-touched : goal.returns-in-Hole-clause-touched
 returns-in-Hole-clause-touched c =
-    let o = option_map (λ a. leaf_part a.now.value) c.args.old in
+    let o = part_of_owner leaf_part c.args.old in
     c.is_some-present.ensures ∙ sym (some_mapped _ c.args.old)
     ∙ sym (touched_at_leaf (said c.args.updates.now) c.args.index o ∙ ap (λ w. leaf_touched w o) (sym c.word_of.ensures ∙ ap word_said c.in-Hole.is))
 
 pub returns-in-Hole-clause-stays : goal.returns-in-Hole-clause-stays
 returns-in-Hole-clause-stays c =
-    let o = option_map (λ a. leaf_part a.now.value) c.args.old in
+    let o = part_of_owner leaf_part c.args.old in
     sym (stays_at_leaf (said c.args.updates.now) c.args.index o ∙ ap (λ w. leaf_stays w o) (sym c.word_of.ensures ∙ ap word_said c.in-Hole.is))
 
 pub returns-in-Hole-clause-next : goal.returns-in-Hole-clause-next
 returns-in-Hole-clause-next c =
-    let o = option_map (λ a. leaf_part a.now.value) c.args.old in
+    let o = part_of_owner leaf_part c.args.old in
     let w = sym c.word_of.ensures ∙ ap word_said c.in-Hole.is in
     let n = ap length (made_of_leaf (said c.args.updates.now) c.args.index o _ w ∙ ap (λ b. cond b (key_at 0 c.args.index ∷ []) []) (not_made (is_some o))) in
     omega (arith, n)
 
 pub returns-in_ok-new-in-Full-clause-part : goal.returns-in_ok-new-in-Full-clause-part
 returns-in_ok-new-in-Full-clause-part c =
-    let o = option_map (λ a. leaf_part a.now.value) c.args.old in
+    let o = part_of_owner leaf_part c.args.old in
     let w = sym c.word_of.ensures ∙ ap word_said c.in-Full.is in
     let k = subst (HasKeys c.args.made.now c.args.next) (made_of_leaf (said c.args.updates.now) c.args.index o _ w) c.requires.keys in
     let n = (key_place c.args.made.now c.args.next (key_at 0 c.args.index) [] no_block c.requires.once k).1 in
@@ -83,17 +82,17 @@ returns-in_ok-new-in-Full-clause-part c =
 
 pub returns-in_ok-new-in-Full-clause-touched : goal.returns-in_ok-new-in-Full-clause-touched
 returns-in_ok-new-in-Full-clause-touched c =
-    let o = option_map (λ a. leaf_part a.now.value) c.args.old in
+    let o = part_of_owner leaf_part c.args.old in
     sym (touched_at_leaf (said c.args.updates.now) c.args.index o ∙ ap (λ w. leaf_touched w o) (sym c.word_of.ensures ∙ ap word_said c.in-Full.is))
 
 pub returns-in_ok-new-in-Full-clause-stays : goal.returns-in_ok-new-in-Full-clause-stays
 returns-in_ok-new-in-Full-clause-stays c =
-    let o = option_map (λ a. leaf_part a.now.value) c.args.old in
+    let o = part_of_owner leaf_part c.args.old in
     sym (stays_at_leaf (said c.args.updates.now) c.args.index o ∙ ap (λ w. leaf_stays w o) (sym c.word_of.ensures ∙ ap word_said c.in-Full.is))
 
 pub returns-in_ok-new-in-Full-clause-next : goal.returns-in_ok-new-in-Full-clause-next
 returns-in_ok-new-in-Full-clause-next c =
-    let o = option_map (λ a. leaf_part a.now.value) c.args.old in
+    let o = part_of_owner leaf_part c.args.old in
     let w = sym c.word_of.ensures ∙ ap word_said c.in-Full.is in
     let n = ap length (made_of_leaf (said c.args.updates.now) c.args.index o _ w) in
     omega (arith, n, c.number_at-after.ensures.next)

@@ -1,7 +1,6 @@
 use Rattle.std.proofs.Common.{[], length, Some, sym, ap, subst, ◌∙◌, arith}
-use Rattle.std.specs.Option.{option_map}
 use Rattle.node.specs.Entries.{key_at}
-use Rattle.node.specs.Node.{leaf_part}
+use Rattle.node.specs.Node.{leaf_part, part_of_slot}
 use Rattle.batch.specs.Said.{said, full}
 use Rattle.batch.specs.Word.{word_said}
 use Rattle.batch.specs.Build.{leaf_rebuilt, number_of, HasKeys, no_block}
@@ -10,14 +9,14 @@ use Rattle.tree.proofs.renew.LeafRenew.renew.Goals as goal
 
 pub number_at-after-requires : goal.number_at-after-requires
 number_at-after-requires c =
-    let o = option_map (λ a. leaf_part a.value) c.args.slot.now in
+    let o = part_of_slot leaf_part c.args.slot.now in
     let w = sym c.word_of.ensures ∙ ap word_said c.in-Full.is in
     let k = subst (HasKeys c.args.made.now c.args.next) (made_of_leaf (said c.args.updates.now) c.args.index o _ w) c.requires.keys in
     (key_place c.args.made.now c.args.next (key_at 0 c.args.index) [] no_block c.requires.once k).0
 
 pub returns-in-Some-get_mut-clause-part : goal.returns-in-Some-get_mut-clause-part
 returns-in-Some-get_mut-clause-part c =
-    let o = option_map (λ a. leaf_part a.value) c.args.slot.now in
+    let o = part_of_slot leaf_part c.args.slot.now in
     let w = sym c.word_of.ensures ∙ ap word_said c.in-Full.is in
     let k = subst (HasKeys c.args.made.now c.args.next) (made_of_leaf (said c.args.updates.now) c.args.index o _ w) c.requires.keys in
     let n = (key_place c.args.made.now c.args.next (key_at 0 c.args.index) [] no_block c.requires.once k).1 in
@@ -27,7 +26,7 @@ returns-in-Some-get_mut-clause-part c =
 
 pub returns-in-Some-get_mut-clause-next : goal.returns-in-Some-get_mut-clause-next
 returns-in-Some-get_mut-clause-next c =
-    let o = option_map (λ a. leaf_part a.value) c.args.slot.now in
+    let o = part_of_slot leaf_part c.args.slot.now in
     let w = sym c.word_of.ensures ∙ ap word_said c.in-Full.is in
     let n = ap length (made_of_leaf (said c.args.updates.now) c.args.index o _ w) in
     omega (arith, n, c.number_at-after.ensures.next)

@@ -27,3 +27,15 @@ returns-in-Ok-clause-below c = λ i h.
     c.in-Ok.ensures.ok i h
     ∙ sym (children (node_level c.self.inside.node) i c.self.inside.key (node_part c.self.inside.node) c.self.invariant.level c.self.invariant.sound h)
     ∙ ap (λ b. child_of b i) c.self.view_is
+
+pub returns-in-Ok-clause-young : goal.returns-in-Ok-clause-young
+returns-in-Ok-clause-young c = c.if-block-cut.false
+
+pub returns-then-block-cut-clause-metered : goal.returns-then-block-cut-clause-metered
+returns-then-block-cut-clause-metered c = cc
+
+pub returns-in-Ok-clause-metered : goal.returns-in-Ok-clause-metered
+returns-in-Ok-clause-metered c = cc
+
+pub returns-in-Err-clause-metered : goal.returns-in-Err-clause-metered
+returns-in-Err-clause-metered c = cc

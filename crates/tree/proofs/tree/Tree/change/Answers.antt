@@ -2,7 +2,11 @@ use Rattle.std.proofs.Common.{◌≡◌, map, refl, sym, ap, subst, ◌∙◌, a
 use Rattle.base.specs.Surveys.{AreDifferent}
 use Rattle.batch.specs.Build.{made_keys, HasKeys, number_of, rebuilt}
 use Rattle.tree.specs.ChangeParts.{made_pair}
-use Rattle.node.specs.Node.{whole}
+use Rattle.base.specs.Map.{Map}
+use Rattle.batch.specs.Cost.{CountsDropped}
+use Rattle.batch.specs.Updates.{changes_of}
+use Rattle.node.specs.Entries.{map_of}
+use Rattle.node.specs.Node.{whole, root_forest}
 use Rattle.batch.specs.Said.{said}
 use Rattle.batch.proofs.Words.{batch_in_order}
 use Rattle.batch.proofs.Filled.{new_key}
@@ -47,6 +51,11 @@ pub invariant_of-self-2 : goal.invariant_of-self-2
 invariant_of-self-2 c =
     let b = (goal.at.invariant_of-self-2 c).After-deref in
     ready_sound _ _ _ _ _ (ready b) c.in_ok-draft.draft c.in_ok-draft.ensures.ok c.args.group.0 (born_of c.self.inside.root c.args.self.now c.args.group.0 c.self.view_is c.requires.born) c.renew.new.slot (renewed c)
+
+pub returns-clause-metered : goal.returns-clause-metered
+returns-clause-metered c =
+    let is : map_of (root_forest c.self.inside.root) ≡ c.args.self.now = c.self.view_is in
+    subst (λ (m : Map). CountsDropped m (changes_of c.args.updates.now) c.args.meter.now c.draft_of.new.meter) is c.in_ok-draft.ensures.metered
 
 pub returns-clause-ok : goal.returns-clause-ok
 returns-clause-ok c =

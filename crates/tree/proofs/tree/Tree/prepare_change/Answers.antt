@@ -4,13 +4,16 @@ use Rattle.batch.specs.Build.{made_keys, HasKeys, number_of, rebuilt}
 use Rattle.tree.specs.ChangeParts.{made_pair}
 use Rattle.node.specs.Entries.{map_of}
 use Rattle.node.specs.Kid.{IsKid, birth_of}
-use Rattle.node.specs.Node.{whole}
+use Rattle.base.specs.Map.{Map}
+use Rattle.batch.specs.Cost.{CountsDropped}
+use Rattle.batch.specs.Updates.{changes_of}
+use Rattle.node.specs.Node.{whole, root_forest}
 use Rattle.batch.specs.Said.{said}
 use Rattle.node.specs.Shape.{Part}
 use Rattle.batch.proofs.Words.{batch_in_order}
 use Rattle.batch.proofs.Filled.{new_key}
 use Rattle.batch.proofs.Prepare.{IsReady, own_kid}
-use Rattle.tree.proofs.Prepared.{same_forest, born_of, allocated_of, ready_keys, ready_places, ready_sound, ready_change}
+use Rattle.tree.proofs.Prepared.{same_forest, born_of, allocated_of, ready_keys, ready_places, ready_sound, ready_order, ready_change}
 use Rattle.tree.proofs.tree.Tree.prepare_change.Goals as goal
 use Rattle.tree.proofs.tree.Tree.prepare_change.Goals.{After-deref, After-reverse}
 
@@ -50,7 +53,15 @@ module _ (c : After-reverse) where
 pub invariant_of-result : goal.invariant_of-result
 invariant_of-result c =
     let b = (goal.at.invariant_of-result c).After-deref in
-    record { sound = ready_sound _ _ _ _ _ (ready b) c.in_ok-draft.draft c.in_ok-draft.ensures.ok c.args.group.0 (born_of c.self.inside.root c.args.self.now c.args.group.0 c.self.view_is c.requires.born) c.in_ok-built.built.part (built c) }
+    record {
+      sound = ready_sound _ _ _ _ _ (ready b) c.in_ok-draft.draft c.in_ok-draft.ensures.ok c.args.group.0 (born_of c.self.inside.root c.args.self.now c.args.group.0 c.self.view_is c.requires.born) c.in_ok-built.built.part (built c);
+      order = ready_order _ _ _ _ _ (ready b) c.in_ok-draft.draft c.in_ok-draft.ensures.ok c.args.group.0 (born_of c.self.inside.root c.args.self.now c.args.group.0 c.self.view_is c.requires.born) c.in_ok-built.built.part (built c) _ c.reverse.ensures.items;
+    }
+
+pub returns-clause-metered : goal.returns-clause-metered
+returns-clause-metered c =
+    let is : map_of (root_forest c.self.inside.root) ≡ c.args.self.now = c.self.view_is in
+    subst (λ (m : Map). CountsDropped m (changes_of c.args.updates.now) c.args.meter.now c.draft_of.new.meter) is c.in_ok-draft.ensures.metered
 
 pub returns-clause-ok : goal.returns-clause-ok
 returns-clause-ok c =

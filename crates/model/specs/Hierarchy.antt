@@ -1,0 +1,25 @@
+-- File systems by name, and their hierarchy (zfs(8)).
+use Rattle.std.specs.Prelude.{◌≡◌, ◌⊎◌, ◌≤◌, ℕ, Bool, false, List, IsSome, IsTrue}
+use Rattle.std.specs.Option.{option_map_or}
+use Rattle.std.specs.FinMap.{FinMap, get, contains_key, len}
+use Rattle.name.specs.Names.{name_cmp, parent_of, root_name}
+use Rattle.model.specs.World.{FileSystem}
+
+-- a world's file systems, by their names (On-Disk Specification, chapter 4)
+abbrev pub FileSystems : Type 0
+FileSystems = FinMap name_cmp FileSystem
+
+-- the most file systems of a pool, the root among them (profile)
+abbrev pub file_system_limit : ℕ
+file_system_limit = 1024
+
+-- the file system that one of this name is a child of is there (zfs-create(8), without -p)
+abbrev pub has_parent : FileSystems → List ℕ → Bool
+has_parent m name = option_map_or (contains_key m) (parent_of name) false
+
+-- the root is there, and so is the parent of each other file system; there are no more than may be (zfs(8); the root's name and the
+-- limit are profile)
+pub record IsHierarchy (m : FileSystems) : Type 0 where
+  pub root : IsSome (get m root_name)
+  pub parents : (name : List ℕ) → IsSome (get m name) → (name ≡ root_name) ⊎ IsTrue (has_parent m name)
+  pub few : len m ≤ file_system_limit

@@ -1,0 +1,13 @@
+//! Tests of `model`, `table` and `pool` from outside.
+#![tactic(auto)]
+
+#[cfg(test)]
+mod rig;
+#[cfg(test)]
+mod rows;
+#[cfg(test)]
+mod steps;
+#[cfg(test)]
+mod tables;
+#[cfg(test)]
+mod values;

@@ -1,0 +1,124 @@
+//! A pool that is asked script lines, in both of its ways.
+use base::failing::Counted;
+use model::reply::Reply;
+use model::request::Request;
+use pool::Pool;
+use script::run::{Caller, run_script};
+use std::alloc::{AllocError, Global};
+use std::process::Abort;
+
+/// How a request is answered.
+#[derive(Clone, Copy)]
+enum Way {
+    /// By `apply`.
+    AtOnce,
+    /// By `prepare`, and then `commit`.
+    InTwo,
+}
+
+/// A pool, and how it is asked.
+#[derive(Drop)]
+struct Asked {
+    alloc: Global,
+    pool: Pool,
+    way: Way,
+}
+
+/// The reply to a request that is prepared, and then committed.
+fn reply_in_two(alloc: Global, pool: &mut Pool, request: &Request) -> Reply {
+    let (reply, ready) = pool.prepare(alloc, request);
+    pool.commit(ready);
+    reply
+}
+
+impl Caller for Asked {
+    ghost asks = { λ _ _ _ _. Unit {0} };
+
+    fn ask(&mut self, request: Request) -> Option<Reply> {
+        let reply = match self.way {
+            Way::AtOnce => self.pool.apply(self.alloc, &request),
+            Way::InTwo => reply_in_two(self.alloc, &mut self.pool, &request),
+        };
+        drop(request);
+        Some(reply)
+    }
+}
+
+/// The lines of these rows as a script.
+fn script_of(alloc: Global, rows: &[(&str, &str)]) -> Result<Vec<u8>, AllocError> {
+    let mut script = Vec::new(alloc);
+    for (line, _) in rows {
+        script.extend_from_slice(line.as_bytes())?;
+        script.push(b'\n')?;
+    }
+    Ok(script)
+}
+
+/// Their replies as they are printed. `61..` stands for a block that begins so and goes on with zeros.
+fn replies_of(alloc: Global, rows: &[(&str, &str)]) -> Result<Vec<u8>, AllocError> {
+    let mut replies = Vec::new(alloc);
+    for (_, reply) in rows {
+        match reply.strip_suffix("..") {
+            Some(digits) => push_block(&mut replies, digits.as_bytes())?,
+            None => replies.extend_from_slice(reply.as_bytes())?,
+        }
+        replies.push(b'\n')?;
+    }
+    Ok(replies)
+}
+
+/// The 1,024 digits of a block that begins with these.
+fn push_block(replies: &mut Vec<u8>, digits: &[u8]) -> Result<(), AllocError> {
+    replies.extend_from_slice(digits)?;
+    for _ in digits.len()..1024 {
+        replies.push(b'0')?;
+    }
+    Ok(())
+}
+
+/// What a pool prints for a script.
+fn printed_by(alloc: Global, caller: &mut Asked, script: &[u8]) -> Option<Vec<u8>> {
+    let mut reader = Counted::new(script);
+    let mut writer = Counted::new(Vec::new(alloc));
+    match run_script(alloc, caller, &mut reader, &mut writer, false) {
+        Ok(_) => Some(writer.inner),
+        Err(_) => None,
+    }
+}
+
+/// What a fresh pool of so many blocks prints for a script.
+fn printed(rt: &impl Abort, alloc: Global, blocks: u32, way: Way, script: &[u8]) -> Vec<u8> {
+    let pool = Pool::create(alloc, 1, blocks).expect(rt, "memory for a pool");
+    let mut caller = Asked { alloc, pool, way };
+    let printed = printed_by(alloc, &mut caller, script);
+    drop(caller);
+    printed.expect(rt, "memory for a run")
+}
+
+/// How many lines are alike, from the first on.
+fn lines_alike(wanted: &[u8], found: &[u8]) -> usize {
+    let mut lines = 0usize;
+    for (want, byte) in wanted.iter().zip(found) {
+        if *want != *byte {
+            break;
+        }
+        if *byte == b'\n' {
+            lines = lines.saturating_add(1);
+        }
+    }
+    lines
+}
+
+/// Asserts that a fresh pool of so many blocks, with id 1, gives each line its reply, in both ways.
+pub fn assert_rows(rt: &impl Abort, alloc: Global, blocks: u32, rows: &[(&str, &str)]) {
+    let script = script_of(alloc, rows).expect(rt, "memory for a script");
+    let wanted = replies_of(alloc, rows).expect(rt, "memory for replies");
+    for way in [Way::AtOnce, Way::InTwo] {
+        let found = printed(rt, alloc, blocks, way, script.as_slice());
+        let alike = lines_alike(wanted.as_slice(), found.as_slice());
+        assert!(rt;
+            found.as_slice() == wanted.as_slice(),
+            "after {alike} replies"
+        );
+    }
+}

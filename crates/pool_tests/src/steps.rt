@@ -1,0 +1,157 @@
+//! What no line shows: a step that is prepared and left, runs of lists, and what no pool is made of.
+use base::refusal::Refusal;
+use model::reply::{Reply, Value};
+use model::request::{PoolProperty, Request};
+use name::{DsName, Target};
+use pool::Pool;
+use std::alloc::Global;
+use std::process::Abort;
+
+fn write_of(rt: &impl Abort, alloc: Global) -> Request {
+    let mut bytes = [0; 512];
+    bytes[0] = 0x61;
+    Request::Write {
+        target: Target::read(alloc, b"p").expect(rt, "memory for a name"),
+        object: 0,
+        block: 0,
+        bytes,
+    }
+}
+
+fn creation_of(rt: &impl Abort, alloc: Global) -> Request {
+    Request::Create {
+        name: DsName::read(alloc, b"p/a").expect(rt, "memory for a name"),
+    }
+}
+
+fn allocated() -> Request {
+    Request::PoolGet {
+        property: PoolProperty::Allocated,
+    }
+}
+
+fn group() -> Request {
+    Request::PoolGet {
+        property: PoolProperty::Group,
+    }
+}
+
+/// Whether a pool answers a request so.
+fn answers(alloc: Global, pool: &mut Pool, request: Request, wanted: Reply) -> bool {
+    let reply = pool.apply(alloc, &request);
+    let same = reply.same(&wanted);
+    drop(request);
+    drop(reply);
+    drop(wanted);
+    same
+}
+
+/// Whether a pool of six blocks is as it was made: nothing is allocated, group 1 is open, and a write finds room.
+fn is_fresh(rt: &impl Abort, alloc: Global, pool: &mut Pool) -> bool {
+    answers(alloc, pool, allocated(), Reply::Value(Value::Size(0)))
+        && answers(alloc, pool, group(), Reply::Value(Value::Number(1)))
+        && answers(alloc, pool, write_of(rt, alloc), Reply::Done)
+}
+
+/// Whether a step that was prepared and left has changed nothing, in a pool that a write fills.
+fn leaves(rt: &impl Abort, alloc: Global, request: Request) -> bool {
+    let mut pool = Pool::create(alloc, 1, 6).expect(rt, "memory for a pool");
+    let (reply, left) = pool.prepare(alloc, &request);
+    drop(request);
+    drop(reply);
+    drop(left);
+    is_fresh(rt, alloc, &mut pool)
+}
+
+#[test]
+fn prepared_and_left(rt: HostRuntime) {
+    let alloc = rt.alloc();
+    assert!(rt; leaves(&rt, alloc, write_of(&rt, alloc)));
+    assert!(rt; leaves(&rt, alloc, Request::Sync));
+    assert!(rt; leaves(&rt, alloc, creation_of(&rt, alloc)));
+}
+
+/// Whether these are the replies to a write, a sync and a look at what is allocated.
+fn are_replies(replies: &[Reply]) -> bool {
+    match replies {
+        [
+            Reply::Done,
+            Reply::Group(2),
+            Reply::Value(Value::Size(3072)),
+        ] => true,
+        _ => false,
+    }
+}
+
+fn is_run(rt: &impl Abort, alloc: Global) -> bool {
+    let requests = [write_of(rt, alloc), Request::Sync, allocated()];
+    let mut pool = Pool::create(alloc, 1, 6).expect(rt, "memory for a pool");
+    match pool.run(alloc, &requests) {
+        Ok(replies) => are_replies(replies.as_slice()),
+        Err(_) => false,
+    }
+}
+
+#[test]
+fn a_list_of_requests(rt: HostRuntime) {
+    assert!(rt; is_run(&rt, rt.alloc()));
+}
+
+fn is_refused(made: Result<Pool, Refusal>, why: Refusal) -> bool {
+    match made {
+        Ok(_) => false,
+        Err(refusal) => refusal.same(why),
+    }
+}
+
+#[test]
+fn what_no_pool_is_made_of(rt: HostRuntime) {
+    let alloc = rt.alloc();
+    assert!(rt; is_refused(Pool::create(alloc, 0, 0), Refusal::BadName));
+    assert!(rt; is_refused(Pool::create(alloc, 1, 0), Refusal::TooMany));
+    assert!(rt; is_refused(Pool::create(alloc, 1, 4194305), Refusal::TooMany));
+}
+
+/// Whether a reply is of a step that was done, or that was refused memory.
+fn is_done_or_out_of_memory(reply: &Reply) -> bool {
+    match reply {
+        Reply::Refused(refusal) => refusal.same(Refusal::NoMemory),
+        _ => true,
+    }
+}
+
+/// Whether a request is done, or refused memory.
+fn is_tried(alloc: Global, pool: &mut Pool, request: Request) -> bool {
+    let reply = pool.apply(alloc, &request);
+    let fine = is_done_or_out_of_memory(&reply);
+    drop(request);
+    drop(reply);
+    fine
+}
+
+/// Whether a pool of twelve blocks has the six of a write, or none.
+fn is_tried_in_turn(alloc: Global, pool: &mut Pool, write: Request, creation: Request) -> bool {
+    let written = is_tried(alloc, pool, write);
+    let created = is_tried(alloc, pool, creation);
+    let synced = is_tried(alloc, pool, Request::Sync);
+    let listed = is_tried(alloc, pool, Request::List);
+    let used = answers(alloc, pool, allocated(), Reply::Value(Value::Size(3072)));
+    let unused = answers(alloc, pool, allocated(), Reply::Value(Value::Size(0)));
+    written & created & synced & listed & (used | unused)
+}
+
+/// Run it with each allocation refused in turn: a refused step leaves the pool with what it had.
+#[test]
+fn refused_memory_changes_nothing(rt: HostRuntime) {
+    let alloc = rt.alloc();
+    let write = write_of(&rt, alloc);
+    let creation = creation_of(&rt, alloc);
+    match Pool::create(alloc, 1, 12) {
+        Ok(mut pool) => assert!(rt; is_tried_in_turn(alloc, &mut pool, write, creation)),
+        Err(refusal) => {
+            drop(write);
+            drop(creation);
+            assert!(rt; refusal.same(Refusal::NoMemory));
+        }
+    }
+}

@@ -1,0 +1,144 @@
+//! Requests, replies and entries, compared by value.
+use base::text::Bytes;
+use model::entry::Entry;
+use model::laws::run_laws;
+use model::names::Names;
+use model::reply::{Reply, Value};
+use model::request::{PoolProperty, Property, Request};
+use name::{DsName, Target};
+use std::alloc::Global;
+use std::process::Abort;
+
+fn target(rt: &impl Abort, alloc: Global, bytes: &[u8]) -> Target {
+    Target::read(alloc, bytes).expect(rt, "memory for a name")
+}
+
+fn write(rt: &impl Abort, alloc: Global, bytes: &[u8], block: u32, byte: u8) -> Request {
+    Request::Write {
+        target: target(rt, alloc, bytes),
+        object: 0,
+        block,
+        bytes: [byte; 512],
+    }
+}
+
+fn read(rt: &impl Abort, alloc: Global, bytes: &[u8], block: u32) -> Request {
+    Request::Read {
+        target: target(rt, alloc, bytes),
+        object: 0,
+        block,
+    }
+}
+
+/// Whether two requests are the same.
+fn are_same(one: Request, other: Request) -> bool {
+    let same = one.same(&other);
+    drop(one);
+    drop(other);
+    same
+}
+
+fn is_the_write(rt: &impl Abort, alloc: Global, name: &[u8], block: u32, byte: u8) -> bool {
+    let one = write(rt, alloc, name, block, byte);
+    are_same(one, write(rt, alloc, b"p", 1, 7))
+}
+
+#[test]
+fn writes_compared(rt: HostRuntime) {
+    let alloc = rt.alloc();
+    assert!(rt; is_the_write(&rt, alloc, b"p", 1, 7));
+    assert!(rt; !is_the_write(&rt, alloc, b"p/a", 1, 7));
+    assert!(rt; !is_the_write(&rt, alloc, b"p", 2, 7));
+    assert!(rt; !is_the_write(&rt, alloc, b"p", 1, 8));
+}
+
+fn creation(rt: &impl Abort, alloc: Global, bytes: &[u8]) -> Request {
+    Request::Create {
+        name: DsName::read(alloc, bytes).expect(rt, "memory for a name"),
+    }
+}
+
+fn are_same_creations(rt: &impl Abort, alloc: Global, one: &[u8], other: &[u8]) -> bool {
+    let one = creation(rt, alloc, one);
+    are_same(one, creation(rt, alloc, other))
+}
+
+fn is_the_read(rt: &impl Abort, alloc: Global, one: Request) -> bool {
+    are_same(one, read(rt, alloc, b"p", 1))
+}
+
+#[test]
+fn requests_compared(rt: HostRuntime) {
+    let alloc = rt.alloc();
+    assert!(rt; is_the_read(&rt, alloc, read(&rt, alloc, b"p", 1)));
+    assert!(rt; !is_the_read(&rt, alloc, write(&rt, alloc, b"p", 1, 7)));
+    assert!(rt; are_same_creations(&rt, alloc, b"p/a", b"p/a"));
+    assert!(rt; !are_same_creations(&rt, alloc, b"p/a", b"p/b"));
+    assert!(rt; are_same(Request::List, Request::List));
+    assert!(rt; !are_same(Request::List, Request::Sync));
+}
+
+#[test]
+fn properties_and_values_compared(rt: HostRuntime) {
+    assert!(rt; Property::Referenced.same(&Property::Referenced));
+    assert!(rt; PoolProperty::Free.same(&PoolProperty::Free));
+    assert!(rt; !PoolProperty::Free.same(&PoolProperty::Freeing));
+    assert!(rt; Value::Size(3).same(&Value::Size(3)));
+    assert!(rt; !Value::Size(3).same(&Value::Number(3)));
+    run_laws();
+}
+
+fn names(rt: &impl Abort, alloc: Global, first: &[u8]) -> Names {
+    let name = Bytes::from(first.to_vec(alloc).expect(rt, "memory for a name"));
+    Names::from(vec![in alloc; name].expect(rt, "memory for names"))
+}
+
+fn are_same_names(rt: &impl Abort, alloc: Global, one: &[u8], other: &[u8]) -> bool {
+    names(rt, alloc, one).same(&names(rt, alloc, other))
+}
+
+fn is_listed(rt: &impl Abort, alloc: Global, name: &[u8]) -> bool {
+    match names(rt, alloc, name).as_slice() {
+        [only] => only.as_slice() == name,
+        _ => false,
+    }
+}
+
+#[test]
+fn names_compared(rt: HostRuntime) {
+    let alloc = rt.alloc();
+    assert!(rt; are_same_names(&rt, alloc, b"p", b"p"));
+    assert!(rt; !are_same_names(&rt, alloc, b"p", b"p/a"));
+    assert!(rt; is_listed(&rt, alloc, b"p/a"));
+}
+
+fn entry(seat: u32, group: u64) -> Entry {
+    Entry {
+        seat,
+        request: Request::Sync,
+        reply: Reply::Group(group),
+    }
+}
+
+fn are_same_entries(one: Entry, other: Entry) -> bool {
+    let same = one.same(&other);
+    drop(one);
+    drop(other);
+    same
+}
+
+fn are_same_replies(one: Reply, other: Reply) -> bool {
+    let same = one.same(&other);
+    drop(one);
+    drop(other);
+    same
+}
+
+#[test]
+fn entries_compared(rt: HostRuntime) {
+    assert!(rt; are_same_entries(entry(1, 2), entry(1, 2)));
+    assert!(rt; !are_same_entries(entry(1, 2), entry(2, 2)));
+    assert!(rt; !are_same_entries(entry(1, 2), entry(1, 3)));
+    assert!(rt; are_same_replies(Reply::Data(Some([7; 512])), Reply::Data(Some([7; 512]))));
+    assert!(rt; !are_same_replies(Reply::Data(None), Reply::Done));
+}

@@ -1,0 +1,9 @@
+//! The program's command line, and runs of a script on a fresh pool with their exit status.
+#![tactic(auto)]
+
+mod args;
+mod caller;
+mod run;
+
+pub use args::{Args, read_args};
+pub use run::{print_fault, print_usage, run_args};

@@ -1,0 +1,11 @@
+//! Tests of `script` and `runner` from outside.
+#![tactic(auto)]
+
+#[cfg(test)]
+mod faults;
+#[cfg(test)]
+mod lines;
+#[cfg(test)]
+mod rig;
+#[cfg(test)]
+mod words;

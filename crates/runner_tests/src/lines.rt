@@ -1,0 +1,160 @@
+//! Lines of any shape, and how a run ends.
+use crate::rig::{args_of, run, run_script};
+use std::alloc::{AllocError, Global};
+use std::process::Abort;
+
+fn prints(
+    rt: &impl Abort,
+    alloc: Global,
+    stop: bool,
+    script: &[u8],
+    output: &[u8],
+    status: u8,
+) -> bool {
+    run_script(rt, alloc, args_of(stop, 1000), script).is(output, status)
+}
+
+#[test]
+fn ends_of_a_run(rt: HostRuntime) {
+    let alloc = rt.alloc();
+    let refused: &[u8] = b"read p 0 0\nfrob\nread p 0 0\n";
+    assert!(rt; prints(&rt, alloc, true, refused, b"hole\nerror 28 BadLine\n", 1));
+    assert!(rt;
+        prints(
+            &rt,
+            alloc,
+            false,
+            refused,
+            b"hole\nerror 28 BadLine\nhole\n",
+            0
+        )
+    );
+    assert!(rt;
+        prints(
+            &rt,
+            alloc,
+            true,
+            b"read p 0 0\nread p 0 1",
+            b"hole\nhole\n",
+            0
+        )
+    );
+    assert!(rt; prints(&rt, alloc, true, b"", b"", 0));
+}
+
+/// Whether a fresh pool answers a line so, with its line feed and without.
+fn answers(rt: &impl Abort, alloc: Global, line: &[u8], reply: &[u8]) -> bool {
+    let mut script = Vec::new(alloc);
+    script
+        .extend_from_slice(line)
+        .expect(rt, "memory for a line");
+    if !prints(rt, alloc, false, script.as_slice(), reply, 0) {
+        return false;
+    }
+    script.push(b'\n').expect(rt, "memory for a line");
+    prints(rt, alloc, false, script.as_slice(), reply, 0)
+}
+
+#[test]
+fn silent_lines(rt: HostRuntime) {
+    for line in ["# no", "", "#", "#\u{1}\u{7f}"] {
+        assert!(rt; answers(&rt, rt.alloc(), line.as_bytes(), b""), "{line}");
+    }
+}
+
+#[test]
+fn lines_of_bad_shape(rt: HostRuntime) {
+    for line in [
+        " #",
+        "read  p 0 0",
+        "read p 0 0 ",
+        " read p 0 0",
+        "read p 0 0\r",
+        "read p 0 \u{7f}",
+        "read p 00 0",
+        "write p 0 0 616",
+        "write p 0 0 6",
+        "write p 0 0 6g",
+        "write p 0 0",
+        "read p 0 0 0",
+        "get nothing p",
+        "get referenced",
+        "read p/ 0 x",
+        "READ p 0 0",
+        "sync extra",
+        "pget nothing",
+        "pget",
+        "pget free p",
+        "sync ",
+    ] {
+        let reply = b"error 28 BadLine\n";
+        assert!(rt; answers(&rt, rt.alloc(), line.as_bytes(), reply), "{line}");
+    }
+}
+
+#[test]
+fn lines_of_good_shape(rt: HostRuntime) {
+    let alloc = rt.alloc();
+    assert!(rt; answers(&rt, alloc, b"read p 0 0", b"hole\n"));
+    assert!(rt; answers(&rt, alloc, b"read p/ 256 0", b"error 1 BadName\n"));
+    assert!(rt; answers(&rt, alloc, b"write p 255 4095 aF", b"ok\n"));
+    assert!(rt; answers(&rt, alloc, b"pget group", b"1\n"));
+}
+
+/// A line of 4,194,305 of these bytes, and a read.
+fn too_long(alloc: Global, byte: u8) -> Result<Vec<u8>, AllocError> {
+    let mut script = vec![in alloc; byte; 4_194_305]?;
+    script.extend_from_slice(b"\nread p 0 0\n")?;
+    Ok(script)
+}
+
+fn prints_after_it(rt: &impl Abort, alloc: Global, byte: u8, output: &[u8]) -> bool {
+    let script = too_long(alloc, byte).expect(rt, "memory for a script");
+    prints(rt, alloc, false, script.as_slice(), output, 0)
+}
+
+#[test]
+fn lines_that_are_too_long(rt: HostRuntime) {
+    let alloc = rt.alloc();
+    assert!(rt; prints_after_it(&rt, alloc, b'x', b"error 28 BadLine\nhole\n"));
+    assert!(rt; prints_after_it(&rt, alloc, b'#', b"hole\n"));
+}
+
+/// The last four digits of a number.
+fn digits(n: u32) -> [u8; 4] {
+    let digit = |d: u32| b'0' + (d % 10) as u8;
+    [digit(n / 1000), digit(n / 100), digit(n / 10), digit(n)]
+}
+
+/// As many creations as may be and one more, with the replies.
+fn creations(alloc: Global) -> Result<(Vec<u8>, Vec<u8>), AllocError> {
+    let mut script = Vec::new(alloc);
+    let mut replies = Vec::new(alloc);
+    for n in 1..1024u32 {
+        script.extend_from_slice(b"create p/")?;
+        script.extend_from_slice(&digits(n))?;
+        script.push(b'\n')?;
+        replies.extend_from_slice(b"ok\n")?;
+    }
+    script.extend_from_slice(b"create p/a\n")?;
+    replies.extend_from_slice(b"error 21 TooMany\n")?;
+    Ok((script, replies))
+}
+
+#[test]
+fn as_many_file_systems_as_may_be(rt: HostRuntime) {
+    let alloc = rt.alloc();
+    let (script, replies) = creations(alloc).expect(&rt, "memory for a script");
+    assert!(rt; prints(&rt, alloc, false, script.as_slice(), replies.as_slice(), 0));
+}
+
+#[test]
+fn bad_command_lines(rt: HostRuntime) {
+    let alloc = rt.alloc();
+    let usage: &[u8] = b"usage: zfsp [-e] [-w] BLOCKS POOLID [SCRIPT]\n";
+    let script: &[u8] = b"read p 0 0\n";
+    let none = run(&rt, alloc, None, script);
+    assert!(rt; none.output.is_empty() && none.failed(usage, 2));
+    let empty = run_script(&rt, alloc, args_of(false, 0), script);
+    assert!(rt; empty.output.is_empty() && empty.failed(usage, 2));
+}

@@ -1,0 +1,7 @@
+//! Tests of `stream` from outside.
+#![tactic(auto)]
+
+#[cfg(test)]
+mod faults;
+#[cfg(test)]
+mod streams;

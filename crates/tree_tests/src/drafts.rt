@@ -1,0 +1,102 @@
+//! What batches say, and what is drafted of one.
+ghost use Rattle.std.specs.Prelude.{◌≤◌};
+ghost use Rattle.batch.specs.Said.{AreInOrder};
+
+use crate::ready::{is_batch, meter};
+use crate::rig::{punch_at, write_at};
+use base::number::Group;
+use base::refusal::Refusal;
+use batch::{Draft, Word, draft_of, is_idle, split_at_leaf, way_of, word_of};
+use std::alloc::Global;
+use std::process::Abort;
+use tree::Update;
+use zalloc::{Allocator, MOST_BLOCKS};
+
+#[test]
+fn idle_batches(rt: HostRuntime) {
+    assert!(rt; is_idle(&[], true) && is_idle(&[], false));
+    assert!(rt; !is_idle(&[punch_at(0, 5)], true) && is_idle(&[punch_at(0, 5)], false));
+    assert!(rt; !is_idle(&[write_at(5, 7)], true) && !is_idle(&[write_at(5, 7)], false));
+}
+
+/// Asserts that the updates are a batch.
+fn assert_batch(rt: &impl Abort, updates: &[Update])
+    ensures { AreInOrder updates.now }
+{
+    assert!(rt; is_batch(updates));
+}
+
+/// What a batch says of a leaf: the byte that fills it, 256 for a hole, None for nothing.
+fn said_of(rt: &impl Abort, updates: &[Update], leaf: u32) -> Option<u32> {
+    assert_batch(rt, updates);
+    match word_of(updates, leaf) {
+        Word::Silent => None,
+        Word::Hole => Some(256),
+        Word::Full(bytes) => Some(u32::from(bytes[0])),
+    }
+}
+
+#[test]
+fn words(rt: HostRuntime) {
+    let batch = [write_at(5, 7), punch_at(0, 9), punch_at(3, 1)];
+    assert!(rt; said_of(&rt, &batch, 5) == Some(7) && said_of(&rt, &batch, 6).is_none());
+    assert!(rt; said_of(&rt, &batch, 9) == Some(256) && said_of(&rt, &batch, 8191) == Some(256));
+    assert!(rt; said_of(&rt, &batch, 4095).is_none() && said_of(&rt, &batch, 8192).is_none());
+}
+
+/// How many of the updates reach past the beginning of a leaf, and how many begin before it.
+fn halves(rt: &impl Abort, updates: &[Update], leaf: u32) -> (usize, usize) {
+    assert_batch(rt, updates);
+    let (after, before) = split_at_leaf(updates, leaf);
+    (after.len(), before.len())
+}
+
+/// An object that is punched across the cut is in both halves.
+#[test]
+fn cut_batches(rt: HostRuntime) {
+    let batch = [write_at(5, 7), write_at(9, 8), punch_at(3, 1)];
+    assert!(rt; halves(&rt, &batch, 5) == (3, 0) && halves(&rt, &batch, 6) == (2, 1));
+    assert!(rt; halves(&rt, &batch, 4096) == (1, 2) && halves(&rt, &batch, 4097) == (1, 3));
+}
+
+#[test]
+fn ways_to_one_write(rt: HostRuntime) {
+    assert!(rt; way_of(&[write_at(37, 7)], 1, 2) == Some(5));
+    assert!(rt; way_of(&[write_at(37, 7)], 2, 0) == Some(2));
+    assert!(rt; way_of(&[write_at(37, 7)], 1, 1).is_none());
+    assert!(rt; way_of(&[punch_at(0, 37)], 1, 2).is_none());
+    assert!(rt; way_of(&[write_at(36, 7), write_at(37, 7)], 1, 2).is_none());
+}
+
+/// The draft of a write of one leaf of a tree without a block, in a pool of so many numbers.
+fn first_draft(rt: &impl Abort, alloc: Global, numbers: u32) -> Result<Draft, Refusal>
+    requires { numbers ≤ MOST_BLOCKS }
+{
+    let allocator = Allocator::new(alloc, numbers).expect(rt, "memory for an allocator");
+    let updates = [write_at(5, 7)];
+    assert!(rt; is_batch(&updates));
+    draft_of(
+        alloc,
+        &None,
+        0,
+        &updates,
+        Group(1),
+        &allocator,
+        &mut meter(),
+    )
+}
+
+/// Whether the draft of the first write makes so many blocks and lets none go.
+fn makes(rt: &impl Abort, alloc: Global, blocks: usize) -> bool {
+    let draft = first_draft(rt, alloc, 6).expect(rt, "a draft");
+    draft.count as usize == blocks
+        && draft.taken.len() == blocks
+        && draft.made.len() == blocks
+        && draft.released.is_empty()
+}
+
+#[test]
+fn draft_of_a_write(rt: HostRuntime) {
+    assert!(rt; makes(&rt, rt.alloc(), 6));
+    assert!(rt; first_draft(&rt, rt.alloc(), 5).err() == Some(Refusal::NoSpace));
+}

@@ -1,0 +1,121 @@
+//! Nodes by themselves: a leaf, and a node with one leaf.
+ghost use Rattle.std.specs.Prelude.{◌<◌, ◌≤◌, ◌^◌};
+
+use crate::ready::meter;
+use base::number::{BlockNo, Dead, Group};
+use node::{Cell, Inner, Leaf, Level, Same, keep, owner_at, owner_count, owner_in, same_kid, span};
+use std::alloc::Global;
+use std::process::Abort;
+use std::sync::Arc;
+
+/// An owner of a leaf that is filled with a byte.
+fn leaf_with(rt: &impl Abort, alloc: Global, byte: u8) -> Arc<Leaf> {
+    Arc::new(alloc, Leaf::new(BlockNo(8), Group(5), [byte; 512])).expect(rt, "memory for a leaf")
+}
+
+/// A node with such a leaf at place 3, and nothing else.
+fn node_with(rt: &impl Abort, alloc: Global, byte: u8) -> Inner<Leaf> {
+    let mut kids = [
+        None, None, None, None, None, None, None, None, None, None, None, None, None, None, None,
+        None,
+    ];
+    kids[3] = Some(leaf_with(rt, alloc, byte));
+    Inner::new(BlockNo(9), Group(6), kids)
+}
+
+/// The block of what stands so far below the node, if anything does, and how many nodes are reached.
+fn found(rt: &impl Abort, alloc: Global, depth: u32, at: u32) -> (Option<BlockNo>, u64)
+    requires shallow { depth ≤ 5 }
+    requires covered { at < 16 ^ depth }
+{
+    let mut meter = meter();
+    let cell = node_with(rt, alloc, 7).find(depth, at, &mut meter);
+    (cell.map(|cell| cell.block), meter.count())
+}
+
+#[test]
+fn cells_below(rt: HostRuntime) {
+    assert!(rt; found(&rt, rt.alloc(), 0, 0) == (Some(BlockNo(9)), 1));
+    assert!(rt; found(&rt, rt.alloc(), 1, 3) == (Some(BlockNo(8)), 2));
+    assert!(rt; found(&rt, rt.alloc(), 1, 4) == (None, 1));
+}
+
+/// Whether a node's own cell and block are these.
+fn is_cell<N: Level>(node: &N, cell: Cell) -> bool {
+    let own = node.block();
+    node.cell() == cell && own.block == cell.block && own.birth == cell.birth
+}
+
+#[test]
+fn own_cells(rt: HostRuntime) {
+    let leaf = Cell {
+        block: BlockNo(8),
+        birth: Group(5),
+        bytes: Some([7; 512]),
+    };
+    let node = Cell {
+        block: BlockNo(9),
+        birth: Group(6),
+        bytes: None,
+    };
+    assert!(rt; is_cell(&*leaf_with(&rt, rt.alloc(), 7), leaf));
+    assert!(rt; is_cell(&node_with(&rt, rt.alloc(), 7), node));
+}
+
+/// The blocks of a leaf born in group 5 that were born after a group.
+fn gathered(rt: &impl Abort, alloc: Global, cut: Group) -> Vec<Dead> {
+    let leaf = Leaf::new(BlockNo(8), Group(5), [7; 512]);
+    let mut out = Vec::new(alloc);
+    leaf.gather(cut, &mut out, &mut meter())
+        .expect(rt, "memory for a block");
+    out
+}
+
+#[test]
+fn leaf_is_gathered(rt: HostRuntime) {
+    assert!(rt; gathered(&rt, rt.alloc(), Group(4)).len() == 1);
+    assert!(rt; gathered(&rt, rt.alloc(), Group(5)).is_empty());
+}
+
+/// Whether a place of the node has anything, as each look at it tells.
+fn has_kid(rt: &impl Abort, alloc: Global, place: usize) -> bool
+    requires { place < 16 }
+{
+    let node = Arc::new(alloc, node_with(rt, alloc, 7)).expect(rt, "memory for a node");
+    let there = node.kid(place).is_some();
+    assert!(rt; node.owner(place).is_some() == there);
+    assert!(rt; owner_at(Some(&node), place).is_some() == there);
+    assert!(rt; node.place_count() == 16 && owner_count(Some(&node)) == 16);
+    there
+}
+
+#[test]
+fn places(rt: HostRuntime) {
+    assert!(rt; has_kid(&rt, rt.alloc(), 3));
+    assert!(rt; !has_kid(&rt, rt.alloc(), 2));
+    assert!(rt; owner_count::<Leaf>(None) == 16);
+}
+
+/// Whether one more owner of a leaf has the same leaf as a place with this byte.
+fn is_kept_as(rt: &impl Abort, alloc: Global, byte: u8) -> bool {
+    let slot = Some(leaf_with(rt, alloc, 7));
+    let kept = keep(owner_in(&slot)).expect(rt, "memory to share");
+    same_kid(&kept, &Some(leaf_with(rt, alloc, byte)))
+}
+
+/// Whether a node with leaves of sevens is the same as one with leaves of this byte.
+fn is_like(rt: &impl Abort, alloc: Global, byte: u8) -> bool {
+    node_with(rt, alloc, 7).same(&node_with(rt, alloc, byte))
+}
+
+#[test]
+fn same_nodes(rt: HostRuntime) {
+    assert!(rt; is_kept_as(&rt, rt.alloc(), 7) && !is_kept_as(&rt, rt.alloc(), 8));
+    assert!(rt; is_like(&rt, rt.alloc(), 7) && !is_like(&rt, rt.alloc(), 8));
+}
+
+#[test]
+fn spans(rt: HostRuntime) {
+    assert!(rt; span(0) == 1 && span(1) == 16 && span(2) == 256);
+    assert!(rt; span(3) == 4096 && span(4) == 65536 && span(5) == 1048576);
+}

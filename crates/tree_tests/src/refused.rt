@@ -1,0 +1,59 @@
+//! Memory that is refused. Each test passes whichever allocation is the one that fails.
+use crate::ready::meter;
+use crate::rig::{Rig, WAYS, Way, punch_at, write_at};
+use base::number::Group;
+use base::refusal::Refusal;
+use std::alloc::Global;
+use std::process::Abort;
+use tree::{Tree, Update};
+use zalloc::Allocator;
+
+/// A batch that is refused memory changes nothing.
+fn refused_or_done(
+    rt: &impl Abort,
+    alloc: Global,
+    rig: &mut Rig,
+    update: Update,
+    group: Group,
+    blocks: u32,
+) {
+    let before = rig.tree.node_count();
+    let refusal = rig.apply(rt, alloc, &[update], group, group).err();
+    assert!(rt; refusal.is_none() || refusal == Some(Refusal::NoMemory));
+    let want = if refusal.is_none() { blocks } else { before };
+    assert!(rt; rig.tree.node_count() == want && rig.allocator.counts().allocated == want);
+}
+
+/// Three batches in a rig's way, of which each is done or refused.
+fn refused_in(rt: &impl Abort, alloc: Global, way: Way) {
+    let Ok(allocator) = Allocator::new(alloc, 100) else {
+        return;
+    };
+    let mut rig = Rig {
+        tree: Tree::new(),
+        allocator,
+        way,
+    };
+    refused_or_done(rt, alloc, &mut rig, write_at(3, 1), Group(1), 6);
+    if rig.byte(rt, 3) == 1 {
+        walked_or_refused(rt, alloc, &rig);
+        refused_or_done(rt, alloc, &mut rig, write_at(5000, 2), Group(2), 10);
+        let left = if rig.byte(rt, 5000) == 2 { 6 } else { 0 };
+        refused_or_done(rt, alloc, &mut rig, punch_at(0, 3), Group(3), left);
+    }
+}
+
+/// A walk of a tree of six blocks lists them all, or is refused.
+fn walked_or_refused(rt: &impl Abort, alloc: Global, rig: &Rig) {
+    match rig.tree.walk_after(alloc, Group(0), &mut meter()) {
+        Ok(blocks) => assert_eq!(rt; blocks.len(), 6),
+        Err(refusal) => assert_eq!(rt; refusal, Refusal::NoMemory),
+    }
+}
+
+#[test]
+fn refused_memory_changes_nothing(rt: HostRuntime) {
+    for way in WAYS {
+        refused_in(&rt, rt.alloc(), way);
+    }
+}

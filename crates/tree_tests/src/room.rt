@@ -1,0 +1,132 @@
+//! How many numbers a batch needs.
+ghost use Rattle.std.specs.Prelude.{◌<◌, ◌≤◌};
+
+use crate::rig::{Rig, Way, add, punch_at, rig_of, write_at};
+use base::number::{BlockNo, Group};
+use base::refusal::Refusal;
+use std::alloc::Global;
+use std::process::Abort;
+use tree::Update;
+use zalloc::{Allocator, MOST_BLOCKS};
+
+/// Whether as many numbers are Allocated as the tree has blocks.
+fn has_its_numbers(rig: &Rig) -> bool {
+    rig.allocator.counts().allocated == rig.tree.node_count()
+}
+
+/// Puts a batch in force in group 1, and then another in group 2. At a refusal of the second the rig has to stay as it was.
+fn second_of(
+    rt: &impl Abort,
+    alloc: Global,
+    numbers: u32,
+    first: &[Update],
+    second: &[Update],
+    young: Group,
+) -> Option<Refusal>
+    requires { numbers ≤ MOST_BLOCKS }
+{
+    let mut rig = rig_of(rt, alloc, numbers, Way::AtOnce);
+    rig.apply(rt, alloc, first, Group(1), Group(1))
+        .expect(rt, "room for the first batch");
+    let before = rig.tree.copy().expect(rt, "memory for a copy");
+    let refusal = rig.apply(rt, alloc, second, Group(2), young).err();
+    assert!(rt; (refusal.is_none() || before == rig.tree) && has_its_numbers(&rig));
+    refusal
+}
+
+/// Asserts that a second batch goes with so many numbers and not with one less.
+fn assert_needs(
+    rt: &impl Abort,
+    alloc: Global,
+    numbers: u32,
+    first: &[Update],
+    second: &[Update],
+    young: Group,
+)
+    requires low { 0 < numbers }
+    requires high { numbers ≤ MOST_BLOCKS }
+{
+    let enough = second_of(rt, alloc, numbers, first, second, young);
+    assert_eq!(rt; enough, None);
+    let short = second_of(rt, alloc, numbers - 1, first, second, young);
+    assert_eq!(rt; short, Some(Refusal::NoSpace));
+}
+
+/// A leaf has five keys above it. Leaf 1 shares all of these with leaf 0, and leaf 4096 two.
+#[test]
+fn full_pools(rt: HostRuntime) {
+    let alloc = rt.alloc();
+    let leaf = [write_at(0, 1)];
+    let pair = [write_at(0, 1), write_at(1, 2)];
+    let apart = [write_at(0, 1), write_at(4096, 2)];
+    let gone = [punch_at(0, 0)];
+    assert_needs(&rt, alloc, 6, &[], &leaf, Group(2));
+    assert_needs(&rt, alloc, 7, &[], &pair, Group(2));
+    assert_needs(&rt, alloc, 10, &[], &apart, Group(2));
+    assert_needs(&rt, alloc, 12, &leaf, &leaf, Group(2));
+    assert_needs(&rt, alloc, 13, &leaf, &pair, Group(2));
+    assert_needs(&rt, alloc, 7, &leaf, &pair, Group(1));
+    assert_needs(&rt, alloc, 12, &pair, &gone, Group(2));
+    assert_needs(&rt, alloc, 12, &apart, &gone, Group(2));
+    assert_eq!(rt; second_of(&rt, alloc, 6, &leaf, &leaf, Group(1)), None);
+    assert_eq!(rt; second_of(&rt, alloc, 6, &leaf, &gone, Group(2)), None);
+}
+
+/// Writes of so many leaves.
+fn writes(rt: &impl Abort, alloc: Global, leaves: u32) -> Vec<Update> {
+    let mut updates = Vec::new(alloc);
+    for leaf in 0..leaves {
+        add(rt, &mut updates, write_at(leaf, 7));
+    }
+    updates
+}
+
+/// Every block of object 0 is written, and the first of object 1. 4096 leaves have 256, 16 and 1 keys of their own above them, and
+/// two with the rest.
+#[test]
+fn object_is_freed_at_once(rt: HostRuntime) {
+    let alloc = rt.alloc();
+    let mut rig = rig_of(&rt, alloc, 4377, Way::AtOnce);
+    rig.apply(&rt, alloc, &writes(&rt, alloc, 4097), Group(1), Group(1))
+        .expect(&rt, "room for an object");
+    assert_eq!(rt; rig.tree.node_count(), 4096 + 256 + 16 + 1 + 2 + 4);
+    assert_eq!(rt; rig.allocator.counts().free, 2);
+    rig.apply(&rt, alloc, &[punch_at(3, 0)], Group(2), Group(2))
+        .expect(&rt, "room for two blocks");
+    assert_eq!(rt; rig.tree.node_count(), 6);
+    assert_eq!(rt; rig.allocator.counts().allocated, 6);
+    assert_eq!(rt; rig.byte(&rt, 0), 0);
+    assert_eq!(rt; rig.byte(&rt, 4096), 7);
+}
+
+/// The states of all numbers of two allocators.
+fn assert_same_states(rt: &impl Abort, one: &Allocator, other: &Allocator, numbers: u32) {
+    for number in 0..numbers {
+        let state = one.state(BlockNo(number));
+        assert_eq!(rt; state, other.state(BlockNo(number)), "of {number}");
+    }
+}
+
+/// A rig with leaves 3 and 5, written in group 1.
+fn rig_of_pair(rt: &impl Abort, alloc: Global) -> Rig {
+    let mut rig = rig_of(rt, alloc, 20, Way::AtOnce);
+    let pair = [write_at(3, 1), write_at(5, 2)];
+    rig.apply(rt, alloc, &pair, Group(1), Group(1))
+        .expect(rt, "room for a pair");
+    rig
+}
+
+/// Writes leaf 3 again in group 1, which needs no room.
+fn write_again(rt: &impl Abort, alloc: Global, rig: &mut Rig) {
+    rig.apply(rt, alloc, &[write_at(3, 9)], Group(1), Group(1))
+        .expect(rt, "no room is needed");
+}
+
+#[test]
+fn second_write_of_a_group_keeps_each_number(rt: HostRuntime) {
+    let alloc = rt.alloc();
+    let mut rig = rig_of_pair(&rt, alloc);
+    write_again(&rt, alloc, &mut rig);
+    assert_same_states(&rt, &rig_of_pair(&rt, alloc).allocator, &rig.allocator, 21);
+    assert!(rt; rig.byte(&rt, 3) == 9 && rig.byte(&rt, 5) == 2);
+}
