@@ -1,23 +1,26 @@
 #!/usr/bin/env python3
-"""Measures what the gate's time goes to: the processor time of each crate's proof, of its tests' proof, and of its must-fail edits.
+"""Runs the gate on the last commit, in a clone in a folder of its own, and tells where its time went.
 
-    python3 bench/gate.py [NAME..]
+    python3 bench/gate.py [--cores 0,1] [--log FILE]
 
-It works in a clone of the last commit, in a folder of its own, one job at a time, lowest crates first, and prints a line a crate:
-its lines of source and how many must-fail edits it has, and the CPU minutes of the three. The edits' are with the full check that
-the first of them begins with. With names only those crates are measured, over libraries that are proved and not counted.
+It prints what the gate took, and a line a crate: its lines of source, how many must-fail edits it has, and the CPU minutes of its
+proof, of its tests' proof, and of its edits with the full checks before and after them. A process is looked at twice a second, so
+each check may have taken half a second more than is told. Let the machine do nothing else meanwhile.
 """
 
 import argparse
-import re
-import resource
+import os
 import subprocess
 import tempfile
+import time
+from collections import Counter
 from pathlib import Path
+
+TICKS = os.sysconf("SC_CLK_TCK")
 
 
 def crates_of(root):
-    """The crates of crates.txt, each with the crates of the repository that it stands on, lowest first."""
+    """The crates of crates.txt, each after those that it stands on."""
     below = {}
     for line in (root / "crates.txt").read_text().splitlines():
         name, _, deps = line.partition("#")[0].partition(":")
@@ -25,47 +28,69 @@ def crates_of(root):
             below[name.split()[0]] = deps.split()
     ordered = []
     while len(ordered) < len(below):
-        ready = [name for name in below if name not in ordered and all(dep in ordered or dep not in below for dep in below[name])]
-        ordered += ready
+        ordered += [name for name in below if name not in ordered and all(dep in ordered or dep not in below for dep in below[name])]
     return ordered
 
 
-def minutes_of(words, folder):
-    """The processor minutes of a command, which has to end well."""
-    before = resource.getrusage(resource.RUSAGE_CHILDREN)
-    ran = subprocess.run(words, cwd=folder, stdout=subprocess.PIPE, stderr=subprocess.STDOUT, text=True, errors="replace")
-    after = resource.getrusage(resource.RUSAGE_CHILDREN)
-    if ran.returncode:
-        raise SystemExit(f"{' '.join(words)} in {folder}: status {ran.returncode}\n{ran.stdout[-2000:]}")
-    return (after.ru_utime + after.ru_stime - before.ru_utime - before.ru_stime) / 60
+def look(process):
+    """What a check that is running is for, and the seconds that it has taken; None of any other process."""
+    words = (process / "cmdline").read_bytes().decode(errors="replace").split("\0")
+    if not words[0].endswith("/rattle") or "--crate-name" not in words:
+        return None
+    crate = words[words.index("--crate-name") + 1]
+    is_edit = Path(os.readlink(process / "cwd")).name.startswith("rt-edit-")
+    kind = "edits" if is_edit else "tests" if "--test" in words else "proof"
+    fields = (process / "stat").read_text().rpartition(")")[2].split()
+    return (process.name, fields[19]), (crate, kind), (int(fields[11]) + int(fields[12])) / TICKS
 
 
-def text_of(crate):
-    return "".join(file.read_text() for file in sorted((crate / "src").rglob("*.rt")))
+def look_at_all(taken):
+    """Keeps, by process, the most that was seen of it."""
+    for process in Path("/proc").iterdir():
+        if process.name.isdigit():
+            try:
+                seen = look(process)
+            except (OSError, IndexError):
+                continue
+            if seen:
+                taken[seen[0]] = seen[1:]
+
+
+def run(root, cores, log):
+    """Runs the gate to its end: its last line, its minutes, and the CPU minutes by crate and kind."""
+    words = (["taskset", "-c", cores] if cores else []) + ["bash", ".ci/run"]
+    taken, begun = {}, time.monotonic()
+    with open(log, "w", encoding="utf-8") as out:
+        gate = subprocess.Popen(words, cwd=root, stdin=subprocess.DEVNULL, stdout=out, stderr=subprocess.STDOUT)
+        while gate.poll() is None:
+            look_at_all(taken)
+            time.sleep(0.5)
+    sums = Counter()
+    for what, seconds in taken.values():
+        sums[what] += seconds / 60
+    return Path(log).read_text(encoding="utf-8").splitlines()[-1], (time.monotonic() - begun) / 60, sums
+
+
+def lines_of(crate):
+    return sum(len(file.read_text(encoding="utf-8").splitlines()) for file in (crate / "src").rglob("*.rt"))
 
 
 def main():
     options = argparse.ArgumentParser(description=__doc__, formatter_class=argparse.RawDescriptionHelpFormatter)
-    options.add_argument("names", nargs="*")
+    options.add_argument("--cores", help="the processors that the gate may use, as taskset names them")
+    options.add_argument("--log", default="gate.log", help="where the gate's own lines go")
     options = options.parse_args()
-    totals = [0.0, 0.0, 0.0]
     with tempfile.TemporaryDirectory() as room:
         root = Path(room) / "repository"
         subprocess.run(["git", "clone", "-q", ".", str(root)], check=True)
-        print(f"{'crate':16} {'lines':>6} {'edits':>6} {'proof':>7} {'tests':>7} {'edits':>7}", flush=True)
+        last, minutes, sums = run(root, options.cores, options.log)
+        print(f"{last}; {minutes:.1f} minutes on the processors {options.cores or 'all'}; {sum(sums.values()):.1f} CPU minutes\n")
+        print("| Crate | Lines | Edits | Proof | Tests | Edits' minutes |\n|---|---|---|---|---|---|")
         for name in crates_of(root):
             crate = root / "crates" / name
-            text = text_of(crate)
-            is_program = (crate / "src/main.rt").exists()
-            proof = minutes_of(["rt", "check" if is_program else "lib", "--jobs", "1"], crate)
-            if options.names and name not in options.names:
-                continue
-            tests = minutes_of(["rt", "check", "--test", "--jobs", "1"], crate) if re.search(r"#\[test\]", text) else 0.0
             edits = len(list((crate / "must-fail").glob("*.edit")))
-            tried = minutes_of(["rt", "must-fail", name], root) if edits else 0.0
-            print(f"{name:16} {text.count(chr(10)):6} {edits:6} {proof:7.1f} {tests:7.1f} {tried:7.1f}", flush=True)
-            totals = [sum(pair) for pair in zip(totals, (proof, tests, tried))]
-    print(f"{'all':16} {'':6} {'':6} {totals[0]:7.1f} {totals[1]:7.1f} {totals[2]:7.1f}")
+            told = " | ".join(f"{sums[name, kind]:.1f}" for kind in ("proof", "tests", "edits"))
+            print(f"| `{name}` | {lines_of(crate)} | {edits} | {told} |")
 
 
 if __name__ == "__main__":

@@ -65,10 +65,6 @@ fn names_of_file_systems(rt: HostRuntime) {
     assert!(rt; !is_name(alloc, [b'p'; 256].as_slice()));
 }
 
-fn is_root(rt: &impl Abort, alloc: Global, bytes: &[u8]) -> bool {
-    name(rt, alloc, bytes).is_root()
-}
-
 fn is_written(rt: &impl Abort, alloc: Global, bytes: &[u8]) -> bool {
     name(rt, alloc, bytes).as_bytes() == bytes
 }
@@ -80,15 +76,9 @@ fn are_same_names(rt: &impl Abort, alloc: Global, one: &[u8], other: &[u8]) -> b
 #[test]
 fn one_name_and_another(rt: HostRuntime) {
     let alloc = rt.alloc();
-    assert!(rt; is_root(&rt, alloc, b"p"));
-    assert!(rt; !is_root(&rt, alloc, b"p/a"));
     assert!(rt; are_same_names(&rt, alloc, b"p/a", b"p/a"));
     assert!(rt; !are_same_names(&rt, alloc, b"p/a", b"p"));
     assert!(rt; is_written(&rt, alloc, b"p/a"));
-}
-
-fn is_root_target(rt: &impl Abort, alloc: Global, bytes: &[u8]) -> bool {
-    target(rt, alloc, bytes).is_root()
 }
 
 fn are_same_targets(rt: &impl Abort, alloc: Global, one: &[u8], other: &[u8]) -> bool {
@@ -98,9 +88,6 @@ fn are_same_targets(rt: &impl Abort, alloc: Global, one: &[u8], other: &[u8]) ->
 #[test]
 fn one_target_and_another(rt: HostRuntime) {
     let alloc = rt.alloc();
-    assert!(rt; is_root_target(&rt, alloc, b"p"));
-    assert!(rt; !is_root_target(&rt, alloc, b"p/a"));
-    assert!(rt; !is_root_target(&rt, alloc, b"p/a@s"));
     assert!(rt; are_same_targets(&rt, alloc, b"p/a@s", b"p/a@s"));
     assert!(rt; !are_same_targets(&rt, alloc, b"p/a@s", b"p/a#s"));
 }

@@ -1,6 +1,5 @@
 //! Names of any kind.
 ghost use Rattle.std.specs.Prelude.{◌≡◌, ◌↔◌, IsTrue};
-ghost use Rattle.name.specs.Names.{root_name};
 ghost use Rattle.name.specs.Reading.{Reads, target_of};
 
 use crate::checks::{NAME_LIMIT, mark_place};
@@ -38,16 +37,6 @@ impl Target {
             Ok(Target::Snapshot(SnapName { snapshot: member }))
         } else {
             Ok(Target::Bookmark(MarkName { bookmark: member }))
-        }
-    }
-
-    /// Whether it is the root file system's name.
-    pub fn is_root(&self) -> bool
-        ensures { IsTrue result ↔ (self.now ≡ Target.FileSystem root_name) }
-    {
-        match self {
-            Target::FileSystem(name) => name.is_root(),
-            _ => false,
         }
     }
 

@@ -1,6 +1,5 @@
 //! Names of file systems, components of names, and tags.
 ghost use Rattle.std.specs.Prelude.{◌≡◌, ◌↔◌, IsTrue};
-ghost use Rattle.name.specs.Names.{root_name};
 ghost use Rattle.name.specs.Reading.{Reads, name_of, component_of, tag_of};
 
 use crate::checks::{admitted, is_component_of, is_name_of, is_tag_of};
@@ -40,13 +39,6 @@ impl DsName {
         ensures { result.now ≡ self.now }
     {
         self.path.as_slice()
-    }
-
-    /// Whether it is the root's name, `p`.
-    pub fn is_root(&self) -> bool
-        ensures { IsTrue result ↔ (self.now ≡ root_name) }
-    {
-        self.as_bytes() == b"p".as_slice()
     }
 
     /// Whether the other is the same name.

@@ -1,5 +1,1 @@
-pub mod Legal
-pub mod Alls
 pub mod SoFar
-pub mod Decides
-pub mod Answered

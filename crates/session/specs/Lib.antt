@@ -1,6 +1,2 @@
--- What a session's history promises. In the comments "profile" stands for a rule of this project's own.
-pub mod Receipts
-pub mod History
-pub mod Books
+-- What a session's batches promise. In the comments "profile" stands for a rule of this project's own.
 pub mod Calls
-pub mod Whole

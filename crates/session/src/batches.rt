@@ -1,22 +1,24 @@
 //! Several requests in one hold of the lock.
-ghost use Rattle.std.specs.Prelude.{◌≡◌, ◌+◌, ◌<◌, ◌≤◌, ◌++◌, length, map, IfOk, IfErr, OnErr, Err, ◌↔◌, vec_len, vec_capacity, []};
-ghost use Rattle.session.specs.Calls.{IsBatch, AreLast, IsPaced, FollowOn, IsFullOrNoMemory};
+ghost use Rattle.std.specs.Prelude.{◌≡◌, ◌+◌, ◌≤◌, ◌∷◌, length, IfOk, IfErr, IsOkAnd, OnErr, vec_len, vec_capacity, []};
+ghost use Rattle.std.specs.Vec.Iter.{into_iter_items};
+ghost use Rattle.book.specs.Calls.{Ran, IsFullOrNoMemory};
+ghost use Rattle.book.specs.Receipts.{Kept};
+ghost use Rattle.session.specs.Calls.{IsBatch, IsPaced, IsAdded, IsBegun, FollowOn};
 
-use crate::book::{Book, enter};
 use crate::gate::Gate;
-use crate::opening::Opening;
-use crate::seat::{Receipt, Seat};
 use crate::shared::Session;
 use base::refusal::Refusal;
+use book::{Book, Opening, Receipt, Seat, enter};
 use model::request::Request;
 use std::alloc::Global;
 use std::sync::Wait;
+use std::vec::IntoIter;
 
 impl<K: Opening> Session<K> {
     /// Applies requests one right after another, in one hold of the lock, and gives their receipts. Between two the gate is asked. The
     /// batch stops early where the gate says no, or where there is no memory for the next entry; the receipts then are those of
     /// the first requests. At `Err` nothing ran: SessionFull where not all requests would have room, NoMemory where there is none for
-    /// the receipts or the first entry.
+    /// the receipts or the first entry. A batch of no requests always ends well, with no receipts.
     pub fn batch<R: Wait, G: Gate>(
         &self,
         alloc: Global,
@@ -25,56 +27,66 @@ impl<K: Opening> Session<K> {
         requests: Vec<Request>,
         gate: &mut G,
     ) -> Result<Vec<Receipt>, Refusal>
-        ensures ok { IfOk result (λ rs. IsBatch seat.old requests.items rs.items seat.new) }
-        ensures last { IfOk result (λ rs. AreLast K.opening rs.items) }
+        ensures ok { IfOk result (λ rs. IsBatch K.limit seat.old requests.items rs.items seat.new) }
+        ensures empty { requests.items ≡ [] → IsOkAnd result (λ rs. rs.items ≡ []) }
         ensures paced { IfOk result (λ rs. IsPaced (vec_len requests) (G.left gate.old) (vec_len rs) (G.left gate.new) (G.stopped gate.new)) }
         ensures err { OnErr result ((seat.new ≡ seat.old) × (gate.new ≡ gate.old)) }
         ensures refusal { IfErr result (λ r. IsFullOrNoMemory r) }
     {
-        let Ok(receipts) = Vec::with_capacity(alloc, requests.len()) else {
+        let asked = requests.len();
+        let mut rest = requests.into_iter();
+        let Some(first) = rest.next() else {
+            return Ok(Vec::new(alloc));
+        };
+        let Ok(receipts) = Vec::with_capacity(alloc, asked) else {
+            drop(first);
+            drop(rest);
             return Err(Refusal::NoMemory);
         };
         let mut book = self.book.lock(rt);
-        enter_all(alloc, &mut book, seat, requests, receipts, gate)
+        if book.room() < asked {
+            drop(first);
+            drop(rest);
+            return Err(Refusal::SessionFull);
+        }
+        match enter(alloc, &mut book, seat, first) {
+            Ok(first) => Ok(enter_rest(alloc, &mut book, seat, first, rest, receipts, gate)),
+            Err(refusal) => {
+                drop(rest);
+                Err(refusal)
+            }
+        }
     }
 }
 
-// Enters the requests in turn, and asks the gate between two.
-fn enter_all<K: Opening, G: Gate>(
+// Enters the requests after the first, which was the last to be entered, and asks the gate before each.
+fn enter_rest<K: Opening, G: Gate>(
     alloc: Global,
     book: &mut Book<K>,
     seat: &mut Seat<K>,
-    requests: Vec<Request>,
+    first: Receipt,
+    rest: IntoIter<Request>,
     mut receipts: Vec<Receipt>,
     gate: &mut G,
-) -> Result<Vec<Receipt>, Refusal>
+) -> Vec<Receipt>
+    requires last { first.number + 1 ≡ length book.old.history }
     requires none { receipts.items ≡ [] }
-    requires room { vec_len requests ≤ vec_capacity receipts }
-    ensures ok { IfOk result (λ rs. IsBatch seat.old requests.items rs.items seat.new) }
-    ensures first { IfOk result (λ rs. FollowOn (length book.old.history) rs.items) }
-    ensures last { IfOk result (λ rs. AreLast K.opening rs.items) }
-    ensures book { IfOk result (λ rs. book.new.history ≡ book.old.history ++ map (λ r. r.entry) rs.items) }
-    ensures paced { IfOk result (λ rs. IsPaced (vec_len requests) (G.left gate.old) (vec_len rs) (G.left gate.new) (G.stopped gate.new)) }
-    ensures err { OnErr result ((book.new ≡ book.old) × (seat.new ≡ seat.old) × (gate.new ≡ gate.old)) }
-    ensures full { (result ≡ Err Refusal.SessionFull) ↔ (book.old.limit < length book.old.history + vec_len requests) }
-    ensures refusal { IfErr result (λ r. IsFullOrNoMemory r) }
+    requires room { 1 + length (into_iter_items rest) ≤ vec_capacity receipts }
+    ensures added { (s : Kept) → Ran s first.entry.request first seat.old → IsAdded s result.items seat.new }
+    ensures requested { IsBegun (first.entry.request ∷ into_iter_items rest) result.items }
+    ensures follow { FollowOn first.number result.items }
+    ensures paced { IsPaced (1 + length (into_iter_items rest)) (G.left gate.old) (vec_len result) (G.left gate.new) (G.stopped gate.new) }
 {
-    if book.room() < requests.len() {
-        return Err(Refusal::SessionFull);
-    }
-    let mut rest = requests.into_iter();
-    let Some(first) = rest.next() else {
-        return Ok(receipts);
-    };
-    receipts.push_reserved(enter(alloc, book, seat, first)?);
+    receipts.push_reserved(first);
     'requests: for request in rest {
         if !gate.turn() {
-            return Ok(receipts);
+            drop(request);
+            return receipts;
         }
         let Ok(receipt) = enter(alloc, book, seat, request) else {
-            return Ok(receipts);
+            return receipts;
         };
         receipts.push_reserved(receipt);
     }
-    Ok(receipts)
+    receipts
 }

@@ -1,19 +1,10 @@
-//! A pool that callers in threads of their own share under one lock. The lock keeps a history: each request that ran, with its
-//! seat and its reply, in the order in which they ran. A caller's seat keeps a receipt for each of its calls, and `Book::close`
-//! compares all receipts with the history once the threads have ended.
+//! A pool that callers in threads of their own share under one lock. Each request that runs is an entry of the book that lies under
+//! the lock, and the caller's seat keeps its receipt. Once the threads have ended, the book comes out of the lock and is closed.
 #![tactic(auto)]
 
 mod batches;
-mod book;
-mod closing;
 mod gate;
-mod opening;
-mod seat;
 mod shared;
 
-pub use book::{Book, enter};
-pub use closing::Closed;
 pub use gate::Gate;
-pub use opening::Opening;
-pub use seat::{Receipt, Seat};
 pub use shared::Session;

@@ -1,11 +1,10 @@
 //! A session, which callers in threads of their own share.
-ghost use Rattle.std.specs.Prelude.{◌≡◌, ◌<◌, ◌≤◌, ◌⊎◌, [], ◌∷◌, Err, IfOk, IfErr, OnErr};
-ghost use Rattle.session.specs.Calls.{Ran, AreLast, IsFullOrNoMemory};
+ghost use Rattle.std.specs.Prelude.{◌≡◌, ◌<◌, ◌≤◌, [], Err, IfOk, IfErr, OnErr};
+ghost use Rattle.book.specs.Calls.{Ran, IsFullOrNoMemory, IsNoLimit, IsUnopened};
+ghost use Rattle.book.specs.declared.book.TheConstants.{SEAT_LIMIT};
 
-use crate::book::{Book, enter};
-use crate::opening::Opening;
-use crate::seat::{Receipt, Seat};
 use base::refusal::Refusal;
+use book::{Book, Opening, Receipt, Seat, enter};
 use model::request::Request;
 use pool::Pool;
 use std::alloc::Global;
@@ -18,13 +17,14 @@ pub struct Session<K: Opening> {
 }
 
 impl<K: Opening> Session<K> {
-    /// A session of a pool, with room for `limit` calls, 1 to 1,000,000. TooMany for another `limit`, NoMemory where there is none
+    /// A session of a pool, with room for `limit` calls, 1 to `CALL_LIMIT`. TooMany for another `limit`, NoMemory where there is none
     /// for the history, which is reserved here once; the pool comes back with either.
     pub fn open(alloc: Global, pool: Pool, limit: u64) -> Result<Session<K>, (Refusal, Pool)>
-        requires { pool.state ≡ K.opening }
+        requires opening { pool.state ≡ K.opening }
+        requires limit { limit ≡ K.limit }
         ensures back { IfErr result (λ e. e.1 ≡ pool) }
-        ensures refusal { IfErr result (λ e. (e.0 ≡ Refusal.TooMany) × ((limit ≡ 0) ⊎ (1000000 < limit)) ⊎ (e.0 ≡ Refusal.NoMemory)) }
-        ensures range { (limit ≡ 0) ⊎ (1000000 < limit) → result ≡ Err (Refusal.TooMany, pool) }
+        ensures refusal { IfErr result (λ e. IsUnopened limit e.0) }
+        ensures range { IsNoLimit limit → result ≡ Err (Refusal.TooMany, pool) }
     {
         let book = Book::open(alloc, pool, limit)?;
         Ok(Session {
@@ -32,9 +32,10 @@ impl<K: Opening> Session<K> {
         })
     }
 
-    /// A seat without receipts. Seats are numbered from 1 as they are given. TooManySeats once 64 were given. It takes no memory.
+    /// A seat without receipts. Seats are numbered from 1 as they are given. TooManySeats once `SEAT_LIMIT` were given. It takes no
+    /// memory.
     pub fn seat<R: Wait>(&self, alloc: Global, rt: &R) -> Result<Seat<K>, Refusal>
-        ensures new { IfOk result (λ s. (s.receipts ≡ []) × (0 < s.number) × (s.number ≤ 64)) }
+        ensures new { IfOk result (λ s. (s.receipts ≡ []) × (0 < s.number) × (s.number ≤ SEAT_LIMIT)) }
         ensures refusal { IfErr result (λ r. r ≡ Refusal.TooManySeats) }
     {
         self.book.lock(rt).give_seat(alloc)
@@ -51,7 +52,7 @@ impl<K: Opening> Session<K> {
         request: Request,
     ) -> Result<Receipt, Refusal>
         ensures ok { IfOk result (λ r. Ran seat.old request r seat.new) }
-        ensures last { IfOk result (λ r. AreLast K.opening (r ∷ [])) }
+        ensures room { IfOk result (λ r. r.number < K.limit) }
         ensures err { OnErr result (seat.new ≡ seat.old) }
         ensures refusal { IfErr result (λ r. IsFullOrNoMemory r) }
     {

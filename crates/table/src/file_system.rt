@@ -1,10 +1,10 @@
 //! One file system of a table.
-ghost use Rattle.std.specs.Prelude.{◌≡◌, IfOk, IfErr, OnOk, OnErr};
+ghost use Rattle.std.specs.Prelude.{◌≡◌, ◌≤◌, IfOk, IfErr, OnOk, OnErr};
 ghost use Rattle.name.specs.Names.{name_cmp};
 ghost use Rattle.base.specs.declared.refusal.Refusal.{Refusal};
 ghost use Rattle.model.specs.World.{empty_file_system};
 ghost use Rattle.tree.specs.Asking.{AllowsChange, IsNoSpaceOrNoMemory};
-ghost use Rattle.tree.specs.Change.{HasRoom, LacksRoom};
+ghost use Rattle.tree.specs.Change.{HasRoom, LacksRoom, CountsDropped};
 ghost use Rattle.tree.specs.ChangeParts.{HasChanged};
 ghost use Rattle.tree.specs.Taking.{AllFree, takes};
 ghost use Rattle.tree.specs.Updates.{changes_of};
@@ -112,6 +112,8 @@ impl FileSystem {
         ensures err { OnErr result (self.new ≡ self.old) }
         ensures no_space { result ≡ Err Refusal.NoSpace → LacksRoom self.old.1.live (changes_of updates.now) young.0 allocator.now }
         ensures only { IfErr result IsNoSpaceOrNoMemory }
+        ensures metered { OnOk result (CountsDropped self.old.1.live (changes_of updates.now) meter.old meter.new) }
+        ensures never_lower { meter.old ≤ meter.new }
     {
         self.live
             .change(alloc, updates, group, young, allocator, meter)

@@ -11,7 +11,7 @@ ghost use Rattle.table.specs.Rows.{live_of, with_live};
 ghost use Rattle.model.specs.Refusals.{create_refusal};
 ghost use Rattle.model.specs.Hierarchy.{IsHierarchy, has_parent};
 ghost use Rattle.tree.specs.Asking.{AllowsChange, IsNoSpaceOrNoMemory};
-ghost use Rattle.tree.specs.Change.{HasRoom, LacksRoom};
+ghost use Rattle.tree.specs.Change.{HasRoom, LacksRoom, CountsDropped};
 ghost use Rattle.tree.specs.ChangeParts.{HasChanged};
 ghost use Rattle.tree.specs.Taking.{AllFree, takes};
 ghost use Rattle.tree.specs.Updates.{changes_of};
@@ -182,6 +182,8 @@ impl Table {
         ensures no_dataset { (result ≡ Err Refusal.NoDataset) ↔ (get self.old name.now ≡ None) }
         ensures no_space { result ≡ Err Refusal.NoSpace → LacksRoom (live_of self.old name.now) (changes_of updates.now) young.0 allocator.now }
         ensures only { IfErr result (λ e. (e ≡ Refusal.NoDataset) ⊎ IsNoSpaceOrNoMemory e) }
+        ensures metered { OnOk result (CountsDropped (live_of self.old name.now) (changes_of updates.now) meter.old meter.new) }
+        ensures never_lower { meter.old ≤ meter.new }
     {
         let Ok(place) = place(&self.file_systems, name.as_bytes()) else {
             return Err(Refusal::NoDataset);

@@ -1,5 +1,11 @@
-use Rattle.session.proofs.SoFar.{last_entered}
+use Rattle.std.proofs.Common.{rules}
 use Rattle.session.proofs.shared.Session.call.Goals as goal
 
-pub returns-clause-last : goal.returns-clause-last
-returns-clause-last g c = last_entered g.K.Opening.opening c.deref_mut.result.now c.enter.new.book c.enter.result c.enter.ensures.number c.enter.ensures.book c.enter.ensures.legal
+pub returns-clause-ok : goal.returns-clause-ok
+returns-clause-ok g c = c.enter.ensures.ran
+
+pub returns-clause-err : goal.returns-clause-err
+returns-clause-err g c = search rules
+
+pub returns-clause-refusal : goal.returns-clause-refusal
+returns-clause-refusal g c = c.enter.ensures.refusal

@@ -74,3 +74,9 @@ returns-clause-no_space c =
     let at : IsAt c.self.inside.file_systems.items c.args.name.now c.in-Ok.place = rw (← c.deref.ensures.value, ← c.as_bytes.ensures) c.in-Ok.ensures.found in
     let before = live_is _ c.self.invariant.sorted c.args.name.now c.in-Ok.place at c.index_mut.result.now c.index_mut.ensures.value in
     rw (← c.self.view_is, before) c.apply.ensures.no_space
+
+pub returns-clause-metered : goal.returns-clause-metered
+returns-clause-metered c =
+    let at : IsAt c.self.inside.file_systems.items c.args.name.now c.in-Ok.place = rw (← c.deref.ensures.value, ← c.as_bytes.ensures) c.in-Ok.ensures.found in
+    let before = live_is _ c.self.invariant.sorted c.args.name.now c.in-Ok.place at c.index_mut.result.now c.index_mut.ensures.value in
+    rw (← c.self.view_is, before) c.apply.ensures.metered

@@ -1,0 +1,4 @@
+pub mod Legal
+pub mod Alls
+pub mod Decides
+pub mod Answered

@@ -1,0 +1,109 @@
+use Rattle.std.proofs.Common.{rules, ◌≡◌, ◌∙◌, ◌<◌, List, length, arith, sym, subst, map, ap}
+use Rattle.std.specs.Arc.{arc_value}
+use Rattle.std.proofs.lemmas.List.{length-map, map-append}
+use Rattle.std.proofs.lemmas.Grind.{common_steps}
+use Rattle.model.specs.State.{State}
+use Rattle.model.specs.Step.{Step}
+use Rattle.model.specs.declared.entry.Entry.{Entry}
+use Rattle.book.specs.Books.{Pages}
+use Rattle.book.specs.Receipts.{Kept}
+use Rattle.book.proofs.Legal.{sound_more, legal_more}
+use Rattle.book.proofs.book.enter.Goals as goal
+
+pub invariant_of-book-2 : goal.invariant_of-book-2
+invariant_of-book-2 g c =
+    let es : List Entry = map arc_value c.book.inside.history.items in
+    let e : Entry = record { seat = c.seat.inside.number; request = c.args.request; reply = c.prepare-reply.result.0 } in
+    let here : arc_value c.in-Some.kept ≡ e = c.in-Some.ensures.0 in
+    let step : Step c.book.inside.pool.state e.request e.reply c.commit.new.self.state = subst (λ (x : State). Step c.book.inside.pool.state e.request e.reply x) (sym c.commit.ensures) c.prepare-reply.ensures.step in
+    let room : length es < c.book.inside.limit = omega (arith, length-map c.book.inside.history.items arc_value) in
+    rw (c.push_reserved.ensures.items, c.push_reserved.ensures.capacity, map-append, here)
+    (sound_more g.K.Opening.opening g.K.Opening.limit es c.book.inside.pool.state c.commit.new.self.state _ _ _ e c.book.invariant step room)
+
+pub returns-clause-legal : goal.returns-clause-legal
+returns-clause-legal g c =
+    let es : List Entry = map arc_value c.book.inside.history.items in
+    let e : Entry = record { seat = c.seat.inside.number; request = c.args.request; reply = c.prepare-reply.result.0 } in
+    let here : arc_value c.in-Some.kept ≡ e = c.in-Some.ensures.0 in
+    let step : Step c.book.inside.pool.state e.request e.reply c.commit.new.self.state = subst (λ (x : State). Step c.book.inside.pool.state e.request e.reply x) (sym c.commit.ensures) c.prepare-reply.ensures.step in
+    rw (c.push_reserved.ensures.items, map-append, here) (legal_more g.K.Opening.opening c.book.inside.pool.state c.commit.new.self.state es e c.book.invariant.legal step)
+
+pub same-book : goal.same-book
+same-book g c = search rules
+
+pub returns-then-len-book-clause-legal : goal.returns-then-len-book-clause-legal
+returns-then-len-book-clause-legal g c = search rules
+
+pub returns-then-len-book-clause-err : goal.returns-then-len-book-clause-err
+returns-then-len-book-clause-err g c = search rules
+
+pub returns-then-len-book-clause-full : goal.returns-then-len-book-clause-full
+returns-then-len-book-clause-full g c = grind (arith, common_steps)
+
+pub returns-then-len-book-clause-refusal : goal.returns-then-len-book-clause-refusal
+returns-then-len-book-clause-refusal g c = search rules
+
+pub same-book-then-is_err : goal.same-book-then-is_err
+same-book-then-is_err g c = search rules
+
+pub returns-then-is_err-clause-legal : goal.returns-then-is_err-clause-legal
+returns-then-is_err-clause-legal g c = search rules
+
+pub returns-then-is_err-clause-err : goal.returns-then-is_err-clause-err
+returns-then-is_err-clause-err g c = search rules
+
+pub returns-then-is_err-clause-full : goal.returns-then-is_err-clause-full
+returns-then-is_err-clause-full g c = grind (arith, common_steps)
+
+pub returns-then-is_err-clause-refusal : goal.returns-then-is_err-clause-refusal
+returns-then-is_err-clause-refusal g c = search rules
+
+pub invariant_of-book : goal.invariant_of-book
+invariant_of-book g c = search rules
+
+pub returns-in_default-clause-legal : goal.returns-in_default-clause-legal
+returns-in_default-clause-legal g c = search rules
+
+pub returns-in_default-clause-err : goal.returns-in_default-clause-err
+returns-in_default-clause-err g c = search rules
+
+pub returns-in_default-clause-full : goal.returns-in_default-clause-full
+returns-in_default-clause-full g c = grind (arith, common_steps)
+
+pub returns-in_default-clause-refusal : goal.returns-in_default-clause-refusal
+returns-in_default-clause-refusal g c = search rules
+
+pub same-ready : goal.same-ready
+same-ready g c = search rules
+
+pub commit-requires : goal.commit-requires
+commit-requires g c = search rules
+
+pub push_reserved-requires : goal.push_reserved-requires
+push_reserved-requires g c = search rules
+
+pub push_reserved-requires-2 : goal.push_reserved-requires-2
+push_reserved-requires-2 g c = search rules
+
+pub returns-clause-ran : goal.returns-clause-ran
+returns-clause-ran g c =
+    let e : Entry = record { seat = c.seat.inside.number; request = c.args.request; reply = c.prepare-reply.result.0 } in
+    let there : arc_value c.in-Some.theirs ≡ e = c.in-Some.ensures.2 in
+    (ap (λ (x : Entry). x.seat) there ∙ ap (λ (k : Kept). k.number) c.seat.view_is, ap (λ (x : Entry). x.request) there, search rules)
+
+pub returns-clause-number : goal.returns-clause-number
+returns-clause-number g c =
+    omega (arith, length-map c.book.inside.history.items arc_value, c.len-number.ensures, c.book.inside.history.ok.0, ap (λ (p : Pages). length p.history) c.book.view_is)
+
+pub returns-clause-step : goal.returns-clause-step
+returns-clause-step g c =
+    let e : Entry = record { seat = c.seat.inside.number; request = c.args.request; reply = c.prepare-reply.result.0 } in
+    let there : arc_value c.in-Some.theirs ≡ e = c.in-Some.ensures.2 in
+    let step : Step c.book.inside.pool.state e.request e.reply c.commit.new.self.state = subst (λ (x : State). Step c.book.inside.pool.state e.request e.reply x) (sym c.commit.ensures) c.prepare-reply.ensures.step in
+    subst (λ (m : State). Step m e.request (arc_value c.in-Some.theirs).reply c.commit.new.self.state) (ap (λ (p : Pages). p.pool) c.book.view_is) (rw there step)
+
+pub returns-clause-book : goal.returns-clause-book
+returns-clause-book g c = grind (arith, common_steps)
+
+pub returns-clause-full : goal.returns-clause-full
+returns-clause-full g c = grind (arith, common_steps)

@@ -1,0 +1,42 @@
+//! Callers' seats, and their receipts.
+use crate::opening::Opening;
+use model::entry::Entry;
+use std::marker::{Model, PhantomData};
+use std::sync::Arc;
+
+/// The place of a call in the history: its number, from 0, and the entry there. Contracts see the number and the entry.
+#[derive(Drop)]
+pub struct Receipt {
+    pub number: u64,
+    pub entry: Arc<Entry>,
+}
+
+impl Model for Receipt {
+    ghost use Rattle.std.specs.Arc.{arc_value};
+    ghost use Rattle.book.specs.Receipts.{Placed, placed_code};
+
+    ghost Value = { Placed };
+
+    ghost coded = { placed_code };
+
+    ghost view = { λ r. record { number = r.number; entry = arc_value r.entry } };
+}
+
+/// The right to call, which one caller at a time has. It keeps a receipt for each of its calls, in their order. Contracts see its
+/// number, 1 to 64, and the receipts.
+#[derive(Drop)]
+pub struct Seat<K: Opening> {
+    pub(crate) number: u32,
+    pub(crate) receipts: Vec<Receipt>,
+    pub(crate) of: PhantomData<K>,
+}
+
+impl<K: Opening> Model for Seat<K> {
+    ghost use Rattle.book.specs.Receipts.{Kept, kept_code};
+
+    ghost Value = { Kept };
+
+    ghost coded = { kept_code };
+
+    ghost view = { λ s. record { number = s.number; receipts = s.receipts.items } };
+}

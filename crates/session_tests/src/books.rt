@@ -1,0 +1,87 @@
+//! A book without a lock.
+ghost use Rattle.std.specs.Prelude.{◌≡◌};
+
+use crate::rig::{Wanted, closes_with, get_of, is_receipt, read_of, write_of};
+use base::refusal::Refusal;
+use book::{Book, Opening, Seat, enter};
+use model::request::Request;
+use pool::Pool;
+use std::alloc::Global;
+use std::marker::Brand;
+use std::process::Abort;
+
+#[test]
+fn a_book_of_two_calls(rt: HostRuntime) {
+    let pool = Pool::create(rt.alloc(), 1, 1000).expect(&rt, "memory");
+    two_calls::<Brand>(&rt, rt.alloc(), pool)
+}
+
+fn two_calls<K: Opening>(rt: &impl Abort, alloc: Global, pool: Pool)
+    requires opening { pool.state ≡ K.opening }
+    requires limit { 2 ≡ K.limit }
+{
+    let mut book: Book<K> = Book::open(alloc, pool, 2).ok().expect(rt, "opens");
+    let mut first = book.give_seat(alloc).expect(rt, "a seat");
+    let mut second = book.give_seat(alloc).expect(rt, "a seat");
+    let ran = both_run(rt, alloc, &mut book, &mut first, &mut second);
+    let seats = vec![in alloc; second, first].expect(rt, "memory");
+    let closed = closes_with(book, seats, 2);
+    assert!(rt; ran);
+    assert!(rt; closed);
+}
+
+fn both_run<K: Opening>(
+    rt: &impl Abort,
+    alloc: Global,
+    book: &mut Book<K>,
+    first: &mut Seat<K>,
+    second: &mut Seat<K>,
+) -> bool {
+    book.room() == 2
+        && is_entered(
+            rt,
+            alloc,
+            book,
+            first,
+            write_of(alloc, 0, 0, 97),
+            0,
+            Wanted::Done,
+        )
+        && is_entered(
+            rt,
+            alloc,
+            book,
+            second,
+            read_of(alloc, 0, 0),
+            1,
+            Wanted::Block(97),
+        )
+        && book.room() == 0
+        && is_full(rt, alloc, book, first)
+}
+
+fn is_entered<K: Opening>(
+    rt: &impl Abort,
+    alloc: Global,
+    book: &mut Book<K>,
+    seat: &mut Seat<K>,
+    request: Result<Request, Refusal>,
+    number: u64,
+    wanted: Wanted,
+) -> bool {
+    let request = request.expect(rt, "memory");
+    let receipt = enter(alloc, book, seat, request).expect(rt, "room");
+    let same = is_receipt(&receipt, number, wanted);
+    drop(receipt);
+    same
+}
+
+fn is_full<K: Opening>(
+    rt: &impl Abort,
+    alloc: Global,
+    book: &mut Book<K>,
+    seat: &mut Seat<K>,
+) -> bool {
+    let request = get_of(alloc).expect(rt, "memory");
+    enter(alloc, book, seat, request).err() == Some(Refusal::SessionFull)
+}

@@ -1,0 +1,162 @@
+//! What the tests share: requests, a gate, and sessions that are asked.
+ghost use Rattle.std.specs.Prelude.{◌≡◌};
+
+use base::refusal::Refusal;
+use book::{Book, Opening, Receipt, Seat};
+use model::reply::Reply;
+use model::request::{Property, Request};
+use name::Target;
+use pool::Pool;
+use session::{Gate, Session};
+use std::alloc::Global;
+use std::process::Abort;
+use std::sync::Wait;
+
+/// So many turns, and then no more.
+#[derive(Drop)]
+pub struct Turns {
+    pub turns: u64,
+    pub stopped: bool,
+}
+
+impl Gate for Turns {
+    ghost left = { λ g. g.turns };
+
+    ghost stopped = { λ g. g.stopped };
+
+    fn turn(&mut self) -> bool {
+        if self.turns == 0 || self.stopped {
+            self.stopped = true;
+            return false;
+        }
+        self.turns -= 1;
+        true
+    }
+}
+
+pub fn gate_of(turns: u64) -> Turns {
+    Turns {
+        turns,
+        stopped: false,
+    }
+}
+
+pub fn write_of(alloc: Global, object: u32, block: u32, byte: u8) -> Result<Request, Refusal> {
+    let target = Target::read(alloc, b"p")?;
+    Ok(Request::Write {
+        target,
+        object,
+        block,
+        bytes: [byte; 512],
+    })
+}
+
+pub fn read_of(alloc: Global, object: u32, block: u32) -> Result<Request, Refusal> {
+    let target = Target::read(alloc, b"p")?;
+    Ok(Request::Read {
+        target,
+        object,
+        block,
+    })
+}
+
+pub fn get_of(alloc: Global) -> Result<Request, Refusal> {
+    let target = Target::read(alloc, b"p")?;
+    Ok(Request::Get {
+        target,
+        property: Property::Referenced,
+    })
+}
+
+/// The reply that a test waits for.
+#[derive(Clone, Copy)]
+pub enum Wanted {
+    Done,
+    Refused(Refusal),
+    /// A whole block of this byte.
+    Block(u8),
+}
+
+fn reply_of(wanted: Wanted) -> Reply {
+    match wanted {
+        Wanted::Done => Reply::Done,
+        Wanted::Refused(why) => Reply::Refused(why),
+        Wanted::Block(byte) => Reply::Data(Some([byte; 512])),
+    }
+}
+
+pub fn is_reply(reply: &Reply, wanted: Wanted) -> bool {
+    let wanted = reply_of(wanted);
+    let same = reply.same(&wanted);
+    drop(wanted);
+    same
+}
+
+/// A session of a pool of 4,000 blocks.
+pub fn opened<K: Opening>(rt: &impl Abort, alloc: Global, pool: Pool, limit: u64) -> Session<K>
+    requires opening { pool.state ≡ K.opening }
+    requires limit { limit ≡ K.limit }
+{
+    Session::open(alloc, pool, limit).ok().expect(rt, "opens")
+}
+
+pub fn seat_of<K: Opening, R: Wait + Abort>(
+    rt: &R,
+    alloc: Global,
+    session: &Session<K>,
+) -> Seat<K> {
+    session.seat(alloc, rt).expect(rt, "a seat")
+}
+
+/// Whether a receipt has this number, and its entry this reply.
+pub fn is_receipt(receipt: &Receipt, number: u64, wanted: Wanted) -> bool {
+    receipt.number == number && is_reply(&receipt.entry.reply, wanted)
+}
+
+/// Whether a call runs, and its receipt has this number and this reply.
+pub fn runs<K: Opening, R: Wait + Abort>(
+    rt: &R,
+    alloc: Global,
+    session: &Session<K>,
+    seat: &mut Seat<K>,
+    request: Result<Request, Refusal>,
+    number: u64,
+    wanted: Wanted,
+) -> bool {
+    let request = request.expect(rt, "memory");
+    let receipt = session.call(alloc, rt, seat, request).expect(rt, "room");
+    let same = is_receipt(&receipt, number, wanted);
+    drop(receipt);
+    same
+}
+
+/// Whether a call finds no room.
+pub fn finds_no_room<K: Opening, R: Wait + Abort>(
+    rt: &R,
+    alloc: Global,
+    session: &Session<K>,
+    seat: &mut Seat<K>,
+) -> bool {
+    let request = get_of(alloc).expect(rt, "memory");
+    session.call(alloc, rt, seat, request).err() == Some(Refusal::SessionFull)
+}
+
+/// Whether a book is closed with this seat, and has so many entries.
+pub fn closes<K: Opening>(
+    rt: &impl Abort,
+    alloc: Global,
+    book: Book<K>,
+    seat: Seat<K>,
+    entries: usize,
+) -> bool {
+    let seats = vec![in alloc; seat].expect(rt, "memory");
+    closes_with(book, seats, entries)
+}
+
+/// Whether a book is closed with these seats, and has so many entries.
+pub fn closes_with<K: Opening>(book: Book<K>, seats: Vec<Seat<K>>, entries: usize) -> bool {
+    match book.close(seats) {
+        Ok(closed) => closed.history.len() == entries,
+        Err(_) => false,
+    }
+}
