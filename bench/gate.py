@@ -32,10 +32,21 @@ def crates_of(root):
     return ordered
 
 
-def look(process):
-    """What a check that is running is for, and the seconds that it has taken; None of any other process."""
+def is_below(process, top):
+    """Whether the process was begun by this one, or by one that it began."""
+    while process.name not in ("0", "1"):
+        if process.name == str(top):
+            return True
+        process = process.parent / (process / "stat").read_text().rpartition(")")[2].split()[1]
+    return False
+
+
+def look(process, top):
+    """What a check that the gate is running is for, and the seconds that it has taken; None of any other process."""
     words = (process / "cmdline").read_bytes().decode(errors="replace").split("\0")
     if not words[0].endswith("/rattle") or "--crate-name" not in words:
+        return None
+    if not is_below(process, top):
         return None
     crate = words[words.index("--crate-name") + 1]
     is_edit = Path(os.readlink(process / "cwd")).name.startswith("rt-edit-")
@@ -44,12 +55,12 @@ def look(process):
     return (process.name, fields[19]), (crate, kind), (int(fields[11]) + int(fields[12])) / TICKS
 
 
-def look_at_all(taken):
+def look_at_all(top, taken):
     """Keeps, by process, the most that was seen of it."""
     for process in Path("/proc").iterdir():
         if process.name.isdigit():
             try:
-                seen = look(process)
+                seen = look(process, top)
             except (OSError, IndexError):
                 continue
             if seen:
@@ -63,7 +74,7 @@ def run(root, cores, log):
     with open(log, "w", encoding="utf-8") as out:
         gate = subprocess.Popen(words, cwd=root, stdin=subprocess.DEVNULL, stdout=out, stderr=subprocess.STDOUT)
         while gate.poll() is None:
-            look_at_all(taken)
+            look_at_all(gate.pid, taken)
             time.sleep(0.5)
     sums = Counter()
     for what, seconds in taken.values():

@@ -1,6 +1,7 @@
 //! Names, numbers, refusals and meters that every layer speaks of, and the definitions of a dataset's map.
 #![tactic(auto)]
 
+pub mod data;
 pub mod failing;
 pub mod laws;
 pub mod limit;

@@ -1,4 +1,5 @@
 //! Refusals, limits, meters and bytes.
+use base::data::Data;
 use base::laws::{order_laws, rewrite_laws};
 use base::limit::Blocks;
 use base::meter::{Meter, SegMeter};
@@ -157,4 +158,33 @@ fn bytes_of_their_own(rt: HostRuntime) {
     assert!(rt; !are_alike(&rt, alloc, b"ab", b"ac"));
     assert!(rt; are_equal(&rt, alloc, b"ab", b"ab"));
     assert!(rt; !are_equal(&rt, alloc, b"ab", b"a"));
+}
+
+fn block_of(alloc: Global, byte: u8) -> Result<Data, Refusal> {
+    Data::new(alloc, &[byte; 512])
+}
+
+// Whether a block filled with the byte has just those bytes, and is the same as one filled with the other exactly where they are.
+fn is_block_of(rt: &impl Abort, alloc: Global, byte: u8, other: u8) -> bool {
+    let one = block_of(alloc, byte).expect(rt, "memory for a block");
+    let held = *one.as_array() == [byte; 512];
+    let another = block_of(alloc, other).expect(rt, "memory for a block");
+    held && one.same(&another) == (byte == other)
+}
+
+#[test]
+fn data_of_their_own(rt: HostRuntime) {
+    assert!(rt; is_block_of(&rt, rt.alloc(), 7, 7));
+    assert!(rt; is_block_of(&rt, rt.alloc(), 7, 8));
+}
+
+fn block_made(alloc: Global) -> Result<(), Refusal> {
+    drop(block_of(alloc, 7)?);
+    Ok(())
+}
+
+// Run with each allocation refused in turn.
+#[test]
+fn refused_data_are_no_memory(rt: HostRuntime) {
+    assert!(rt; is_done_or_refused(block_made(rt.alloc())));
 }

@@ -1,6 +1,7 @@
 //! What a pool can be asked.
 ghost use Rattle.std.specs.Prelude.{◌≡◌, ◌↔◌, IsTrue};
 
+use base::data::Data;
 use name::{DsName, Target};
 
 /// What `Get` may ask of a dataset or bookmark (zfsprops(7)).
@@ -69,7 +70,7 @@ pub enum Request {
         target: Target,
         object: u32,
         block: u32,
-        bytes: [u8; 512],
+        bytes: Data,
     },
     /// Makes block `block` of object `object` a hole. The reply is Done, also where it is one already. It is refused as a write
     /// is.
@@ -126,7 +127,7 @@ impl Request {
                     block: l,
                     bytes: e,
                 },
-            ) => t.same(u) && *o == *p && *k == *l && *d == *e,
+            ) => t.same(u) && *o == *p && *k == *l && d.same(e),
             (
                 Request::Punch {
                     target: t,

@@ -35,11 +35,11 @@ leaf_bytes (suc d) p q c s e =
 no_bytes : (n : ℕ) → n ≡ 0 → n ≡ 512 → ⊥
 no_bytes n none long = omega arith
 
-some_bytes : (o : Option (List ℕ)) → length (unwrap_or o []) ≡ 512 → IsSome o
-some_bytes (Some bytes) long = refl
-some_bytes None long = absurd (no_bytes 0 refl long)
+some_bytes : {R : Type 0} (f : R → List ℕ) (o : Option R) → length (unwrap_or (option_map f o) []) ≡ 512 → IsSome o
+some_bytes f (Some bytes) long = refl
+some_bytes f None long = absurd (no_bytes 0 refl long)
 
 -- a leaf that is found has its bytes
 pub bytes_there : (P : Type 0) (g : ℕ) (p : Part) (q : ℕ) (r : Option Found) → IsWell 5 g (grown p.cell p.below done) → (P → option_map cell_of r ≡ cell_below 5 p q) → IfSome r (λ c. P → IsSome c.bytes)
 bytes_there P g p q None w e = tt
-bytes_there P g p q (Some found) w e = λ h. some_bytes found.bytes (leaf_bytes 5 p q (cell_of found) (w.1, w.2) (sym (e h)))
+bytes_there P g p q (Some found) w e = λ h. some_bytes (λ x. x.now) found.bytes (leaf_bytes 5 p q (cell_of found) (w.1, w.2) (sym (e h)))

@@ -35,15 +35,15 @@ impl Level for Leaf {
 
     ghost height = { 0 };
 
-    fn cell(&self) -> Cell {
+    fn cell(&self) -> Cell<'_> {
         Cell {
             block: self.block,
             birth: self.birth,
-            bytes: Some(self.bytes),
+            bytes: Some(&self.bytes),
         }
     }
 
-    fn find(&self, depth: u32, _at: u32, meter: &mut Meter) -> Option<Cell> {
+    fn find(&self, depth: u32, _at: u32, meter: &mut Meter) -> Option<Cell<'_>> {
         meter.add_one();
         if depth == 0 { Some(self.cell()) } else { None }
     }

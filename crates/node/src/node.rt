@@ -23,11 +23,11 @@ pub trait Level {
     ghost height: { ℕ };
 
     /// What stands at the node's own key.
-    fn cell(&self) -> Cell
+    fn cell(&self) -> Cell<'_>
         ensures { cell_of result ≡ (part self.now).cell };
 
     /// What stands `depth` levels below, at the index `at` of the keys that the node covers there.
-    fn find(&self, depth: u32, at: u32, meter: &mut Meter) -> Option<Cell>
+    fn find(&self, depth: u32, at: u32, meter: &mut Meter) -> Option<Cell<'_>>
         requires shallow { depth ≤ 5 }
         requires covered { at < 16 ^ depth }
         ensures found { option_map cell_of result ≡ cell_below depth (part self.now) at }
@@ -160,7 +160,7 @@ impl<C: Level> Level for Inner<C> {
 
     ghost height = { suc C.height };
 
-    fn cell(&self) -> Cell {
+    fn cell(&self) -> Cell<'_> {
         Cell {
             block: self.block,
             birth: self.birth,
@@ -168,7 +168,7 @@ impl<C: Level> Level for Inner<C> {
         }
     }
 
-    fn find(&self, depth: u32, at: u32, meter: &mut Meter) -> Option<Cell> {
+    fn find(&self, depth: u32, at: u32, meter: &mut Meter) -> Option<Cell<'_>> {
         meter.add_one();
         if depth == 0 {
             return Some(self.cell());

@@ -45,8 +45,8 @@ unfolding systems_state
 has_states c states known = record { count = known.count; each = known.each }
 
 -- a read that was refused
-abbrev no_bytes : Refusal → Result (Option (List ℕ)) Refusal
-no_bytes why = Err why
+abbrev no_bytes : (B : Type 0) → Refusal → Result B Refusal
+no_bytes B why = Err why
 
 module _ (s : Shown) (c : Systems) (states : List BlockState) (view : shown c states ≡ s) (sound : IsSound c states) where
   at : (q : Request) (r : Reply) → Step (systems_state c) q r (systems_state c) → Step s.state q r (systems_state s.core)
@@ -66,19 +66,19 @@ module _ (s : Shown) (c : Systems) (states : List BlockState) (view : shown c st
       is : IsFound c.now t row
       is = found c.now t row there
 
-      pub read_refused : (why : Refusal) → why ≡ BadKey → (no_bytes why ≡ no_bytes BadKey) ↔ ((256 ≤ ob) ⊎ (4096 ≤ bl))
+      pub read_refused : {B : Type 0} (why : Refusal) → why ≡ BadKey → (no_bytes B why ≡ no_bytes B BadKey) ↔ ((256 ≤ ob) ⊎ (4096 ≤ bl))
           → Step s.state (Read t ob bl) (Refused why) (systems_state s.core)
-      read_refused why e tells = refused_for (Read t ob bl) why BadKey e
-          (reads.read_bad_key c sound.core t ob bl row.0 row.1 is.named is.there ((block_tells ob bl tells).0 (ap no_bytes e)))
+      read_refused {B} why e tells = refused_for (Read t ob bl) why BadKey e
+          (reads.read_bad_key c sound.core t ob bl row.0 row.1 is.named is.there ((block_tells ob bl tells).0 (ap (no_bytes B) e)))
 
-      pub read_done : (bytes : Option (List ℕ)) → bytes ≡ get (contents m) (leaf_index ob bl) → (Ok bytes ≡ Err BadKey) ↔ ((256 ≤ ob) ⊎ (4096 ≤ bl))
+      pub read_done : {B : Type 0} (found : B) (bytes : Option (List ℕ)) → bytes ≡ get (contents m) (leaf_index ob bl) → (Ok found ≡ Err BadKey) ↔ ((256 ≤ ob) ⊎ (4096 ≤ bl))
           → Step s.state (Read t ob bl) (Data bytes) (systems_state s.core)
-      read_done bytes e tells = at _ _
+      read_done {B} found bytes e tells = at _ _
           (reads.read_done c sound.core t ob bl row.0 row.1 is.named is.there
           (not_false (is_block ob bl) (λ f. no_refusal ((block_tells ob bl tells).1 f))) bytes
           (e ∙ ap (λ x. get (contents x) (leaf_index ob bl)) same))
         where
-          no_refusal : Ok bytes ≡ Err BadKey → ⊥
+          no_refusal : Ok found ≡ Err BadKey → ⊥
           no_refusal h = cc
 
   -- ---- properties

@@ -160,7 +160,7 @@ impl Pool {
                 object,
                 block,
                 bytes,
-            } => self.planned_update(alloc, target, write_of(*object, *block, bytes)),
+            } => self.planned_update(alloc, target, write_of(*object, *block, bytes.as_array())),
             Request::Punch {
                 target,
                 object,
@@ -232,7 +232,7 @@ impl Pool {
             return Reply::Refused(Refusal::NoDataset);
         };
         match objset::read(file_system.live(), object, block, &mut self.meter) {
-            Ok(bytes) => Reply::Data(bytes),
+            Ok(bytes) => Reply::Data(bytes.copied()),
             Err(refusal) => Reply::Refused(refusal),
         }
     }
@@ -324,17 +324,25 @@ impl Pool {
         reply
     }
 
-    // One step: a change of a tree at once, and each other request prepared and committed.
+    // The state is that of what stands behind it.
+    fn stands(&self)
+        ensures { systems_state self.now.core ≡ self.now.state }
+    {
+        let _group = self.group;
+    }
+
+    // One step: a change of a tree at once, a question as it is, and each other request prepared and committed.
     fn answer(&mut self, alloc: Global, request: &Request) -> Reply
         ensures { Step self.old.state request.now result self.new.state }
     {
+        self.stands();
         match request {
             Request::Write {
                 target,
                 object,
                 block,
                 bytes,
-            } => self.change_now(alloc, target, write_of(*object, *block, bytes)),
+            } => self.change_now(alloc, target, write_of(*object, *block, bytes.as_array())),
             Request::Punch {
                 target,
                 object,
@@ -343,10 +351,19 @@ impl Pool {
             Request::FreeObject { target, object } => {
                 self.change_now(alloc, target, free_of(*object))
             }
-            _ => self.answer_prepared(alloc, request),
+            Request::Read {
+                target,
+                object,
+                block,
+            } => self.read(target, *object, *block),
+            Request::Get { target, property } => self.get(target, *property),
+            Request::PoolGet { property } => self.pool_get(*property),
+            Request::List => self.list(alloc),
+            Request::Create { .. } | Request::Sync => self.answer_prepared(alloc, request),
         }
     }
 
+    #[inline(never)]
     fn answer_prepared(&mut self, alloc: Global, request: &Request) -> Reply
         ensures { Step self.old.state request.now result self.new.state }
     {

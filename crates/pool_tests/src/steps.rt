@@ -1,4 +1,5 @@
 //! What no line shows: a step that is prepared and left, runs of lists, and what no pool is made of.
+use base::data::Data;
 use base::refusal::Refusal;
 use model::reply::{Reply, Value};
 use model::request::{PoolProperty, Request};
@@ -14,7 +15,7 @@ fn write_of(rt: &impl Abort, alloc: Global) -> Request {
         target: Target::read(alloc, b"p").expect(rt, "memory for a name"),
         object: 0,
         block: 0,
-        bytes,
+        bytes: Data::new(alloc, &bytes).expect(rt, "memory for a block"),
     }
 }
 

@@ -1,4 +1,5 @@
 //! Requests, replies and entries, compared by value.
+use base::data::Data;
 use base::text::Bytes;
 use model::entry::Entry;
 use model::laws::run_laws;
@@ -18,7 +19,7 @@ fn write(rt: &impl Abort, alloc: Global, bytes: &[u8], block: u32, byte: u8) -> 
         target: target(rt, alloc, bytes),
         object: 0,
         block,
-        bytes: [byte; 512],
+        bytes: Data::new(alloc, &[byte; 512]).expect(rt, "memory for a block"),
     }
 }
 

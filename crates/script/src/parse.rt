@@ -9,13 +9,14 @@ ghost use Rattle.script.specs.Meaning.{request_of, command_of, create_of, write_
 ghost use Rattle.script.specs.Reading.{words_left, Means, MeansBlock};
 
 use crate::lines::LINE_LIMIT;
+use base::data::Data;
 use base::refusal::Refusal;
 use memchr::memchr;
 use model::request::{PoolProperty, Property, Request};
 use name::{DsName, Target};
 use std::alloc::Global;
 
-/// Reads the request of a line, or its fault; NoMemory where there is no memory for its name.
+/// Reads the request of a line, or its fault; NoMemory where there is no memory for its name or its bytes.
 #[tactic(auto, unfolding(crate::specs::Meaning::request_of, crate::specs::Meaning::words_meaning, crate::specs::Lines::line_limit))]
 pub(crate) fn request_at(alloc: Global, line: &[u8]) -> Result<Request, Refusal>
     ensures { Means result (request_of line.now) }
@@ -132,6 +133,7 @@ fn command_at(alloc: Global, command: &[u8], operands: Option<&[u8]>) -> Result<
     }
 }
 
+#[inline(never)]
 #[tactic(auto, unfolding(crate::specs::Meaning::create_of))]
 fn create(alloc: Global, operands: Option<&[u8]>) -> Result<Request, Refusal>
     ensures { Means result (create_of (words_left (option_copied operands.entry))) }
@@ -143,6 +145,7 @@ fn create(alloc: Global, operands: Option<&[u8]>) -> Result<Request, Refusal>
     Ok(Request::Create { name })
 }
 
+#[inline(never)]
 #[tactic(auto, unfolding(crate::specs::Meaning::write_of))]
 fn write(alloc: Global, operands: Option<&[u8]>) -> Result<Request, Refusal>
     ensures { Means result (write_of (words_left (option_copied operands.entry))) }
@@ -161,6 +164,7 @@ fn write(alloc: Global, operands: Option<&[u8]>) -> Result<Request, Refusal>
         return Err(Refusal::BadLine);
     }
     let target = Target::read(alloc, target)?;
+    let bytes = Data::new(alloc, &bytes)?;
     Ok(Request::Write {
         target,
         object,
@@ -209,6 +213,7 @@ fn punch(alloc: Global, operands: Option<&[u8]>) -> Result<Request, Refusal>
     })
 }
 
+#[inline(never)]
 #[tactic(auto, unfolding(crate::specs::Meaning::free_object_of))]
 fn free_object(alloc: Global, operands: Option<&[u8]>) -> Result<Request, Refusal>
     ensures { Means result (free_object_of (words_left (option_copied operands.entry))) }
@@ -223,6 +228,7 @@ fn free_object(alloc: Global, operands: Option<&[u8]>) -> Result<Request, Refusa
     Ok(Request::FreeObject { target, object })
 }
 
+#[inline(never)]
 #[tactic(auto, unfolding(crate::specs::Meaning::get_of))]
 fn get(alloc: Global, operands: Option<&[u8]>) -> Result<Request, Refusal>
     ensures { Means result (get_of (words_left (option_copied operands.entry))) }
@@ -237,6 +243,7 @@ fn get(alloc: Global, operands: Option<&[u8]>) -> Result<Request, Refusal>
     Ok(Request::Get { target, property })
 }
 
+#[inline(never)]
 #[tactic(auto, unfolding(crate::specs::Meaning::pool_get_of))]
 fn pool_get(operands: Option<&[u8]>) -> Result<Request, Refusal>
     ensures { Means result (pool_get_of (words_left (option_copied operands.entry))) }

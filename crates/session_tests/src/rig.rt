@@ -1,6 +1,7 @@
 //! What the tests share: requests, a gate, and sessions that are asked.
 ghost use Rattle.std.specs.Prelude.{◌≡◌};
 
+use base::data::Data;
 use base::refusal::Refusal;
 use book::{Book, Opening, Receipt, Seat};
 use model::reply::Reply;
@@ -47,7 +48,7 @@ pub fn write_of(alloc: Global, object: u32, block: u32, byte: u8) -> Result<Requ
         target,
         object,
         block,
-        bytes: [byte; 512],
+        bytes: Data::new(alloc, &[byte; 512])?,
     })
 }
 

@@ -18,7 +18,7 @@ use std::alloc::Global;
 
 impl Tree {
     /// What stands at a key, or none. It costs a step for each level from the root down.
-    pub fn read(&self, key: Key, meter: &mut Meter) -> Option<Cell>
+    pub fn read(&self, key: Key, meter: &mut Meter) -> Option<Cell<'_>>
         ensures cell { option_map cell_of result ≡ get self.now key }
         ensures bytes { IfSome result (λ c. key.level ≡ 0 → IsSome c.bytes) }
         ensures metered { meter.new ≡ counted meter.old (present_on_path self.now key) }

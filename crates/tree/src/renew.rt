@@ -95,7 +95,9 @@ impl Renew for Leaf {
             if let Some(owner) = slot {
                 if let Some(leaf) = Arc::get_mut(owner) {
                     let (block, after) = number_at(made, next);
-                    *leaf = Leaf::new(block, group, *bytes);
+                    leaf.block = block;
+                    leaf.birth = group;
+                    leaf.bytes = *bytes;
                     return Ok(after);
                 }
             }

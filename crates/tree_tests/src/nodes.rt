@@ -3,7 +3,7 @@ ghost use Rattle.std.specs.Prelude.{◌<◌, ◌≤◌, ◌^◌};
 
 use crate::ready::meter;
 use base::number::{BlockNo, Dead, Group};
-use node::{Cell, Inner, Leaf, Level, Same, keep, owner_at, owner_count, owner_in, same_kid, span};
+use node::{Inner, Leaf, Level, Same, keep, owner_at, owner_count, owner_in, same_kid, span};
 use std::alloc::Global;
 use std::process::Abort;
 use std::sync::Arc;
@@ -29,8 +29,9 @@ fn found(rt: &impl Abort, alloc: Global, depth: u32, at: u32) -> (Option<BlockNo
     requires covered { at < 16 ^ depth }
 {
     let mut meter = meter();
-    let cell = node_with(rt, alloc, 7).find(depth, at, &mut meter);
-    (cell.map(|cell| cell.block), meter.count())
+    let node = node_with(rt, alloc, 7);
+    let block = node.find(depth, at, &mut meter).map(|cell| cell.block);
+    (block, meter.count())
 }
 
 #[test]
@@ -40,26 +41,30 @@ fn cells_below(rt: HostRuntime) {
     assert!(rt; found(&rt, rt.alloc(), 1, 4) == (None, 1));
 }
 
+/// Whether the bytes are a whole block of this one, or both are missing.
+fn is_filled(bytes: Option<&[u8; 512]>, byte: Option<u8>) -> bool {
+    match (bytes, byte) {
+        (Some(bytes), Some(byte)) => *bytes == [byte; 512],
+        (None, None) => true,
+        _ => false,
+    }
+}
+
 /// Whether a node's own cell and block are these.
-fn is_cell<N: Level>(node: &N, cell: Cell) -> bool {
+fn is_cell<N: Level>(node: &N, block: u32, birth: u64, byte: Option<u8>) -> bool {
     let own = node.block();
-    node.cell() == cell && own.block == cell.block && own.birth == cell.birth
+    let cell = node.cell();
+    own.block == BlockNo(block)
+        && own.birth == Group(birth)
+        && cell.block == own.block
+        && cell.birth == own.birth
+        && is_filled(cell.bytes, byte)
 }
 
 #[test]
 fn own_cells(rt: HostRuntime) {
-    let leaf = Cell {
-        block: BlockNo(8),
-        birth: Group(5),
-        bytes: Some([7; 512]),
-    };
-    let node = Cell {
-        block: BlockNo(9),
-        birth: Group(6),
-        bytes: None,
-    };
-    assert!(rt; is_cell(&*leaf_with(&rt, rt.alloc(), 7), leaf));
-    assert!(rt; is_cell(&node_with(&rt, rt.alloc(), 7), node));
+    assert!(rt; is_cell(&*leaf_with(&rt, rt.alloc(), 7), 8, 5, Some(7)));
+    assert!(rt; is_cell(&node_with(&rt, rt.alloc(), 7), 9, 6, None));
 }
 
 /// The blocks of a leaf born in group 5 that were born after a group.

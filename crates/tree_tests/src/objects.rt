@@ -12,9 +12,10 @@ use tree::{Tree, Update};
 use zalloc::MOST_BLOCKS;
 
 /// Whether a block of a tree without one reads so, with no node reached.
-fn is_read_of_none(object: u32, block: u32, want: Result<Option<[u8; 512]>, Refusal>) -> bool {
+fn is_read_of_none(object: u32, block: u32, want: Result<Option<&[u8; 512]>, Refusal>) -> bool {
     let mut meter = meter();
-    read(&Tree::new(), object, block, &mut meter) == want && meter.count() == 0
+    let tree = Tree::new();
+    read(&tree, object, block, &mut meter) == want && meter.count() == 0
 }
 
 #[test]
@@ -83,7 +84,7 @@ fn free_of_an_empty_object(rt: HostRuntime) {
 fn byte_at(rt: &impl Abort, tree: &Tree, object: u32, block: u32) -> u8 {
     match read(tree, object, block, &mut meter()).expect(rt, "a block") {
         Some(bytes) => {
-            assert!(rt; bytes == [bytes[0]; 512]);
+            assert!(rt; *bytes == [bytes[0]; 512]);
             bytes[0]
         }
         None => 0,

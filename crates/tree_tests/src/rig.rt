@@ -132,7 +132,7 @@ pub fn byte_of(rt: &impl Abort, tree: &Tree, leaf: u32) -> u8 {
         return 0;
     };
     let bytes = cell.bytes.expect(rt, "a leaf has bytes");
-    assert!(rt; bytes == [bytes[0]; 512]);
+    assert!(rt; *bytes == [bytes[0]; 512]);
     bytes[0]
 }
 

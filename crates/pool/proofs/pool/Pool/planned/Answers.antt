@@ -4,7 +4,7 @@ use Rattle.pool.proofs.pool.Pool.planned.Goals as goal
 pub returns-in-Write-clause-step : goal.returns-in-Write-clause-step
 returns-in-Write-clause-step c =
     let e = c.write_of.ensures in
-    rw c.in-Write.is (c.planned_update.ensures.step _ (asks_write c.in-Write.target c.in-Write.object c.write_of.result e.only c.in-Write.block c.in-Write.bytes e.changes e.bad_key))
+    rw (c.in-Write.is, ← c.as_array.ensures) (c.planned_update.ensures.step _ (asks_write c.in-Write.target c.in-Write.object c.write_of.result e.only c.in-Write.block c.as_array.result.now e.changes e.bad_key))
 
 pub returns-in-Punch-clause-step : goal.returns-in-Punch-clause-step
 returns-in-Punch-clause-step c =

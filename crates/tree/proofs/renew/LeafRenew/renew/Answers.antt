@@ -20,8 +20,7 @@ returns-in-Some-get_mut-clause-part c =
     let w = sym c.word_of.ensures ∙ ap word_said c.in-Full.is in
     let k = subst (HasKeys c.args.made.now c.args.next) (made_of_leaf (said c.args.updates.now) c.args.index o _ w) c.requires.keys in
     let n = (key_place c.args.made.now c.args.next (key_at 0 c.args.index) [] no_block c.requires.once k).1 in
-    ap Some (ap leaf_part c.new.ensures)
-    ∙ (λ i. leaf_rebuilt (full c.in-Full.bytes.now) ((ap (λ b. b.0) c.number_at-after.ensures.number ∙ n) i) c.args.group.0 o)
+    (λ i. leaf_rebuilt (full c.in-Full.bytes.now) ((ap (λ b. b.0) c.number_at-after.ensures.number ∙ n) i) c.args.group.0 o)
     ∙ sym (rebuilt_at_leaf (said c.args.updates.now) (number_of c.args.made.now) c.args.group.0 c.args.index o _ w)
 
 pub returns-in-Some-get_mut-clause-next : goal.returns-in-Some-get_mut-clause-next
