@@ -1,4 +1,4 @@
-//! Names, numbers, refusals and meters that every layer speaks of, and the definitions of a dataset's map.
+//! Numbers, data, refusals and meters that every layer speaks of, and the definitions of a dataset's map.
 #![tactic(auto)]
 
 pub mod data;

@@ -16,8 +16,8 @@ use base::refusal::Refusal;
 use tree::Tree;
 
 /// The 512 bytes of a block of an object, or none where it is a hole. BadKey exactly where the object is above 255 or the block
-/// above 4095, and then nothing was reached. The bytes are the tree's own. It takes no memory. It costs the nodes from the root to the block, which the meter
-/// counts: at most six.
+/// above 4095, and then nothing was reached. The bytes are the tree's own. It takes no memory. It costs the nodes from the root to
+/// the block, which the meter counts: at most six.
 pub fn read<'a>(
     tree: &'a Tree,
     object: u32,

@@ -28,7 +28,7 @@ pub record IsBatch (limit : ℕ) (seat : Kept) (requests : List Request) (rs : L
 
 -- How a batch of so many requests ended, from the gate's turns before, how many requests ran, the gate's turns after and whether its
 -- last answer was no. The gate was asked once between two that ran; and where not all ran, once more: it said no, or it said yes
--- and memory for the next entry was refused (profile)
+-- and the next request got no entry (profile)
 abbrev pub IsPaced : ℕ → ℕ → ℕ → ℕ → Bool → Type 0
 IsPaced asked before ran after stopped =
     ((ran ≡ asked) × (before ≡ after + (ran - 1)))
