@@ -11,6 +11,8 @@ import random
 from pathlib import Path
 
 POOL = 4_194_304
+# of which the leaves of `holes-1M` with their ancestors and what waits take nearly all
+SMALL_POOL = 1_048_576
 LEAVES = 1 << 20
 
 
@@ -24,6 +26,32 @@ def random_writes(count):
     source = random.Random(f"writes:{count}")
     for i in range(count):
         yield f"write p {place(source.randrange(LEAVES))} {i & 0xffffffff:08x}"
+
+
+def whole_blocks(count):
+    """Writes of whole blocks to random leaves of the root."""
+    source = random.Random(f"whole:{count}")
+    for _ in range(count):
+        yield f"write p {place(source.randrange(LEAVES))} {source.randbytes(512).hex()}"
+
+
+def holes(leaves, rewrites):
+    """Leaf after leaf, a punch of every second one, and then writes to holes and to any leaf; a sync after each 1,000 lines."""
+    source = random.Random(f"holes:{leaves}:{rewrites}")
+    yield from fill(leaves)
+    yield "sync"
+    punched = list(range(0, leaves, 2))
+    for i, leaf in enumerate(punched):
+        yield f"punch p {place(leaf)}"
+        if i % 1000 == 999:
+            yield "sync"
+    yield "sync"
+    source.shuffle(punched)
+    for i in range(rewrites):
+        leaf = punched.pop() if i % 2 == 0 and punched else source.randrange(leaves)
+        yield f"write p {place(leaf)} {i & 0xffffffff:08x}"
+        if i % 1000 == 999:
+            yield "sync"
 
 
 def fill(count):
@@ -72,6 +100,8 @@ def main():
     scripts = {
         "writes-100k": random_writes(scaled(100_000)),
         "writes-1M": random_writes(scaled(1_000_000)),
+        "whole-blocks-100k": whole_blocks(scaled(100_000)),
+        "holes-1M": holes(min(LEAVES, scaled(953_550)), scaled(1_000_000)),
         "fill-1M": fill(min(LEAVES, scaled(1_000_000))),
         "reads-1M": reads(scaled(100_000), scaled(1_000_000)),
         "rewrites-500k": rewrites(scaled(500_000)),
@@ -84,7 +114,8 @@ def main():
     for name, lines in scripts.items():
         with open(options.folder / f"{name}.script", "w", buffering=1 << 20) as file:
             file.writelines(f"{line}\n" for line in lines)
-        (options.folder / f"{name}.args").write_text(f"{POOL} 1\n")
+        size = max(1, int(SMALL_POOL * options.scale)) if name == "holes-1M" else POOL
+        (options.folder / f"{name}.args").write_text(f"{size} 1\n")
 
 
 if __name__ == "__main__":

@@ -1,8 +1,8 @@
 -- In a batch each update is heard at its first leaf.
-use Rattle.std.proofs.Common.{◌≡◌, ℕ, suc, ◌/◌, ◌^◌, ◌<◌, Bool, true, false, cond, List, [], ◌∷◌, length, get_or, Some, refl, sym, ap, ◌∙◌, arith, inr, ⊎_elim, true≢false}
+use Rattle.std.proofs.Common.{◌≡◌, ℕ, zero, suc, ◌+◌, ◌*◌, ◌≤◌, ◌/◌, ◌^◌, ◌<◌, Bool, true, false, cond, List, [], ◌∷◌, length, get_or, Some, refl, sym, ap, ◌∙◌, arith, inr, ⊎_elim, true≢false}
 use Rattle.std.specs.Prelude.{◌==◌, ◌||◌, slice_get}
 use Rattle.std.specs.List.{list_any}
-use Rattle.std.proofs.Math.Nat.{mul-div_cancel}
+use Rattle.std.proofs.Math.Nat.{mul-div_cancel, div-eq_of_lt-le}
 use Rattle.std.proofs.lemmas.Bool.{eqb-true, eq-eqb}
 use Rattle.std.proofs.lemmas.Option.{slice_get-get_or, slice_get_within}
 use Rattle.base.specs.declared.number.Key.{Key}
@@ -12,7 +12,7 @@ use Rattle.node.proofs.Order.{span_positive}
 use Rattle.batch.specs.declared.update.Update.{Update}
 use Rattle.batch.specs.declared.update.Update.TheVariants.{Write, Punch}
 use Rattle.batch.specs.Updates.{first_of, past_of}
-use Rattle.batch.specs.Said.{Said, silent, hole, full, said_by, said, first_said, is_write, AreInOrder, IsIdle, IsOneWrite}
+use Rattle.batch.specs.Said.{Said, silent, hole, full, said_by, said, first_said, is_write, AreInOrder, IsIdle, IsOneLeaf}
 use Rattle.batch.proofs.SaidLaws.{said_drop, said_is, silent_apart}
 
 written_there : (leaf : ℕ) (bytes : List ℕ) → said_by (Write leaf bytes) leaf ≡ full bytes
@@ -64,33 +64,50 @@ none_any (u ∷ us) h = ap (λ b. b || list_any is_write us) (h 0 u refl) ∙ no
 pub idle_absent : (us : List Update) (p : Bool) → AreInOrder us → IsIdle (said us) p → list_any is_write us ≡ false
 idle_absent us p o h = none_any us (no_write us p o h)
 
--- where one leaf alone is written, each update begins there
-at_leaf : (us : List Update) (leaf : ℕ) → AreInOrder us → IsOneWrite (said us) leaf → (i : ℕ) (u : Update) → slice_get us i ≡ Some u → first_of u ≡ leaf
-at_leaf us leaf o h i u e = by (first_of u == leaf) refl
+wide_span : (l : ℕ) → ¬ (l ≡ 0) → 1 < 16 ^ l
+wide_span zero n = absurd (n refl)
+wide_span (suc l) n = let p = span_positive l in omega (arith, p)
+
+-- where one leaf alone is spoken of, each update begins there
+at_leaf : (us : List Update) (leaf : ℕ) (writes : Bool) → AreInOrder us → IsOneLeaf (said us) leaf writes → (i : ℕ) (u : Update) → slice_get us i ≡ Some u → first_of u ≡ leaf
+at_leaf us leaf writes o h i u e = by (first_of u == leaf) refl
   where
     by : (b : Bool) → (first_of u == leaf) ≡ b → first_of u ≡ leaf
     by true t = eqb-true _ _ t
     by false t = absurd (not_silent us i u o e (h.others (first_of u) (λ s. true≢false (sym (eq-eqb _ _ s) ∙ t))))
 
 -- so it is one update
-pub one_alone : (us : List Update) (leaf : ℕ) → AreInOrder us → (length us ≡ 1 → ⊥) → IsOneWrite (said us) leaf → ⊥
+pub one_alone : (us : List Update) (leaf : ℕ) (writes : Bool) → AreInOrder us → (length us ≡ 1 → ⊥) → IsOneLeaf (said us) leaf writes → ⊥
 unfolding said
-one_alone [] leaf o n h = let f : silent ≡ full h.bytes = h.written in cc
-one_alone (u ∷ []) leaf o n h = n refl
-one_alone (u ∷ v ∷ us) leaf o n h =
-    let a = at_leaf (u ∷ v ∷ us) leaf o h 0 u refl in
-    let b = at_leaf (u ∷ v ∷ us) leaf o h 1 v refl in
+one_alone [] leaf writes o n h = h.spoken refl
+one_alone (u ∷ []) leaf writes o n h = n refl
+one_alone (u ∷ v ∷ us) leaf writes o n h =
+    let a = at_leaf (u ∷ v ∷ us) leaf writes o h 0 u refl in
+    let b = at_leaf (u ∷ v ∷ us) leaf writes o h 1 v refl in
     let r = o.rising 0 1 u v (omega arith) refl refl in
     let p = first_past u in
     absurd (omega (arith, a, b, r, p))
 
--- and no punch
-pub punch_alone : (us : List Update) (d : Update) (key : Key) (leaf : ℕ) → length us ≡ 1 → get_or us 0 d ≡ Punch key → IsOneWrite (said us) leaf → ⊥
+-- and no punch of a key above the leaves, which covers two
+pub punch_alone : (us : List Update) (d : Update) (key : Key) (leaf : ℕ) (writes : Bool) → length us ≡ 1 → get_or us 0 d ≡ Punch key → ¬ (key.level ≡ 0) → IsOneLeaf (said us) leaf writes → ⊥
 unfolding said
-punch_alone [] d key leaf n e h = absurd (omega arith)
-punch_alone (u ∷ []) d key leaf n e h = by (covers key leaf) (sym (ap (λ v. first_said (said_by v leaf) silent) e) ∙ h.written)
+punch_alone [] d key leaf writes n e z h = absurd (omega arith)
+punch_alone (u ∷ []) d key leaf writes n e z h =
+    let wide : 1 < 16 ^ key.level = wide_span key.level z in
+    let first : key.index * 16 ^ key.level ≡ leaf = only (key.index * 16 ^ key.level) (omega (arith, wide)) (omega (arith, wide)) in
+    let second : key.index * 16 ^ key.level + 1 ≡ leaf = only (key.index * 16 ^ key.level + 1) (omega (arith, wide)) (omega (arith, wide)) in
+    absurd (omega (arith, first, second))
   where
-    by : (b : Bool) → first_said (cond b hole silent) silent ≡ full h.bytes → ⊥
-    by true f = cc
-    by false f = cc
-punch_alone (u ∷ v ∷ us) d key leaf n e h = absurd (omega arith)
+    hole_silent : hole ≡ silent → ⊥
+    hole_silent f = cc
+
+    only : (k : ℕ) → key.index * 16 ^ key.level ≤ k → k < (key.index + 1) * 16 ^ key.level → k ≡ leaf
+    only k low high = by (k == leaf) refl
+      where
+        here : first_said (said_by u k) silent ≡ hole
+        here = ap (λ v. first_said (said_by v k) silent) e ∙ ap (λ b. first_said (cond b hole silent) silent) (eq-eqb _ _ (div-eq_of_lt-le (16 ^ key.level) low high))
+
+        by : (b : Bool) → (k == leaf) ≡ b → k ≡ leaf
+        by true t = eqb-true _ _ t
+        by false t = absurd (hole_silent (sym here ∙ h.others k (λ x. true≢false (sym (eq-eqb _ _ x) ∙ t))))
+punch_alone (u ∷ v ∷ us) d key leaf writes n e z h = absurd (omega arith)

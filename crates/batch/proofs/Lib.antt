@@ -16,5 +16,5 @@ pub mod Remade
 pub mod Filled
 pub mod Owned
 pub mod Batch
-pub mod OneWrite
+pub mod OneLeaf
 pub mod Prepare

@@ -1,5 +1,5 @@
 -- What a batch says of each leaf.
-use Rattle.std.specs.Prelude.{◌≡◌, ◌⊎◌, ℕ, ◌+◌, ◌*◌, ◌/◌, ◌^◌, ◌<◌, ◌≤◌, Bool, false, cond, List, [], ◌∷◌, Some, ◌==◌, slice_get, slice_index, length}
+use Rattle.std.specs.Prelude.{◌≡◌, ◌⊎◌, ℕ, ◌+◌, ◌*◌, ◌/◌, ◌^◌, ◌<◌, ◌≤◌, Bool, false, cond, IsTrue, List, [], ◌∷◌, Some, ◌==◌, slice_get, slice_index, length}
 use Rattle.base.specs.Key.{covers}
 use Rattle.batch.specs.Updates.{first_of, past_of, IsOfTree}
 use Rattle.batch.specs.declared.update.Update.{Update}
@@ -50,15 +50,15 @@ pub record AreSized (us : List Update) : Type 0 where
 abbrev pub IsIdle : (ℕ → Said) → Bool → Type 0
 IsIdle s present = (n : ℕ) → (s n ≡ silent) ⊎ ((s n ≡ hole) × (present ≡ false))
 
--- one leaf is written, and nothing is said of any other (profile)
-pub record IsOneWrite (s : ℕ → Said) (leaf : ℕ) : Type 0 where
-  pub bytes : List ℕ
-  pub written : s leaf ≡ full bytes
+-- one leaf is spoken of and nothing is said of any other; where it is said to be written, it is (profile)
+pub record IsOneLeaf (s : ℕ → Said) (leaf : ℕ) (writes : Bool) : Type 0 where
+  pub spoken : ¬ (s leaf ≡ silent)
   pub others : (n : ℕ) → ¬ (n ≡ leaf) → s n ≡ silent
+  pub written : IsTrue writes → (bytes : List ℕ) × (s leaf ≡ full bytes)
 
--- the one leaf that is written is below the place p of the key with the index j one level above l (profile)
-pub record IsWay (s : ℕ → Said) (l j p : ℕ) : Type 0 where
+-- the one leaf that is spoken of is below the place p of the key with the index j one level above l (profile)
+pub record IsWay (s : ℕ → Said) (l j p : ℕ) (writes : Bool) : Type 0 where
   pub leaf : ℕ
-  pub one : IsOneWrite s leaf
+  pub one : IsOneLeaf s leaf writes
   pub few : p < 16
   pub at : 16 * j + p ≡ leaf / 16 ^ l

@@ -10,9 +10,10 @@ ghost use Rattle.node.specs.Kid.{IsSoundKid};
 ghost use Rattle.node.specs.Node.{root_part, root_forest, whole, part_of_node};
 ghost use Rattle.batch.specs.Said.{said, AreInOrder};
 ghost use Rattle.node.specs.Sound.{IsSoundTree};
-ghost use Rattle.batch.specs.Touch.{claims, released, dropped};
+ghost use Rattle.batch.specs.Touch.{touched, claims, released, dropped};
 ghost use Rattle.batch.specs.Updates.{changes_of, IsBatch};
 
+use crate::few::Few;
 use crate::numbers::{NewBlock, choose, fill, fresh_count};
 use crate::plan::{Plan, Survey};
 use crate::update::{Update, write_count};
@@ -24,14 +25,15 @@ use std::alloc::Global;
 use std::sync::Arc;
 use zalloc::Allocator;
 
-/// A change before any node is made: how many blocks the tree will have, the blocks that go, the numbers that are taken, and the
-/// new blocks with their numbers, from the last key to the first.
+/// A change before any node is made: whether it touches any key, how many blocks the tree will have, the blocks that go, the numbers
+/// that are taken, and the new blocks with their numbers, from the last key to the first.
 #[derive(Drop)]
 pub struct Draft {
+    pub touched: bool,
     pub count: u32,
-    pub released: Vec<Dead>,
-    pub taken: Vec<BlockNo>,
-    pub made: Vec<NewBlock>,
+    pub released: Few<Dead>,
+    pub taken: Few<BlockNo>,
+    pub made: Few<NewBlock>,
 }
 
 /// The root, if there is one.
@@ -52,21 +54,22 @@ fn plan_of(
     room: usize,
     young: Group,
     meter: &mut Meter,
-) -> Result<Plan, Refusal>
+) -> Result<(Plan, bool), Refusal>
     requires order { AreInOrder updates.now }
     requires sound { IsSoundKid 5 (whole root.now) }
-    ensures claims { IfOk result (λ p. p.claims.items ≡ claims (said updates.now) young.0 5 0 (whole root.now)) }
-    ensures released { IfOk result (λ p. p.released.items ≡ released (said updates.now) young.0 5 0 (whole root.now)) }
+    ensures touched { IfOk result (λ p. p.1 ≡ touched (said updates.now) 5 0 (whole root.now)) }
+    ensures claims { IfOk result (λ p. p.0.claims.items ≡ claims (said updates.now) young.0 5 0 (whole root.now)) }
+    ensures released { IfOk result (λ p. p.0.released.items ≡ released (said updates.now) young.0 5 0 (whole root.now)) }
     ensures metered { OnOk result (counted meter.old (length (dropped (said updates.now) young.0 5 0 (whole root.now))) ≤ meter.new) }
     ensures never_lower { meter.old ≤ meter.new }
     ensures err { OnErr result (result ≡ Err Refusal.NoMemory) }
 {
     let mut plan = Plan {
-        claims: Vec::with_capacity(alloc, room)?,
-        released: Vec::new(alloc),
+        claims: Few::with_capacity(alloc, room)?,
+        released: Few::new(alloc),
     };
-    Root::survey(root_of(root), 5, 0, updates, young, &mut plan, meter)?;
-    Ok(plan)
+    let fate = Root::survey(root_of(root), 5, 0, updates, young, &mut plan, meter)?;
+    Ok((plan, fate.touched))
 }
 
 /// The draft of a batch on a root with so many blocks. NoSpace where the numbers are fewer than the new blocks, NoMemory where
@@ -91,7 +94,7 @@ pub fn draft_of(
     ensures never_lower { meter.old ≤ meter.new }
 {
     let room = write_count(updates).saturating_add(5);
-    let plan = plan_of(alloc, root, updates, room, young, meter)?;
+    let (plan, touched) = plan_of(alloc, root, updates, room, young, meter)?;
     let need = fresh_count(&plan.claims);
     let taken = match choose(alloc, allocator, &plan.released, young, need) {
         Ok(taken) => taken,
@@ -99,6 +102,7 @@ pub fn draft_of(
     };
     let made = fill(alloc, &plan.claims, &taken)?;
     Ok(Draft {
+        touched,
         count: count - plan.released.len() as u32 + need as u32,
         released: plan.released,
         taken,

@@ -3,10 +3,12 @@
 #![tactic(auto)]
 
 mod draft;
+mod few;
 mod numbers;
 mod plan;
 mod update;
 
 pub use draft::{Draft, draft_of};
+pub use few::Few;
 pub use numbers::NewBlock;
-pub use update::{Update, Word, is_idle, split_at_leaf, way_of, word_of};
+pub use update::{Update, Way, Word, is_idle, split_at_leaf, way_of, word_of};

@@ -1,12 +1,13 @@
 //! What a batch of changes does to a tree, before any of it is made.
-ghost use Rattle.std.specs.Prelude.{◌≡◌, suc, ◌+◌, ◌-◌, ◌*◌, ◌^◌, ◌<◌, ◌≤◌, ◌++◌, IfOk, OnOk, OnErr, Option, Some, None, slice_index_or, length, is_some, cond, if◌then◌else◌};
+ghost use Rattle.std.specs.Prelude.{◌≡◌, suc, ◌+◌, ◌-◌, ◌*◌, ◌^◌, ◌<◌, ◌≤◌, ◌++◌, IfOk, OnOk, OnErr, IfSome, Option, Some, None, true, slice_index_or, length, is_some, cond, if◌then◌else◌};
 ghost use Rattle.base.specs.Counting.{counted};
 ghost use Rattle.base.specs.declared.refusal.Refusal.{Refusal};
 ghost use Rattle.node.specs.Kid.{IsSoundKid, places_of};
 ghost use Rattle.node.specs.Node.{inner_part, leaf_part, part_of_node};
-ghost use Rattle.batch.specs.Said.{said, AreInOrder};
+ghost use Rattle.batch.specs.Said.{said, AreInOrder, IsWay};
 ghost use Rattle.batch.specs.Touch.{any_kid, later_first, touched, stays, claims, released, dropped, claim_of, let_go, own_block, young_one};
 
+use crate::few::Few;
 use crate::update::{Update, Word, is_idle, split_at_leaf, way_of, word_of};
 use base::meter::Meter;
 use base::number::{Dead, Group, Key};
@@ -14,7 +15,7 @@ use base::refusal::Refusal;
 use node::{Inner, Leaf, Level, span};
 
 /// A key that is made, with the block that stays in its place, if one does.
-#[derive(Clone, Copy, PartialEq, Eq, Debug)]
+#[derive(Clone, Copy, Default, PartialEq, Eq, Debug)]
 pub struct Claim {
     pub key: Key,
     pub kept: Option<Dead>,
@@ -30,8 +31,8 @@ pub struct Fate {
 /// The keys that are made and the blocks that are let go, from the last key to the first.
 #[derive(Drop)]
 pub struct Plan {
-    pub claims: Vec<Claim>,
-    pub released: Vec<Dead>,
+    pub claims: Few<Claim>,
+    pub released: Few<Dead>,
 }
 
 /// The block, if it was born from a group on.
@@ -246,6 +247,18 @@ fn survey_kids<C: Survey>(
     Ok(Fate { touched, stays })
 }
 
+/// The place on the way to the one leaf that the updates write.
+fn written_way(updates: &[Update], level: u8, index: u32) -> Option<u32>
+    requires deep { 0 < level }
+    requires low { level ≤ 5 }
+    ensures { IfSome result (λ place. IsWay (said updates.now) (level - 1) index place true) }
+{
+    match way_of(updates, level, index) {
+        Some(way) => { if way.writes { Some(way.place) } else { None } }
+        None => None,
+    }
+}
+
 /// Adds to a plan what a batch does below a part. Where the batch is one write, only the place on its way is looked at.
 fn survey_below<C: Survey>(
     old: Option<&Inner<C>>,
@@ -270,7 +283,7 @@ fn survey_below<C: Survey>(
     ensures err { OnErr result (result ≡ Err Refusal.NoMemory) }
 {
     let first = 16 * index;
-    match way_of(updates, level, index) {
+    match written_way(updates, level, index) {
         Some(place) => {
             let kid = kid_at(old, place as usize);
             C::survey(kid, level - 1, first + place, updates, young, plan, meter)

@@ -1,9 +1,9 @@
 //! What a batch of changes says.
-ghost use Rattle.std.specs.Prelude.{◌≡◌, ℕ, count_by, ◌+◌, ◌-◌, ◌*◌, ◌/◌, ◌<◌, ◌≤◌, ◌==◌, IsTrue, IfSome, IfNone, Some, slice_get, length, slice_index, false};
+ghost use Rattle.std.specs.Prelude.{◌≡◌, ℕ, count_by, ◌+◌, ◌-◌, ◌*◌, ◌/◌, ◌<◌, ◌≤◌, ◌==◌, Bool, IsTrue, IfSome, IfNone, Some, slice_get, length, slice_index, false};
 ghost use Rattle.std.specs.List.{list_any};
 ghost use Rattle.base.specs.Key.{IsKey, covers};
 ghost use Rattle.batch.specs.Updates.{first_of, past_of, IsOfTree};
-ghost use Rattle.batch.specs.Said.{said, is_write, AreInOrder, AreSized, IsIdle, IsOneWrite, IsWay};
+ghost use Rattle.batch.specs.Said.{said, is_write, AreInOrder, AreSized, IsIdle, IsOneLeaf, IsWay};
 ghost use Rattle.batch.specs.Word.{word_said};
 
 use base::number::Key;
@@ -103,34 +103,51 @@ pub fn write_count(updates: &[Update]) -> usize
     count
 }
 
-/// The leaf that the updates write, if they are one write.
-fn one_write(updates: &[Update]) -> Option<u32>
-    ensures one { IfSome result (IsOneWrite (said updates.now)) }
-    ensures none { AreInOrder updates.now → IfNone result ((leaf : ℕ) → ¬ (IsOneWrite (said updates.now) leaf)) }
+/// The one leaf that updates speak of, and whether they write it.
+fn one_leaf(updates: &[Update]) -> Option<(u32, bool)>
+    ensures one { IfSome result (λ r. IsOneLeaf (said updates.now) r.0 r.1) }
+    ensures none { AreInOrder updates.now → IfNone result ((leaf : ℕ) (writes : Bool) → ¬ (IsOneLeaf (said updates.now) leaf writes)) }
 {
     if updates.len() != 1 {
         return None;
     }
     match &updates[0] {
-        Update::Write { leaf, .. } => Some(*leaf),
-        Update::Punch(_) => None,
+        Update::Write { leaf, .. } => Some((*leaf, true)),
+        Update::Punch(key) => {
+            if key.level == 0 {
+                Some((key.index, false))
+            } else {
+                None
+            }
+        }
     }
 }
 
-/// The place below a part on the way to the leaf that the updates write, if they are one write below that part. The part has a
-/// level, and an index there.
-pub fn way_of(updates: &[Update], level: u8, index: u32) -> Option<u32>
+/// A place of a part, on the way to the one leaf that updates speak of.
+#[derive(Clone, Copy, PartialEq, Eq, Debug)]
+pub struct Way {
+    pub place: u32,
+    /// Whether they write the leaf.
+    pub writes: bool,
+}
+
+/// The place below a part on the way to the one leaf that the updates speak of, if there is such a leaf below that part. The part
+/// has a level, and an index there.
+pub fn way_of(updates: &[Update], level: u8, index: u32) -> Option<Way>
     requires deep { 0 < level }
     requires low { level ≤ 5 }
-    ensures way { IfSome result (IsWay (said updates.now) (level - 1) index) }
-    ensures none { AreInOrder updates.now → IfNone result ((place : ℕ) → ¬ (IsWay (said updates.now) (level - 1) index place)) }
+    ensures way { IfSome result (λ w. IsWay (said updates.now) (level - 1) index w.place w.writes) }
+    ensures none { AreInOrder updates.now → IfNone result ((place : ℕ) (writes : Bool) → ¬ (IsWay (said updates.now) (level - 1) index place writes)) }
 {
-    let Some(leaf) = one_write(updates) else {
+    let Some((leaf, writes)) = one_leaf(updates) else {
         return None;
     };
     let below = leaf / span(u32::from(level - 1));
     if below / 16 == index {
-        Some(below % 16)
+        Some(Way {
+            place: below % 16,
+            writes,
+        })
     } else {
         None
     }

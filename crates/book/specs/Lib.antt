@@ -4,3 +4,4 @@ pub mod History
 pub mod Books
 pub mod Calls
 pub mod Whole
+pub mod Entered

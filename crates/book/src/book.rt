@@ -1,9 +1,10 @@
 //! What lies under the lock, and the one function that adds to its history.
-ghost use Rattle.std.specs.Prelude.{◌≡◌, ◌+◌, ◌≤◌, ◌↔◌, [], ◌∷◌, ◌++◌, length, Err, IfOk, IfErr, IsErr, OnErr, OnOk, IfSome};
+ghost use Rattle.std.specs.Prelude.{◌≡◌, ◌+◌, ◌≤◌, ◌↔◌, [], ◌∷◌, ◌++◌, length, Err, IfOk, IfErr, IsErr, OnErr, OnOk};
 ghost use Rattle.model.specs.Step.{Step};
 ghost use Rattle.book.specs.Calls.{IsFullOrNoMemory, IsNoLimit, IsUnopened, Ran};
 ghost use Rattle.book.specs.History.{IsLegal};
 
+use crate::entering::entry_of;
 use crate::opening::Opening;
 use crate::seat::{Receipt, Seat};
 use base::refusal::Refusal;
@@ -104,7 +105,7 @@ impl<K: Opening> Book<K> {
 /// Applies a request of a seat, and appends its entry, which the seat's receipt and the one handed back share. A request that the
 /// pool refuses has run, and its entry has the refusal as its reply. At `Err` nothing ran: SessionFull where the history has its
 /// full length, NoMemory where there is no memory for the entry or its receipts. All that it allocates, it allocates before the
-/// pool changes.
+/// pool changes. It costs what `Pool::apply` does.
 pub fn enter<K: Opening>(
     alloc: Global,
     book: &mut Book<K>,
@@ -128,17 +129,11 @@ pub fn enter<K: Opening>(
         drop(request);
         return Err(Refusal::NoMemory);
     }
-    let (reply, ready) = book.pool.prepare(alloc, &request);
-    let entry = Entry {
-        seat: seat.number,
-        request,
-        reply,
-    };
-    let Some((kept, ours, theirs)) = shared(alloc, entry) else {
+    let entered = entry_of(alloc, &mut book.pool, seat.number, request);
+    let Some((kept, ours, theirs)) = entered else {
         return Err(Refusal::NoMemory);
     };
     let number = book.history.len() as u64;
-    book.pool.commit(ready);
     book.history.push_reserved(kept);
     seat.receipts.push_reserved(Receipt {
         number,
@@ -148,14 +143,4 @@ pub fn enter<K: Opening>(
         number,
         entry: theirs,
     })
-}
-
-// Three owners of one entry, or none where memory is refused.
-fn shared(alloc: Global, entry: Entry) -> Option<(Arc<Entry>, Arc<Entry>, Arc<Entry>)>
-    ensures { IfSome result (λ r. (r.0.value ≡ entry) × (r.1.value ≡ entry) × (r.2.value ≡ entry)) }
-{
-    let first = Arc::new(alloc, entry).ok()?;
-    let second = Arc::try_clone(&first).ok()?;
-    let third = Arc::try_clone(&first).ok()?;
-    Some((first, second, third))
 }

@@ -4,6 +4,7 @@
 
 mod book;
 mod closing;
+mod entering;
 mod opening;
 mod seat;
 

@@ -30,8 +30,6 @@ impl Caller for Served {
     ghost asks = { Serves };
 
     fn ask(&mut self, request: Request) -> Option<Reply> {
-        let reply = self.pool.apply(self.alloc, &request);
-        drop(request);
-        Some(reply)
+        Some(self.pool.apply(self.alloc, &request))
     }
 }

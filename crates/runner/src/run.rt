@@ -14,6 +14,7 @@ use pool::Pool;
 use script::run::{Caller, ScriptFault, run_script};
 use std::alloc::Global;
 use std::io::{BufRead, Write};
+use std::mem;
 
 /// Runs a script on a fresh pool, and gives the exit status: 0; 1 where a line was refused and the command line asks to stop
 /// there; 2 for a bad command line, after the usage line on `errors`; 3 after a fault's line on `errors`, where a read or a
@@ -42,7 +43,7 @@ where
         Ok(pool) => {
             let mut caller = Served { alloc, pool };
             let status = run_on(alloc, &mut caller, args.stop, reader, writer, errors);
-            drop(caller);
+            mem::forget(caller);
             status
         }
         Err(Refusal::NoMemory) => print_fault(errors, ScriptFault::NoMemory),

@@ -1,12 +1,18 @@
 -- Lemmas on runs of scripts.
 use Rattle.std.proofs.Common.{◌≡◌, ◌≢◌, ℕ, suc, ◌+◌, ◌<◌, ◌≤◌, Bool, true, false, List, [], ◌∷◌, ◌++◌, Option, None, Some, cond, length, take, eqb, refl, sym, ap, subst, ◌∙◌, inl, inr, arith, append_assoc, append-nil, take_all, length-take, true≢false, add-one, ◌⊎◌}
 use Rattle.std.proofs.lemmas.Bool.{cases_lt, lt-ltb}
-use Rattle.std.proofs.Common.{MatchBool, ◌&&◌, ◌||◌}
+use Rattle.std.proofs.Common.{MatchBool, ◌&&◌, ◌||◌, IsTrue, IfOk, IfErr, Result, Ok, Err}
 use Rattle.std.specs.Io.KnownBytes.{Keeps, Appends}
 use Rattle.std.proofs.KnownBytes.{Appends-nil, Appends-trans}
 use Rattle.base.specs.Failing.{HasRisen}
-use Rattle.base.specs.declared.refusal.Refusal.TheVariants.{BadLine}
+use Rattle.base.specs.declared.refusal.Refusal.{Refusal}
+use Rattle.base.specs.declared.refusal.Refusal.TheVariants.{BadLine, NoMemory as WantsMemory}
 use Rattle.model.specs.declared.reply.Reply.{Reply}
+use Rattle.model.specs.declared.reply.Reply.TheVariants.{Refused}
+use Rattle.script.specs.declared.run.LineFault.{LineFault}
+use Rattle.script.specs.declared.run.LineFault.TheVariants.{NoMemory as LacksMemory, Unwritten}
+use Rattle.script.specs.Served.{IsServed, IsUnserved}
+use Rattle.script.specs.Text.{line_of}
 use Rattle.script.specs.declared.run.ScriptFault.{ScriptFault}
 use Rattle.script.specs.declared.run.ScriptFault.TheVariants.{NoMemory}
 use Rattle.script.specs.Lines.{lines, kept_of, line_limit, GivesLine, GivesNone, HasMore}
@@ -56,9 +62,30 @@ pub or_false : (b : Bool) → (b || false) ≡ b
 or_false true = refl
 or_false false = refl
 
+ok≢err : {T E : Type 0} {x : T} {e : E} → (let r : Result T E = Ok x in r) ≡ Err e → ⊥
+ok≢err h = (subst (λ r. IfOk r (λ _. Unit {0}) × IfErr r (λ _. ⊥)) h (tt, tt)).1
+
+unwritten≢ : (let r : Result Bool LineFault = Err Unwritten in r) ≡ Err LacksMemory → ⊥
+unwritten≢ h = cc
+
+is_true-true : (b : Bool) → IsTrue b → b ≡ true
+is_true-true true h = refl
+is_true-true false h = h
+
 or_assoc : (a b c : Bool) → ((a || b) || c) ≡ (a || (b || c))
 or_assoc true b c = refl
 or_assoc false b c = refl
+
+-- a line at fault
+pub served-fault : {C : Type 0} (asks : Relation C) (m : Meaning) (refusal : Refusal) (held held' : Option (List ℕ)) (s : C) (r : Result Bool LineFault)
+    → (refusal ≡ WantsMemory) ⊎ (m ≡ Faulty refusal) → IfOk r (λ b. IsTrue b × Appends held held' (line_of (Refused refusal))) → ((refusal ≡ WantsMemory) → r ≡ Err LacksMemory) → ((r ≡ Err LacksMemory) → held' ≡ held)
+    → IfOk r (IsServed asks m held held' s s) × IfErr r (IsUnserved asks m held held' s s)
+served-fault asks m refusal held held' s (Ok b) (inl e) ok none err = absurd (ok≢err (none e))
+served-fault asks m refusal held held' s (Ok b) (inr e) ok none err =
+    (record { reply = Some (Refused refusal); answered = subst (λ w. Answers asks w s (Some (Refused refusal)) s) (sym e) (refl, refl); written = ok.1; kind = is_true-true b ok.0 }, tt)
+served-fault asks m refusal held held' s (Err LacksMemory) why ok none err = (tt, (err refl, inl refl))
+served-fault asks m refusal held held' s (Err Unwritten) (inl e) ok none err = absurd (unwritten≢ (none e))
+served-fault asks m refusal held held' s (Err Unwritten) (inr e) ok none err = (tt, (Refused refusal, subst (λ w. Answers asks w s (Some (Refused refusal)) s) (sym e) (refl, refl)))
 
 -- of two that are not refused with stop
 goes_both : (a b stop : Bool) → (a && stop) ≡ false → (b && stop) ≡ false → ((a || b) && stop) ≡ false

@@ -3,5 +3,6 @@ pub mod Words
 pub mod Meaning
 pub mod Text
 pub mod Run
+pub mod Served
 pub mod Reading
 pub mod Examples

@@ -1,8 +1,10 @@
 //! Runs of scripts.
-ghost use Rattle.std.specs.Prelude.{◌≡◌, ◌&&◌, ◌||◌, ◌⊎◌, Option, Some, IfOk, IfErr, OnOk, OnErr};
+ghost use Rattle.std.specs.Prelude.{◌≡◌, ◌&&◌, ◌||◌, ◌⊎◌, Option, Some, Err, IsTrue, IfOk, IfErr, OnOk};
 ghost use Rattle.base.specs.Failing.{HasRisen};
-ghost use Rattle.script.specs.Run.{HasRun, HasFailed, Answers, IsUnanswered, IsFaultOf, is_refusal};
-ghost use Rattle.script.specs.Meaning.{meaning};
+ghost use Rattle.base.specs.declared.refusal.Refusal.{Refusal};
+ghost use Rattle.script.specs.Run.{HasRun, HasFailed, IsFaultOf, is_refusal};
+ghost use Rattle.script.specs.Served.{IsServed, IsUnserved};
+ghost use Rattle.script.specs.Meaning.{Asks, meaning, request_of};
 ghost use Rattle.script.specs.Text.{line_of};
 ghost use Rattle.std.specs.Io.KnownBytes.{Appends};
 ghost use Rattle.model.specs.declared.request.Request.{Request};
@@ -15,8 +17,7 @@ use base::failing::Failing;
 use base::refusal::Refusal;
 use model::reply::Reply;
 use model::request::Request;
-use std::alloc::{AllocError, Global};
-use std::io;
+use std::alloc::Global;
 use std::io::{BufRead, Write};
 use thiserror::Error;
 
@@ -53,6 +54,15 @@ impl ScriptFault {
     }
 }
 
+/// What kept a line's reply from being written.
+#[derive(Clone, Copy)]
+pub(crate) enum LineFault {
+    /// Memory was refused to the line, or to its reply.
+    NoMemory,
+    /// The writer failed at the reply.
+    Unwritten,
+}
+
 /// Asks the requests of a script's lines of a caller, in order, and writes their reply lines. Says whether a line was refused;
 /// with `stop` it ends at the first such line. The cost is linear in the script, beside the caller's; the memory is that of one
 /// line, of which a little more than 4 MiB are kept at most (profile).
@@ -86,53 +96,93 @@ pub fn run_script<C: Caller, R: BufRead + Failing, W: Write + Failing>(
         if !found {
             return Ok(refused);
         }
-        let answer = match answer_to(alloc, caller, line.as_slice()) {
-            Ok(answer) => answer,
-            Err(_) => return Err(ScriptFault::NoMemory),
-        };
-        if let Some(reply) = answer {
-            let is_refused = match report(writer, reply) {
-                Ok(is_refused) => is_refused,
-                Err(_) => return Err(ScriptFault::of_counts(writes, writer.failures())),
-            };
-            if is_refused & stop {
-                return Ok(true);
+        match serve_line(alloc, caller, line.as_slice(), writer) {
+            Ok(is_refused) => {
+                if is_refused & stop {
+                    return Ok(true);
+                }
+                refused = refused | is_refused;
             }
-            refused = refused | is_refused;
+            Err(LineFault::NoMemory) => return Err(ScriptFault::NoMemory),
+            Err(LineFault::Unwritten) => return Err(ScriptFault::of_counts(
+                writes,
+                writer.failures(),
+            )),
         }
     }
     Err(ScriptFault::of_counts(reads, reader.failures()))
 }
 
-/// The reply to a line, if it has one.
+/// Answers a line, writes its reply if it has one, and tells whether it was refused.
 #[tactic(auto, unfolding(crate::specs::Meaning::meaning))]
-fn answer_to<C: Caller>(
+fn serve_line<C: Caller, W: Write>(
     alloc: Global,
     caller: &mut C,
     line: &[u8],
-) -> Result<Option<Reply>, AllocError>
-    ensures ok { IfOk result (λ reply. Answers C.asks (meaning line.now) caller.old reply caller.new) }
-    ensures err { OnErr result ((caller.new ≡ caller.old) ⊎ IsUnanswered C.asks (meaning line.now) caller.old caller.new) }
+    writer: &mut W,
+) -> Result<bool, LineFault>
+    ensures ok { IfOk result (λ refused. IsServed C.asks (meaning line.now) (W.contents writer.old) (W.contents writer.new) caller.old caller.new refused) }
+    ensures err { IfErr result (λ fault. IsUnserved C.asks (meaning line.now) (W.contents writer.old) (W.contents writer.new) caller.old caller.new fault) }
 {
     match line {
-        [] => Ok(None),
-        [b'#', ..] => Ok(None),
-        _ => match request_at(alloc, line) {
-            Ok(request) => match caller.ask(request) {
-                Some(reply) => Ok(Some(reply)),
-                None => Err(AllocError),
-            },
-            Err(Refusal::NoMemory) => Err(AllocError),
-            Err(refusal) => Ok(Some(Reply::Refused(refusal))),
-        },
+        [] => Ok(false),
+        [b'#', ..] => Ok(false),
+        _ => serve_request(alloc, caller, line, writer),
+    }
+}
+
+/// Answers a line that asks a request or is at fault.
+fn serve_request<C: Caller, W: Write>(
+    alloc: Global,
+    caller: &mut C,
+    line: &[u8],
+    writer: &mut W,
+) -> Result<bool, LineFault>
+    ensures ok { IfOk result (λ refused. IsServed C.asks (request_of line.now) (W.contents writer.old) (W.contents writer.new) caller.old caller.new refused) }
+    ensures err { IfErr result (λ fault. IsUnserved C.asks (request_of line.now) (W.contents writer.old) (W.contents writer.new) caller.old caller.new fault) }
+{
+    match request_at(alloc, line) {
+        Ok(request) => serve(caller, request, writer),
+        Err(refusal) => refuse(writer, refusal),
+    }
+}
+
+/// Writes that a line is refused, unless it is for want of memory.
+fn refuse<W: Write>(writer: &mut W, refusal: Refusal) -> Result<bool, LineFault>
+    ensures ok { IfOk result (λ refused. IsTrue refused × Appends (W.contents writer.old) (W.contents writer.new) (line_of (Reply.Refused refusal))) }
+    ensures no_memory { (refusal ≡ Refusal.NoMemory) → result ≡ Err LineFault.NoMemory }
+    ensures err { (result ≡ Err LineFault.NoMemory) → W.contents writer.new ≡ W.contents writer.old }
+{
+    if refusal == Refusal::NoMemory {
+        return Err(LineFault::NoMemory);
+    }
+    let reply = Reply::Refused(refusal);
+    report(writer, &reply)
+}
+
+/// Asks a request, and writes its reply.
+fn serve<C: Caller, W: Write>(
+    caller: &mut C,
+    request: Request,
+    writer: &mut W,
+) -> Result<bool, LineFault>
+    ensures ok { IfOk result (λ refused. IsServed C.asks (Asks request) (W.contents writer.old) (W.contents writer.new) caller.old caller.new refused) }
+    ensures err { IfErr result (λ fault. IsUnserved C.asks (Asks request) (W.contents writer.old) (W.contents writer.new) caller.old caller.new fault) }
+{
+    match &caller.ask(request) {
+        Some(reply) => report(writer, reply),
+        None => Err(LineFault::NoMemory),
     }
 }
 
 /// Writes a reply's line, and tells whether it was a refusal.
-fn report<W: Write>(writer: &mut W, reply: Reply) -> io::Result<bool>
-    ensures line { OnOk result (Appends (W.contents writer.old) (W.contents writer.new) (line_of reply)) }
-    ensures refusal { IfOk result (λ refused. refused ≡ is_refusal (Some reply)) }
+fn report<W: Write>(writer: &mut W, reply: &Reply) -> Result<bool, LineFault>
+    ensures line { OnOk result (Appends (W.contents writer.old) (W.contents writer.new) (line_of reply.now)) }
+    ensures refusal { IfOk result (λ refused. refused ≡ is_refusal (Some reply.now)) }
+    ensures err { IfErr result (λ fault. fault ≡ LineFault.Unwritten) }
 {
-    write_reply(writer, &reply)?;
-    Ok(matches!(reply, Reply::Refused(_)))
+    match write_reply(writer, reply) {
+        Ok(()) => Ok(matches!(reply, Reply::Refused(_))),
+        Err(_) => Err(LineFault::Unwritten),
+    }
 }

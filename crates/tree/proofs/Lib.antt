@@ -4,5 +4,6 @@ pub use Rattle.batch.proofs.UpdateLaws
 pub mod Present
 pub mod Numbered
 pub mod Prepared
+pub mod Staying
 pub mod Committed
 pub mod Branches

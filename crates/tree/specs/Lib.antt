@@ -11,3 +11,4 @@ pub mod Same
 pub mod Branch
 pub mod BranchCode
 pub mod BranchParts
+pub mod Others

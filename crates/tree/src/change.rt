@@ -7,7 +7,7 @@ ghost use Rattle.base.specs.Surveys.{dead_block};
 ghost use Rattle.tree.specs.ChangeParts.{made_pair};
 
 use base::number::{BlockNo, Dead};
-use batch::NewBlock;
+use batch::{Few, NewBlock};
 use node::Root;
 use std::marker::Model;
 use std::sync::Arc;
@@ -20,9 +20,9 @@ pub struct Change {
     pub(crate) old: Option<Arc<Root>>,
     pub(crate) root: Option<Arc<Root>>,
     pub(crate) count: u32,
-    pub(crate) released: Vec<Dead>,
-    pub(crate) taken: Vec<BlockNo>,
-    pub(crate) made: Vec<NewBlock>,
+    pub(crate) released: Few<Dead>,
+    pub(crate) taken: Few<BlockNo>,
+    pub(crate) made: Few<NewBlock>,
 }
 
 impl Model for Change {
@@ -77,7 +77,7 @@ impl Change {
 /// numbers that its new blocks have beside those kept, and its new blocks in the order of their keys.
 #[derive(Drop)]
 pub struct Changed {
-    pub released: Vec<Dead>,
-    pub taken: Vec<BlockNo>,
-    pub made: Vec<NewBlock>,
+    pub released: Few<Dead>,
+    pub taken: Few<BlockNo>,
+    pub made: Few<NewBlock>,
 }

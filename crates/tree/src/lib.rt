@@ -9,7 +9,7 @@ mod same;
 mod subtree;
 mod tree;
 
-pub use batch::{NewBlock, Update};
+pub use batch::{Few, NewBlock, Update};
 pub use change::{Change, Changed};
 pub use node::Cell;
 pub use subtree::Subtree;

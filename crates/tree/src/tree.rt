@@ -10,7 +10,7 @@ ghost use Rattle.tree.specs.Taking.{AllFree, takes};
 
 use crate::build::Build;
 use crate::change::{Change, Changed};
-use crate::renew::Renew;
+use crate::renew::renew_root;
 use base::meter::Meter;
 use base::number::{BlockNo, Group};
 use base::refusal::Refusal;
@@ -120,8 +120,8 @@ impl Tree {
 
     /// Puts a batch of changes in force at once, as `prepare_change` and `commit` would, but takes no number: the answer names those
     /// that the new blocks have. At `Err` the tree is as it was. NoSpace and NoMemory come as at `prepare_change`, and the meter
-    /// counts the same. A batch that is one write costs the nodes on its way, and changes those where they are that no other
-    /// version of the tree shares.
+    /// counts the same. A batch that is one write or one punch of a leaf costs the nodes on its way, and changes those where they
+    /// are that no other version of the tree shares.
     pub fn change(
         &mut self,
         alloc: Global,
@@ -143,8 +143,8 @@ impl Tree {
         let mut draft = draft_of(
             alloc, &self.root, self.count, updates, young, allocator, meter,
         )?;
-        let new_blocks = &draft.made;
-        Root::renew(&mut self.root, alloc, 5, 0, updates, group, new_blocks, 0)?;
+        let (touched, new_blocks) = (draft.touched, &draft.made);
+        renew_root(&mut self.root, alloc, touched, updates, group, new_blocks)?;
         self.count = draft.count;
         draft.made.reverse();
         Ok(Changed {

@@ -6,7 +6,7 @@ use crate::ready::{is_batch, meter};
 use crate::rig::{punch_at, write_at};
 use base::number::Group;
 use base::refusal::Refusal;
-use batch::{Draft, Word, draft_of, is_idle, split_at_leaf, way_of, word_of};
+use batch::{Draft, Way, Word, draft_of, is_idle, split_at_leaf, way_of, word_of};
 use std::alloc::Global;
 use std::process::Abort;
 use tree::Update;
@@ -60,12 +60,17 @@ fn cut_batches(rt: HostRuntime) {
 }
 
 #[test]
-fn ways_to_one_write(rt: HostRuntime) {
-    assert!(rt; way_of(&[write_at(37, 7)], 1, 2) == Some(5));
-    assert!(rt; way_of(&[write_at(37, 7)], 2, 0) == Some(2));
+fn ways_to_one_leaf(rt: HostRuntime) {
+    assert!(rt; way_of(&[write_at(37, 7)], 1, 2) == Some(to(5, true)));
+    assert!(rt; way_of(&[write_at(37, 7)], 2, 0) == Some(to(2, true)));
+    assert!(rt; way_of(&[punch_at(0, 37)], 1, 2) == Some(to(5, false)));
     assert!(rt; way_of(&[write_at(37, 7)], 1, 1).is_none());
-    assert!(rt; way_of(&[punch_at(0, 37)], 1, 2).is_none());
+    assert!(rt; way_of(&[punch_at(1, 2)], 1, 2).is_none());
     assert!(rt; way_of(&[write_at(36, 7), write_at(37, 7)], 1, 2).is_none());
+}
+
+fn to(place: u32, writes: bool) -> Way {
+    Way { place, writes }
 }
 
 /// The draft of a write of one leaf of a tree without a block, in a pool of so many numbers.
@@ -89,7 +94,8 @@ fn first_draft(rt: &impl Abort, alloc: Global, numbers: u32) -> Result<Draft, Re
 /// Whether the draft of the first write makes so many blocks and lets none go.
 fn makes(rt: &impl Abort, alloc: Global, blocks: usize) -> bool {
     let draft = first_draft(rt, alloc, 6).expect(rt, "a draft");
-    draft.count as usize == blocks
+    draft.touched
+        && draft.count as usize == blocks
         && draft.taken.len() == blocks
         && draft.made.len() == blocks
         && draft.released.is_empty()

@@ -9,7 +9,7 @@ use base::number::{BlockNo, Dead, Group, Key};
 use base::refusal::Refusal;
 use std::alloc::Global;
 use std::process::Abort;
-use tree::{Change, Changed, NewBlock, Tree, Update, take_all};
+use tree::{Change, Changed, Few, NewBlock, Tree, Update, take_all};
 use zalloc::{Allocator, BlockState, MOST_BLOCKS};
 
 /// How many leaves a plain list speaks of.
@@ -101,11 +101,11 @@ fn assert_free(rt: &impl Abort, allocator: &Allocator, numbers: &[BlockNo])
 
 /// What a prepared change is going to do.
 fn changed_by(alloc: Global, change: &Change) -> Result<Changed, Refusal> {
-    let mut released = Vec::new(alloc);
+    let mut released = Few::new(alloc);
     released.extend_from_slice(change.released())?;
-    let mut taken = Vec::new(alloc);
+    let mut taken = Few::new(alloc);
     taken.extend_from_slice(change.taken())?;
-    let mut made = Vec::new(alloc);
+    let mut made = Few::new(alloc);
     made.extend_from_slice(change.made())?;
     Ok(Changed {
         released,

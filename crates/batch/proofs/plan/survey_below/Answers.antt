@@ -1,5 +1,5 @@
 use Rattle.std.proofs.Common.{◌≡◌, ◌≤◌, length, ◌+◌, ◌-◌, ◌*◌, ◌++◌, ◌^◌, sym, ap, subst, ◌∙◌, arith}
-use Rattle.std.specs.Prelude.{IfOk, OnOk}
+use Rattle.std.specs.Prelude.{IfOk, OnOk, true}
 use Rattle.base.specs.Counting.{counted}
 use Rattle.node.specs.Kid.{birth_of}
 use Rattle.node.specs.Node.{inner_part, part_of_node}
@@ -7,7 +7,7 @@ use Rattle.batch.specs.Said.{said, IsWay}
 use Rattle.batch.specs.Touch.{touched, stays, claims, released, dropped}
 use Rattle.batch.proofs.KidLaws.{kid_sound, kid_within}
 use Rattle.batch.proofs.TouchLaws.{key_fits, kid_span}
-use Rattle.batch.proofs.OneWrite.{touched_below, stays_below, claims_below, released_below, dropped_below}
+use Rattle.batch.proofs.OneLeaf.{touched_below, stays_below, claims_below, released_below, dropped_below}
 use Rattle.batch.proofs.plan.survey_below.Goals as goal
 
 pub overflow_mul-first : goal.overflow_mul-first
@@ -16,7 +16,7 @@ overflow_mul-first g c = let b = key_fits c.args.level c.args.index c.requires.w
 pub survey-requires-clause-within : goal.survey-requires-clause-within
 survey-requires-clause-within g c =
     let w = kid_span c.args.level g.C.Level.height c.args.index c.requires.level c.requires.within in
-    (kid_within (16 * c.args.index) c.in-Some.place (16 ^ (c.args.level - 1)) c.in-Some.ensures.way.few w).1
+    (kid_within (16 * c.args.index) c.in-Some.place (16 ^ (c.args.level - 1)) c.in-Some.ensures.few w).1
 
 pub survey-requires-clause-sound : goal.survey-requires-clause-sound
 survey-requires-clause-sound g c =
@@ -34,8 +34,8 @@ returns-in-Some-clause-touched g c =
     let s = said c.args.updates.now in
     let o = part_of_node (inner_part g.C.Level.part) c.args.old in
     let j = 16 * c.args.index + c.in-Some.place in
-    let way : IsWay s h c.args.index c.in-Some.place = subst (λ l. IsWay s l c.args.index c.in-Some.place) (let e : c.args.level - 1 ≡ h = omega (arith, c.requires.level) in e) c.in-Some.ensures.way in
-    subst (λ b. IfOk c.survey.result (λ f. f.touched ≡ b)) (sym (touched_below s h (birth_of o) c.args.index c.in-Some.place way o c.requires.sound ∙ ap (touched s h j) (sym c.kid_at-kid.ensures))) c.survey.ensures.touched
+    let way : IsWay s h c.args.index c.in-Some.place true = subst (λ l. IsWay s l c.args.index c.in-Some.place true) (let e : c.args.level - 1 ≡ h = omega (arith, c.requires.level) in e) c.in-Some.ensures in
+    subst (λ b. IfOk c.survey.result (λ f. f.touched ≡ b)) (sym (touched_below s h (birth_of o) c.args.index c.in-Some.place true way o c.requires.sound ∙ ap (touched s h j) (sym c.kid_at-kid.ensures))) c.survey.ensures.touched
 
 pub returns-in-Some-clause-stays : goal.returns-in-Some-clause-stays
 returns-in-Some-clause-stays g c =
@@ -43,7 +43,7 @@ returns-in-Some-clause-stays g c =
     let s = said c.args.updates.now in
     let o = part_of_node (inner_part g.C.Level.part) c.args.old in
     let j = 16 * c.args.index + c.in-Some.place in
-    let way : IsWay s h c.args.index c.in-Some.place = subst (λ l. IsWay s l c.args.index c.in-Some.place) (let e : c.args.level - 1 ≡ h = omega (arith, c.requires.level) in e) c.in-Some.ensures.way in
+    let way : IsWay s h c.args.index c.in-Some.place true = subst (λ l. IsWay s l c.args.index c.in-Some.place true) (let e : c.args.level - 1 ≡ h = omega (arith, c.requires.level) in e) c.in-Some.ensures in
     subst (λ b. IfOk c.survey.result (λ f. f.stays ≡ b)) (sym (stays_below s h (birth_of o) c.args.index c.in-Some.place way o c.requires.sound ∙ ap (stays s h j) (sym c.kid_at-kid.ensures))) c.survey.ensures.stays
 
 pub returns-in-Some-clause-claims : goal.returns-in-Some-clause-claims
@@ -52,8 +52,8 @@ returns-in-Some-clause-claims g c =
     let s = said c.args.updates.now in
     let o = part_of_node (inner_part g.C.Level.part) c.args.old in
     let j = 16 * c.args.index + c.in-Some.place in
-    let way : IsWay s h c.args.index c.in-Some.place = subst (λ l. IsWay s l c.args.index c.in-Some.place) (let e : c.args.level - 1 ≡ h = omega (arith, c.requires.level) in e) c.in-Some.ensures.way in
-    subst (λ xs. OnOk c.survey.result (c.survey.new.plan.claims.items ≡ c.args.plan.now.claims.items ++ xs)) (sym (claims_below s h (birth_of o) c.args.index c.in-Some.place way o c.requires.sound c.args.young.0 ∙ ap (claims s c.args.young.0 h j) (sym c.kid_at-kid.ensures))) c.survey.ensures.claims
+    let way : IsWay s h c.args.index c.in-Some.place true = subst (λ l. IsWay s l c.args.index c.in-Some.place true) (let e : c.args.level - 1 ≡ h = omega (arith, c.requires.level) in e) c.in-Some.ensures in
+    subst (λ xs. OnOk c.survey.result (c.survey.new.plan.claims.items ≡ c.args.plan.now.claims.items ++ xs)) (sym (claims_below s h (birth_of o) c.args.index c.in-Some.place true way o c.requires.sound c.args.young.0 ∙ ap (claims s c.args.young.0 h j) (sym c.kid_at-kid.ensures))) c.survey.ensures.claims
 
 pub returns-in-Some-clause-released : goal.returns-in-Some-clause-released
 returns-in-Some-clause-released g c =
@@ -61,8 +61,8 @@ returns-in-Some-clause-released g c =
     let s = said c.args.updates.now in
     let o = part_of_node (inner_part g.C.Level.part) c.args.old in
     let j = 16 * c.args.index + c.in-Some.place in
-    let way : IsWay s h c.args.index c.in-Some.place = subst (λ l. IsWay s l c.args.index c.in-Some.place) (let e : c.args.level - 1 ≡ h = omega (arith, c.requires.level) in e) c.in-Some.ensures.way in
-    subst (λ xs. OnOk c.survey.result (c.survey.new.plan.released.items ≡ c.args.plan.now.released.items ++ xs)) (sym (released_below s h (birth_of o) c.args.index c.in-Some.place way o c.requires.sound c.args.young.0 ∙ ap (released s c.args.young.0 h j) (sym c.kid_at-kid.ensures))) c.survey.ensures.released
+    let way : IsWay s h c.args.index c.in-Some.place true = subst (λ l. IsWay s l c.args.index c.in-Some.place true) (let e : c.args.level - 1 ≡ h = omega (arith, c.requires.level) in e) c.in-Some.ensures in
+    subst (λ xs. OnOk c.survey.result (c.survey.new.plan.released.items ≡ c.args.plan.now.released.items ++ xs)) (sym (released_below s h (birth_of o) c.args.index c.in-Some.place true way o c.requires.sound c.args.young.0 ∙ ap (released s c.args.young.0 h j) (sym c.kid_at-kid.ensures))) c.survey.ensures.released
 
 pub returns-in-Some-clause-metered : goal.returns-in-Some-clause-metered
 returns-in-Some-clause-metered g c =
@@ -70,5 +70,5 @@ returns-in-Some-clause-metered g c =
     let s = said c.args.updates.now in
     let o = part_of_node (inner_part g.C.Level.part) c.args.old in
     let j = 16 * c.args.index + c.in-Some.place in
-    let way : IsWay s h c.args.index c.in-Some.place = subst (λ l. IsWay s l c.args.index c.in-Some.place) (let e : c.args.level - 1 ≡ h = omega (arith, c.requires.level) in e) c.in-Some.ensures.way in
-    subst (λ xs. OnOk c.survey.result (counted c.args.meter.now (length xs) ≤ c.survey.new.meter)) (sym (dropped_below s h (birth_of o) c.args.index c.in-Some.place way o c.requires.sound c.args.young.0 ∙ ap (dropped s c.args.young.0 h j) (sym c.kid_at-kid.ensures))) c.survey.ensures.metered
+    let way : IsWay s h c.args.index c.in-Some.place true = subst (λ l. IsWay s l c.args.index c.in-Some.place true) (let e : c.args.level - 1 ≡ h = omega (arith, c.requires.level) in e) c.in-Some.ensures in
+    subst (λ xs. OnOk c.survey.result (counted c.args.meter.now (length xs) ≤ c.survey.new.meter)) (sym (dropped_below s h (birth_of o) c.args.index c.in-Some.place true way o c.requires.sound c.args.young.0 ∙ ap (dropped s c.args.young.0 h j) (sym c.kid_at-kid.ensures))) c.survey.ensures.metered

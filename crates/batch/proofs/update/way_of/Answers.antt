@@ -6,4 +6,4 @@ pub nonzero_div-below : goal.nonzero_div-below
 nonzero_div-below c = let p = span_positive c.from.result in omega (arith, p, c.span.ensures)
 
 pub returns-in_default-clause-none : goal.returns-in_default-clause-none
-returns-in_default-clause-none c = λ o place w. c.in_default.ensures.none o w.leaf w.one
+returns-in_default-clause-none c = λ o place writes w. c.in_default.ensures.none o w.leaf writes w.one

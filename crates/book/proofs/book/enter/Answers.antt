@@ -1,4 +1,4 @@
-use Rattle.std.proofs.Common.{rules, ◌≡◌, ◌∙◌, ◌<◌, List, length, arith, sym, subst, map, ap}
+use Rattle.std.proofs.Common.{rules, ◌∙◌, ◌<◌, List, length, arith, sym, subst, map, ap}
 use Rattle.std.specs.Arc.{arc_value}
 use Rattle.std.proofs.lemmas.List.{length-map, map-append}
 use Rattle.std.proofs.lemmas.Grind.{common_steps}
@@ -12,21 +12,21 @@ use Rattle.book.proofs.book.enter.Goals as goal
 
 pub invariant_of-book-2 : goal.invariant_of-book-2
 invariant_of-book-2 g c =
+    let w = c.in-Some.ensures.some in
+    let e : Entry = arc_value c.in-Some.kept in
+    let step : Step c.book.inside.pool.state e.request e.reply c.entry_of-entered.new.pool.state = subst (λ q. Step c.book.inside.pool.state q e.reply c.entry_of-entered.new.pool.state) (sym w.request_is) w.step in
     let es : List Entry = map arc_value c.book.inside.history.items in
-    let e : Entry = record { seat = c.seat.inside.number; request = c.args.request; reply = c.prepare-reply.result.0 } in
-    let here : arc_value c.in-Some.kept ≡ e = c.in-Some.ensures.0 in
-    let step : Step c.book.inside.pool.state e.request e.reply c.commit.new.self.state = subst (λ (x : State). Step c.book.inside.pool.state e.request e.reply x) (sym c.commit.ensures) c.prepare-reply.ensures.step in
     let room : length es < c.book.inside.limit = omega (arith, length-map c.book.inside.history.items arc_value) in
-    rw (c.push_reserved.ensures.items, c.push_reserved.ensures.capacity, map-append, here)
-    (sound_more g.K.Opening.opening g.K.Opening.limit es c.book.inside.pool.state c.commit.new.self.state _ _ _ e c.book.invariant step room)
+    rw (c.push_reserved.ensures.items, c.push_reserved.ensures.capacity, map-append)
+    (sound_more g.K.Opening.opening g.K.Opening.limit es c.book.inside.pool.state c.entry_of-entered.new.pool.state _ _ _ e c.book.invariant step room)
 
 pub returns-clause-legal : goal.returns-clause-legal
 returns-clause-legal g c =
+    let w = c.in-Some.ensures.some in
+    let e : Entry = arc_value c.in-Some.kept in
+    let step : Step c.book.inside.pool.state e.request e.reply c.entry_of-entered.new.pool.state = subst (λ q. Step c.book.inside.pool.state q e.reply c.entry_of-entered.new.pool.state) (sym w.request_is) w.step in
     let es : List Entry = map arc_value c.book.inside.history.items in
-    let e : Entry = record { seat = c.seat.inside.number; request = c.args.request; reply = c.prepare-reply.result.0 } in
-    let here : arc_value c.in-Some.kept ≡ e = c.in-Some.ensures.0 in
-    let step : Step c.book.inside.pool.state e.request e.reply c.commit.new.self.state = subst (λ (x : State). Step c.book.inside.pool.state e.request e.reply x) (sym c.commit.ensures) c.prepare-reply.ensures.step in
-    rw (c.push_reserved.ensures.items, map-append, here) (legal_more g.K.Opening.opening c.book.inside.pool.state c.commit.new.self.state es e c.book.invariant.legal step)
+    rw (c.push_reserved.ensures.items, map-append) (legal_more g.K.Opening.opening c.book.inside.pool.state c.entry_of-entered.new.pool.state es e c.book.invariant.legal step)
 
 pub same-book : goal.same-book
 same-book g c = search rules
@@ -73,12 +73,6 @@ returns-in_default-clause-full g c = grind (arith, common_steps)
 pub returns-in_default-clause-refusal : goal.returns-in_default-clause-refusal
 returns-in_default-clause-refusal g c = search rules
 
-pub same-ready : goal.same-ready
-same-ready g c = search rules
-
-pub commit-requires : goal.commit-requires
-commit-requires g c = search rules
-
 pub push_reserved-requires : goal.push_reserved-requires
 push_reserved-requires g c = search rules
 
@@ -87,9 +81,8 @@ push_reserved-requires-2 g c = search rules
 
 pub returns-clause-ran : goal.returns-clause-ran
 returns-clause-ran g c =
-    let e : Entry = record { seat = c.seat.inside.number; request = c.args.request; reply = c.prepare-reply.result.0 } in
-    let there : arc_value c.in-Some.theirs ≡ e = c.in-Some.ensures.2 in
-    (ap (λ (x : Entry). x.seat) there ∙ ap (λ (k : Kept). k.number) c.seat.view_is, ap (λ (x : Entry). x.request) there, search rules)
+    let w = c.in-Some.ensures.some in
+    (ap (λ (x : Entry). x.seat) w.third_is ∙ w.seat_is ∙ ap (λ (k : Kept). k.number) c.seat.view_is, ap (λ (x : Entry). x.request) w.third_is ∙ w.request_is, search rules)
 
 pub returns-clause-number : goal.returns-clause-number
 returns-clause-number g c =
@@ -97,13 +90,12 @@ returns-clause-number g c =
 
 pub returns-clause-step : goal.returns-clause-step
 returns-clause-step g c =
-    let e : Entry = record { seat = c.seat.inside.number; request = c.args.request; reply = c.prepare-reply.result.0 } in
-    let there : arc_value c.in-Some.theirs ≡ e = c.in-Some.ensures.2 in
-    let step : Step c.book.inside.pool.state e.request e.reply c.commit.new.self.state = subst (λ (x : State). Step c.book.inside.pool.state e.request e.reply x) (sym c.commit.ensures) c.prepare-reply.ensures.step in
-    subst (λ (m : State). Step m e.request (arc_value c.in-Some.theirs).reply c.commit.new.self.state) (ap (λ (p : Pages). p.pool) c.book.view_is) (rw there step)
+    let w = c.in-Some.ensures.some in
+    subst (λ (m : State). Step m c.args.request (arc_value c.in-Some.theirs).reply c.entry_of-entered.new.pool.state) (ap (λ (p : Pages). p.pool) c.book.view_is)
+    (subst (λ (x : Entry). Step c.book.inside.pool.state c.args.request x.reply c.entry_of-entered.new.pool.state) (sym w.third_is) w.step)
 
 pub returns-clause-book : goal.returns-clause-book
-returns-clause-book g c = grind (arith, common_steps)
+returns-clause-book g c = let same = c.in-Some.ensures.some.third_is in grind (arith, common_steps, same)
 
 pub returns-clause-full : goal.returns-clause-full
 returns-clause-full g c = grind (arith, common_steps)

@@ -28,21 +28,21 @@ apply_live-changed-requires c = record {
 pub release_all-requires : goal.release_all-requires
 release_all-requires c =
     let e = c.in-Ok-changed.ensures in
-    rw c.deref.ensures.value
+    rw c.deref.ensures
     (released_now (core_of c.self.inside) c.self.inside.allocator c.self.invariant c.in-FileSystem.name c.in-Ok.update c.from_ref.result.now c.from_ref.ensures.value
     c.in-Ok-changed.done c.apply_live-changed.new.self e.no_dataset e.ok e.others)
 
 pub take_all-requires : goal.take_all-requires
 take_all-requires c =
     let e = c.in-Ok-changed.ensures in
-    rw (c.release_all.ensures, c.deref.ensures.value, c.deref-2.ensures.value)
+    rw (c.release_all.ensures, c.deref.ensures, c.deref-2.ensures)
     (taken_now (core_of c.self.inside) c.self.inside.allocator c.self.invariant c.in-FileSystem.name c.in-Ok.update c.from_ref.result.now c.from_ref.ensures.value
     c.in-Ok-changed.done c.apply_live-changed.new.self e.no_dataset e.ok e.others)
 
 pub invariant_of-self-2 : goal.invariant_of-self-2
 invariant_of-self-2 c =
     let e = c.in-Ok-changed.ensures in
-    rw (c.take_all.ensures, c.release_all.ensures, c.deref.ensures.value, c.deref-2.ensures.value)
+    rw (c.take_all.ensures, c.release_all.ensures, c.deref.ensures, c.deref-2.ensures)
     (sound_now (core_of c.self.inside) c.self.inside.allocator c.self.invariant c.in-FileSystem.name c.in-Ok.update c.from_ref.result.now c.from_ref.ensures.value
     c.in-Ok-changed.done c.apply_live-changed.new.self e.no_dataset e.ok e.others)
 

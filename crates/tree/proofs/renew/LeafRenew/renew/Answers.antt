@@ -1,4 +1,4 @@
-use Rattle.std.proofs.Common.{[], length, Some, sym, ap, subst, ◌∙◌, arith}
+use Rattle.std.proofs.Common.{[], length, sym, ap, subst, ◌∙◌, arith}
 use Rattle.node.specs.Entries.{key_at}
 use Rattle.node.specs.Node.{leaf_part, part_of_slot}
 use Rattle.batch.specs.Said.{said, full}

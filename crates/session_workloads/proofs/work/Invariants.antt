@@ -1,0 +1,5 @@
+use Rattle.session_workloads.proofs.work.Given as goal
+
+-- the session begins at the pool that it is handed, and takes as many calls as are asked
+abbrev pub ghosts-called : goal.ghosts-called
+ghosts-called g a = record { opening = a.pool.state; limit = a.calls }

@@ -1,0 +1,50 @@
+//! Writes all over the root.
+use base::data::Data;
+use base::refusal::Refusal;
+use model::reply::Reply;
+use model::request::Request;
+use name::Target;
+use pool::Pool;
+use std::alloc::Global;
+use std::mem;
+
+/// How many leaves a tree has.
+const LEAVES: u64 = 1_048_576;
+
+/// The write with this number. Writes with numbers next to each other are of leaves far apart.
+pub fn write_of(alloc: Global, number: u32) -> Result<Request, Refusal> {
+    let leaf = (u64::from(number) * 7919 % LEAVES) as u32;
+    let target = Target::read(alloc, b"p")?;
+    let bytes = Data::new(alloc, &[(number % 251) as u8; 512])?;
+    Ok(Request::Write {
+        target,
+        object: leaf / 4096,
+        block: leaf % 4096,
+        bytes,
+    })
+}
+
+pub fn is_done(reply: &Reply) -> bool {
+    matches!(reply, Reply::Done)
+}
+
+/// How many of so many writes the pool has done. It isn't taken apart, since the program ends.
+pub fn applied(alloc: Global, mut pool: Pool, calls: u32) -> Result<u32, Refusal> {
+    let done = applied_to(alloc, &mut pool, calls);
+    mem::forget(pool);
+    done
+}
+
+fn applied_to(alloc: Global, pool: &mut Pool, calls: u32) -> Result<u32, Refusal> {
+    let mut done: u32 = 0;
+    for number in 0..calls {
+        let request = write_of(alloc, number)?;
+        let reply = pool.apply(alloc, &request);
+        drop(request);
+        if is_done(&reply) {
+            done = done.saturating_add(1);
+        }
+        drop(reply);
+    }
+    Ok(done)
+}
