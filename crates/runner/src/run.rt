@@ -19,7 +19,7 @@ use std::mem;
 /// Runs a script on a fresh pool, and gives the exit status: 0; 1 where a line was refused and the command line asks to stop
 /// there; 2 for a bad command line, after the usage line on `errors`; 3 after a fault's line on `errors`, where a read or a
 /// write failed or there was no memory (profile). Replies go to `writer`. That a line could be written to `errors` isn't
-/// promised.
+/// promised. The pool isn't freed, for the program ends after its run.
 pub fn run_args<R, W, E>(
     alloc: Global,
     args: Option<&Args>,
