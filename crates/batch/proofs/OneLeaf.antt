@@ -39,6 +39,7 @@ write_said (u ∷ []) d leaf bytes n e =
       spoken = λ s. full_silent bytes (sym here ∙ s);
       others = λ k h. ap (λ v. first_said (said_by v k) silent) e ∙ ap (λ b. first_said (cond b (full bytes) silent) silent) (eq_not leaf k (λ x. h (sym x)));
       written = λ t. (bytes, here);
+      punched = λ t. absurd (t refl);
     }
 write_said (u ∷ v ∷ us) d leaf bytes n e = absurd (omega arith)
 
@@ -56,6 +57,7 @@ punch_said (u ∷ []) d key n e z =
       spoken = λ s. hole_silent (sym here ∙ s);
       others = λ k h. ap (λ v. first_said (said_by v k) silent) e ∙ ap (λ b. first_said (cond b hole silent) silent) (leaf_covers key k z ∙ eq_not k key.index h);
       written = λ t. absurd (true≢false (sym t));
+      punched = λ t. here;
     }
 punch_said (u ∷ v ∷ us) d key n e z = absurd (omega arith)
 

@@ -50,11 +50,12 @@ pub record AreSized (us : List Update) : Type 0 where
 abbrev pub IsIdle : (ℕ → Said) → Bool → Type 0
 IsIdle s present = (n : ℕ) → (s n ≡ silent) ⊎ ((s n ≡ hole) × (present ≡ false))
 
--- one leaf is spoken of and nothing is said of any other; where it is said to be written, it is (profile)
+-- one leaf is spoken of and nothing is said of any other; it is written, or becomes a hole (profile)
 pub record IsOneLeaf (s : ℕ → Said) (leaf : ℕ) (writes : Bool) : Type 0 where
   pub spoken : ¬ (s leaf ≡ silent)
   pub others : (n : ℕ) → ¬ (n ≡ leaf) → s n ≡ silent
   pub written : IsTrue writes → (bytes : List ℕ) × (s leaf ≡ full bytes)
+  pub punched : ¬ (IsTrue writes) → s leaf ≡ hole
 
 -- the one leaf that is spoken of is below the place p of the key with the index j one level above l (profile)
 pub record IsWay (s : ℕ → Said) (l j p : ℕ) (writes : Bool) : Type 0 where

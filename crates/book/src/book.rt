@@ -1,9 +1,10 @@
 //! What lies under the lock, and the one function that adds to its history.
-ghost use Rattle.std.specs.Prelude.{◌≡◌, ◌+◌, ◌≤◌, ◌↔◌, [], ◌∷◌, ◌++◌, length, Err, IfOk, IfErr, IsErr, OnErr, OnOk};
+ghost use Rattle.std.specs.Prelude.{◌≡◌, ◌+◌, ◌≤◌, ◌↔◌, [], ◌∷◌, ◌++◌, length, Err, IfOk, IfErr, IsErr, IsTrue, OnErr, OnOk};
 ghost use Rattle.model.specs.Step.{Step};
 ghost use Rattle.book.specs.Calls.{IsFullOrNoMemory, IsNoLimit, IsUnopened, Ran};
 ghost use Rattle.book.specs.History.{IsLegal};
 
+use crate::call::Call;
 use crate::entering::entry_of;
 use crate::opening::Opening;
 use crate::seat::{Receipt, Seat};
@@ -81,6 +82,14 @@ impl<K: Opening> Book<K> {
         self.limit - self.history.len()
     }
 
+    // Whether it takes no more calls.
+    fn is_full(&self) -> bool
+        ensures full { IsTrue result ↔ (K.limit ≤ length self.now.history) }
+        ensures legal { IsLegal K.opening self.now.history self.now.pool }
+    {
+        self.history.len() >= self.limit
+    }
+
     /// A seat without receipts. Seats are numbered from 1 as they are given. TooManySeats once `SEAT_LIMIT` were given. It takes no
     /// memory.
     pub fn give_seat(&mut self, alloc: Global) -> Result<Seat<K>, Refusal>
@@ -102,10 +111,50 @@ impl<K: Opening> Book<K> {
     }
 }
 
-/// Applies a request of a seat, and appends its entry, which the seat's receipt and the one handed back share. A request that the
-/// pool refuses has run, and its entry has the refusal as its reply. At `Err` nothing ran: SessionFull where the history has its
-/// full length, NoMemory where there is no memory for the entry or its receipts. All that it allocates, it allocates before the
+/// Applies a call of a seat, and appends its entry, which the seat's receipt and the one handed back share. A request that the pool
+/// refuses has run, and its entry has the refusal as its reply. At `Err` nothing ran: SessionFull where the history has its full
+/// length, NoMemory where there is no memory for the reply or the seat's receipt. All that it allocates, it allocates before the
 /// pool changes. It costs what `Pool::apply` does.
+pub fn enter_call<K: Opening>(
+    alloc: Global,
+    book: &mut Book<K>,
+    seat: &mut Seat<K>,
+    call: Call,
+) -> Result<Receipt, Refusal>
+    requires own { call.seat ≡ seat.old.number }
+    ensures ran { IfOk result (λ r. Ran seat.old call.request r seat.new) }
+    ensures number { IfOk result (λ r. r.number ≡ length book.old.history) }
+    ensures step { IfOk result (λ r. Step book.old.pool call.request r.entry.reply book.new.pool) }
+    ensures legal { IsLegal K.opening book.new.history book.new.pool }
+    ensures book { IfOk result (λ r. book.new ≡ record book.old { history = book.old.history ++ r.entry ∷ []; pool = book.new.pool }) }
+    ensures err { OnErr result ((book.new ≡ book.old) × (seat.new ≡ seat.old)) }
+    ensures full { (result ≡ Err Refusal.SessionFull) ↔ (K.limit ≤ length book.old.history) }
+    ensures refusal { IfErr result (λ r. IsFullOrNoMemory r) }
+{
+    if book.is_full() {
+        drop(call);
+        return Err(Refusal::SessionFull);
+    }
+    if seat.receipts.reserve(1).is_err() {
+        drop(call);
+        return Err(Refusal::NoMemory);
+    }
+    let Some((kept, ours, theirs)) = entry_of(alloc, &mut book.pool, call) else {
+        return Err(Refusal::NoMemory);
+    };
+    let number = book.history.len() as u64;
+    book.history.push_reserved(kept);
+    seat.receipts.push_reserved(Receipt {
+        number,
+        entry: ours,
+    });
+    Ok(Receipt {
+        number,
+        entry: theirs,
+    })
+}
+
+/// Applies a request of a seat, as `enter_call` does the call for it; NoMemory also where there is none for its entry.
 pub fn enter<K: Opening>(
     alloc: Global,
     book: &mut Book<K>,
@@ -121,26 +170,10 @@ pub fn enter<K: Opening>(
     ensures full { (result ≡ Err Refusal.SessionFull) ↔ (K.limit ≤ length book.old.history) }
     ensures refusal { IfErr result (λ r. IsFullOrNoMemory r) }
 {
-    if book.history.len() >= book.limit {
+    if book.is_full() {
         drop(request);
         return Err(Refusal::SessionFull);
     }
-    if seat.receipts.reserve(1).is_err() {
-        drop(request);
-        return Err(Refusal::NoMemory);
-    }
-    let entered = entry_of(alloc, &mut book.pool, seat.number, request);
-    let Some((kept, ours, theirs)) = entered else {
-        return Err(Refusal::NoMemory);
-    };
-    let number = book.history.len() as u64;
-    book.history.push_reserved(kept);
-    seat.receipts.push_reserved(Receipt {
-        number,
-        entry: ours,
-    });
-    Ok(Receipt {
-        number,
-        entry: theirs,
-    })
+    let call = Call::new(alloc, seat, request)?;
+    enter_call(alloc, book, seat, call)
 }

@@ -1,11 +1,12 @@
-//! A request applied, with its entry made before the pool changes.
+//! A call applied: its reply is put into the entry that it brought.
 ghost use Rattle.std.specs.Prelude.{◌≡◌, ◌↔◌, IsTrue, IfSome, IfNone};
 ghost use Rattle.model.specs.State.{State};
 ghost use Rattle.model.specs.Step.{reply_of};
 ghost use Rattle.model.specs.declared.reply.Reply.TheVariants.{Done};
 ghost use Rattle.book.specs.Entered.{IsEntered};
 
-use model::entry::Entry;
+use crate::call::Call;
+use model::entry::{Entry, KeptReply};
 use model::reply::Reply;
 use model::request::Request;
 use pool::Pool;
@@ -15,20 +16,15 @@ use std::sync::Arc;
 /// Three owners of one entry.
 pub(crate) type Owners = (Arc<Entry>, Arc<Entry>, Arc<Entry>);
 
-/// Applies a request of a seat, and gives its entry. None, with the pool's state as it was, where there is no memory for the entry.
-pub(crate) fn entry_of(
-    alloc: Global,
-    pool: &mut Pool,
-    seat: u32,
-    request: Request,
-) -> Option<Owners>
-    ensures some { IfSome result (λ r. IsEntered pool.old.state seat request r.0.value r.1.value r.2.value pool.new.state) }
+/// Applies a call, and gives its entry. None, with the pool's state as it was, where there is no memory for the reply.
+pub(crate) fn entry_of(alloc: Global, pool: &mut Pool, call: Call) -> Option<Owners>
+    ensures some { IfSome result (λ r. IsEntered pool.old.state call.seat call.request r.0.value r.1.value r.2.value pool.new.state) }
     ensures none { IfNone result (pool.new.state ≡ pool.old.state) }
 {
-    if changes_a_tree(&request) {
-        changed(alloc, pool, seat, request)
+    if changes_a_tree(&call.kept.request) {
+        changed(alloc, pool, call)
     } else {
-        prepared(alloc, pool, seat, request)
+        prepared(alloc, pool, call)
     }
 }
 
@@ -45,32 +41,44 @@ fn changes_a_tree(request: &Request) -> bool
     }
 }
 
-/// The entry is made with the reply that the request has if it isn't refused, and then the pool is changed where it is.
-fn changed(alloc: Global, pool: &mut Pool, seat: u32, request: Request) -> Option<Owners>
-    requires { (s : State) → reply_of s request ≡ Done }
-    ensures some { IfSome result (λ r. IsEntered pool.old.state seat request r.0.value r.1.value r.2.value pool.new.state) }
+/// The pool is changed where it is. Only a refusal is put into the entry, since it has the reply Done already.
+fn changed(alloc: Global, pool: &mut Pool, call: Call) -> Option<Owners>
+    requires { (s : State) → reply_of s call.request ≡ Done }
+    ensures some { IfSome result (λ r. IsEntered pool.old.state call.seat call.request r.0.value r.1.value r.2.value pool.new.state) }
     ensures none { IfNone result (pool.new.state ≡ pool.old.state) }
 {
-    let entry = Entry {
-        seat,
-        request,
-        reply: Reply::Done,
-    };
-    let (kept, ours, theirs) = shared(alloc, entry)?;
-    let reply = pool.apply(alloc, &kept.request);
+    let reply = pool.apply(alloc, &call.kept.request);
     if is_done(&reply) {
         drop(reply);
+        let Call { kept, ours, theirs } = call;
         return Some((kept, ours, theirs));
     }
-    drop(ours);
-    drop(theirs);
-    refused(kept, reply)
+    answered(alloc, call, reply)
 }
 
-/// The entry with another reply. None where memory is refused.
-fn refused(mut kept: Arc<Entry>, reply: Reply) -> Option<Owners>
-    ensures { IfSome result (λ r. (r.0.value ≡ record kept.value { reply = reply }) × (r.1.value ≡ r.0.value) × (r.2.value ≡ r.0.value)) }
+/// The step is prepared, then its reply is put into the entry, and then the step is taken.
+fn prepared(alloc: Global, pool: &mut Pool, call: Call) -> Option<Owners>
+    ensures some { IfSome result (λ r. IsEntered pool.old.state call.seat call.request r.0.value r.1.value r.2.value pool.new.state) }
+    ensures none { IfNone result (pool.new.state ≡ pool.old.state) }
 {
+    let (reply, ready) = pool.prepare(alloc, &call.kept.request);
+    let owners = answered(alloc, call, reply)?;
+    pool.commit(ready);
+    Some(owners)
+}
+
+/// The entry of a call with this reply. None where memory is refused.
+fn answered(alloc: Global, call: Call, reply: Reply) -> Option<Owners>
+    ensures { IfSome result (λ r. (r.0.value ≡ record { seat = call.seat; request = call.request; reply = reply }) × (r.1.value ≡ r.0.value) × (r.2.value ≡ r.0.value)) }
+{
+    let reply = KeptReply::new(alloc, reply).ok()?;
+    let Call {
+        mut kept,
+        ours,
+        theirs,
+    } = call;
+    drop(ours);
+    drop(theirs);
     match Arc::get_mut(&mut kept) {
         Some(entry) => entry.reply = reply,
         None => {
@@ -83,34 +91,8 @@ fn refused(mut kept: Arc<Entry>, reply: Reply) -> Option<Owners>
     Some((kept, ours, theirs))
 }
 
-/// The step is prepared, then the entry is made with its reply, and then the step is taken.
-fn prepared(alloc: Global, pool: &mut Pool, seat: u32, request: Request) -> Option<Owners>
-    ensures some { IfSome result (λ r. IsEntered pool.old.state seat request r.0.value r.1.value r.2.value pool.new.state) }
-    ensures none { IfNone result (pool.new.state ≡ pool.old.state) }
-{
-    let (reply, ready) = pool.prepare(alloc, &request);
-    let entry = Entry {
-        seat,
-        request,
-        reply,
-    };
-    let owners = shared(alloc, entry)?;
-    pool.commit(ready);
-    Some(owners)
-}
-
 fn is_done(reply: &Reply) -> bool
     ensures { IsTrue result ↔ (reply.now ≡ Done) }
 {
     matches!(reply, Reply::Done)
-}
-
-/// Three owners of an entry, or none where memory is refused.
-fn shared(alloc: Global, entry: Entry) -> Option<Owners>
-    ensures { IfSome result (λ r. (r.0.value ≡ entry) × (r.1.value ≡ entry) × (r.2.value ≡ entry)) }
-{
-    let first = Arc::new(alloc, entry).ok()?;
-    let second = Arc::try_clone(&first).ok()?;
-    let third = Arc::try_clone(&first).ok()?;
-    Some((first, second, third))
 }

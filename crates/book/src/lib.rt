@@ -1,14 +1,16 @@
 //! What lies under a session's lock: a pool with the history that led to its state. A caller's seat keeps a receipt for each of its
-//! calls. `enter` is the one function that adds to the history, and `Book::close` compares all receipts with it.
+//! calls. `enter_call` is the one function that adds to the history, and `Book::close` compares all receipts with it.
 #![tactic(auto)]
 
 mod book;
+mod call;
 mod closing;
 mod entering;
 mod opening;
 mod seat;
 
-pub use book::{Book, CALL_LIMIT, SEAT_LIMIT, enter};
+pub use book::{Book, CALL_LIMIT, SEAT_LIMIT, enter, enter_call};
+pub use call::Call;
 pub use closing::Closed;
 pub use opening::Opening;
 pub use seat::{Receipt, Seat};

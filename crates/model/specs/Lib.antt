@@ -10,6 +10,7 @@ pub mod Properties
 pub mod Outcome
 pub mod Refusals
 pub mod Numbers
+pub mod Kept
 pub mod Step
 pub mod Run
 pub mod RunLaws

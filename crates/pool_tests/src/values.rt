@@ -1,7 +1,8 @@
 //! Requests, replies and entries, compared by value.
 use base::data::Data;
+use base::refusal::Refusal;
 use base::text::Bytes;
-use model::entry::Entry;
+use model::entry::{Entry, KeptReply};
 use model::laws::run_laws;
 use model::names::Names;
 use model::reply::{Reply, Value};
@@ -113,11 +114,15 @@ fn names_compared(rt: HostRuntime) {
     assert!(rt; is_listed(&rt, alloc, b"p/a"));
 }
 
-fn entry(seat: u32, group: u64) -> Entry {
+fn kept(rt: &impl Abort, alloc: Global, reply: Reply) -> KeptReply {
+    KeptReply::new(alloc, reply).expect(rt, "memory for a reply")
+}
+
+fn entry(rt: &impl Abort, alloc: Global, seat: u32, group: u64) -> Entry {
     Entry {
         seat,
         request: Request::Sync,
-        reply: Reply::Group(group),
+        reply: kept(rt, alloc, Reply::Group(group)),
     }
 }
 
@@ -137,9 +142,46 @@ fn are_same_replies(one: Reply, other: Reply) -> bool {
 
 #[test]
 fn entries_compared(rt: HostRuntime) {
-    assert!(rt; are_same_entries(entry(1, 2), entry(1, 2)));
-    assert!(rt; !are_same_entries(entry(1, 2), entry(2, 2)));
-    assert!(rt; !are_same_entries(entry(1, 2), entry(1, 3)));
+    let alloc = rt.alloc();
+    assert!(rt; are_same_entries(entry(&rt, alloc, 1, 2), entry(&rt, alloc, 1, 2)));
+    assert!(rt; !are_same_entries(entry(&rt, alloc, 1, 2), entry(&rt, alloc, 2, 2)));
+    assert!(rt; !are_same_entries(entry(&rt, alloc, 1, 2), entry(&rt, alloc, 1, 3)));
     assert!(rt; are_same_replies(Reply::Data(Some([7; 512])), Reply::Data(Some([7; 512]))));
     assert!(rt; !are_same_replies(Reply::Data(None), Reply::Done));
+}
+
+// Whether a kept group is lent as that group, and is that reply and no other.
+fn is_kept_group(rt: &impl Abort, alloc: Global, group: u64) -> bool {
+    let reply = kept(rt, alloc, Reply::Group(group));
+    let lent = match reply.other() {
+        Some(Reply::Group(lent)) => *lent == group,
+        _ => false,
+    };
+    lent && reply.is(&Reply::Group(group)) && !reply.is(&Reply::Done)
+}
+
+// Whether Done is kept without another reply, as a word or put in as one.
+fn is_kept_done(reply: KeptReply) -> bool {
+    reply.other().is_none()
+        && reply.is(&Reply::Done)
+        && !reply.is(&Reply::Group(2))
+        && reply.same(&KeptReply::done())
+}
+
+#[test]
+fn kept_replies(rt: HostRuntime) {
+    let alloc = rt.alloc();
+    assert!(rt; is_kept_group(&rt, alloc, 2));
+    assert!(rt; is_kept_done(KeptReply::done()));
+    assert!(rt; is_kept_done(kept(&rt, alloc, Reply::Done)));
+    assert!(rt; !kept(&rt, alloc, Reply::Group(2)).same(&KeptReply::done()));
+}
+
+// Run with each allocation refused in turn.
+#[test]
+fn refused_kept_replies_are_no_memory(rt: HostRuntime) {
+    match KeptReply::new(rt.alloc(), Reply::Group(2)) {
+        Ok(reply) => assert!(rt; reply.is(&Reply::Group(2))),
+        Err(why) => assert!(rt; why == Refusal::NoMemory),
+    }
 }

@@ -4,7 +4,7 @@ ghost use Rattle.book.specs.Calls.{Ran, IsFullOrNoMemory, IsNoLimit, IsUnopened}
 ghost use Rattle.book.specs.declared.book.TheConstants.{SEAT_LIMIT};
 
 use base::refusal::Refusal;
-use book::{Book, Opening, Receipt, Seat, enter};
+use book::{Book, Call, Opening, Receipt, Seat, enter_call};
 use model::request::Request;
 use pool::Pool;
 use std::alloc::Global;
@@ -43,7 +43,7 @@ impl<K: Opening> Session<K> {
 
     /// Applies a request, and gives its place in the history. A request that the pool refuses has run, and its entry has the refusal
     /// as its reply. At `Err` nothing ran: SessionFull once the session has taken all its calls, NoMemory where there is no memory
-    /// for the entry or its receipts.
+    /// for the entry or its receipts. The entry's memory is taken before the lock.
     pub fn call<R: Wait>(
         &self,
         alloc: Global,
@@ -56,8 +56,9 @@ impl<K: Opening> Session<K> {
         ensures err { OnErr result (seat.new ≡ seat.old) }
         ensures refusal { IfErr result (λ r. IsFullOrNoMemory r) }
     {
+        let call = Call::new(alloc, seat, request)?;
         let mut book = self.book.lock(rt);
-        enter(alloc, &mut book, seat, request)
+        enter_call(alloc, &mut book, seat, call)
     }
 
     /// Gives up the lock, once no thread has the session any more.

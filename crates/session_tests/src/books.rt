@@ -3,7 +3,7 @@ ghost use Rattle.std.specs.Prelude.{◌≡◌};
 
 use crate::rig::{Wanted, closes_with, get_of, is_receipt, read_of, write_of};
 use base::refusal::Refusal;
-use book::{Book, Opening, Seat, enter};
+use book::{Book, Call, Opening, Seat, enter, enter_call};
 use model::request::Request;
 use pool::Pool;
 use std::alloc::Global;
@@ -47,7 +47,7 @@ fn both_run<K: Opening>(
             0,
             Wanted::Done,
         )
-        && is_entered(
+        && is_called(
             rt,
             alloc,
             book,
@@ -71,6 +71,24 @@ fn is_entered<K: Opening>(
 ) -> bool {
     let request = request.expect(rt, "memory");
     let receipt = enter(alloc, book, seat, request).expect(rt, "room");
+    let same = is_receipt(&receipt, number, wanted);
+    drop(receipt);
+    same
+}
+
+// Whether a request is entered as a call that has its memory, with this number and this reply.
+fn is_called<K: Opening>(
+    rt: &impl Abort,
+    alloc: Global,
+    book: &mut Book<K>,
+    seat: &mut Seat<K>,
+    request: Result<Request, Refusal>,
+    number: u64,
+    wanted: Wanted,
+) -> bool {
+    let request = request.expect(rt, "memory");
+    let call = Call::new(alloc, seat, request).expect(rt, "memory");
+    let receipt = enter_call(alloc, book, seat, call).expect(rt, "room");
     let same = is_receipt(&receipt, number, wanted);
     drop(receipt);
     same

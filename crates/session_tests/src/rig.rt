@@ -4,6 +4,7 @@ ghost use Rattle.std.specs.Prelude.{◌≡◌};
 use base::data::Data;
 use base::refusal::Refusal;
 use book::{Book, Opening, Receipt, Seat};
+use model::entry::KeptReply;
 use model::reply::Reply;
 use model::request::{Property, Request};
 use name::Target;
@@ -86,9 +87,9 @@ fn reply_of(wanted: Wanted) -> Reply {
     }
 }
 
-pub fn is_reply(reply: &Reply, wanted: Wanted) -> bool {
+pub fn is_reply(reply: &KeptReply, wanted: Wanted) -> bool {
     let wanted = reply_of(wanted);
-    let same = reply.same(&wanted);
+    let same = reply.is(&wanted);
     drop(wanted);
     same
 }

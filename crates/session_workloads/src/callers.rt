@@ -1,9 +1,10 @@
 //! Callers of a session.
 ghost use Rattle.std.specs.Prelude.{◌≡◌};
 
-use crate::writes::{is_done, write_of};
+use crate::writes::write_of;
 use base::refusal::Refusal;
 use book::{Opening, Seat};
+use model::reply::Reply;
 use pool::Pool;
 use session::Session;
 use std::alloc::Global;
@@ -103,7 +104,7 @@ fn is_written<K: Opening, R: Wait>(
 ) -> Result<bool, Refusal> {
     let request = write_of(alloc, number)?;
     let receipt = session.call(alloc, rt, seat, request)?;
-    let done = is_done(&receipt.entry.reply);
+    let done = receipt.entry.reply.is(&Reply::Done);
     drop(receipt);
     Ok(done)
 }

@@ -24,7 +24,7 @@ pub fn write_of(alloc: Global, number: u32) -> Result<Request, Refusal> {
     })
 }
 
-pub fn is_done(reply: &Reply) -> bool {
+fn is_done(reply: &Reply) -> bool {
     matches!(reply, Reply::Done)
 }
 

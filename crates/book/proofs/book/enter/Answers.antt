@@ -1,101 +1,21 @@
-use Rattle.std.proofs.Common.{rules, ◌∙◌, ◌<◌, List, length, arith, sym, subst, map, ap}
-use Rattle.std.specs.Arc.{arc_value}
-use Rattle.std.proofs.lemmas.List.{length-map, map-append}
-use Rattle.std.proofs.lemmas.Grind.{common_steps}
-use Rattle.model.specs.State.{State}
+use Rattle.std.proofs.Common.{ap, subst}
+use Rattle.std.specs.Prelude.{IfOk}
 use Rattle.model.specs.Step.{Step}
-use Rattle.model.specs.declared.entry.Entry.{Entry}
-use Rattle.book.specs.Books.{Pages}
-use Rattle.book.specs.Receipts.{Kept}
-use Rattle.book.proofs.Legal.{sound_more, legal_more}
+use Rattle.model.specs.declared.request.Request.{Request}
+use Rattle.book.specs.Asked.{Asked}
+use Rattle.book.specs.Calls.{Ran}
 use Rattle.book.proofs.book.enter.Goals as goal
 
-pub invariant_of-book-2 : goal.invariant_of-book-2
-invariant_of-book-2 g c =
-    let w = c.in-Some.ensures.some in
-    let e : Entry = arc_value c.in-Some.kept in
-    let step : Step c.book.inside.pool.state e.request e.reply c.entry_of-entered.new.pool.state = subst (λ q. Step c.book.inside.pool.state q e.reply c.entry_of-entered.new.pool.state) (sym w.request_is) w.step in
-    let es : List Entry = map arc_value c.book.inside.history.items in
-    let room : length es < c.book.inside.limit = omega (arith, length-map c.book.inside.history.items arc_value) in
-    rw (c.push_reserved.ensures.items, c.push_reserved.ensures.capacity, map-append)
-    (sound_more g.K.Opening.opening g.K.Opening.limit es c.book.inside.pool.state c.entry_of-entered.new.pool.state _ _ _ e c.book.invariant step room)
+pub returns-then-is_full-clause-legal : goal.returns-then-is_full-clause-legal
+returns-then-is_full-clause-legal g c = c.is_full.ensures.legal
 
-pub returns-clause-legal : goal.returns-clause-legal
-returns-clause-legal g c =
-    let w = c.in-Some.ensures.some in
-    let e : Entry = arc_value c.in-Some.kept in
-    let step : Step c.book.inside.pool.state e.request e.reply c.entry_of-entered.new.pool.state = subst (λ q. Step c.book.inside.pool.state q e.reply c.entry_of-entered.new.pool.state) (sym w.request_is) w.step in
-    let es : List Entry = map arc_value c.book.inside.history.items in
-    rw (c.push_reserved.ensures.items, map-append) (legal_more g.K.Opening.opening c.book.inside.pool.state c.entry_of-entered.new.pool.state es e c.book.invariant.legal step)
-
-pub same-book : goal.same-book
-same-book g c = search rules
-
-pub returns-then-len-book-clause-legal : goal.returns-then-len-book-clause-legal
-returns-then-len-book-clause-legal g c = search rules
-
-pub returns-then-len-book-clause-err : goal.returns-then-len-book-clause-err
-returns-then-len-book-clause-err g c = search rules
-
-pub returns-then-len-book-clause-full : goal.returns-then-len-book-clause-full
-returns-then-len-book-clause-full g c = grind (arith, common_steps)
-
-pub returns-then-len-book-clause-refusal : goal.returns-then-len-book-clause-refusal
-returns-then-len-book-clause-refusal g c = search rules
-
-pub same-book-then-is_err : goal.same-book-then-is_err
-same-book-then-is_err g c = search rules
-
-pub returns-then-is_err-clause-legal : goal.returns-then-is_err-clause-legal
-returns-then-is_err-clause-legal g c = search rules
-
-pub returns-then-is_err-clause-err : goal.returns-then-is_err-clause-err
-returns-then-is_err-clause-err g c = search rules
-
-pub returns-then-is_err-clause-full : goal.returns-then-is_err-clause-full
-returns-then-is_err-clause-full g c = grind (arith, common_steps)
-
-pub returns-then-is_err-clause-refusal : goal.returns-then-is_err-clause-refusal
-returns-then-is_err-clause-refusal g c = search rules
-
-pub invariant_of-book : goal.invariant_of-book
-invariant_of-book g c = search rules
-
-pub returns-in_default-clause-legal : goal.returns-in_default-clause-legal
-returns-in_default-clause-legal g c = search rules
-
-pub returns-in_default-clause-err : goal.returns-in_default-clause-err
-returns-in_default-clause-err g c = search rules
-
-pub returns-in_default-clause-full : goal.returns-in_default-clause-full
-returns-in_default-clause-full g c = grind (arith, common_steps)
-
-pub returns-in_default-clause-refusal : goal.returns-in_default-clause-refusal
-returns-in_default-clause-refusal g c = search rules
-
-pub push_reserved-requires : goal.push_reserved-requires
-push_reserved-requires g c = search rules
-
-pub push_reserved-requires-2 : goal.push_reserved-requires-2
-push_reserved-requires-2 g c = search rules
+pub returns-in_err-call-clause-legal : goal.returns-in_err-call-clause-legal
+returns-in_err-call-clause-legal g c = c.is_full.ensures.legal
 
 pub returns-clause-ran : goal.returns-clause-ran
 returns-clause-ran g c =
-    let w = c.in-Some.ensures.some in
-    (ap (λ (x : Entry). x.seat) w.third_is ∙ w.seat_is ∙ ap (λ (k : Kept). k.number) c.seat.view_is, ap (λ (x : Entry). x.request) w.third_is ∙ w.request_is, search rules)
-
-pub returns-clause-number : goal.returns-clause-number
-returns-clause-number g c =
-    omega (arith, length-map c.book.inside.history.items arc_value, c.len-number.ensures, c.book.inside.history.ok.0, ap (λ (p : Pages). length p.history) c.book.view_is)
+    subst (λ (q : Request). IfOk c.enter_call.result (λ r. Ran c.args.seat.now q r c.enter_call.new.seat)) (ap (λ (a : Asked). a.request) c.in_ok-call.ensures.ok) c.enter_call.ensures.ran
 
 pub returns-clause-step : goal.returns-clause-step
 returns-clause-step g c =
-    let w = c.in-Some.ensures.some in
-    subst (λ (m : State). Step m c.args.request (arc_value c.in-Some.theirs).reply c.entry_of-entered.new.pool.state) (ap (λ (p : Pages). p.pool) c.book.view_is)
-    (subst (λ (x : Entry). Step c.book.inside.pool.state c.args.request x.reply c.entry_of-entered.new.pool.state) (sym w.third_is) w.step)
-
-pub returns-clause-book : goal.returns-clause-book
-returns-clause-book g c = let same = c.in-Some.ensures.some.third_is in grind (arith, common_steps, same)
-
-pub returns-clause-full : goal.returns-clause-full
-returns-clause-full g c = grind (arith, common_steps)
+    subst (λ (q : Request). IfOk c.enter_call.result (λ r. Step c.args.book.now.pool q r.entry.reply c.enter_call.new.book.pool)) (ap (λ (a : Asked). a.request) c.in_ok-call.ensures.ok) c.enter_call.ensures.step
