@@ -1,7 +1,6 @@
 //! A call applied: its reply is put into the entry that it brought.
 ghost use Rattle.std.specs.Prelude.{◌≡◌, ◌↔◌, IsTrue, IfSome, IfNone};
-ghost use Rattle.model.specs.State.{State};
-ghost use Rattle.model.specs.Step.{reply_of};
+ghost use Rattle.model.specs.requests.{AnswersDone};
 ghost use Rattle.model.specs.declared.reply.Reply.TheVariants.{Done};
 ghost use Rattle.book.specs.Entered.{IsEntered};
 
@@ -29,9 +28,8 @@ pub(crate) fn entry_of(alloc: Global, pool: &mut Pool, call: Call) -> Option<Own
 }
 
 /// Whether a request changes one tree. Its reply is Done, unless it is refused.
-#[tactic(auto, unfolding(model::specs::Step::reply_of))]
 fn changes_a_tree(request: &Request) -> bool
-    ensures { IsTrue result → (s : State) → reply_of s request.now ≡ Done }
+    ensures { IsTrue result → AnswersDone request.now }
 {
     match request {
         Request::Write { .. } => true,
@@ -43,7 +41,7 @@ fn changes_a_tree(request: &Request) -> bool
 
 /// The pool is changed where it is. Only a refusal is put into the entry, since it has the reply Done already.
 fn changed(alloc: Global, pool: &mut Pool, call: Call) -> Option<Owners>
-    requires { (s : State) → reply_of s call.request ≡ Done }
+    requires { AnswersDone call.request }
     ensures some { IfSome result (λ r. IsEntered pool.old.state call.seat call.request r.0.value r.1.value r.2.value pool.new.state) }
     ensures none { IfNone result (pool.new.state ≡ pool.old.state) }
 {

@@ -7,6 +7,10 @@ pub mod Codes
 pub mod Sums
 pub mod Fits
 pub mod Properties
+pub mod Targets
+pub mod Edits
+pub mod Rule
+pub mod requests
 pub mod Outcome
 pub mod Refusals
 pub mod Numbers

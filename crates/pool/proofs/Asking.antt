@@ -1,5 +1,5 @@
 -- What each request asks of a tree, from what its update tells.
-use Rattle.std.proofs.Common.{◌≡◌, ◌≤◌, ◌↔◌, ℕ, List, Result, Err, [], ◌∷◌}
+use Rattle.std.proofs.Common.{◌≡◌, ◌≤◌, ◌↔◌, ℕ, List, Result, Err, [], ◌∷◌, refl}
 use Rattle.std.specs.Prelude.{IfOk, IfErr}
 use Rattle.base.specs.Key.{leaf_index}
 use Rattle.base.specs.Rewrite.{writes_leaf, punches_leaf, frees_object}
@@ -10,9 +10,7 @@ use Rattle.batch.specs.declared.update.Update.{Update}
 use Rattle.tree.specs.Updates.{changes_of}
 use Rattle.objset.specs.Blocks.{IsNoBlock}
 use Rattle.model.specs.declared.request.Request.TheVariants.{Write, Punch, FreeObject}
-use Rattle.model.specs.Refusals.{is_object, is_block}
-use Rattle.world.proofs.SystemsSteps.{write_changes}
-use Rattle.world.proofs.SystemsRequests.{punch_changes, free_changes}
+use Rattle.model.specs.Targets.{is_object, is_block}
 use Rattle.pool.specs.Asked.{Asks}
 use Rattle.pool.proofs.Changes.{object_tells, block_tells}
 
@@ -22,7 +20,7 @@ module _ (target : Target) (object : ℕ) (r : Result Update Refusal) (only : If
   asks_write block bytes is bad = record {
     changes = writes_leaf (leaf_index object block) bytes;
     in_range = is_block object block;
-    live = write_changes target object block bytes;
+    rule = refl;
     is = is;
     bad_key = block_tells object block bad;
     only = only;
@@ -33,7 +31,7 @@ module _ (target : Target) (object : ℕ) (r : Result Update Refusal) (only : If
   asks_punch block is bad = record {
     changes = punches_leaf (leaf_index object block);
     in_range = is_block object block;
-    live = punch_changes target object block;
+    rule = refl;
     is = is;
     bad_key = block_tells object block bad;
     only = only;
@@ -43,7 +41,7 @@ module _ (target : Target) (object : ℕ) (r : Result Update Refusal) (only : If
   asks_free is bad = record {
     changes = frees_object object;
     in_range = is_object object;
-    live = free_changes target object;
+    rule = refl;
     is = is;
     bad_key = object_tells object bad;
     only = only;

@@ -17,11 +17,13 @@ use Rattle.tree.specs.Change.{Shown as ShownChange, IsChange, HasRoom, LacksRoom
 use Rattle.model.specs.declared.request.Request.{Request}
 use Rattle.model.specs.declared.reply.Reply.{Reply}
 use Rattle.model.specs.declared.reply.Reply.TheVariants.{Done, Refused}
-use Rattle.model.specs.Refusals.{is_object, is_block}
+use Rattle.model.specs.Targets.{is_object, is_block}
 use Rattle.model.specs.Step.{Step}
 use Rattle.table.specs.Rows.{Row}
 use Rattle.world.specs.Systems.{Systems, systems_state, with_live}
-use Rattle.world.specs.SystemsSteps.{ChangesLive, IsAbsent}
+use Rattle.model.specs.requests.{rule_of}
+use Rattle.model.specs.requests.Change.{change_rule}
+use Rattle.world.specs.SystemsSteps.{IsAbsent}
 use Rattle.world.proofs.SystemsWrite.{cells_born, cells_allocated, change_can}
 use Rattle.world.proofs.SystemsSteps.{change_refused, change_no_memory, change_no_dataset, change_done}
 use Rattle.pool.specs.declared.pool.Plan.{Plan}
@@ -89,11 +91,11 @@ module _ (c : Systems) (states : List BlockState) (sound : IsSound c states) (q 
     outside = asks.bad_key.0 (ap Err asks.only)
 
     pub outside_absent : None ≡ row_named c.now target → Step (systems_state c) q (Refused NoDataset) (systems_state c)
-    outside_absent none = change_no_dataset c sound.core q target asks.changes asks.in_range asks.live (absent c.now target none)
+    outside_absent none = change_no_dataset c sound.core q target asks.changes asks.in_range asks.rule (absent c.now target none)
 
     pub outside_refused : (row : Row) → IsFound c.now target row → Step (systems_state c) q (Refused why) (systems_state c)
     outside_refused row is =
-        change_refused c sound.core q target asks.changes asks.in_range asks.live row.0 row.1 is.named is.there states sound.states why
+        change_refused c sound.core q target asks.changes asks.in_range asks.rule row.0 row.1 is.named is.there states sound.states why
         (λ _. outside) (λ e. let f = asks.only in absurd (no_space_here e f)) (inl asks.only)
       where
         no_space_here : why ≡ NoSpace → why ≡ BadKey → ⊥
@@ -110,25 +112,25 @@ module _ (c : Systems) (states : List BlockState) (sound : IsSound c states) (q 
         no_error : Ok u ≡ update_error BadKey → ⊥
         no_error e = cc
 
-    live : ChangesLive q target ch asks.in_range
-    live = subst (λ x. ChangesLive q target x asks.in_range) (sym asks.is) asks.live
+    rule : rule_of q None ≡ change_rule target ch asks.in_range
+    rule = subst (λ x. rule_of q None ≡ change_rule target x asks.in_range) (sym asks.is) asks.rule
 
     pub update_absent : IsAbsent c.now target → Step (systems_state c) q (Refused NoDataset) (systems_state c)
-    update_absent none = change_no_dataset c sound.core q target ch asks.in_range live none
+    update_absent none = change_no_dataset c sound.core q target ch asks.in_range rule none
 
     pub update_no_memory : Step (systems_state c) q (Refused NoMemory) (systems_state c)
-    update_no_memory = change_no_memory c sound.core q target ch asks.in_range live
+    update_no_memory = change_no_memory c sound.core q target ch asks.in_range rule
 
     module _ (row : Row) (is : IsFound c.now target row) where
       pub update_done : (v : ShownChange) → HasRoom row.1.live ch c.last_group states → IsChange row.1.live ch c.group c.last_group states v
           → Step (systems_state c) q Done (systems_state (record c { now = with_live c.now row.0 v.new }))
       update_done v room change =
-          change_done c sound.core q target ch asks.in_range live row.0 row.1 is.named is.there states sound.states within v room change change.taken_free
+          change_done c sound.core q target ch asks.in_range rule row.0 row.1 is.named is.there states sound.states within v room change change.taken_free
 
       pub update_refused : (why : Refusal) → (why ≡ NoSpace → LacksRoom row.1.live ch c.last_group states) → (why ≡ NoSpace) ⊎ (why ≡ NoMemory)
           → Step (systems_state c) q (Refused why) (systems_state c)
       update_refused why lacks which =
-          change_refused c sound.core q target ch asks.in_range live row.0 row.1 is.named is.there states sound.states why
+          change_refused c sound.core q target ch asks.in_range rule row.0 row.1 is.named is.there states sound.states why
           (λ e. absurd (no_bad_key why which e)) (λ e. (within, lacks e)) (inr which)
 
 -- ---- a change that a tree has prepared

@@ -20,16 +20,16 @@ use Rattle.model.specs.declared.reply.Reply.{Reply}
 use Rattle.model.specs.declared.reply.Reply.TheVariants.{Done, Refused, Data, Value as ValueIs, Group as GroupIs, Names as NamesAre}
 use Rattle.model.specs.declared.reply.Value.TheVariants.{Size, Number}
 use Rattle.model.specs.World.{empty_file_system}
-use Rattle.model.specs.Refusals.{is_block, number_limit}
+use Rattle.model.specs.Targets.{is_block, number_limit}
 use Rattle.model.specs.Step.{Step}
 use Rattle.model.specs.Sums.{IsBalanced}
 use Rattle.model.specs.Numbers.{IsNumbered, HasStates}
 use Rattle.table.specs.Rows.{Row, FileSystems}
-use Rattle.model.specs.Refusals.{create_refusal}
+use Rattle.model.specs.requests.Create.{create_refusal}
 use Rattle.world.specs.Systems.{Systems, systems_state, AreStates}
 use Rattle.world.proofs.SystemsCreate as creates
 use Rattle.world.proofs.SystemsReads as reads
-use Rattle.world.proofs.SystemsRequests.{create_creates, list_no_memory, list_done}
+use Rattle.world.proofs.SystemsRequests.{list_no_memory, list_done}
 use Rattle.world.proofs.SystemsNumbered.{systems_numbered}
 use Rattle.world.proofs.SystemsSyncSteps as sync
 use Rattle.pool.specs.Named.{row_named}
@@ -147,7 +147,7 @@ module _ (s : Shown) (c : Systems) (states : List BlockState) (view : shown c st
     -- one that was refused
     pub create_refused : (why : Refusal) → (create_refusal c.now name ≡ Some why) ⊎ (why ≡ NoMemory) → Step s.state (Create name) (Refused why) (systems_state s.core)
     create_refused why which = at _ _
-        (creates.create_err c (Create name) name (create_creates name) why which)
+        (creates.create_err c name why which)
 
     module _ (f : Row) (made : f ≡ (name, empty_file_system)) (may : create_refusal c.now name ≡ None) where
       pub create_can : CanCreate s.core f
@@ -157,7 +157,7 @@ module _ (s : Shown) (c : Systems) (states : List BlockState) (view : shown c st
       pub create_done : Step s.state (Create name) Done (systems_state (record s.core { now = insert s.core.now f.0 f.1 }))
       create_done = subst (λ (x : Shown). Step x.state (Create name) Done (systems_state (record x.core { now = insert x.core.now f.0 f.1 }))) view
           (subst (λ (r : Row). Step (systems_state c) (Create name) Done (systems_state (record c { now = insert c.now r.0 r.1 }))) (sym made)
-          (creates.create_done c (Create name) name (create_creates name) sound.core may))
+          (creates.create_done c name sound.core may))
 
   -- ---- a sync
 

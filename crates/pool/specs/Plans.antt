@@ -2,9 +2,9 @@
 use Rattle.std.specs.Prelude.{◌≡◌, ◌+◌, ◌<◌, None}
 use Rattle.std.specs.FinMap.{insert}
 use Rattle.model.specs.World.{empty_file_system}
-use Rattle.model.specs.Refusals.{number_limit}
+use Rattle.model.specs.Targets.{number_limit}
 use Rattle.table.specs.Rows.{Row, FileSystems}
-use Rattle.model.specs.Refusals.{create_refusal}
+use Rattle.model.specs.requests.Create.{create_refusal}
 use Rattle.world.specs.Systems.{Systems, with_live}
 use Rattle.world.specs.SystemsSteps.{CanChange}
 use Rattle.pool.specs.declared.pool.Plan.{Plan}

@@ -21,7 +21,7 @@ use Rattle.model.specs.World.{FileSystem, empty_file_system}
 use Rattle.table.specs.Rows.{Row, FileSystems, live_of, with_live}
 use Rattle.table.specs.Places.{IsAt, IsGapFor}
 use Rattle.model.specs.Hierarchy.{IsHierarchy, has_parent, file_system_limit}
-use Rattle.model.specs.Refusals.{create_refusal}
+use Rattle.model.specs.requests.Create.{create_refusal}
 use Rattle.table.proofs.Sorted.{comparisons_rise, find_at, put_at, find_gap, put_gap}
 
 -- only equal names tie

@@ -8,7 +8,7 @@ ghost use Rattle.base.specs.declared.refusal.Refusal.{Refusal};
 ghost use Rattle.name.specs.Names.{root_name};
 ghost use Rattle.model.specs.World.{empty_file_system};
 ghost use Rattle.table.specs.Rows.{live_of, with_live};
-ghost use Rattle.model.specs.Refusals.{create_refusal};
+ghost use Rattle.model.specs.requests.Create.{create_refusal};
 ghost use Rattle.model.specs.Hierarchy.{IsHierarchy, has_parent};
 ghost use Rattle.tree.specs.Asking.{AllowsChange, IsNoSpaceOrNoMemory};
 ghost use Rattle.tree.specs.Change.{HasRoom, LacksRoom, CountsDropped};
@@ -108,7 +108,7 @@ impl Table {
     /// Why a file system of this name can't be added, if it can't: Exists where one of that name is there, else NoParent where
     /// its parent isn't, else TooMany where there are `FILE_SYSTEM_LIMIT` already (zfs-create(8); the limit is profile). It
     /// costs the logarithm of their number.
-    #[tactic(auto, unfolding(model::specs::Refusals::create_refusal))]
+    #[tactic(auto, unfolding(model::specs::requests::Create::create_refusal))]
     pub fn create_refusal(&self, name: &DsName) -> Option<Refusal>
         ensures { result ≡ create_refusal self.now name.now }
     {

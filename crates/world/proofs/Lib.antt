@@ -24,6 +24,7 @@ pub mod SystemsNames
 pub mod SystemsLimits
 pub mod SystemsNumbered
 pub mod SystemsWrite
+pub mod Ruled
 pub mod SystemsSteps
 pub mod SystemsSync
 pub mod SystemsSums

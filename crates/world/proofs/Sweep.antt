@@ -10,7 +10,8 @@ use Rattle.std.specs.FinSet as set
 use Rattle.base.specs.Map.{block_cmp_total, block_cmp-IsAntisymmetric}
 use Rattle.model.specs.World.{World, FileSystem}
 use Rattle.model.specs.State.{State}
-use Rattle.model.specs.Outcome.{with_file_systems, with_losses, is_needed, state_after_sweep}
+use Rattle.model.specs.Edits.{with_file_systems, with_losses}
+use Rattle.model.specs.Outcome.{is_needed, state_after_sweep}
 use Rattle.world.specs.Sets.{IsExactOrder}
 use Rattle.world.proofs.Orders.{name_order}
 

@@ -1,26 +1,25 @@
 -- A file system created in a pool of plain file systems.
-use Rattle.std.proofs.Common.{◌≡◌, ℕ, ◌+◌, ◌<◌, Bool, true, false, cond, not, arith, List, Option, Some, None, refl, sym, ap, subst, ◌∙◌, true≢false, ◌⊎◌, ⊎_elim}
-use Rattle.std.specs.Prelude.{is_some, nat_lt}
-use Rattle.std.specs.Option.{option_map_or}
-use Rattle.std.specs.FinMap.{get, contains_key}
-use Rattle.std.specs.FinMap as finmap
-use Rattle.std.proofs.lemmas.Bool.{ltb-true, lt-ltb, cases_lt, false_from_ne_true}
+use Rattle.std.proofs.Common.{◌≡◌, ℕ, List, Some, None, refl, sym, ap, subst, ◌∙◌, ◌⊎◌, ⊎_elim}
+use Rattle.std.specs.FinMap.{get}
 use Rattle.base.specs.declared.refusal.Refusal.{Refusal}
-use Rattle.base.specs.declared.refusal.Refusal.TheVariants.{Exists, NoParent, TooMany, NoMemory}
-use Rattle.name.specs.Names.{parent_of}
+use Rattle.base.specs.declared.refusal.Refusal.TheVariants.{NoMemory}
 use Rattle.base.specs.Map.{IsTree}
 use Rattle.zalloc.specs.declared.BlockState.{BlockState}
-use Rattle.model.specs.declared.request.Request.{Request}
+use Rattle.model.specs.declared.request.Request.TheVariants.{Create}
+use Rattle.model.specs.declared.reply.Reply.{Reply}
 use Rattle.model.specs.declared.reply.Reply.TheVariants.{Done, Refused}
 use Rattle.model.specs.World.{FileSystem, empty_file_system}
-use Rattle.model.specs.Outcome.{Choice, with_now, with_new_file_system, state_after, state_after_sweep, state_before_sweep}
-use Rattle.model.specs.Step.{Step, done, refused, out_of_memory}
+use Rattle.model.specs.State.{State}
+use Rattle.model.specs.Edits.{with_now}
+use Rattle.model.specs.Rule.{Choice}
+use Rattle.model.specs.requests.Create.{create_refusal, create_rule, with_new_file_system}
+use Rattle.model.specs.Outcome.{state_after, state_after_sweep}
+use Rattle.model.specs.Refusals.{refusal_of}
+use Rattle.model.specs.Step.{Step, Follows, done, refused, out_of_memory}
 use Rattle.world.specs.SystemsChange.{AreReached, AreKeysOne, AreStatesOf}
-use Rattle.world.specs.Systems.{FileSystems, blocks_of_systems, Systems, systems_world, systems_state, IsSystems, AreStates, with_new}
-use Rattle.model.specs.Refusals.{create_refusal, refusal_of}
+use Rattle.world.specs.Systems.{blocks_of_systems, Systems, systems_world, systems_state, IsSystems, AreStates, with_new}
 use Rattle.table.proofs.Rows.{can_add}
-use Rattle.world.specs.SystemsSteps.{Creates}
-use Rattle.world.proofs.Maps.{no_value}
+use Rattle.world.proofs.Ruled.{by_rule, no_choice}
 use Rattle.world.proofs.SystemsEmpty.{none_tree, none_once}
 use Rattle.world.proofs.SystemsWorld.{states_of, of_states, state_after_sweep-systems}
 use Rattle.world.proofs.SystemsKeep.{put_cases, new_blocks, new_keeps}
@@ -68,39 +67,41 @@ module _ (c : Systems) (name : List ℕ) where
 
 -- ---- steps
 
-module _ (c : Systems) (q : Request) (name : List ℕ) (creates : Creates q name) where
-  systems-are : (systems_state c).now.file_systems ≡ c.now
-  unfolding systems_state systems_world
-  systems-are = refl
+module _ (c : Systems) (name : List ℕ) where
+  -- the request follows its rule
+  follows : (r : Reply) (t : State) → Follows (systems_state c) (create_rule name) r t → Step (systems_state c) (Create name) r t
+  follows r t f = by_rule (Create name) (create_rule name) refl (systems_state c) t r f
 
-  row-create : refusal_of (systems_state c) q ≡ create_refusal c.now name
-  row-create = creates.row (systems_state c) ∙ ap (λ ss. create_refusal ss name) systems-are
+  row-create : refusal_of (systems_state c) (create_rule name) ≡ create_refusal c.now name
+  unfolding refusal_of create_refusal systems_state systems_world
+  row-create = refl
 
-  pub create_no_memory : Step (systems_state c) q (Refused NoMemory) (systems_state c)
-  create_no_memory = out_of_memory (record { may = creates.memory; reply_is = refl; unchanged = refl })
+  pub create_no_memory : Step (systems_state c) (Create name) (Refused NoMemory) (systems_state c)
+  create_no_memory = follows (Refused NoMemory) (systems_state c) (out_of_memory (record { may = refl; reply_is = refl; unchanged = refl }))
 
-  pub create_refused : (why : Refusal) → create_refusal c.now name ≡ Some why → Step (systems_state c) q (Refused why) (systems_state c)
-  create_refused why e = refused (record { why = why; row = row-create ∙ e; reply_is = refl; unchanged = refl })
+  pub create_refused : (why : Refusal) → create_refusal c.now name ≡ Some why → Step (systems_state c) (Create name) (Refused why) (systems_state c)
+  create_refused why e = follows (Refused why) (systems_state c) (refused (record { why = why; row = row-create ∙ e; reply_is = refl; unchanged = refl }))
 
   -- a creation that the table refused, or that had no memory
-  pub create_err : (why : Refusal) → (create_refusal c.now name ≡ Some why) ⊎ (why ≡ NoMemory) → Step (systems_state c) q (Refused why) (systems_state c)
+  pub create_err : (why : Refusal) → (create_refusal c.now name ≡ Some why) ⊎ (why ≡ NoMemory) → Step (systems_state c) (Create name) (Refused why) (systems_state c)
   create_err why which = ⊎_elim
       (λ e. create_refused why e)
-      (λ e. subst (λ z. Step (systems_state c) q (Refused z) (systems_state c)) (sym e) create_no_memory)
+      (λ e. subst (λ z. Step (systems_state c) (Create name) (Refused z) (systems_state c)) (sym e) create_no_memory)
       which
 
-  after-create : (choice : Choice) → IsSystems (with_created c name) → systems_state (with_created c name) ≡ state_after (systems_state c) choice q
+  after-create : (choice : Choice) → IsSystems (with_created c name) → systems_state (with_created c name) ≡ state_after (systems_state c) choice (create_rule name)
   unfolding state_after
   after-create choice good =
       sym (state_after_sweep-systems (with_created c name) good.now.named.plain)
-      ∙ ap state_after_sweep (sym (creates.before (systems_state c) choice ∙ created-state c name))
-      ∙ sym (ap (λ b. cond b (systems_state c) (state_after_sweep (state_before_sweep (systems_state c) choice q))) creates.writes)
+      ∙ ap state_after_sweep (sym (created-state c name))
 
-  pub create_done : IsSystems c → create_refusal c.now name ≡ None → Step (systems_state c) q Done (systems_state (record c { now = with_new c.now name }))
-  create_done good may = done (record {
-    choice = record { number = λ _. 0 };
+  pub create_done : IsSystems c → create_refusal c.now name ≡ None
+      → Step (systems_state c) (Create name) Done (systems_state (record c { now = with_new c.now name }))
+  create_done good may = follows Done (systems_state (record c { now = with_new c.now name })) (done (record {
+    choice = no_choice;
+    allowed = refl;
     not_refused = row-create ∙ may;
-    reply_is = sym (creates.reply (systems_state c));
-    new_is = after-create (record { number = λ _. 0 }) (create_good c name good may);
+    reply_is = refl;
+    new_is = after-create no_choice (create_good c name good may);
     numbered = systems_numbered (with_created c name) (create_good c name good may);
-  })
+  }))

@@ -1,7 +1,7 @@
 -- A pool as it is created: the root file system alone, empty.
-use Rattle.std.proofs.Common.{◌≡◌, ℕ, zero, suc, ◌+◌, ◌<◌, cond, List, Some, refl, sym, ap, subst, ◌∙◌, true≢false, inl, ⊎_elim, replicate, arith}
-use Rattle.std.specs.Prelude.{is_some, slice_get}
-use Rattle.std.specs.FinMap.{get, get-empty, len-insert, len-empty}
+use Rattle.std.proofs.Common.{◌≡◌, ℕ, zero, suc, ◌<◌, List, Some, refl, sym, ap, subst, ◌∙◌, ⊎_elim, replicate, arith}
+use Rattle.std.specs.Prelude.{slice_get}
+use Rattle.std.specs.FinMap.{get, get-empty}
 use Rattle.std.specs.FinMap as finmap
 use Rattle.std.specs.FinSet.{union, difference}
 use Rattle.std.proofs.lemmas.Bool.{false_from_ne_true}
@@ -16,8 +16,8 @@ use Rattle.world.specs.Sets.{Has}
 use Rattle.world.specs.Settles.{state_at}
 use Rattle.world.specs.SystemsChange.{AreKeysOne, AreStatesOf}
 use Rattle.world.specs.Systems.{FileSystems, IsPlain, AreFileSystems, AreSystems, blocks_of_systems, Systems, systems_world, systems_state, IsSystems, AreStates}
-use Rattle.world.proofs.Maps.{no_value, key_cases}
-use Rattle.world.proofs.Orders.{block_order as o, name_order}
+use Rattle.world.proofs.Maps.{no_value}
+use Rattle.world.proofs.Orders.{block_order as o}
 use Rattle.world.proofs.SetCounts.{from_union, from_difference}
 use Rattle.world.proofs.BlockSets.{from_number}
 use Rattle.world.proofs.SystemsEmpty.{no_blocks, none_tree, none_once}

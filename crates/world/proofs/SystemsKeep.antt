@@ -1,16 +1,15 @@
 -- One file system's live map gives way to another, or one more file system is there.
-use Rattle.std.proofs.Common.{◌≡◌, ℕ, ◌+◌, ◌<◌, ◌≤◌, cond, List, Some, None, refl, sym, ap, subst, ◌∙◌, ◌⊎◌, inl, inr, ⊎_elim, arith}
+use Rattle.std.proofs.Common.{◌≡◌, ℕ, ◌<◌, List, Some, None, refl, sym, ap, subst, ◌∙◌, ◌⊎◌, inl, inr, ⊎_elim, arith}
 use Rattle.std.specs.Prelude.{IsSome, is_some}
-use Rattle.std.specs.FinMap.{get, len-insert}
+use Rattle.std.specs.FinMap.{get}
 use Rattle.std.specs.FinMap as finmap
-use Rattle.name.specs.Names.{root_name}
 use Rattle.base.specs.Map.{Map, Block, blocks}
 use Rattle.model.specs.World.{FileSystem, empty_file_system}
 use Rattle.world.specs.Sets.{Has}
 use Rattle.world.specs.SystemsChange.{GivesWay}
 use Rattle.world.specs.Systems.{FileSystems, IsPlain, AreFileSystems, base_of, blocks_of_systems, with_live, with_new}
 use Rattle.model.specs.Hierarchy.{IsHierarchy}
-use Rattle.model.specs.Refusals.{create_refusal}
+use Rattle.model.specs.requests.Create.{create_refusal}
 use Rattle.table.proofs.Rows.{hierarchy_with, hierarchy_add}
 use Rattle.world.proofs.Maps.{same_value, no_value, key_cases, get-insert_same, get-insert_other}
 use Rattle.world.proofs.Orders.{block_order as o, name_order}

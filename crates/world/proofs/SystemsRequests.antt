@@ -1,62 +1,22 @@
--- The requests that create a file system, change a live map or list the names, in a pool of plain file systems.
+-- The names listed, in a pool of plain file systems.
 use Rattle.std.proofs.Common.{◌≡◌, ℕ, List, [], ◌∷◌, ◌++◌, refl, sym, ap, ◌∙◌, inl, inr, map}
 use Rattle.std.specs.List.{flat_map}
-use Rattle.std.specs.Option.{option_map_or}
-use Rattle.std.specs.FinMap.{keys, entries, contains_key, len, from_entries}
-use Rattle.name.specs.declared.target.Target.{Target}
+use Rattle.std.specs.FinMap.{keys, entries, from_entries}
 use Rattle.base.specs.declared.refusal.Refusal.TheVariants.{NoMemory}
-use Rattle.base.specs.Key.{leaf_index}
-use Rattle.name.specs.Names.{name_cmp, parent_of, snap_text, mark_text}
-use Rattle.base.specs.Rewrite.{punches_leaf, frees_object}
-use Rattle.model.specs.declared.request.Request.TheVariants.{Create, Punch, FreeObject, List as ListNames}
+use Rattle.name.specs.Names.{name_cmp, snap_text, mark_text}
+use Rattle.model.specs.declared.request.Request.TheVariants.{List as ListNames}
 use Rattle.model.specs.declared.reply.Reply.TheVariants.{Refused, Names as NamesAre}
 use Rattle.model.specs.World.{FileSystem, Snap, Bookmark}
 use Rattle.model.specs.Properties.{bookmark_cmp, names_of, all_names}
-use Rattle.model.specs.Outcome.{state_before_sweep}
-use Rattle.model.specs.Refusals.{refusal_of, row_of, is_block, is_object}
-use Rattle.model.specs.Step.{Step, out_of_memory, reply_of}
+use Rattle.model.specs.requests.List.{list_rule}
+use Rattle.model.specs.Refusals.{refusal_of}
+use Rattle.model.specs.Step.{Step, out_of_memory}
 use Rattle.world.specs.Entries.{IsEntry}
 use Rattle.world.specs.Systems.{IsPlain, Systems, systems_world, systems_state, IsSystems}
-use Rattle.model.specs.Refusals.{create_refusal}
-use Rattle.world.specs.SystemsSteps.{ChangesLive, Creates}
+use Rattle.world.proofs.Ruled.{by_rule}
 use Rattle.world.proofs.Maps.{at_entry}
 use Rattle.world.proofs.Orders.{name_order, entries-empty}
 use Rattle.world.proofs.SystemsReads.{read_only}
-
--- ---- a creation
-
-pub create_creates : (name : List ℕ) → Creates (Create name) name
-unfolding state_before_sweep refusal_of row_of reply_of create_refusal
-create_creates name = record {
-  before = λ s choice. refl;
-  row = λ s. refl;
-  reply = λ s. refl;
-  writes = refl;
-  memory = refl;
-}
-
--- ---- changes of a live map
-
-pub punch_changes : (target : Target) (object block : ℕ)
-    → ChangesLive (Punch target object block) target (punches_leaf (leaf_index object block)) (is_block object block)
-unfolding state_before_sweep row_of reply_of
-punch_changes target object block = record {
-  before = λ s choice. refl;
-  row = λ s asked. refl;
-  reply = λ s. refl;
-  writes = refl;
-  memory = refl;
-}
-
-pub free_changes : (target : Target) (object : ℕ) → ChangesLive (FreeObject target object) target (frees_object object) (is_object object)
-unfolding state_before_sweep row_of reply_of
-free_changes target object = record {
-  before = λ s choice. refl;
-  row = λ s asked. refl;
-  reply = λ s. refl;
-  writes = refl;
-  memory = refl;
-}
 
 -- ---- the names
 
@@ -87,7 +47,7 @@ names-all (e ∷ es) plain =
 
 module _ (c : Systems) where
   pub list_no_memory : Step (systems_state c) ListNames (Refused NoMemory) (systems_state c)
-  list_no_memory = out_of_memory (record { may = refl; reply_is = refl; unchanged = refl })
+  list_no_memory = by_rule ListNames list_rule refl (systems_state c) (systems_state c) (Refused NoMemory) (out_of_memory (record { may = refl; reply_is = refl; unchanged = refl }))
 
   module _ (good : IsSystems c) where
     names-are : all_names (systems_state c).now ≡ keys c.now
@@ -96,5 +56,5 @@ module _ (c : Systems) where
 
     -- the names in byte order
     pub list_done : (names : List (List ℕ)) → names ≡ keys c.now → Step (systems_state c) ListNames (NamesAre names) (systems_state c)
-    unfolding reply_of refusal_of row_of
-    list_done names e = read_only c good ListNames (NamesAre names) refl refl (ap NamesAre (e ∙ sym names-are))
+    unfolding refusal_of
+    list_done names e = by_rule ListNames list_rule refl (systems_state c) (systems_state c) (NamesAre names) (read_only c good _ _ _ (NamesAre names) refl (ap NamesAre (e ∙ sym names-are)))

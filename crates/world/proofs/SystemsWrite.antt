@@ -19,7 +19,8 @@ use Rattle.tree.specs.Taking.{takes, AllFree}
 use Rattle.model.specs.World.{FileSystem}
 use Rattle.model.specs.State.{block_state}
 use Rattle.model.specs.Fits.{pool_holds}
-use Rattle.model.specs.Outcome.{Choice, state_after_change}
+use Rattle.model.specs.Rule.{Choice}
+use Rattle.model.specs.requests.Change.{state_after_change}
 use Rattle.world.specs.Sets.{Has}
 use Rattle.world.specs.Settles.{releases, AllAllocated, IsSettling}
 use Rattle.world.specs.SystemsChange.{AreKeysOne, GivesWay, AreStatesOf, AreTakable}

@@ -8,7 +8,6 @@ use Rattle.model.specs.State.{State}
 use Rattle.model.specs.Step.{Step}
 use Rattle.model.specs.declared.entry.Entry.{Entry}
 use Rattle.book.specs.Books.{Pages}
-use Rattle.book.specs.Receipts.{Kept}
 use Rattle.book.proofs.Legal.{sound_more, legal_more}
 use Rattle.book.proofs.book.enter_call.Goals as goal
 

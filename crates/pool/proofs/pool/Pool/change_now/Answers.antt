@@ -11,6 +11,9 @@ use Rattle.pool.proofs.Changes.{told, update_absent}
 use Rattle.pool.proofs.Immediate.{live_born, live_allocated, asks_here, refused_now, released_now, taken_now, sound_now, done_now}
 use Rattle.pool.proofs.pool.Pool.change_now.Goals as goal
 
+pub returns-in-Err : goal.returns-in-Err
+returns-in-Err c q asks = c.outside_the_limits.ensures q (subst (λ r. Asks q c.args.target.now r) c.in-Err.is asks)
+
 pub returns-in_default : goal.returns-in_default
 returns-in_default c q asks =
     told c.args.self.now (core_of c.self.inside) c.self.inside.allocator c.self.view_is c.self.invariant c.args.target.now q _

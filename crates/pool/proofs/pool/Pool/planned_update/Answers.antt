@@ -1,8 +1,16 @@
-use Rattle.std.proofs.Common.{subst, rules}
+use Rattle.std.proofs.Common.{◌≡◌, sym, ap, subst, ◌∙◌, rules}
+use Rattle.model.specs.Step.{Step}
+use Rattle.world.specs.Systems.{systems_state}
 use Rattle.pool.specs.Asked.{Asks}
 use Rattle.pool.specs.Pools.{core_of}
+use Rattle.pool.specs.Shown.{Shown}
 use Rattle.pool.proofs.Changes.{planned_absent, born, allocated, planned_can, planned_step}
 use Rattle.pool.proofs.pool.Pool.planned_update.Goals as goal
+
+pub returns-in-Err-clause-step : goal.returns-in-Err-clause-step
+returns-in-Err-clause-step c q asks =
+    let same : c.args.self.now.state ≡ systems_state c.args.self.now.core = sym (ap (λ (x : Shown). x.state) c.self.view_is) ∙ ap (λ (x : Shown). systems_state x.core) c.self.view_is in
+    subst (λ s. Step c.args.self.now.state q c.outside_the_limits.result s) same (c.outside_the_limits.ensures q (subst (λ r. Asks q c.args.target.now r) c.in-Err.is asks))
 
 pub returns-in_default-clause-step : goal.returns-in_default-clause-step
 returns-in_default-clause-step c q asks =

@@ -2,7 +2,7 @@ use Rattle.std.proofs.Common.{◌≡◌, None, ap, sym, subst, length, arith}
 use Rattle.std.specs.FinMap.{from_sorted}
 use Rattle.name.specs.Names.{name_cmp}
 use Rattle.table.specs.Places.{IsGapFor}
-use Rattle.model.specs.Refusals.{create_refusal}
+use Rattle.model.specs.requests.Create.{create_refusal}
 use Rattle.model.specs.Hierarchy.{IsHierarchy}
 use Rattle.table.proofs.Rows.{can_add, len_is, insert_is, insert_sorted, hierarchy_add}
 use Rattle.table.proofs.table.Table.add.Goals as goal
