@@ -1,14 +1,10 @@
--- A change of a live map, from the update that a request asks for to the plan or the tree in force, and the step.
-use Rattle.std.proofs.Common.{◌≡◌, ◌≤◌, ◌⊎◌, ◌↔◌, ℕ, Bool, true, false, ◌&&◌, List, Result, Ok, Err, Some, None, refl, sym, ap, subst, [], ◌∷◌, inl, inr, ⊎_elim, ◌∙◌}
-use Rattle.std.specs.Prelude.{IfOk, IfErr, IfSome, OnOk, nat_lt, slice_get}
+-- A change of a live map, from the update that a request asks for to the step.
+use Rattle.std.proofs.Common.{◌≡◌, ◌≤◌, ◌⊎◌, ◌↔◌, ℕ, Bool, true, false, ◌&&◌, List, Result, Ok, Err, None, refl, sym, ap, subst, [], ◌∷◌, inl, inr, ⊎_elim}
+use Rattle.std.specs.Prelude.{nat_lt}
 use Rattle.std.proofs.lemmas.Bool.{ltb-false, le-ltb}
 use Rattle.name.specs.declared.target.Target.{Target}
 use Rattle.base.specs.declared.refusal.Refusal.{Refusal}
 use Rattle.base.specs.declared.refusal.Refusal.TheVariants.{NoDataset, BadKey, NoSpace, NoMemory}
-use Rattle.std.specs.FinMap.{get}
-use Rattle.base.specs.declared.number.Key.{Key}
-use Rattle.base.specs.Map.{Map}
-use Rattle.zalloc.specs.declared.BlockState.TheVariants.{Allocated}
 use Rattle.base.specs.Rewrite.{Changes}
 use Rattle.zalloc.specs.declared.BlockState.{BlockState}
 use Rattle.batch.specs.declared.update.Update.{Update}
@@ -20,21 +16,19 @@ use Rattle.model.specs.declared.reply.Reply.TheVariants.{Done, Refused}
 use Rattle.model.specs.Targets.{is_object, is_block}
 use Rattle.model.specs.Step.{Step}
 use Rattle.table.specs.Rows.{Row}
-use Rattle.world.specs.Systems.{Systems, systems_state, with_live}
+use Rattle.table.specs.Rows.{with_live}
+use Rattle.model.specs.State.{State}
 use Rattle.model.specs.requests.{rule_of}
 use Rattle.model.specs.requests.Change.{change_rule}
-use Rattle.world.specs.SystemsSteps.{IsAbsent}
-use Rattle.world.proofs.SystemsWrite.{cells_born, cells_allocated, change_can}
-use Rattle.world.proofs.SystemsSteps.{change_refused, change_no_memory, change_no_dataset, change_done}
-use Rattle.pool.specs.declared.pool.Plan.{Plan}
-use Rattle.pool.specs.declared.pool.Plan.TheVariants.{Put}
+use Rattle.steps.specs.Steady.{IsAbsent}
+use Rattle.steps.specs.Edits.{with_systems}
+use Rattle.steps.proofs.Plain.{plain_young}
+use Rattle.steps.proofs.Changing.{change_refused, change_no_memory, change_no_dataset, change_done}
 use Rattle.pool.specs.Asked.{Asks}
 use Rattle.pool.specs.Named.{row_named}
 use Rattle.pool.specs.Pools.{IsSound}
-use Rattle.pool.specs.Plans.{core_after, CanDo}
-use Rattle.pool.specs.Prepared.{IsRefusedBy, IsPlanned}
 use Rattle.pool.specs.Shown.{Shown, shown}
-use Rattle.pool.proofs.Names.{IsFound, found, absent}
+use Rattle.pool.proofs.Names.{IsFound, absent}
 
 -- ---- numbers of objects and blocks
 
@@ -73,29 +67,22 @@ update_error why = Err why
 
 -- ---- the steps of a request that asks for an update
 
--- what a tree answers to a batch
-pub record IsPrepared (m : Map) (ch : Changes) (group young : ℕ) (states : List BlockState) (r : Result ShownChange Refusal) : Type 0 where
-  pub ok : IfOk r (λ v. IsChange m ch group young states v)
-  pub room : OnOk r (HasRoom m ch young states)
-  pub no_space : r ≡ Err NoSpace → LacksRoom m ch young states
-  pub only : IfErr r (λ e. (e ≡ NoSpace) ⊎ (e ≡ NoMemory))
-
 -- a tree doesn't tell of numbers outside the limits
 no_bad_key : (why : Refusal) → (why ≡ NoSpace) ⊎ (why ≡ NoMemory) → why ≡ BadKey → ⊥
 no_bad_key why = ⊎_elim (λ e f. cc) (λ e f. cc)
 
-module _ (c : Systems) (states : List BlockState) (sound : IsSound c states) (q : Request) (target : Target) where
+module _ (s : State) (numbers : List BlockState) (sound : IsSound s numbers) (q : Request) (target : Target) where
   -- where its numbers are outside their limits
   module _ (why : Refusal) (asks : Asks q target (Err why)) where
     outside : asks.in_range ≡ false
     outside = asks.bad_key.0 (ap Err asks.only)
 
-    pub outside_absent : None ≡ row_named c.now target → Step (systems_state c) q (Refused NoDataset) (systems_state c)
-    outside_absent none = change_no_dataset c sound.core q target asks.changes asks.in_range asks.rule (absent c.now target none)
+    pub outside_absent : None ≡ row_named s.now.file_systems target → Step s q (Refused NoDataset) s
+    outside_absent none = change_no_dataset s sound.steady q target asks.changes asks.in_range asks.rule (absent s.now.file_systems target none)
 
-    pub outside_refused : (row : Row) → IsFound c.now target row → Step (systems_state c) q (Refused why) (systems_state c)
+    pub outside_refused : (row : Row) → IsFound s.now.file_systems target row → Step s q (Refused why) s
     outside_refused row is =
-        change_refused c sound.core q target asks.changes asks.in_range asks.rule row.0 row.1 is.named is.there states sound.states why
+        change_refused s sound.steady q target asks.changes asks.in_range asks.rule row.0 row.1 is.named is.there s.last.group (plain_young s sound.steady row.0 row.1 is.there) numbers sound.states why
         (λ _. outside) (λ e. let f = asks.only in absurd (no_space_here e f)) (inl asks.only)
       where
         no_space_here : why ≡ NoSpace → why ≡ BadKey → ⊥
@@ -115,88 +102,24 @@ module _ (c : Systems) (states : List BlockState) (sound : IsSound c states) (q 
     rule : rule_of q None ≡ change_rule target ch asks.in_range
     rule = subst (λ x. rule_of q None ≡ change_rule target x asks.in_range) (sym asks.is) asks.rule
 
-    pub update_absent : IsAbsent c.now target → Step (systems_state c) q (Refused NoDataset) (systems_state c)
-    update_absent none = change_no_dataset c sound.core q target ch asks.in_range rule none
+    pub update_absent : IsAbsent s.now.file_systems target → Step s q (Refused NoDataset) s
+    update_absent none = change_no_dataset s sound.steady q target ch asks.in_range rule none
 
-    pub update_no_memory : Step (systems_state c) q (Refused NoMemory) (systems_state c)
-    update_no_memory = change_no_memory c sound.core q target ch asks.in_range rule
+    pub update_no_memory : Step s q (Refused NoMemory) s
+    update_no_memory = change_no_memory s sound.steady q target ch asks.in_range rule
 
-    module _ (row : Row) (is : IsFound c.now target row) where
-      pub update_done : (v : ShownChange) → HasRoom row.1.live ch c.last_group states → IsChange row.1.live ch c.group c.last_group states v
-          → Step (systems_state c) q Done (systems_state (record c { now = with_live c.now row.0 v.new }))
+    module _ (row : Row) (is : IsFound s.now.file_systems target row) where
+      pub update_done : (v : ShownChange) → HasRoom row.1.live ch s.last.group numbers → IsChange row.1.live ch s.now.group s.last.group numbers v
+          → Step s q Done (with_systems s (with_live s.now.file_systems row.0 v.new))
       update_done v room change =
-          change_done c sound.core q target ch asks.in_range rule row.0 row.1 is.named is.there states sound.states within v room change change.taken_free
+          change_done s sound.steady q target ch asks.in_range rule row.0 row.1 is.named is.there s.last.group (plain_young s sound.steady row.0 row.1 is.there) numbers sound.states within v room change
 
-      pub update_refused : (why : Refusal) → (why ≡ NoSpace → LacksRoom row.1.live ch c.last_group states) → (why ≡ NoSpace) ⊎ (why ≡ NoMemory)
-          → Step (systems_state c) q (Refused why) (systems_state c)
+      pub update_refused : (why : Refusal) → (why ≡ NoSpace → LacksRoom row.1.live ch s.last.group numbers) → (why ≡ NoSpace) ⊎ (why ≡ NoMemory)
+          → Step s q (Refused why) s
       update_refused why lacks which =
-          change_refused c sound.core q target ch asks.in_range rule row.0 row.1 is.named is.there states sound.states why
+          change_refused s sound.steady q target ch asks.in_range rule row.0 row.1 is.named is.there s.last.group (plain_young s sound.steady row.0 row.1 is.there) numbers sound.states why
           (λ e. absurd (no_bad_key why which e)) (λ e. (within, lacks e)) (inr which)
 
--- ---- a change that a tree has prepared
-
-module _ (c : Systems) (states : List BlockState) (sound : IsSound c states) (row : Row) (there : get c.now row.0 ≡ Some row.1) (ch : Changes) where
-  -- its plan can be done
-  plan_can : (r : Result ShownChange Refusal) → IsPrepared row.1.live ch c.group c.last_group states r
-      → (reply : Reply) (plan : Plan) → IsPlanned row.0 r reply plan → CanDo c plan
-  plan_can (Ok v) prepared reply plan planned = ⊎_elim
-      (λ by. subst (CanDo c) (sym by.plan_is) (change_can c sound.core row.0 row.1 there states sound.states ch v prepared.ok prepared.ok.taken_free))
-      (λ by. subst (CanDo c) (sym by.plan_is) tt)
-      planned.ok
-  plan_can (Err why) prepared reply plan planned = subst (CanDo c) (sym planned.err.plan_is) tt
-
-module _ (c : Systems) (states : List BlockState) (sound : IsSound c states) (q : Request) (target : Target) (u : Update) (asks : Asks q target (Ok u))
-    (row : Row) (is : IsFound c.now target row) where
-  stays : (why : Refusal) → Step (systems_state c) q (Refused why) (systems_state c) → (reply : Reply) (plan : Plan) → IsRefusedBy why reply plan
-      → Step (systems_state c) q reply (systems_state (core_after c plan))
-  stays why step reply plan by = subst (λ p. Step (systems_state c) q reply (systems_state (core_after c p))) (sym by.plan_is)
-      (subst (λ r. Step (systems_state c) q r (systems_state c)) (sym by.reply_is) step)
-
-  -- the reply and what the plan leads to are a step
-  plan_steps : (r : Result ShownChange Refusal) → IsPrepared row.1.live (changes_of (u ∷ [])) c.group c.last_group states r
-      → (reply : Reply) (plan : Plan) → IsPlanned row.0 r reply plan → Step (systems_state c) q reply (systems_state (core_after c plan))
-  plan_steps (Ok v) prepared reply plan planned = ⊎_elim
-      (λ by. subst (λ p. Step (systems_state c) q reply (systems_state (core_after c p))) (sym by.plan_is)
-      (subst (λ r. Step (systems_state c) q r (systems_state (core_after c (Put row.0 v)))) (sym by.reply_is)
-      (update_done c states sound q target u asks row is v prepared.room prepared.ok)))
-      (λ by. stays NoMemory (update_no_memory c states sound q target u asks) reply plan by)
-      planned.ok
-  plan_steps (Err why) prepared reply plan planned =
-      stays why (update_refused c states sound q target u asks row is why (λ e. prepared.no_space (ap Err e)) prepared.only) reply plan planned.err
-
-module _ (s : Shown) (c : Systems) (states : List BlockState) (view : shown c states ≡ s) (sound : IsSound c states) (target : Target) where
-  -- an answer with the pool as it was, told of what contracts see
-  pub told : (q : Request) (reply : Reply) → Step (systems_state c) q reply (systems_state c) → Step s.state q reply s.state
-  told q reply step = subst (λ (x : Shown). Step x.state q reply x.state) view step
-
-  pub told_planned : (q : Request) (reply : Reply) → Step s.state q reply s.state → Step s.state q reply (systems_state s.core)
-  told_planned q reply step = subst (λ x. Step s.state q reply x) (ap (λ (x : Shown). x.state) (sym view) ∙ ap (λ (x : Shown). systems_state x.core) view) step
-
-  pub planned_absent : (u : Update) → None ≡ row_named c.now target → (q : Request) → Asks q target (Ok u) → Step s.state q (Refused NoDataset) (systems_state s.core)
-  planned_absent u none q asks = told_planned q (Refused NoDataset) (told q (Refused NoDataset) (update_absent c states sound q target u asks (absent c.now target none)))
-
-  module _ (row : Row) (found_row : Some row ≡ row_named c.now target) (m : Map) (same : m ≡ row.1.live) where
-    is_found : IsFound c.now target row
-    is_found = found c.now target row found_row
-
-    -- what a tree asks before it prepares a change
-    pub born : (k : Key) → IfSome (get m k) (λ x. x.birth ≤ c.group)
-    born = subst (λ (y : Map). (k : Key) → IfSome (get y k) (λ x. x.birth ≤ c.group)) (sym same) (cells_born c sound.core row.0 row.1 is_found.there)
-
-    pub allocated : (k : Key) → IfSome (get m k) (λ x. slice_get states x.number ≡ Some Allocated)
-    allocated = subst (λ (y : Map). (k : Key) → IfSome (get y k) (λ x. slice_get states x.number ≡ Some Allocated)) (sym same)
-        (cells_allocated c sound.core row.0 row.1 is_found.there states sound.states)
-
-    module _ (u : Update) (us : List Update) (one : us ≡ u ∷ []) (r : Result ShownChange Refusal)
-        (prepared : IsPrepared m (changes_of us) c.group c.last_group states r) (reply : Reply) (plan : Plan) (planned : IsPlanned row.0 r reply plan) where
-      prepared_live : IsPrepared row.1.live (changes_of (u ∷ [])) c.group c.last_group states r
-      prepared_live = subst (λ x. IsPrepared x (changes_of (u ∷ [])) c.group c.last_group states r) same
-          (subst (λ x. IsPrepared m (changes_of x) c.group c.last_group states r) one prepared)
-
-      pub planned_can : CanDo s.core plan
-      planned_can = subst (λ (x : Shown). CanDo x.core plan) view
-          (plan_can c states sound row is_found.there (changes_of (u ∷ [])) r prepared_live reply plan planned)
-
-      pub planned_step : (q : Request) → Asks q target (Ok u) → Step s.state q reply (systems_state (core_after s.core plan))
-      planned_step q asks = subst (λ (x : Shown). Step x.state q reply (systems_state (core_after x.core plan))) view
-          (plan_steps c states sound q target u asks row is_found r prepared_live reply plan planned)
+-- an answer with the pool as it was, told of what contracts see
+pub told : (seen : Shown) (s : State) (numbers : List BlockState) → shown s numbers ≡ seen → (q : Request) (reply : Reply) → Step s q reply s → Step seen.state q reply seen.state
+told seen s numbers view q reply step = subst (λ (x : Shown). Step x.state q reply x.state) view step

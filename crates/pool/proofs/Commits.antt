@@ -1,39 +1,26 @@
 -- What is planned can be done, and then the pool is sound again.
-use Rattle.std.proofs.Common.{◌≡◌, ℕ, ◌+◌, List, sym, subst, map}
-use Rattle.std.specs.FinMap.{insert}
+use Rattle.std.proofs.Common.{◌≡◌, ℕ, List, sym, subst, map}
+use Rattle.base.specs.Map.{Block}
 use Rattle.zalloc.specs.declared.BlockState.{BlockState}
 use Rattle.zalloc.specs.States.{after_group}
-use Rattle.tree.specs.Change.{Shown as ShownChange}
 use Rattle.tree.specs.Taking.{takes}
-use Rattle.model.specs.World.{FileSystem}
-use Rattle.table.specs.Rows.{Row, FileSystems}
-use Rattle.world.specs.Settles.{releases}
-use Rattle.world.specs.Systems.{Systems, with_live}
-use Rattle.world.specs.SystemsSteps.{CanChange}
-use Rattle.world.proofs.SystemsWrite.{change_states}
-use Rattle.world.proofs.SystemsCreate.{create_good, create_states}
-use Rattle.world.proofs.SystemsSync.{sync_keeps, sync_states}
+use Rattle.model.specs.State.{State}
+use Rattle.model.specs.Hierarchy.{FileSystems}
+use Rattle.model.specs.Edits.{with_next_group}
+use Rattle.steps.specs.Settles.{releases}
+use Rattle.steps.specs.Edits.{with_systems, CanPut}
+use Rattle.steps.proofs.Putting.{put_states}
+use Rattle.steps.proofs.Syncing.{sync_steady, sync_states}
 use Rattle.pool.specs.Pools.{IsSound}
-use Rattle.pool.specs.Plans.{CanCreate}
 
-module _ (c : Systems) (states : List BlockState) (sound : IsSound c states) where
-  -- after a change of a live map every number has the state that the worlds give it
-  pub sound_changed : (name : List ℕ) (v : ShownChange) → CanChange c name v
-      → IsSound (record c { now = with_live c.now name v.new }) (takes (releases c.last_group states v.released) v.taken)
-  sound_changed name v can = record { core = can.good; states = change_states c sound.core states sound.states name v can }
+module _ (s : State) (numbers : List BlockState) (sound : IsSound s numbers) where
+  -- once other file systems are in place every number has the state that the worlds give it
+  pub sound_put : (to : FileSystems) (released : List Block) (taken : List ℕ) → CanPut s to released taken
+      → IsSound (with_systems s to) (takes (releases s.last.group numbers released) taken)
+  sound_put to released taken can = record { steady = can.steady; states = put_states s sound.steady numbers sound.states to released taken can }
 
-  -- a new file system changes no number's state
-  pub sound_created : (f : Row) → CanCreate c f → IsSound (record c { now = insert c.now f.0 f.1 }) states
-  sound_created f can =
-      subst (λ (x : FileSystem). IsSound (record c { now = insert c.now f.0 x }) states) (sym can.empty)
-      (record {
-        core = create_good c f.0 sound.core can.may;
-        states = create_states c f.0 sound.core can.may states sound.states;
-      })
-
-  -- after a sync every number has the state that the worlds give it
-  pub sound_synced : (last : FileSystems) → last ≡ c.now
-      → IsSound (record c { group = c.group + 1; last = last; last_group = c.group + 1 }) (map after_group states)
-  sound_synced last e =
-      subst (λ m. IsSound (record c { group = c.group + 1; last = m; last_group = c.group + 1 }) (map after_group states)) (sym e)
-      (record { core = sync_keeps c sound.core; states = sync_states c states sound.states })
+  -- and so it is after a sync
+  pub sound_synced : (last : FileSystems) → last ≡ s.now.file_systems
+      → IsSound (record s { now = with_next_group s.now; last = record (with_next_group s.now) { file_systems = last } }) (map after_group numbers)
+  sound_synced last e = subst (λ m. IsSound (record s { now = with_next_group s.now; last = record (with_next_group s.now) { file_systems = m } }) (map after_group numbers)) (sym e)
+      (record { steady = sync_steady s sound.steady; states = sync_states s sound.steady numbers sound.states })

@@ -6,9 +6,9 @@ use Rattle.name.specs.declared.target.Target.{Target}
 use Rattle.name.specs.declared.target.Target.TheVariants.{FileSystem as OfFileSystem, Snapshot as OfSnapshot, Bookmark as OfBookmark}
 use Rattle.model.specs.World.{FileSystem}
 use Rattle.table.specs.Rows.{Row, FileSystems}
-use Rattle.world.specs.SystemsSteps.{IsAbsent}
+use Rattle.steps.specs.Steady.{IsAbsent}
 use Rattle.world.proofs.Maps.{same_value, no_value}
-use Rattle.world.proofs.SystemsLists.{found as value_found, not_found}
+use Rattle.steps.proofs.Lookups.{found as value_found, not_found}
 use Rattle.pool.specs.Named.{row_named}
 
 -- a file system that was found stands under its name, which is the one that was sought

@@ -2,5 +2,4 @@ pub mod Shown
 pub mod Pools
 pub mod Plans
 pub mod Named
-pub mod Prepared
 pub mod Asked

@@ -1,35 +1,27 @@
 -- What a prepared step will do.
-use Rattle.std.specs.Prelude.{◌≡◌, ◌+◌, ◌<◌, None}
-use Rattle.std.specs.FinMap.{insert}
-use Rattle.model.specs.World.{empty_file_system}
+use Rattle.std.specs.Prelude.{◌≡◌, ◌<◌, map}
+use Rattle.base.specs.Surveys.{dead_block}
+use Rattle.model.specs.State.{State}
+use Rattle.model.specs.Hierarchy.{FileSystems}
 use Rattle.model.specs.Targets.{number_limit}
-use Rattle.table.specs.Rows.{Row, FileSystems}
-use Rattle.model.specs.requests.Create.{create_refusal}
-use Rattle.world.specs.Systems.{Systems, with_live}
-use Rattle.world.specs.SystemsSteps.{CanChange}
+use Rattle.model.specs.Edits.{with_next_group}
+use Rattle.steps.specs.Edits.{with_systems, CanPut}
 use Rattle.pool.specs.declared.pool.Plan.{Plan}
-use Rattle.pool.specs.declared.pool.Plan.TheVariants.{Nothing, Put, Create, Sync}
+use Rattle.pool.specs.declared.pool.Plan.TheVariants.{Nothing, Put, Sync}
 
--- the pool's file systems and groups after a plan (profile)
-abbrev pub core_after : Systems → Plan → Systems
-core_after c Nothing = c
-core_after c (Put name change) = record c { now = with_live c.now name change.new }
-core_after c (Create file_system) = record c { now = insert c.now file_system.0 file_system.1 }
-core_after c (Sync last) = record c { group = c.group + 1; last = last; last_group = c.group + 1 }
-
--- a new file system, empty, that nothing refuses (zfs-create(8))
-pub record CanCreate (c : Systems) (file_system : Row) : Type 0 where
-  pub empty : file_system.1 ≡ empty_file_system
-  pub may : create_refusal c.now file_system.0 ≡ None
+-- the pool's state after a plan (profile)
+abbrev pub state_after_plan : State → Plan → State
+state_after_plan s Nothing = s
+state_after_plan s (Put to done) = with_systems s to
+state_after_plan s (Sync last) = record s { now = with_next_group s.now; last = record (with_next_group s.now) { file_systems = last } }
 
 -- a copy of the file systems that is to be the last synced one, where there is a next group (profile)
-pub record CanSync (c : Systems) (last : FileSystems) : Type 0 where
-  pub last_is : last ≡ c.now
-  pub next : c.group < number_limit
+pub record CanSync (s : State) (last : FileSystems) : Type 0 where
+  pub last_is : last ≡ s.now.file_systems
+  pub next : s.now.group < number_limit
 
 -- the plan can be done from here (profile)
-abbrev pub CanDo : Systems → Plan → Type 0
-CanDo c Nothing = Unit {0}
-CanDo c (Put name change) = CanChange c name change
-CanDo c (Create file_system) = CanCreate c file_system
-CanDo c (Sync last) = CanSync c last
+abbrev pub CanDo : State → Plan → Type 0
+CanDo s Nothing = Unit {0}
+CanDo s (Put to done) = CanPut s to (map dead_block done.released.items) (map (λ b. b.0) done.taken.items)
+CanDo s (Sync last) = CanSync s last

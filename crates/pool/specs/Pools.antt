@@ -1,14 +1,27 @@
 -- What a pool keeps between two steps.
 use Rattle.std.specs.Prelude.{List}
+use Rattle.std.specs.FinMap as finmap
+use Rattle.std.specs.FinSet as set
 use Rattle.zalloc.specs.declared.BlockState.{BlockState}
-use Rattle.world.specs.Systems.{Systems, IsSystems, AreStates}
+use Rattle.model.specs.State.{State}
+use Rattle.model.specs.Numbers.{HasStates}
+use Rattle.steps.specs.Steady.{IsSteady}
 use Rattle.pool.specs.declared.pool.Pool.TheInside.{Inside}
 
--- the pool's file systems, groups and numbers (profile)
-abbrev pub core_of : Inside → Systems
-core_of p = record { now = p.present; group = p.group.0; last = p.last; last_group = p.last_group.0; size = p.size; pool = p.id }
+-- the pool's state: its file systems now and when the last sync had been done, with nothing to be freed, no open view and no guid used
+-- so far (profile)
+abbrev pub core_of : Inside → State
+core_of p = record {
+  now = record { file_systems = p.present; freeing = set.empty; group = p.group.0 };
+  last = record { file_systems = p.last; freeing = set.empty; group = p.last_group.0 };
+  views = finmap.empty;
+  next_guid = 1;
+  next_view = 1;
+  size = p.size;
+  pool = p.id;
+}
 
--- one number names one block over both worlds, and each number has the state that the worlds give it (profile)
-pub record IsSound (c : Systems) (numbers : List BlockState) : Type 0 where
-  pub core : IsSystems c
-  pub states : AreStates c numbers
+-- the facts of the worlds hold, and each number has the state that the worlds give it (profile)
+pub record IsSound (s : State) (numbers : List BlockState) : Type 0 where
+  pub steady : IsSteady s
+  pub states : HasStates s numbers

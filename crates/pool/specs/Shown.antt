@@ -6,18 +6,15 @@ use Rattle.zalloc.specs.declared.BlockState.{BlockState}
 use Rattle.zalloc.specs.contracts.BlockState as block_state
 use Rattle.model.specs.State.{State}
 use Rattle.model.specs.Codes.{state_code}
-use Rattle.world.specs.Systems.{Systems, systems_state}
-use Rattle.world.specs.SystemsCodes.{systems_code}
 
--- what contracts see of a pool: its state, the state of each of its numbers, and beside them what its steps need (profile)
+-- what contracts see of a pool: its state, and the state of each of its numbers (profile)
 pub record Shown : Type 0 where
   pub state : State
   pub numbers : List BlockState
-  pub core : Systems
 
--- the state that the pool's file systems and groups stand for, beside the numbers' states and them (profile)
-abbrev pub shown : Systems → List BlockState → Shown
-shown c numbers = record { state = systems_state c; numbers = numbers; core = c }
+-- both (profile)
+abbrev pub shown : State → List BlockState → Shown
+shown s numbers = record { state = s; numbers = numbers }
 
 -- what contracts see of a prepared step: the pool that it was prepared on, and the state that it leads to (profile)
 pub record Leap : Type 0 where
@@ -27,8 +24,8 @@ pub record Leap : Type 0 where
 -- the code of what contracts see of a pool (profile)
 abbrev pub shown_code : Coded Shown
 shown_code =
-    code_by (State × (List BlockState × Systems)) (coded× state_code (coded× (coded_list block_state.the_row.coded) systems_code))
-    (λ x. (x.state, (x.numbers, x.core))) (λ p. record { state = p.0; numbers = p.1.0; core = p.1.1 }) (λ _. refl)
+    code_by (State × List BlockState) (coded× state_code (coded_list block_state.the_row.coded))
+    (λ x. (x.state, x.numbers)) (λ p. record { state = p.0; numbers = p.1 }) (λ _. refl)
 
 -- the code of what they see of a prepared step (profile)
 abbrev pub leap_code : Coded Leap

@@ -9,16 +9,15 @@ ghost use Rattle.model.specs.Step.{Step};
 ghost use Rattle.model.specs.Numbers.{IsNumbered, HasStates};
 ghost use Rattle.model.specs.Sums.{IsBalanced};
 ghost use Rattle.model.specs.Run.{Run};
-ghost use Rattle.world.specs.Settles.{AllAllocated, releases};
-ghost use Rattle.world.specs.Systems.{systems_state};
+ghost use Rattle.steps.specs.Settles.{AllAllocated, releases};
 ghost use Rattle.pool.specs.Asked.{Asks};
-ghost use Rattle.pool.specs.Plans.{core_after, CanDo};
-ghost use Rattle.pool.specs.Prepared.{IsPlanned};
+ghost use Rattle.pool.specs.Plans.{state_after_plan, CanDo};
 
 use crate::named::{find, in_bytes, names_of};
 use base::meter::Meter;
 use base::number::{Dead, Group};
 use base::refusal::Refusal;
+use batch::Few;
 use model::names::Names;
 use model::reply::{Reply, Value};
 use model::request::{PoolProperty, Property, Request};
@@ -28,16 +27,15 @@ use std::alloc::Global;
 use std::marker::Model;
 use std::slice::from_ref;
 use std::snapshot::Snapshot;
-use table::{FileSystem, Table};
+use table::Table;
 use toll::Toll;
-use tree::{Change, Update, take_all};
+use tree::{Changed, Update, take_all};
 use zalloc::{Allocator, MOST_BLOCKS};
 
 /// The last group, which no sync closes (profile).
 const LAST_GROUP: u64 = 9223372036854775807;
 
-/// A pool of blocks with its file systems. Contracts see its state, the state of each block number, and beside them what its
-/// steps need.
+/// A pool of blocks with its file systems. Contracts see its state, and the state of each block number.
 #[derive(Drop)]
 pub struct Pool {
     present: Table,
@@ -67,8 +65,7 @@ impl Model for Pool {
 #[derive(Drop)]
 enum Plan {
     Nothing,
-    Put { name: DsName, change: Change },
-    Create(FileSystem),
+    Put { to: Table, done: Changed },
     Sync(Table),
 }
 
@@ -80,17 +77,16 @@ pub struct Ready {
 }
 
 impl Model for Ready {
-    ghost use Rattle.world.specs.Systems.{systems_state};
     ghost use Rattle.pool.specs.Shown.{Leap, leap_code};
-    ghost use Rattle.pool.specs.Plans.{core_after, CanDo};
+    ghost use Rattle.pool.specs.Plans.{state_after_plan, CanDo};
 
     ghost Value = { Leap };
 
     ghost coded = { leap_code };
 
-    ghost view = { λ r. record { from = r.from.value; to = systems_state (core_after r.from.value.core r.plan) } };
+    ghost view = { λ r. record { from = r.from.value; to = state_after_plan r.from.value.state r.plan } };
 
-    ghost invariant = { λ r. CanDo r.from.value.core r.plan };
+    ghost invariant = { λ r. CanDo r.from.value.state r.plan };
 }
 
 impl Pool {
@@ -132,8 +128,9 @@ impl Pool {
     }
 
     /// Makes all growths of a request, and its reply. The state stays as it is until `commit`. A name costs the logarithm of the
-    /// number of file systems. A write or a punch costs the path to its leaf, and to free an object costs its nodes; a read costs
-    /// the path too, and takes no memory. A list costs the names, and a sync one share of each file system. Nothing else grows.
+    /// number of file systems. What changes file systems is made on a copy of them, which costs a count for each: beside it a write or
+    /// a punch costs the path to its leaf, and to free an object costs its nodes. A read costs the path, and takes no memory. A list
+    /// costs the names. Nothing else grows.
     pub fn prepare(&mut self, alloc: Global, request: &Request) -> (Reply, Ready)
         ensures same { self.new ≡ self.old }
         ensures from { result.1.from ≡ self.new }
@@ -150,11 +147,11 @@ impl Pool {
 
     fn planned(&mut self, alloc: Global, request: &Request) -> (Reply, Plan)
         ensures same { self.new ≡ self.old }
-        ensures can { CanDo self.old.core result.1 }
-        ensures step { Step self.old.state request.now result.0 (systems_state (core_after self.old.core result.1)) }
+        ensures can { CanDo self.old.state result.1 }
+        ensures step { Step self.old.state request.now result.0 (state_after_plan self.old.state result.1) }
     {
         match request {
-            Request::Create { name } => self.planned_create(name),
+            Request::Create { name } => self.planned_create(alloc, name),
             Request::Write {
                 target,
                 object,
@@ -181,13 +178,20 @@ impl Pool {
         }
     }
 
-    fn planned_create(&self, name: &DsName) -> (Reply, Plan)
-        ensures can { CanDo self.now.core result.1 }
-        ensures step { Step self.now.state (Request.Create name.now) result.0 (systems_state (core_after self.now.core result.1)) }
+    fn planned_create(&self, alloc: Global, name: &DsName) -> (Reply, Plan)
+        ensures can { CanDo self.now.state result.1 }
+        ensures step { Step self.now.state (Request.Create name.now) result.0 (state_after_plan self.now.state result.1) }
     {
         let _group = self.group;
-        match self.present.prepare_create(name) {
-            Ok(file_system) => (Reply::Done, Plan::Create(file_system)),
+        match self.present.create(name) {
+            Ok(to) => {
+                let done = Changed {
+                    released: Few::new(alloc),
+                    taken: Few::new(alloc),
+                    made: Few::new(alloc),
+                };
+                (Reply::Done, Plan::Put { to, done })
+            }
             Err(refusal) => (Reply::Refused(refusal), Plan::Nothing),
         }
     }
@@ -201,18 +205,23 @@ impl Pool {
     ) -> (Reply, Plan)
         requires { IfOk update (λ u. IsBatch (u ∷ [])) }
         ensures same { self.new ≡ self.old }
-        ensures can { CanDo self.old.core result.1 }
-        ensures step { (q : Request) → Asks q target.now update → Step self.old.state q result.0 (systems_state (core_after self.old.core result.1)) }
+        ensures can { CanDo self.old.state result.1 }
+        ensures step { (q : Request) → Asks q target.now update → Step self.old.state q result.0 (state_after_plan self.old.state result.1) }
     {
         let _group = self.group;
         let update = match update {
             Ok(update) => update,
             Err(refusal) => return (self.outside_the_limits(target, refusal), Plan::Nothing),
         };
-        let Some(file_system) = find(&self.present, target) else {
+        let Target::FileSystem(name) = target else {
             return (Reply::Refused(Refusal::NoDataset), Plan::Nothing);
         };
-        let prepared = file_system.live().prepare_change(
+        let mut to = match self.present.copy() {
+            Ok(to) => to,
+            Err(refusal) => return (Reply::Refused(refusal), Plan::Nothing),
+        };
+        let changed = to.apply_live(
+            name,
             alloc,
             from_ref(&update),
             self.group,
@@ -220,12 +229,15 @@ impl Pool {
             &self.allocator,
             &mut self.meter,
         );
-        planned_change(file_system, prepared)
+        match changed {
+            Ok(done) => (Reply::Done, Plan::Put { to, done }),
+            Err(refusal) => (Reply::Refused(refusal), Plan::Nothing),
+        }
     }
 
     fn read(&mut self, target: &Target, object: u32, block: u32) -> Reply
         ensures same { self.new ≡ self.old }
-        ensures step { Step self.old.state (Request.Read target.now object block) result (systems_state self.old.core) }
+        ensures step { Step self.old.state (Request.Read target.now object block) result self.old.state }
     {
         let _group = self.group;
         let Some(file_system) = find(&self.present, target) else {
@@ -238,7 +250,7 @@ impl Pool {
     }
 
     fn get(&self, target: &Target, property: Property) -> Reply
-        ensures { Step self.now.state (Request.Get target.now property) result (systems_state self.now.core) }
+        ensures { Step self.now.state (Request.Get target.now property) result self.now.state }
     {
         let _group = self.group;
         let Some(file_system) = find(&self.present, target) else {
@@ -250,7 +262,7 @@ impl Pool {
     }
 
     fn list(&self, alloc: Global) -> Reply
-        ensures { Step self.now.state Request.List result (systems_state self.now.core) }
+        ensures { Step self.now.state Request.List result self.now.state }
     {
         let _group = self.group;
         match names_of(alloc, self.present.file_systems()) {
@@ -260,7 +272,7 @@ impl Pool {
     }
 
     fn pool_get(&self, property: PoolProperty) -> Reply
-        ensures { Step self.now.state (Request.PoolGet property) result (systems_state self.now.core) }
+        ensures { Step self.now.state (Request.PoolGet property) result self.now.state }
     {
         let counts = self.allocator.counts();
         match property {
@@ -274,8 +286,8 @@ impl Pool {
     }
 
     fn planned_sync(&self) -> (Reply, Plan)
-        ensures can { CanDo self.now.core result.1 }
-        ensures step { Step self.now.state Request.Sync result.0 (systems_state (core_after self.now.core result.1)) }
+        ensures can { CanDo self.now.state result.1 }
+        ensures step { Step self.now.state Request.Sync result.0 (state_after_plan self.now.state result.1) }
     {
         let group = self.group;
         if group.0 >= LAST_GROUP {
@@ -287,9 +299,9 @@ impl Pool {
         }
     }
 
-    /// Does what was just prepared. It takes no memory. A change costs its blocks and the logarithm of the number of file systems, a
-    /// creation a move of each file system that stands after it. A sync costs what waits, the file systems, and what only the world
-    /// before it reached; no block that either world goes on reaching is visited.
+    /// Does what was just prepared. It takes no memory. What changes file systems costs a count for each, and the blocks that it
+    /// releases and takes. A sync costs what waits, the file systems, and what only the world before it reached; no block that either
+    /// world goes on reaching is visited.
     pub fn commit(&mut self, ready: Ready)
         requires { ready.from ≡ self.old }
         ensures { self.new.state ≡ ready.to }
@@ -297,11 +309,11 @@ impl Pool {
         let Ready { plan, from } = ready;
         match plan {
             Plan::Nothing => {}
-            Plan::Put { name, change } => {
-                release_all(&mut self.allocator, change.released(), self.last_group);
-                self.present.change_live(&name, change, &mut self.allocator);
+            Plan::Put { to, done } => {
+                release_all(&mut self.allocator, &done.released, self.last_group);
+                take_all(&mut self.allocator, &done.taken);
+                self.present = to;
             }
-            Plan::Create(file_system) => self.present.add(file_system),
             Plan::Sync(last) => {
                 self.last = last;
                 self.group = Group(self.group.0 + 1);
@@ -324,18 +336,10 @@ impl Pool {
         reply
     }
 
-    // The state is that of what stands behind it.
-    fn stands(&self)
-        ensures { systems_state self.now.core ≡ self.now.state }
-    {
-        let _group = self.group;
-    }
-
     // One step: a change of a tree at once, a question as it is, and each other request prepared and committed.
     fn answer(&mut self, alloc: Global, request: &Request) -> Reply
         ensures { Step self.old.state request.now result self.new.state }
     {
-        self.stands();
         match request {
             Request::Write {
                 target,
@@ -432,20 +436,6 @@ impl Pool {
             replies.push_reserved(reply);
         }
         Ok(replies)
-    }
-}
-
-// What is done once a change of this file system's tree was prepared, or refused.
-fn planned_change(file_system: &FileSystem, prepared: Result<Change, Refusal>) -> (Reply, Plan)
-    ensures { IsPlanned file_system.now.0 prepared result.0 result.1 }
-{
-    let change = match prepared {
-        Ok(change) => change,
-        Err(refusal) => return (Reply::Refused(refusal), Plan::Nothing),
-    };
-    match file_system.name().clone() {
-        Ok(name) => (Reply::Done, Plan::Put { name, change }),
-        Err(_) => (Reply::Refused(Refusal::NoMemory), Plan::Nothing),
     }
 }
 

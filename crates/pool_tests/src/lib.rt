@@ -6,7 +6,7 @@ mod rig;
 #[cfg(test)]
 mod rows;
 #[cfg(test)]
-mod steps;
+mod pools;
 #[cfg(test)]
 mod tables;
 #[cfg(test)]

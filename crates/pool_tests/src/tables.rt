@@ -14,15 +14,15 @@ fn fresh(rt: &impl Abort, alloc: Global) -> Table {
 }
 
 fn create(rt: &impl Abort, alloc: Global, table: &mut Table, bytes: &[u8]) {
-    let file_system = table
-        .prepare_create(&name(rt, alloc, bytes))
+    let created = table
+        .create(&name(rt, alloc, bytes))
         .expect(rt, "a file system");
-    table.add(file_system);
+    *table = created;
 }
 
 fn is_refused(rt: &impl Abort, alloc: Global, table: &Table, bytes: &[u8], why: Refusal) -> bool {
     table.create_refusal(&name(rt, alloc, bytes)) == Some(why)
-        && table.prepare_create(&name(rt, alloc, bytes)).err() == Some(why)
+        && table.create(&name(rt, alloc, bytes)).err() == Some(why)
 }
 
 fn has(rt: &impl Abort, alloc: Global, table: &Table, bytes: &[u8]) -> bool {
@@ -131,13 +131,17 @@ fn copy_stays_as_it_was(rt: HostRuntime) {
 }
 
 #[test]
-fn prepared_and_left(rt: HostRuntime) {
+fn create_leaves_the_table(rt: HostRuntime) {
     let alloc = rt.alloc();
     let table = fresh(&rt, alloc);
-    let prepared = table.prepare_create(&name(&rt, alloc, b"p/a"));
-    assert!(rt; prepared.is_ok());
-    drop(prepared);
-    assert!(rt; table.len() == 1);
+    let created = table
+        .create(&name(&rt, alloc, b"p/a"))
+        .expect(&rt, "a file system");
+    let (before, after) = (table.len(), created.len());
+    drop(created);
+    drop(table);
+    assert!(rt; before == 1);
+    assert!(rt; after == 2);
 }
 
 /// Whether memory was all that could be wanting.
@@ -156,7 +160,7 @@ fn refused_memory_changes_nothing(rt: HostRuntime) {
     let Ok(table) = Table::new(alloc) else {
         return;
     };
-    assert!(rt; is_out_of_memory(table.prepare_create(&made)));
+    assert!(rt; is_out_of_memory(table.create(&made)));
     assert!(rt; is_out_of_memory(table.copy()));
     assert!(rt; table.len() == 1);
 }

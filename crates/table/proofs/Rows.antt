@@ -1,13 +1,16 @@
 -- Rows in byte order as a map of file systems.
-use Rattle.std.proofs.Common.{◌≡◌, ◌⊎◌, inl, inr, ⊎_elim, ℕ, ◌+◌, ◌<◌, ◌≤◌, Bool, true, false, cond, T, List, [], ◌∷◌, length, get_or, set, Option, Some, None, is_some, refl, sym, ap, subst, ◌∙◌, arith, true≢false}
+use Rattle.std.proofs.Common.{◌≡◌, ◌⊎◌, inl, inr, ⊎_elim, ℕ, ◌+◌, ◌<◌, ◌≤◌, Bool, true, false, cond, T, List, [], ◌∷◌, length, get_or, set, map, Option, Some, None, is_some, refl, sym, ap, subst, ◌∙◌, arith, true≢false}
 use Rattle.std.specs.Prelude.{IsSome, IsTrue, nat_le, not, if◌then◌else◌}
 use Rattle.std.specs.Bool.{passes}
 use Rattle.std.specs.Option.{option_map, option_map_or}
-use Rattle.std.specs.Ordering.{eq_by_cmp, is_eq}
+use Rattle.std.specs.Ordering.{eq_by_cmp, is_eq, ordering_index}
+use Rattle.std.specs.declared.cmp.Ordering.TheVariants.{Less, Greater}
+use Rattle.std.proofs.lemmas.List.{length-map, get_or-map}
+use Rattle.std.proofs.Math.ListN.{get_or-map as get_or-map_same}
 use Rattle.std.specs.Cmp.{Equal-is, tied_itself}
 use Rattle.std.specs.Cmp.Lexicographic.{nat_list_cmp_total}
-use Rattle.std.specs.Prelude.{is_ok, unwrap_or, Result, Ok, Err, IfOk, IfErr}
-use Rattle.std.specs.List.Sorted.{IsSearchInRange, IsBinarySearchResult}
+use Rattle.std.specs.Prelude.{is_ok, Result, Ok, Err, IfOk, IfErr}
+use Rattle.std.specs.List.Sorted.{IsSearchInRange, IsBinarySearchResult, IsNonDecreasingBy}
 use Rattle.std.specs.List.{insert}
 use Rattle.std.specs.FinMap as finmap
 use Rattle.std.specs.FinMap.{get, contains_key, len, entries, empty, find, put, is_sorted, from_sorted, get-from_sorted, entries-from_sorted, entries-insert, same_entries_map, get-insert, get-empty, len-insert, len-entries, len-empty, nat_cmp-IsAntisymmetric, slice_cmp-IsAntisymmetric, IsAntisymmetric}
@@ -72,10 +75,10 @@ module _ (es : List Row) (sorted : IsTrue (is_sorted name_cmp es)) where
   put_here q v i at d = subst (λ k. put name_cmp k v es ≡ set es i (k, v)) (at.named d) (put_at nat_list_cmp_total es in_order i d v at.within)
 
   -- another file system under a name that is there
-  pub set_is : (q : List ℕ) (v : FileSystem) (i : ℕ) → IsAt es q i → from_sorted {R = name_cmp} (set es i (q, v)) ≡ finmap.insert (from_sorted {R = name_cmp} es) q v
+  set_is : (q : List ℕ) (v : FileSystem) (i : ℕ) → IsAt es q i → from_sorted {R = name_cmp} (set es i (q, v)) ≡ finmap.insert (from_sorted {R = name_cmp} es) q v
   set_is q v i at = put_is _ q v (put_here q v i at (q, v))
 
-  pub set_sorted : (q : List ℕ) (v : FileSystem) (i : ℕ) → IsAt es q i → IsTrue (is_sorted name_cmp (set es i (q, v)))
+  set_sorted : (q : List ℕ) (v : FileSystem) (i : ℕ) → IsAt es q i → IsTrue (is_sorted name_cmp (set es i (q, v)))
   set_sorted q v i at = put_sorted _ q v (put_here q v i at (q, v))
 
   -- a file system under a name that isn't there
@@ -90,21 +93,37 @@ module _ (es : List Row) (sorted : IsTrue (is_sorted name_cmp es)) where
   found_is q (Ok i) at gap = ap is_some (sym (get_at q i at (q, empty_file_system)))
   found_is q (Err i) at gap = ap is_some (sym (get_gap q i gap))
 
-  -- there are no more rows than may be
-  pub few_rows : IsHierarchy (from_sorted {R = name_cmp} es) → length es ≤ file_system_limit
-  few_rows h = subst (λ n. n ≤ file_system_limit) len_is h.few
+-- what holds of the row that the element at a place makes holds of the row at that place
+at_row : {A : Type 0} (g : A → Row) (P : Row → Type 0) (xs : List A) (i : ℕ) → i < length xs → ((d : A) → P (g (get_or xs i d))) → (e : Row) → P (get_or (map g xs) i e)
+at_row g P [] i lt h e = absurd (omega arith)
+at_row g P (x ∷ xs) i lt h e = subst P (sym (get_or-map g (x ∷ xs) i x e lt)) (h x)
 
-  -- a binary search ends at the name, or at the gap for it
-  pub searched : (q : List ℕ) (r : Result ℕ ℕ) → IsSearchInRange r (length es) → IsBinarySearchResult (λ (e : Row). name_cmp e.0 q) es r → (IfOk r (IsAt es q)) × (IfErr r (IsGapFor es q))
-  searched q (Ok i) within equal = (record { within = within; named = λ d. same_name _ q (equal d) }, tt)
+-- the element at a place makes the row at that place
+pub row_of : {A : Type 0} (g : A → Row) (xs : List A) (i : ℕ) (a : A) → a ≡ get_or xs i a → g a ≡ get_or (map g xs) i (g a)
+row_of g xs i a is = ap g is ∙ sym (get_or-map_same g xs i a)
+
+-- a binary search among elements that make rows ends at the name, or at the gap for it
+module _ {A : Type 0} (g : A → Row) (xs : List A) (sorted : IsTrue (is_sorted name_cmp (map g xs))) where
+  risen : (q : List ℕ) → IsNonDecreasingBy (λ (a : A). ordering_index (name_cmp (g a).0 q)) xs
+  risen q i j d le within =
+      let rows = comparisons_rise nat_list_cmp_total (map g xs) (passes (is_sorted name_cmp (map g xs)) sorted) q in
+      let ends : j < length (map g xs) = omega (arith, length-map xs g) in
+      rw (← get_or-map_same g xs i d, ← get_or-map_same g xs j d) (rows i j (g d) le ends)
+
+  pub searched : (q : List ℕ) (r : Result ℕ ℕ) → IsSearchInRange r (length xs) → IsBinarySearchResult (λ (a : A). name_cmp (g a).0 q) xs r → (IfOk r (IsAt (map g xs) q)) × (IfErr r (IsGapFor (map g xs) q))
+  searched q (Ok i) within equal =
+      let long = length-map xs g in
+      (record { within = omega arith; named = at_row g (λ e. e.0 ≡ q) xs i within (λ d. same_name _ q (equal d)) }, tt)
   searched q (Err i) within parted =
-      let parts = parted (comparisons_rise nat_list_cmp_total es in_order q) in
-      (tt, record { within = within; below = λ j d lt. parts.0 j d (omega arith) lt; above = λ j d le lt. parts.1 j d le lt })
-
--- what has a part is there
-pub some_from : {A B : Type 0} (f : A → B) (o : Option A) (b : B) → option_map f o ≡ Some b → IsSome o
-some_from f None b e = absurd (cc)
-some_from f (Some a) b e = refl
+      let long = length-map xs g in
+      let parts = parted (risen q) in (
+        tt,
+        record {
+          within = omega arith;
+          below = λ j e lt. at_row g (λ r. name_cmp r.0 q ≡ Less) xs j (omega arith) (λ d. parts.0 j d (omega arith) lt) e;
+          above = λ j e le lt. at_row g (λ r. name_cmp r.0 q ≡ Greater) xs j (omega arith) (λ d. parts.1 j d le (omega arith)) e;
+        },
+      )
 
 -- a live map that was changed is the one that is there
 live_changed : (m : FileSystems) (k : List ℕ) (s : FileSystem) → get m k ≡ Some s → (live : Map) → live_of (with_live m k live) k ≡ live
@@ -128,11 +147,7 @@ module _ (es : List Row) (sorted : IsTrue (is_sorted name_cmp es)) (q : List ℕ
   pub is_there : IsSome (get (from_sorted {R = name_cmp} es) q)
   is_there = ap is_some got
 
-  -- its live map is
-  pub live_here : (live : Map) → option_map (λ (f : FileSystem). f.live) (get (from_sorted {R = name_cmp} es) q) ≡ Some live → e.1.live ≡ live
-  live_here live h = ap (λ o. unwrap_or o live) (ap (option_map (λ (f : FileSystem). f.live)) (sym got) ∙ h)
-
-  -- as the map tells it
+  -- its live map, as the map tells it
   pub live_is : live_of (from_sorted {R = name_cmp} es) q ≡ e.1.live
   live_is = ap (λ o. option_map_or (λ (f : FileSystem). f.live) o finmap.empty) got
 
@@ -144,13 +159,13 @@ module _ (es : List Row) (sorted : IsTrue (is_sorted name_cmp es)) (q : List ℕ
     renamed = ap (λ n. set es i (n, record e.1 { live = live })) its_name
 
     -- another live map at its place
-    pub changed_is : from_sorted {R = name_cmp} changed ≡ with_live (from_sorted {R = name_cmp} es) q live
+    changed_is : from_sorted {R = name_cmp} changed ≡ with_live (from_sorted {R = name_cmp} es) q live
     changed_is =
         ap (from_sorted {R = name_cmp}) renamed
         ∙ set_is es sorted q (record e.1 { live = live }) i at
         ∙ sym (ap (λ o. option_map_or (λ f. finmap.insert (from_sorted {R = name_cmp} es) q (record f { live = live })) o (from_sorted {R = name_cmp} es)) got)
 
-    pub changed_sorted : IsTrue (is_sorted name_cmp changed)
+    changed_sorted : IsTrue (is_sorted name_cmp changed)
     changed_sorted = subst (λ fs. IsTrue (is_sorted name_cmp fs)) (sym renamed) (set_sorted es sorted q (record e.1 { live = live }) i at)
 
 entries_empty : (es : List Row) → length es ≡ 0 → es ≡ []
@@ -251,7 +266,7 @@ hierarchy_fresh v = record { root = root; parents = parents; few = few }
     few = let is = one in omega arith
 
 -- another live map keeps it
-pub hierarchy_live : (es : List Row) (sorted : IsTrue (is_sorted name_cmp es)) (q : List ℕ) (i : ℕ) → IsAt es q i → (e : Row) → e ≡ get_or es i e → (live : Map)
+hierarchy_live : (es : List Row) (sorted : IsTrue (is_sorted name_cmp es)) (q : List ℕ) (i : ℕ) → IsAt es q i → (e : Row) → e ≡ get_or es i e → (live : Map)
     → IsHierarchy (from_sorted {R = name_cmp} es) → IsHierarchy (from_sorted {R = name_cmp} (set es i (e.0, record e.1 { live = live })))
 hierarchy_live es sorted q i at e is live h =
     let named : e.0 ≡ q = ap (λ (r : Row). r.0) is ∙ at.named e in

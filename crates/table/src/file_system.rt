@@ -6,7 +6,6 @@ ghost use Rattle.model.specs.World.{empty_file_system};
 ghost use Rattle.tree.specs.Asking.{AllowsChange, IsNoSpaceOrNoMemory};
 ghost use Rattle.tree.specs.Change.{HasRoom, LacksRoom, CountsDropped};
 ghost use Rattle.tree.specs.ChangeParts.{HasChanged};
-ghost use Rattle.tree.specs.Taking.{AllFree, takes};
 ghost use Rattle.tree.specs.Updates.{changes_of};
 
 use base::meter::Meter;
@@ -17,7 +16,7 @@ use std::alloc::Global;
 use std::cmp::Ordering;
 use std::marker::Model;
 use std::sync::Arc;
-use tree::{Change, Changed, Tree, Update};
+use tree::{Changed, Tree, Update};
 use zalloc::Allocator;
 
 /// A file system: its name, and its live dataset (On-Disk Specification, chapter 4). Contracts see the pair of its name and of
@@ -83,16 +82,6 @@ impl FileSystem {
         ensures { result ≡ name_cmp self.now.0 name.now }
     {
         self.name.as_bytes().cmp(&name)
-    }
-
-    // Puts a change of the live tree in force, and takes its numbers. It takes no memory.
-    pub(crate) fn commit(&mut self, change: Change, allocator: &mut Allocator)
-        requires tree { self.old.1.live ≡ change.old }
-        requires allocator { AllFree allocator.old change.taken }
-        ensures live { self.new ≡ (self.old.0, record self.old.1 { live = change.new }) }
-        ensures allocator { allocator.new ≡ takes allocator.old change.taken }
-    {
-        self.live.commit(change, allocator);
     }
 
     // Puts a batch of changes of the live tree in force at once. It takes no number.

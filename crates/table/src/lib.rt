@@ -4,6 +4,7 @@
 mod file_system;
 mod parent;
 mod place;
+mod row;
 mod table;
 
 pub use file_system::FileSystem;

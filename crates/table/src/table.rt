@@ -1,7 +1,7 @@
 //! The file systems of a pool.
-ghost use Rattle.std.specs.Prelude.{◌≡◌, ◌⊎◌, ◌↔◌, ◌<◌, ◌≤◌, Some, None, IfSome, IfOk, IfErr, OnOk, OnErr, map, length, vec_len, vec_capacity};
+ghost use Rattle.std.specs.Prelude.{◌≡◌, ◌⊎◌, ◌↔◌, ◌≤◌, Some, None, IfSome, IfOk, IfErr, OnOk, OnErr, map};
+ghost use Rattle.std.specs.Arc.{arc_value};
 ghost use Rattle.std.specs.Option.{option_map, option_copied};
-ghost use Rattle.std.specs.List as list;
 ghost use Rattle.std.specs.FinMap as finmap;
 ghost use Rattle.std.specs.FinMap.{get, insert, entries, keys, len};
 ghost use Rattle.base.specs.declared.refusal.Refusal.{Refusal};
@@ -13,19 +13,20 @@ ghost use Rattle.model.specs.Hierarchy.{IsHierarchy, has_parent};
 ghost use Rattle.tree.specs.Asking.{AllowsChange, IsNoSpaceOrNoMemory};
 ghost use Rattle.tree.specs.Change.{HasRoom, LacksRoom, CountsDropped};
 ghost use Rattle.tree.specs.ChangeParts.{HasChanged};
-ghost use Rattle.tree.specs.Taking.{AllFree, takes};
 ghost use Rattle.tree.specs.Updates.{changes_of};
 
 use crate::file_system::FileSystem;
 use crate::parent::parent_of;
-use crate::place::{gap, place, standing};
+use crate::place::{gap, place};
+use crate::row::{apply, shared, with_added};
 use base::meter::Meter;
 use base::number::Group;
 use base::refusal::Refusal;
 use name::DsName;
 use std::alloc::Global;
 use std::marker::Model;
-use tree::{Change, Changed, Update};
+use std::sync::Arc;
+use tree::{Changed, Update};
 use zalloc::Allocator;
 
 /// A pool has at most this many file systems, the root among them (profile).
@@ -34,15 +35,16 @@ pub const FILE_SYSTEM_LIMIT: usize = 1024;
 /// The file systems of a pool. Contracts see the map from their names to them.
 ///
 /// They stand in byte order of their names, so that `p/a-x` comes between `p/a` and `p/a/x`. The root `p` is always there, and
-/// so is the parent of every other one. The room for all that there may be is taken once, by `new` and `copy`: to add one takes
-/// no more.
+/// so is the parent of every other one. Tables that were made from one another share the file systems that none of them changed.
 #[derive(Drop)]
 pub struct Table {
-    file_systems: Vec<FileSystem>,
+    file_systems: Vec<Arc<FileSystem>>,
 }
 
 impl Model for Table {
+    ghost use Rattle.std.specs.Arc.{arc_value};
     ghost use Rattle.std.specs.FinMap.{from_sorted};
+    ghost use Rattle.std.specs.Prelude.{map};
     ghost use Rattle.table.specs.Rows.{FileSystems, file_systems_code};
     ghost use Rattle.table.specs.Table.{IsTable};
 
@@ -50,32 +52,30 @@ impl Model for Table {
 
     ghost coded = { file_systems_code };
 
-    ghost view = { λ t. from_sorted t.file_systems.items };
+    ghost view = { λ t. from_sorted (map arc_value t.file_systems.items) };
 
     ghost invariant = { IsTable };
 }
 
 impl Table {
-    /// The root file system `p` alone, without a block. NoMemory where there is none for the table.
+    /// The root file system `p` alone, without a block. NoMemory where there is none for the table. Constant time.
     pub fn new(alloc: Global) -> Result<Table, Refusal>
         ensures ok { IfOk result (λ t. t ≡ insert finmap.empty root_name empty_file_system) }
         ensures err { IfErr result (λ e. e ≡ Refusal.NoMemory) }
     {
-        let root = FileSystem::new(alloc, &root_of(alloc)?)?;
-        let mut file_systems = Vec::with_capacity(alloc, FILE_SYSTEM_LIMIT)?;
+        let root = Arc::new(alloc, FileSystem::new(alloc, &root_of(alloc)?)?)?;
+        let mut file_systems = Vec::with_capacity(alloc, 1)?;
         file_systems.push_reserved(root);
         Ok(Table { file_systems })
     }
 
-    /// An equal table, by one more owner of each name and tree: no block is visited. NoMemory where there is none for the rows
-    /// or an owner. It costs the number of file systems.
+    /// An equal table, by one more owner of each file system: no name, tree or block is visited. NoMemory where there is none for
+    /// as many rows as there are, or for an owner. It costs the number of file systems.
     pub fn copy(&self) -> Result<Table, Refusal>
         ensures ok { IfOk result (λ t. t ≡ self.now) }
         ensures err { IfErr result (λ e. e ≡ Refusal.NoMemory) }
     {
-        let rows: &[FileSystem] = &self.file_systems;
-        let alloc = *self.file_systems.allocator();
-        let file_systems = copied(alloc, rows)?;
+        let file_systems = shared(*self.file_systems.allocator(), &self.file_systems)?;
         Ok(Table { file_systems })
     }
 
@@ -84,13 +84,13 @@ impl Table {
         ensures len { result ≡ len self.now }
         ensures hierarchy { IsHierarchy self.now }
     {
-        let rows: &[FileSystem] = &self.file_systems;
+        let rows: &[Arc<FileSystem>] = &self.file_systems;
         rows.len()
     }
 
     /// All file systems, in byte order of their names. Constant time.
-    pub fn file_systems(&self) -> &[FileSystem]
-        ensures { result.now ≡ entries self.now }
+    pub fn file_systems(&self) -> &[Arc<FileSystem>]
+        ensures { map arc_value result.now ≡ entries self.now }
     {
         &self.file_systems
     }
@@ -100,7 +100,7 @@ impl Table {
         ensures { option_copied result ≡ option_map (λ f. (name.now, f)) (get self.now name.now) }
     {
         match place(&self.file_systems, name.as_bytes()) {
-            Ok(place) => Some(&self.file_systems[place]),
+            Ok(place) => Some(&*self.file_systems[place]),
             Err(_) => None,
         }
     }
@@ -124,10 +124,11 @@ impl Table {
         None
     }
 
-    /// Makes an empty file system ready to be added under this name. Nothing is changed yet. Refused as `create_refusal` says;
-    /// else NoMemory where there is none for the name.
-    pub fn prepare_create(&self, name: &DsName) -> Result<FileSystem, Refusal>
-        ensures ok { IfOk result (λ f. f ≡ (name.now, empty_file_system)) }
+    /// A table with one file system more, which has this name and no block, and one more owner of each other one. This table stays
+    /// as it is. Refused as `create_refusal` says; else NoMemory where there is none for the name, the rows or an owner. It costs
+    /// the number of file systems and the length of the name.
+    pub fn create(&self, name: &DsName) -> Result<Table, Refusal>
+        ensures ok { IfOk result (λ t. t ≡ insert self.now name.now empty_file_system) }
         ensures can { OnOk result (create_refusal self.now name.now ≡ None) }
         ensures refused { IfSome (create_refusal self.now name.now) (λ e. result ≡ Err e) }
         ensures only { IfErr result (λ e. (create_refusal self.now name.now ≡ Some e) ⊎ (e ≡ Refusal.NoMemory)) }
@@ -135,35 +136,14 @@ impl Table {
         if let Some(refusal) = self.create_refusal(name) {
             return Err(refusal);
         }
-        FileSystem::new(*self.file_systems.allocator(), name)
-    }
-
-    /// Adds a file system that nothing refuses. It takes no memory. It costs the logarithm of their number, and a move of each
-    /// that stands after it.
-    pub fn add(&mut self, file_system: FileSystem)
-        requires { create_refusal self.old file_system.0 ≡ None }
-        ensures { self.new ≡ insert self.old file_system.0 file_system.1 }
-    {
-        let place = gap(&self.file_systems, file_system.name().as_bytes());
-        insert_within(&mut self.file_systems, place, file_system);
-    }
-
-    /// Puts a change in force that was made ready on the live tree of this file system, and takes its numbers. It takes no memory.
-    /// It costs the logarithm of the number of file systems, and the numbers.
-    pub fn change_live(&mut self, name: &DsName, change: Change, allocator: &mut Allocator)
-        requires tree { option_map (λ f. f.live) (get self.old name.now) ≡ Some change.old }
-        requires allocator { AllFree allocator.old change.taken }
-        ensures live { self.new ≡ with_live self.old name.now change.new }
-        ensures allocator { allocator.new ≡ takes allocator.old change.taken }
-    {
-        let place = standing(&self.file_systems, name.as_bytes());
-        self.file_systems[place].commit(change, allocator);
+        self.with_new(name)
     }
 
     /// Puts a batch of changes of the live tree of this file system in force at once, as `Tree::change` does: the answer names the
     /// numbers that the new blocks have, and takes none. NoDataset exactly where there is no file system of this name; else
     /// NoSpace exactly where the Free numbers and those of the dropped young blocks are too few; else NoMemory where there is no
-    /// memory. At `Err` the table is as it was. It costs the logarithm of the number of file systems, and the change.
+    /// memory. At `Err` the table is as it was. Where another table shares the file system, a copy of it, by one more owner of its
+    /// name and of its tree, is changed and takes its place. It costs the logarithm of the number of file systems, and the change.
     pub fn apply_live(
         &mut self,
         name: &DsName,
@@ -188,7 +168,22 @@ impl Table {
         let Ok(place) = place(&self.file_systems, name.as_bytes()) else {
             return Err(Refusal::NoDataset);
         };
-        self.file_systems[place].apply(alloc, updates, group, young, allocator, meter)
+        let row = &mut self.file_systems[place];
+        apply(row, alloc, updates, group, young, allocator, meter)
+    }
+
+    // A table with one empty file system more, which nothing refuses.
+    fn with_new(&self, name: &DsName) -> Result<Table, Refusal>
+        requires { create_refusal self.now name.now ≡ None }
+        ensures ok { IfOk result (λ t. t ≡ insert self.now name.now empty_file_system) }
+        ensures err { IfErr result (λ e. e ≡ Refusal.NoMemory) }
+    {
+        let rows: &[Arc<FileSystem>] = &self.file_systems;
+        let alloc = *self.file_systems.allocator();
+        let place = gap(rows, name.as_bytes());
+        let added = Arc::new(alloc, FileSystem::new(alloc, name)?)?;
+        let file_systems = with_added(alloc, rows, place, added)?;
+        Ok(Table { file_systems })
     }
 
     // Whether there is a file system of this name.
@@ -216,30 +211,4 @@ fn root_of(alloc: Global) -> Result<DsName, Refusal>
     ensures err { IfErr result (λ e. e ≡ Refusal.NoMemory) }
 {
     DsName::read(alloc, b"p")
-}
-
-// Copies of the file systems, with room for as many as there may be.
-fn copied(alloc: Global, file_systems: &[FileSystem]) -> Result<Vec<FileSystem>, Refusal>
-    requires { length file_systems.now ≤ FILE_SYSTEM_LIMIT }
-    ensures ok { IfOk result (λ v. v.items ≡ file_systems.now) }
-    ensures room { IfOk result (λ v. FILE_SYSTEM_LIMIT ≤ vec_capacity v) }
-    ensures err { IfErr result (λ e. e ≡ Refusal.NoMemory) }
-{
-    let mut copies = Vec::with_capacity(alloc, FILE_SYSTEM_LIMIT)?;
-    for file_system in file_systems {
-        copies.push_reserved(file_system.copy()?);
-    }
-    Ok(copies)
-}
-
-// Puts a file system in its place. It takes no memory, since there is room.
-fn insert_within(file_systems: &mut Vec<FileSystem>, place: usize, file_system: FileSystem)
-    requires place { place ≤ vec_len file_systems.old }
-    requires room { vec_len file_systems.old < vec_capacity file_systems.old }
-    ensures items { file_systems.new.items ≡ list.insert file_systems.old.items place file_system }
-    ensures capacity { vec_capacity file_systems.old ≤ vec_capacity file_systems.new }
-{
-    if file_systems.insert(place, file_system).is_err() {
-        unreachable!();
-    }
 }

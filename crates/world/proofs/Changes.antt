@@ -1,99 +1,97 @@
--- A rewrite is a change in the pool's words.
-use Rattle.std.proofs.Common.{◌≡◌, ℕ, ◌+◌, ◌-◌, ◌≤◌, ◌/◌, ◌^◌, Bool, true, false, cond, ◌||◌, ◌&&◌, List, [], ◌∷◌, ◌++◌, Option, Some, None, refl, sym, ap, ◌∙◌, arith, true≢false}
-use Rattle.std.specs.Prelude.{◌==◌, nat_le, IsTrue, unwrap_or}
-use Rattle.std.specs.Ordering.{eq_by_cmp}
-use Rattle.std.specs.List.{list_any, flat_map}
-use Rattle.std.specs.FinMap.{get, keys}
-use Rattle.std.proofs.lemmas.Bool.{eqb-true, eq-eqb, leb-true, and_parts}
-use Rattle.std.proofs.lemmas.Nat.{pow-add}
-use Rattle.std.proofs.Math.Nat.{div-div-eq-div-mul}
-use Rattle.base.specs.declared.number.Key.{Key}
-use Rattle.base.specs.Key.{key_cmp, covers, path, is_at_or_below}
-use Rattle.base.specs.Map.{Cell, Map, Contents, contents}
-use Rattle.base.specs.Rewrite.{Changes, rewrite, cell_after, new_cell, changed_contents, is_touched}
-use Rattle.base.proofs.RewriteLaw.{get-rewrite_any, absent_key}
-use Rattle.world.specs.Blocks.{ChangesKeys}
+-- The other steps on worlds: a live map becomes another, a snapshot is taken, the open group goes up, a file system is made or goes.
+use Rattle.std.proofs.Common.{◌≡◌, ℕ, ◌<◌, ◌≤◌, Option, Some, None, refl, sym, subst, ◌∙◌, ◌⊎◌, ◌↔◌, inl, inr, ⊎_elim, arith}
+use Rattle.std.specs.FinSet.{difference}
+use Rattle.world.specs.Blocks.{BlockSet, Block, after}
+use Rattle.world.specs.Sets.{Has}
+use Rattle.world.specs.Lineage.{Row, IsSound, IsPrior, IsLeaf, IsUnion, Puts}
+use Rattle.world.specs.Shapes.{Name, SnapId, Dataset, Shape, Shapes, Before, before_live, row, Starts, IsTail, lineages, IsGood, WriteKeeps}
+use Rattle.model.specs.World.{Live}
+use Rattle.world.proofs.Lineage.{below_born}
+use Rattle.world.proofs.Steps.{prior_kept, put_keeps, put_loses, own_of_leaf}
+use Rattle.world.proofs.Replace.{live_or_snap, one_to_an_id, one_start, Elsewhere, from_old, to_old, rows_apart, from_new, to_new, to_new_else, dataset_cases, tail_live, snap_in, live_in, snap_row_id, prev_is_snap, has_there, has_back, closed_new, placed_new}
 
-same_value : {X : Type 0} (x y : X) → Some x ≡ Some y → x ≡ y
-same_value x y e = cc
+module _ (m m' : Shapes) (g : ℕ) (good : IsGood m g) (name : Name) (f : Shape) (at : m name ≡ Some f) (live : BlockSet) (here : m' name ≡ Some (record f { live = live })) (others : (other : Name) → ¬ (other ≡ name) → m' other ≡ m other) (q : Before) (st : Starts m f.origin q)
+    (each : (b : Block) → Has live b → Has f.live b ⊎ Has (before_live q f.snapshots).below b ⊎ ((b.birth ≡ g) × ((d : Dataset) (n : Row Dataset) → lineages m g d n → ¬ (Has n.blocks b)))) where
+  abbrev f' : Shape
+  f' = record f { live = live }
 
-no_value : {X : Type 0} (x : X) → None ≡ Some x → ⊥
-no_value x e = cc
+  abbrev pub qL : Before
+  qL = before_live q f.snapshots
 
--- a leaf below a key below another is below that one
-covers_up : (k q : Key) (leaf : ℕ) → IsTrue (is_at_or_below k q) → covers q leaf ≡ true → covers k leaf ≡ true
-covers_up k q leaf h e =
-    let parts = and_parts (nat_le q.level k.level) (q.index / 16 ^ (k.level - q.level) == k.index) h in
-    let le : q.level ≤ k.level = leb-true q.level k.level parts.0 in
-    let at : q.index / 16 ^ (k.level - q.level) ≡ k.index = eqb-true _ _ parts.1 in
-    let below : leaf / 16 ^ q.level ≡ q.index = eqb-true _ _ e in
-    let sum : q.level + (k.level - q.level) ≡ k.level = omega arith in
-    eq-eqb (leaf / 16 ^ k.level) k.index
-    (ap (λ n. leaf / 16 ^ n) (sym sum) ∙ ap (λ n. leaf / n) (pow-add 16 q.level (k.level - q.level))
-    ∙ sym (div-div-eq-div-mul leaf (16 ^ q.level) (16 ^ (k.level - q.level))) ∙ ap (λ n. n / 16 ^ (k.level - q.level)) below ∙ at)
+  abbrev pub rowL : Row Dataset
+  rowL = row g qL f.live
 
--- what is true of no leaf under one test is true of none under a narrower one
-any_narrower : (p q : ℕ → Bool) → ((x : ℕ) → q x ≡ true → p x ≡ true) → (xs : List ℕ) → list_any p xs ≡ false → list_any q xs ≡ false
-any_narrower p q h [] e = refl
-any_narrower p q h (x ∷ xs) e = at (p x) (q x) (h x) e (any_narrower p q h xs)
-  where
-    at : (a b : Bool) → (b ≡ true → a ≡ true) → (a || list_any p xs) ≡ false → (list_any p xs ≡ false → list_any q xs ≡ false) → (b || list_any q xs) ≡ false
-    at true b f e r = absurd (true≢false e)
-    at false true f e r = absurd (true≢false (sym (f refl)))
-    at false false f e r = r e
-
-both_false : (a b : Bool) → (a || b) ≡ false → (a ≡ false) × (b ≡ false)
-both_false true b e = absurd (true≢false e)
-both_false false b e = (refl, e)
-
-none_either : (a b : Bool) → a ≡ false → b ≡ false → (a || b) ≡ false
-none_either true b e f = e
-none_either false b e f = f
-
-narrower_and : (p a b : Bool) → (b ≡ true → a ≡ true) → (p && b) ≡ true → (p && a) ≡ true
-narrower_and true a b h e = h e
-narrower_and false a b h e = e
-
-pub untouched_below : (m : Map) (c : Changes) (k q : Key) → is_touched m c k ≡ false → IsTrue (is_at_or_below k q) → is_touched m c q ≡ false
-unfolding is_touched
-untouched_below m c k q e h =
-    let parts = both_false (list_any (covers k) (keys c.writes)) (list_any (λ leaf. c.punches leaf && covers k leaf) (keys (contents m))) e in
-    none_either _ _
-    (any_narrower (covers k) (covers q) (λ leaf. covers_up k q leaf h) (keys c.writes) parts.0)
-    (any_narrower (λ leaf. c.punches leaf && covers k leaf) (λ leaf. c.punches leaf && covers q leaf) (λ leaf. narrower_and (c.punches leaf) (covers k leaf) (covers q leaf) (covers_up k q leaf h)) (keys (contents m)) parts.1)
-
-module _ (m : Map) (c : Changes) (g : ℕ) (number : Key → ℕ) where
-  after_untouched : (k : Key) → is_touched m c k ≡ false → cell_after m c g number k ≡ get m k
-  unfolding cell_after
-  after_untouched k e = rw e refl
-
-  after_touched : (k : Key) → is_touched m c k ≡ true → cell_after m c g number k ≡ new_cell (changed_contents (contents m) c) g number k
-  unfolding cell_after
-  after_touched k e = rw e refl
-
-  new_cell_is : (after : Contents) (k : Key) (x : Cell) → new_cell after g number k ≡ Some x → (x.number ≡ number k) × (x.birth ≡ g)
-  unfolding new_cell
-  new_cell_is after k x e = at (list_any (covers k) (keys after)) e
+  starts : (other : Name) (e : Shape) (r : Before) → m other ≡ Some e → Starts m e.origin r ↔ Starts m' e.origin r
+  starts other e r is = go e.origin
     where
-      at : (b : Bool) → cond b (Some (record { number = number k; birth = g; bytes = cond (k.level == 0) (unwrap_or (get after k.index) []) [] })) None ≡ Some x → (x.number ≡ number k) × (x.birth ≡ g)
-      at true f = let s = same_value _ x f in (ap (λ (y : Cell). y.number) (sym s), ap (λ (y : Cell). y.birth) (sym s))
-      at false f = absurd (no_value x f)
+      go : (origin : Option SnapId) → Starts m origin r ↔ Starts m' origin r
+      go None = (λ k. k, λ k. k)
+      go (Some id) = (λ k. (k.0, has_there m m' name f f' at here others (λ t a. a) id k.0 k.1, k.2), λ k. (k.0, has_back m m' name f f' at here others id k.0 (λ t i a. a) k.1, k.2))
 
-  candidate : Key → Bool
-  candidate k = list_any (eq_by_cmp key_cmp k) (keys m ++ flat_map path (keys (changed_contents (contents m) c)))
+  pub in_old : lineages m g (Live name) rowL
+  in_old = (name, f, q, at, st, live_in g name f.live q f.snapshots)
 
-  choose : (b : Bool) (x y : Option Cell) → (b ≡ false → y ≡ None) → x ≡ y → cond b x None ≡ y
-  choose true x y h e = e
-  choose false x y h e = sym (h refl)
+  sound_old : IsSound Dataset rowL
+  sound_old = good.facts.sound (Live name) rowL in_old
 
-  taken_from : (b : Bool) (x : Option Cell) (y : Cell) → cond b x None ≡ Some y → x ≡ Some y
-  taken_from true x y e = e
-  taken_from false x y e = absurd (no_value y e)
+  pub leaf : IsLeaf Dataset (lineages m g) (Live name)
+  leaf d n h = prev_is_snap m g d n name h
 
-  pub rewrite_is_change : ChangesKeys m (rewrite m c g number) (is_touched m c) g number
-  rewrite_is_change = record {
-    kept = λ k e. get-rewrite_any m c g number k
-        ∙ choose (list_any (eq_by_cmp key_cmp k) (keys m ++ flat_map path (keys (changed_contents (contents m) c)))) _ _ (absent_key m (flat_map path (keys (changed_contents (contents m) c))) k) (after_untouched k e);
-    made = λ k x e h. new_cell_is _ k x (sym (after_touched k e) ∙ taken_from _ _ x (sym (get-rewrite_any m c g number k) ∙ h));
-    below = untouched_below m c;
+  born_below : (b : Block) → Has qL.below b → b.birth ≤ qL.base
+  born_below b = below_born (lineages m g) good.facts (Live name) rowL b in_old
+
+  sound_new : IsSound Dataset (row g qL live)
+  sound_new = record {
+    born = λ b h. ⊎_elim (λ k. sound_old.born b k) (⊎_elim (λ k. let l = born_below b k in let x = sound_old.falls in omega arith) (λ k. let e = k.0 in omega arith)) (each b h);
+    falls = sound_old.falls;
+    kept = λ b h l. ⊎_elim (λ k. sound_old.kept b k l) (⊎_elim (λ k. k) (λ k. let e = k.0 in let x = sound_old.falls in absurd (omega arith))) (each b h);
+    gone = refl;
   }
+
+  pub puts : Puts Dataset (lineages m g) (lineages m' g) (Live name) (row g qL live)
+  puts = record {
+    new = λ d n h. ⊎_elim
+        (λ (r, rs, k).
+        let r_is = one_start m (one_to_an_id m g good) f.origin r q rs st in
+        ⊎_elim
+        (λ l. let i = snap_row_id q f.snapshots d n l in inr ((λ e. live_or_snap name i.0.id (sym e ∙ i.2)), (name, f, q, at, st, snap_in g name f.live q f.snapshots d n l)))
+        inl
+        (tail_live g name live q f.snapshots d n (subst (λ x. IsTail g name live x f.snapshots d n) r_is k)))
+        (λ k. inr ((λ e. rows_apart m name f at g good.placed q (Live name) rowL n (live_in g name f.live q f.snapshots) (subst (λ x. Elsewhere m name g x n) e k)), to_old m name f at g d n k))
+        (from_new m name f at g f' m' here others refl starts d n h);
+    here = to_new m name f at g f' m' here others refl starts q st (Live name) (row g qL live) (live_in g name live q f.snapshots);
+    rest = λ d n ne h. ⊎_elim
+        (λ (r, rs, k).
+        let r_is = one_start m (one_to_an_id m g good) f.origin r q rs st in
+        ⊎_elim
+        (λ l. to_new m name f at g f' m' here others refl starts q st d n (snap_in g name live q f.snapshots d n l))
+        (λ l. absurd (ne l.0))
+        (tail_live g name f.live q f.snapshots d n (subst (λ x. IsTail g name f.live x f.snapshots d n) r_is k)))
+        (λ k. to_new_else m name f at g f' m' here others refl starts d n k)
+        (from_old m name f at g d n h);
+  }
+
+  ready : IsPrior Dataset (lineages m' g) qL.prev qL.base qL.below
+  ready = prior_kept dataset_cases (lineages m g) (lineages m' g) good.facts (Live name) (row g qL live) puts qL.prev qL.base qL.below (leaf (Live name) rowL in_old) (good.facts.prior (Live name) rowL in_old)
+
+  brings : (b : Block) → Has live b → qL.base < b.birth → (d : Dataset) (n : Row Dataset) → ¬ (d ≡ Live name) → lineages m g d n → ¬ (Has n.blocks b)
+  brings b h lt d n ne k = ⊎_elim
+      (λ x. own_of_leaf dataset_cases (lineages m g) (lineages m g) good.facts (Live name) rowL in_old leaf b x lt d n ne k)
+      (⊎_elim (λ x. let l = born_below b x in absurd (omega arith)) (λ x. x.1 d n k))
+      (each b h)
+
+  good' : IsGood m' g
+  good' = record {
+    facts = put_keeps dataset_cases (lineages m g) (lineages m' g) good.facts (Live name) (row g qL live) puts leaf sound_new ready brings;
+    closed = closed_new m m' name f f' at here others good.closed refl starts;
+    placed = placed_new m m' name f f' at here others good.placed (λ t a. inl a);
+  }
+
+  loses : (u u' : BlockSet) → IsUnion Dataset (lineages m g) u → IsUnion Dataset (lineages m' g) u' → difference (after qL.base f.live) live ≡ difference u u'
+  loses = put_loses dataset_cases (lineages m g) (lineages m' g) good.facts (Live name) (row g qL live) puts leaf sound_new ready brings rowL in_old refl refl
+
+pub write_keeps : WriteKeeps
+write_keeps old new g name live q good p st each = (
+  good' old new g good name p.system p.at live p.here p.others q st each,
+  loses old new g good name p.system p.at live p.here p.others q st each,
+)

@@ -1,87 +1,143 @@
--- The states of numbers, from the sets of blocks that both worlds reach.
-use Rattle.std.proofs.Common.{◌≡◌, ℕ, zero, suc, ◌+◌, ◌<◌, Bool, true, false, cond, not, ◌||◌, List, [], ◌∷◌, Some, refl, sym, ap, ◌∙◌, true≢false, ⊎_elim, length, arith}
-use Rattle.std.specs.Prelude.{slice_get, count_by}
+-- The pool's state: the numbers of its blocks, and the sweep after a step.
+use Rattle.std.proofs.Common.{◌≡◌, ℕ, Bool, true, false, cond, not, ◌&&◌, List, [], ◌∷◌, length, Option, Some, None, refl, sym, ap, subst, ◌∙◌, true≢false, ◌⊎◌, inl, inr, ⊎_elim, arith}
+use Rattle.std.specs.Prelude.{IsSome, is_some, nat_lt}
+use Rattle.std.specs.List.{filter, list_any}
+use Rattle.std.specs.Option.{option_map_or}
+use Rattle.std.specs.FinMap.{get, entries, values}
 use Rattle.std.specs.FinSet.{union, difference}
-use Rattle.std.proofs.lemmas.List.Sums.{sum_by-cons}
-use Rattle.std.proofs.lemmas.Bool.{or_cases, or_right}
-use Rattle.base.specs.Map.{Block, BlockSet}
-use Rattle.zalloc.specs.declared.BlockState.{BlockState}
+use Rattle.std.proofs.lemmas.Bool.{false_from_ne_true, or_left, or_right, lt-ltb, and_parts}
+use Rattle.base.specs.Map.{Block}
+use Rattle.base.specs.Surveys.{IsIn}
+use Rattle.model.specs.World.{World, FileSystem, Snap, SnapId, id_of, same_id, snap_at, clones_of, union_of, reach_of}
 use Rattle.zalloc.specs.declared.BlockState.TheVariants.{Free, Allocated, Waiting}
-use Rattle.zalloc.specs.States.{is_free}
-use Rattle.model.specs.State.{is_number_of}
+use Rattle.model.specs.State.{State, waiting_of, has_view, is_number_of, block_state}
+use Rattle.model.specs.Numbers.{IsWorldNumbered, IsNumbered}
+use Rattle.model.specs.Outcome.{is_needed, state_after_sweep}
+use Rattle.model.specs.Edits.{without_snaps, with_losses, with_now}
 use Rattle.world.specs.Sets.{Has}
-use Rattle.world.specs.Settles.{state_at}
-use Rattle.world.proofs.Orders.{block_order as o}
-use Rattle.world.proofs.SetCounts.{in_union_left, in_union_right, from_union, in_difference, from_difference}
-use Rattle.world.proofs.BlockSets.{number_in, from_number}
-use Rattle.world.proofs.Free.{count_below}
+use Rattle.world.specs.Blocks.{block_order as o}
+use Rattle.world.specs.Shapes.{Name, name_order, view_order}
+use Rattle.world.specs.Usage.{IsEntry}
+use Rattle.world.specs.Worlds.{IsWorld, ArePaired, IsPoolState, InNow}
+use Rattle.world.specs.Dead.{HasNoCloneIn}
+use Rattle.world.proofs.SetCounts.{in_union_left, in_union_right, from_difference}
+use Rattle.world.proofs.Maps.{entry_of}
+use Rattle.world.proofs.Cells.{from_number}
+use Rattle.world.proofs.Bridge.{from_snap_at, snap_is_at}
+use Rattle.world.proofs.Finding.{in_filter, is_same_id}
+use Rattle.world.proofs.Listed.{map_in}
+use Rattle.world.proofs.Kept.{reach_is, losses_reach}
+use Rattle.world.proofs.WithoutSnaps.{without_from, without_at, without_good, without_world, without_pairs}
 
-both_ways : (a b : Bool) → (a ≡ true → b ≡ true) → (b ≡ true → a ≡ true) → a ≡ b
-both_ways true b f g = sym (f refl)
-both_ways false true f g = absurd (true≢false (sym (g refl)))
-both_ways false false f g = refl
+-- ---- numbers
 
-module _ (A L : BlockSet) where
-  pub state_at-now : (b : Block) → Has A b → state_at A L b.number ≡ Allocated
-  state_at-now b h = rw (number_in A b.number b h refl) refl
+module _ (size : ℕ) (now last : World) (good : IsWorld size now) (pair : ArePaired size now last) where
+  in_both : (b : Block) → Has (reach_of now) b → Has (union (reach_of now) (reach_of last)) b
+  in_both b h = in_union_left o (reach_of now) (reach_of last) b h
 
-  -- no block of either set has a number that is Free
-  pub not_free : (b : Block) → Has (union A L) b → state_at A L b.number ≡ Free → ⊥
-  not_free b h e = at (is_number_of A b.number) refl
+  in_reach : (b : Block) → Has (union_of now) b ⊎ Has now.freeing b → Has (reach_of now) b
+  in_reach b h = subst (λ s. Has s b) (sym (reach_is now)) (⊎_elim (λ k. in_union_left o (union_of now) now.freeing b k) (λ k. in_union_right o (union_of now) now.freeing b k) h)
+
+  pub world_numbered : IsWorldNumbered size now
+  world_numbered = record {
+    trees = good.trees;
+    one_block = λ d e. pair.cells (InNow d) (InNow e);
+    freeing_apart = λ n h. false_from_ne_true _ (λ k.
+        let a = from_number now.freeing n h in
+        let b = from_number (union_of now) n k in
+        let same = pair.reached.unique b.0 a.0 (in_both b.0 (in_reach b.0 (inl b.1))) (in_both a.0 (in_reach a.0 (inr a.1))) (b.2 ∙ sym a.2) in
+        good.freeing_apart b.0 b.1 (subst (λ x. Has now.freeing x) (sym same) a.1));
+  }
+
+pub state_numbered : (s : State) → IsPoolState s → IsNumbered s
+unfolding waiting_of
+state_numbered s good = record {
+  world = world_numbered s.size s.now s.last good.now good.pair;
+  waiting_apart = λ n h. false_from_ne_true _ (λ k.
+      let a = from_number (difference (reach_of s.last) (reach_of s.now)) n h in
+      let b = from_number (reach_of s.now) n k in
+      let w = from_difference o (reach_of s.last) (reach_of s.now) a.0 a.1 in
+      let same = good.pair.reached.unique b.0 a.0 (in_union_left o (reach_of s.now) (reach_of s.last) b.0 b.1) (in_union_right o (reach_of s.now) (reach_of s.last) a.0 w.0) (b.2 ∙ sym a.2) in
+      w.1 (subst (λ x. Has (reach_of s.now) x) same b.1));
+}
+
+-- ---- the sweep
+
+pub positive : {A : Type 0} (xs : List A) (x : A) → IsIn xs x → nat_lt 0 (length xs) ≡ true
+positive [] x h = absurd h
+positive (y ∷ ys) x h = lt-ltb 0 (length (y ∷ ys)) (omega arith)
+
+in_entries : (es : List (Name × FileSystem)) (name : Name) (s : FileSystem) → IsEntry es name s → IsIn es (name, s)
+in_entries [] name s h = absurd h
+in_entries (e ∷ es) name s h = ⊎_elim (λ k. inl (λ i. (k.0 i, k.1 i))) (λ k. inr (in_entries es name s k)) h
+
+-- a file system whose origin it is is one of the clones
+pub in_clones : (w : World) (id : SnapId) (q : Name) (x : FileSystem) → get w.file_systems q ≡ Some x → x.origin ≡ Some id → IsIn (clones_of w id) q
+in_clones w id q x at e =
+    map_in (λ (e : Name × FileSystem). e.0) (filter (λ (e : Name × FileSystem). option_map_or (same_id id) e.1.origin false) (entries w.file_systems)) (q, x)
+    (in_filter (λ (e : Name × FileSystem). option_map_or (same_id id) e.1.origin false) (entries w.file_systems) (q, x)
+    (in_entries (entries w.file_systems) q x (entry_of name_order w.file_systems q x at))
+    (ap (λ y. option_map_or (same_id id) y false) e ∙ is_same_id id id refl))
+
+module _ (s : State) where
+  abbrev goes : Snap → Bool
+  goes t = t.deferred && not (is_needed s t)
+
+  needed_stays : (t : Snap) → is_needed s t ≡ true → goes t ≡ true → ⊥
+  needed_stays t n g = let p = and_parts t.deferred (not (is_needed s t)) g in true≢false (sym p.1 ∙ ap not n)
+
+  -- what goes has no clone
+  pub swept_bare : (n : Name) (x : FileSystem) (t : Snap) → get s.now.file_systems n ≡ Some x → IsIn x.snaps t → goes t ≡ true → HasNoCloneIn s.now.file_systems (id_of t)
+  swept_bare n x t at h g q y e i = needed_stays t
+      (or_right (nat_lt 0 (length t.tags)) _ (or_right (has_view s (id_of t)) _ (positive (clones_of s.now (id_of t)) q (in_clones s.now (id_of t) q y e i)))) g
+
+  view_needed : (v : ℕ) (id : SnapId) (t : Snap) → get s.views v ≡ Some id → id_of t ≡ id → is_needed s t ≡ true
+  view_needed v id t e i = or_right (nat_lt 0 (length t.tags)) _ (or_left (has_view s (id_of t)) _ (any_view (values s.views) (in_values v id e)))
     where
-      apart : Allocated ≡ Free → ⊥
-      apart f = cc
+      any_view : (ids : List SnapId) → IsIn ids id → list_any (same_id (id_of t)) ids ≡ true
+      any_view [] h = absurd h
+      any_view (x ∷ xs) h = ⊎_elim
+          (λ (k : id ≡ x). or_left (same_id (id_of t) x) _ (is_same_id (id_of t) x (i ∙ k)))
+          (λ k. or_right (same_id (id_of t) x) _ (any_view xs k))
+          h
 
-      apart_waiting : Waiting ≡ Free → ⊥
-      apart_waiting f = cc
+      entry_in : (es : List (ℕ × SnapId)) → IsEntry es v id → IsIn es (v, id)
+      entry_in [] h = absurd h
+      entry_in (e ∷ es) h = ⊎_elim (λ k. inl (λ j. (k.0 j, k.1 j))) (λ k. inr (entry_in es k)) h
 
-      at : (t : Bool) → is_number_of A b.number ≡ t → ⊥
-      at true t = apart (sym (ap (λ x. cond x Allocated (cond (is_number_of (difference L A) b.number) Waiting Free)) t) ∙ e)
-      at false t =
-          let out : Has A b → ⊥ = λ a. true≢false (sym (number_in A b.number b a refl) ∙ t) in
-          let l = ⊎_elim (λ a. absurd (out a)) (λ l. l) (from_union o A L b h) in
-          let w = number_in (difference L A) b.number b (in_difference o L A b l out) refl in
-          apart_waiting (sym (λ i. cond (t i) Allocated (cond (w i) Waiting Free)) ∙ e)
+      in_values : (v' : ℕ) (id' : SnapId) → get s.views v ≡ Some id → IsIn (values s.views) id
+      in_values v' id' e = map_in (λ (e : ℕ × SnapId). e.1) (entries s.views) (v, id) (entry_in (entries s.views) (entry_of view_order s.views v id e))
 
-  number_either : (n : ℕ) → is_number_of (union A L) n ≡ (is_number_of A n || is_number_of (difference L A) n)
-  number_either n = both_ways _ _
-      (λ t. let b = from_number (union A L) n t in at b.0 b.1 b.2 (is_number_of A n) refl)
-      (λ t. ⊎_elim
-      (λ a. let b = from_number A n a in number_in (union A L) n b.0 (in_union_left o A L b.0 b.1) b.2)
-      (λ l. let b = from_number (difference L A) n l in number_in (union A L) n b.0 (in_union_right o A L b.0 (from_difference o L A b.0 b.1).0) b.2)
-      (or_cases _ _ t))
-    where
-      at : (b : Block) → Has (union A L) b → b.number ≡ n → (t : Bool) → is_number_of A n ≡ t → (is_number_of A n || is_number_of (difference L A) n) ≡ true
-      at b h e true t = ap (λ x. x || is_number_of (difference L A) n) t
-      at b h e false t =
-          let out : Has A b → ⊥ = λ a. true≢false (sym (number_in A n b a e) ∙ t) in
-          or_right _ _ (number_in (difference L A) n b (in_difference o L A b (⊎_elim (λ a. absurd (out a)) (λ l. l) (from_union o A L b h)) out) e)
+  module _ (good : IsPoolState s) where
+    -- what holds between two steps holds after the sweep
+    pub sweep_keeps : IsPoolState (state_after_sweep s)
+    unfolding state_after_sweep
+    sweep_keeps = record {
+      now = without_world s.size s.now good.now goes swept_bare;
+      last = good.last;
+      pair = without_pairs s.size s.now good.now goes swept_bare s.last good.pair;
+      views = λ v id e. still v id e (snap_at s.now id) refl (good.views v id e);
+    }
+      where
+        still : (v : ℕ) (id : SnapId) → get s.views v ≡ Some id → (x : Option (Name × Snap)) → snap_at s.now id ≡ x → IsSome (snap_at s.now id)
+            → IsSome (snap_at (with_losses s.now (without_snaps s.now goes)) id)
+        still v id e None i h = absurd (true≢false (sym h ∙ ap is_some i))
+        still v id e (Some p) i h =
+            let k = from_snap_at s.now id p i in
+            ap is_some (snap_is_at (with_losses s.now (without_snaps s.now goes)) s.now.group (without_good s.size s.now good.now goes swept_bare).lines
+            p.0 (record k.0 { snaps = filter (λ t. not (goes t)) k.0.snaps }) p.1 id (without_at s.now goes p.0 k.0 k.1)
+            (in_filter (λ t. not (goes t)) k.0.snaps p.1 k.2 (ap not (false_from_ne_true _ (λ g. needed_stays p.1 (view_needed v id p.1 e k.3) g)))) k.3)
 
-  pub free-state_at : (n : ℕ) → is_free (state_at A L n) ≡ not (is_number_of (union A L) n)
-  free-state_at n = at (is_number_of A n) (is_number_of (difference L A) n) ∙ ap not (sym (number_either n))
-    where
-      at : (a w : Bool) → is_free (cond a Allocated (cond w Waiting Free)) ≡ not (a || w)
-      at true w = refl
-      at false true = refl
-      at false false = refl
+-- ---- block states
 
--- counting from the front
-pub count_below-front : (q : ℕ → Bool) (n : ℕ) → count_below q (suc n) ≡ cond {A = ℕ} (q 0) 1 0 + count_below (λ k. q (suc k)) n
-count_below-front q zero = refl
-count_below-front q (suc n) = let ih = count_below-front q n in omega (arith, ih)
+-- where what is reached stays, each number keeps its state
+pub states_stay : (s : State) (w : World) → reach_of w ≡ reach_of s.now → (n : ℕ) → block_state (with_now s w) n ≡ block_state s n
+unfolding block_state waiting_of
+states_stay s w e n i = cond (is_number_of (e i) n) Allocated (cond (is_number_of (difference (reach_of s.last) (e i)) n) Waiting Free)
 
-pub count-list : (p : BlockState → Bool) (xs : List BlockState) (f : ℕ → BlockState) → ((k : ℕ) → k < length xs → slice_get xs k ≡ Some (f k))
-    → count_by p xs ≡ count_below (λ k. p (f k)) (length xs)
-count-list p [] f h = refl
-count-list p (x ∷ xs) f h =
-    let ih = count-list p xs (λ k. f (suc k)) (λ k l. h (suc k) (omega arith)) in
-    sum_by-cons (λ z. cond (p z) 1 0) x xs
-    ∙ (λ i. cond {A = ℕ} (p (same_value x (f 0) (h 0 (omega arith)) i)) 1 0 + ih i)
-    ∙ sym (count_below-front (λ k. p (f k)) (length xs))
-  where
-    same_value : (a b : BlockState) → Some a ≡ Some b → a ≡ b
-    same_value a b e = cc
-
-pub count_below-same : (p q : ℕ → Bool) (n : ℕ) → ((k : ℕ) → p k ≡ q k) → count_below p n ≡ count_below q n
-count_below-same p q zero h = refl
-count_below-same p q (suc n) h = λ i. cond {A = ℕ} (h n i) 1 0 + count_below-same p q n h i
+-- so a sweep changes none
+pub sweep_states : (s : State) → IsPoolState s → (n : ℕ) → block_state (state_after_sweep s) n ≡ block_state s n
+unfolding state_after_sweep
+sweep_states s good = states_stay s (with_losses s.now (without_snaps s.now (λ t. t.deferred && not (is_needed s t))))
+    (losses_reach s.size s.now (without_snaps s.now (λ t. t.deferred && not (is_needed s t))) good.now (without_from s.now (λ t. t.deferred && not (is_needed s t)))
+    (without_good s.size s.now good.now (λ t. t.deferred && not (is_needed s t)) (swept_bare s)) refl)

@@ -13,7 +13,7 @@ use Rattle.model.specs.State.{State}
 use Rattle.model.specs.Edits.{with_file_systems, with_losses}
 use Rattle.model.specs.Outcome.{is_needed, state_after_sweep}
 use Rattle.world.specs.Sets.{IsExactOrder}
-use Rattle.world.proofs.Orders.{name_order}
+use Rattle.world.specs.Shapes.{name_order}
 
 find-mapped : {K X : Type 0} {R : K → K → Ordering} (o : IsExactOrder R) (f : K → X → X) (q : K) (es : List (K × X))
     → find R q (map (λ e. (e.0, f e.0 e.1)) es) ≡ option_map (f q) (find R q es)

@@ -1,17 +1,18 @@
--- What holds of the blocks that a state takes, and what a change of a map is to them.
-use Rattle.std.specs.Prelude.{◌≡◌, ℕ, Bool, true, false, Some, IsTrue}
-use Rattle.std.specs.FinMap.{get}
-use Rattle.base.specs.declared.number.Key.{Key}
-use Rattle.base.specs.Key.{is_at_or_below}
-use Rattle.base.specs.Map.{Map, Cell, Block, BlockSet}
-use Rattle.world.specs.Sets.{Has}
+-- Sets of blocks, cut by birth.
+use Rattle.std.specs.Prelude.{ℕ, ltb, leb}
+use Rattle.std.specs.FinSet.{retain}
+pub use Rattle.base.specs.Map.{Block, BlockSet, block_cmp}
+use Rattle.base.specs.Map.{block_cmp_total, block_cmp-IsAntisymmetric}
+use Rattle.world.specs.Sets.{IsExactOrder}
 
--- each number names one block (profile)
-abbrev pub AreNumbersUnique : BlockSet → Type 0
-AreNumbersUnique s = (a b : Block) → Has s a → Has s b → a.number ≡ b.number → a ≡ b
+-- blocks by number, and then by birth (profile)
+pub block_order : IsExactOrder block_cmp
+block_order = record { total = block_cmp_total; exact = block_cmp-IsAntisymmetric }
 
--- What a change of a map is to a pool: the keys that it touches, and the numbers and the birth of the cells that it makes there (profile)
-pub record ChangesKeys (old new : Map) (touched : Key → Bool) (g : ℕ) (number : Key → ℕ) : Type 0 where
-  pub kept : (k : Key) → touched k ≡ false → get new k ≡ get old k
-  pub made : (k : Key) (c : Cell) → touched k ≡ true → get new k ≡ Some c → (c.number ≡ number k) × (c.birth ≡ g)
-  pub below : (k q : Key) → touched k ≡ false → IsTrue (is_at_or_below k q) → touched q ≡ false
+-- the blocks born after the cut, and the others (profile)
+abbrev pub after : ℕ → BlockSet → BlockSet
+after cut s = retain s (λ b. ltb cut b.birth)
+
+-- those born by the cut (profile)
+abbrev pub upto : ℕ → BlockSet → BlockSet
+upto cut s = retain s (λ b. leb b.birth cut)

@@ -1,16 +1,16 @@
--- One number names one block, over a family of maps that changes at one place.
-use Rattle.std.specs.Prelude.{◌≡◌, ℕ, ◌⊎◌, Bool, true, Some}
+-- A change of one map of a family, whose new cells have numbers that no other cell has.
+use Rattle.std.specs.Prelude.{◌≡◌, ℕ, ◌⊎◌, Bool, true, false, Some, IsTrue}
 use Rattle.std.specs.FinMap.{get}
 use Rattle.base.specs.declared.number.Key.{Key}
+use Rattle.base.specs.Key.{is_at_or_below}
 use Rattle.base.specs.Map.{Map, Cell}
-use Rattle.model.specs.Numbers.{IsOneBlock}
-use Rattle.world.specs.Blocks.{ChangesKeys}
+pub use Rattle.world.specs.Worlds.{AreCellsOne}
 
--- two cells with one number are one (profile)
-abbrev pub AreCellsOne : {D : Type 0} → (D → Map) → Type 0
-AreCellsOne {D} maps =
-    (d e : D) (j k : Key) (a b : Cell) → get (maps d) j ≡ Some a → get (maps e) k ≡ Some b → a.number ≡ b.number
-    → IsOneBlock (maps d) (maps e) j k a b
+-- What a change of a map is to a pool: the keys that it touches, and the numbers and the birth of the cells that it makes there (profile)
+pub record ChangesKeys (old new : Map) (touched : Key → Bool) (g : ℕ) (number : Key → ℕ) : Type 0 where
+  pub kept : (k : Key) → touched k ≡ false → get new k ≡ get old k
+  pub made : (k : Key) (c : Cell) → touched k ≡ true → get new k ≡ Some c → (c.number ≡ number k) × (c.birth ≡ g)
+  pub below : (k q : Key) → touched k ≡ false → IsTrue (is_at_or_below k q) → touched q ≡ false
 
 -- one map of the family changes (profile)
 pub record ChangesAt {D : Type 0} (old new : D → Map) (at : D) (touched : Key → Bool) (g : ℕ) (number : Key → ℕ) : Type 0 where

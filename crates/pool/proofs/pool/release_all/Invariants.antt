@@ -1,6 +1,6 @@
 use Rattle.std.proofs.Common.{◌≡◌, map, drop}
 use Rattle.base.specs.Surveys.{dead_block}
-use Rattle.world.specs.Settles.{AllAllocated, releases}
+use Rattle.steps.specs.Settles.{AllAllocated, releases}
 use Rattle.pool.proofs.pool.release_all.Given as goal
 
 -- what is left to release leads to the same states, and each of it is Allocated

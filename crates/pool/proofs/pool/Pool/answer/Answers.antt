@@ -1,7 +1,7 @@
-use Rattle.std.proofs.Common.{sym, subst, ap, ◌∙◌}
+use Rattle.std.proofs.Common.{sym, subst, ap}
 use Rattle.model.specs.State.{State}
 use Rattle.model.specs.Step.{Step}
-use Rattle.model.specs.declared.request.Request.TheVariants.{Read, Get, PoolGet, List as ListNames}
+use Rattle.model.specs.declared.request.Request.TheVariants.{Read}
 use Rattle.pool.specs.Shown.{Shown}
 use Rattle.pool.proofs.Asking.{asks_write, asks_punch, asks_free}
 use Rattle.pool.proofs.pool.Pool.answer.Goals as goal
@@ -23,13 +23,13 @@ returns-in-FreeObject c =
 
 pub returns-in-Read : goal.returns-in-Read
 returns-in-Read c =
-    rw c.in-Read.is (subst (λ (s : State). Step c.args.self.now.state (Read c.in-Read.target c.in-Read.object c.in-Read.block) c.read.result s) (c.stands.ensures ∙ ap (λ (s : Shown). s.state) (sym c.read.ensures.same)) c.read.ensures.step)
+    rw c.in-Read.is (subst (λ (s : State). Step c.args.self.now.state (Read c.in-Read.target c.in-Read.object c.in-Read.block) c.read.result s) (ap (λ (s : Shown). s.state) (sym c.read.ensures.same)) c.read.ensures.step)
 
 pub returns-in-Get : goal.returns-in-Get
-returns-in-Get c = rw c.in-Get.is (subst (λ (s : State). Step c.args.self.now.state (Get c.in-Get.target c.in-Get.property) c.get.result s) c.stands.ensures c.get.ensures)
+returns-in-Get c = rw c.in-Get.is c.get.ensures
 
 pub returns-in-PoolGet : goal.returns-in-PoolGet
-returns-in-PoolGet c = rw c.in-PoolGet.is (subst (λ (s : State). Step c.args.self.now.state (PoolGet c.in-PoolGet.property) c.pool_get.result s) c.stands.ensures c.pool_get.ensures)
+returns-in-PoolGet c = rw c.in-PoolGet.is c.pool_get.ensures
 
 pub returns-in-List : goal.returns-in-List
-returns-in-List c = rw c.in-List.is (subst (λ (s : State). Step c.args.self.now.state ListNames c.list.result s) c.stands.ensures c.list.ensures)
+returns-in-List c = rw c.in-List.is c.list.ensures

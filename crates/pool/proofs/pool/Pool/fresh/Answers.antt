@@ -1,23 +1,26 @@
 use Rattle.std.proofs.Common.{sym, subst, ◌∙◌, ◌≡◌, List}
 use Rattle.zalloc.specs.declared.BlockState.{BlockState}
-use Rattle.world.specs.Systems.{FileSystems, Systems, systems_state}
-use Rattle.world.proofs.SystemsFresh.{first_pool, first_is_good, first_state, first_numbers}
+use Rattle.model.specs.State.{State, fresh_state, fresh_world}
+use Rattle.model.specs.Hierarchy.{FileSystems}
+use Rattle.steps.proofs.Fresh.{first_steady, first_numbers}
 use Rattle.pool.specs.Pools.{IsSound}
 use Rattle.pool.proofs.pool.Pool.fresh.Goals as goal
 
-abbrev core_at : FileSystems → FileSystems → Systems → Systems
-core_at now last c = record c { now = now; last = last }
+abbrev state_at : FileSystems → FileSystems → State → State
+state_at now last s = record s { now = record s.now { file_systems = now }; last = record s.last { file_systems = last } }
 
 pub invariant_of-result : goal.invariant_of-result
+unfolding fresh_state fresh_world
 invariant_of-result c =
     let last = c.in_ok-last.ensures.ok ∙ c.in_ok-present.ensures.ok in
-    let same : core_at c.in_ok-present.present c.in_ok-last.last (first_pool c.args.id c.args.blocks) ≡ first_pool c.args.id c.args.blocks =
-    λ i. core_at (c.in_ok-present.ensures.ok i) (last i) (first_pool c.args.id c.args.blocks) in
+    let same : state_at c.in_ok-present.present c.in_ok-last.last (fresh_state c.args.id c.args.blocks) ≡ fresh_state c.args.id c.args.blocks =
+    λ i. state_at (c.in_ok-present.ensures.ok i) (last i) (fresh_state c.args.id c.args.blocks) in
     subst (λ x. IsSound x c.in_ok-allocator.allocator) (sym same)
-    (subst (λ (st : List BlockState). IsSound (first_pool c.args.id c.args.blocks) st) (sym c.in_ok-allocator.ensures.ok)
-    (record { core = first_is_good c.args.id c.args.blocks; states = first_numbers c.args.id c.args.blocks }))
+    (subst (λ (st : List BlockState). IsSound (fresh_state c.args.id c.args.blocks) st) (sym c.in_ok-allocator.ensures.ok)
+    (record { steady = first_steady c.args.id c.args.blocks; states = first_numbers c.args.id c.args.blocks }))
 
 pub returns-clause-ok : goal.returns-clause-ok
+unfolding fresh_state fresh_world
 returns-clause-ok c =
     let last = c.in_ok-last.ensures.ok ∙ c.in_ok-present.ensures.ok in
-    (λ i. systems_state (core_at (c.in_ok-present.ensures.ok i) (last i) (first_pool c.args.id c.args.blocks))) ∙ first_state c.args.id c.args.blocks
+    λ i. state_at (c.in_ok-present.ensures.ok i) (last i) (fresh_state c.args.id c.args.blocks)

@@ -1,40 +1,70 @@
-use Rattle.std.proofs.Common.{◌≡◌, sym, ap, subst, ◌∙◌, rules}
+use Rattle.std.proofs.Common.{sym, subst, rules}
+use Rattle.base.specs.declared.refusal.Refusal.TheVariants.{NoMemory}
+use Rattle.model.specs.declared.reply.Reply.TheVariants.{Done, Refused}
 use Rattle.model.specs.Step.{Step}
-use Rattle.world.specs.Systems.{systems_state}
+use Rattle.steps.specs.Edits.{with_systems}
+use Rattle.pool.specs.declared.pool.Plan.TheVariants.{Put}
 use Rattle.pool.specs.Asked.{Asks}
+use Rattle.pool.specs.Plans.{CanDo, state_after_plan}
 use Rattle.pool.specs.Pools.{core_of}
 use Rattle.pool.specs.Shown.{Shown}
-use Rattle.pool.proofs.Changes.{planned_absent, born, allocated, planned_can, planned_step}
+use Rattle.pool.proofs.Names.{absent_other}
+use Rattle.pool.proofs.Changes.{told, update_absent, update_no_memory}
+use Rattle.pool.proofs.Immediate.{live_born, live_allocated, asks_here, refused_now, can_now, done_now}
 use Rattle.pool.proofs.pool.Pool.planned_update.Goals as goal
+use Rattle.pool.proofs.pool.Pool.planned_update.Goals.{in-Ok-changed, in-Err-changed}
 
 pub returns-in-Err-clause-step : goal.returns-in-Err-clause-step
-returns-in-Err-clause-step c q asks =
-    let same : c.args.self.now.state ≡ systems_state c.args.self.now.core = sym (ap (λ (x : Shown). x.state) c.self.view_is) ∙ ap (λ (x : Shown). systems_state x.core) c.self.view_is in
-    subst (λ s. Step c.args.self.now.state q c.outside_the_limits.result s) same (c.outside_the_limits.ensures q (subst (λ r. Asks q c.args.target.now r) c.in-Err.is asks))
+returns-in-Err-clause-step c q asks = c.outside_the_limits.ensures q (subst (λ r. Asks q c.args.target.now r) c.in-Err.is asks)
 
 pub returns-in_default-clause-step : goal.returns-in_default-clause-step
 returns-in_default-clause-step c q asks =
-    planned_absent c.args.self.now (core_of c.self.inside) c.self.inside.allocator c.self.view_is c.self.invariant c.args.target.now c.in-Ok.update c.in_default.ensures q
-    (subst (λ r. Asks q c.args.target.now r) c.in-Ok.is asks)
+    told c.args.self.now (core_of c.self.inside) c.self.inside.allocator c.self.view_is q _
+    (update_absent (core_of c.self.inside) c.self.inside.allocator c.self.invariant q c.args.target.now c.in-Ok.update (subst (λ r. Asks q c.args.target.now r) c.in-Ok.is asks)
+    (absent_other c.self.inside.present c.args.target.now c.in_default.not-FileSystem))
 
-pub prepare_change-prepared-requires : goal.prepare_change-prepared-requires
-prepare_change-prepared-requires c = record {
+pub apply_live-changed-requires : goal.apply_live-changed-requires
+apply_live-changed-requires c = record {
   batch = search rules;
   young = search rules;
-  born = born c.args.self.now (core_of c.self.inside) c.self.inside.allocator c.self.view_is c.self.invariant c.args.target.now c.in-Some.file_system.now c.in-Some.ensures c.live.result.now c.live.ensures;
-  allocated = allocated c.args.self.now (core_of c.self.inside) c.self.inside.allocator c.self.view_is c.self.invariant c.args.target.now c.in-Some.file_system.now c.in-Some.ensures c.live.result.now c.live.ensures;
+  born = live_born (core_of c.self.inside) c.self.inside.allocator c.self.invariant c.in-FileSystem.name c.in-Ok-copy.to c.in-Ok-copy.ensures.ok;
+  allocated = live_allocated (core_of c.self.inside) c.self.inside.allocator c.self.invariant c.in-FileSystem.name c.in-Ok-copy.to c.in-Ok-copy.ensures.ok;
 }
 
+pub returns-in-Err-copy-clause-step : goal.returns-in-Err-copy-clause-step
+returns-in-Err-copy-clause-step c q asks =
+    subst (λ why. Step c.args.self.now.state q (Refused why) c.args.self.now.state) (sym c.in-Err-copy.ensures.err)
+    (told c.args.self.now (core_of c.self.inside) c.self.inside.allocator c.self.view_is q (Refused NoMemory)
+    (update_no_memory (core_of c.self.inside) c.self.inside.allocator c.self.invariant q c.args.target.now c.in-Ok.update (subst (λ r. Asks q c.args.target.now r) c.in-Ok.is asks)))
+
 pub returns-clause-can : goal.returns-clause-can
-returns-clause-can c =
-    let e = c.prepare_change-prepared.ensures in
-    planned_can c.args.self.now (core_of c.self.inside) c.self.inside.allocator c.self.view_is c.self.invariant c.args.target.now c.in-Some.file_system.now c.in-Some.ensures c.live.result.now c.live.ensures
-    c.in-Ok.update c.from_ref.result.now c.from_ref.ensures.value c.prepare_change-prepared.result (record { ok = e.ok; room = e.room; no_space = e.no_space; only = e.only })
-    c.planned_change.result.0 c.planned_change.result.1 c.planned_change.ensures
+returns-clause-can c = elim c.match-changed.branch [
+  | in-Ok-changed w ↦
+      let e = w.in-Ok-changed.ensures in
+      subst (λ r. CanDo c.args.self.now.state r.1) (sym w.result-is)
+      (subst (λ (x : Shown). CanDo x.state (Put c.apply_live-changed.new.self w.in-Ok-changed.done)) c.self.view_is
+      (can_now (core_of c.self.inside) c.self.inside.allocator c.self.invariant c.in-FileSystem.name c.in-Ok-copy.to c.in-Ok-copy.ensures.ok
+      c.apply_live-changed.new.self c.in-Ok.update c.from_ref.result.now c.from_ref.ensures.value w.in-Ok-changed.done
+      (record { ok = e.ok; others = e.others; room = e.room; no_dataset = e.no_dataset; no_space = e.no_space; only = e.only })))
+  | in-Err-changed w ↦ subst (λ r. CanDo c.args.self.now.state r.1) (sym w.result-is) tt
+]
 
 pub returns-clause-step : goal.returns-clause-step
-returns-clause-step c q asks =
-    let e = c.prepare_change-prepared.ensures in
-    planned_step c.args.self.now (core_of c.self.inside) c.self.inside.allocator c.self.view_is c.self.invariant c.args.target.now c.in-Some.file_system.now c.in-Some.ensures c.live.result.now c.live.ensures
-    c.in-Ok.update c.from_ref.result.now c.from_ref.ensures.value c.prepare_change-prepared.result (record { ok = e.ok; room = e.room; no_space = e.no_space; only = e.only })
-    c.planned_change.result.0 c.planned_change.result.1 c.planned_change.ensures q (subst (λ r. Asks q c.args.target.now r) c.in-Ok.is asks)
+returns-clause-step c q asks = elim c.match-changed.branch [
+  | in-Ok-changed w ↦
+      let e = w.in-Ok-changed.ensures in
+      subst (λ r. Step c.args.self.now.state q r.0 (state_after_plan c.args.self.now.state r.1)) (sym w.result-is)
+      (subst (λ (x : Shown). Step x.state q Done (with_systems x.state c.apply_live-changed.new.self)) c.self.view_is
+      (done_now (core_of c.self.inside) c.self.inside.allocator c.self.invariant c.in-FileSystem.name c.in-Ok-copy.to c.in-Ok-copy.ensures.ok
+      c.apply_live-changed.new.self c.in-Ok.update c.from_ref.result.now c.from_ref.ensures.value w.in-Ok-changed.done
+      (record { ok = e.ok; others = e.others; room = e.room; no_dataset = e.no_dataset; no_space = e.no_space; only = e.only })
+      q (asks_here q c.args.target.now c.args.update c.in-FileSystem.name c.in-Ok.update c.in-FileSystem.is c.in-Ok.is asks)))
+  | in-Err-changed w ↦
+      let e = w.in-Err-changed.ensures in
+      subst (λ r. Step c.args.self.now.state q r.0 (state_after_plan c.args.self.now.state r.1)) (sym w.result-is)
+      (told c.args.self.now (core_of c.self.inside) c.self.inside.allocator c.self.view_is q (Refused w.in-Err-changed.refusal)
+      (refused_now (core_of c.self.inside) c.self.inside.allocator c.self.invariant c.in-FileSystem.name c.in-Ok-copy.to c.in-Ok-copy.ensures.ok
+      c.apply_live-changed.new.self c.in-Ok.update c.from_ref.result.now c.from_ref.ensures.value w.in-Err-changed.refusal
+      (record { ok = e.ok; others = e.others; room = e.room; no_dataset = e.no_dataset; no_space = e.no_space; only = e.only })
+      q (asks_here q c.args.target.now c.args.update c.in-FileSystem.name c.in-Ok.update c.in-FileSystem.is c.in-Ok.is asks)))
+]

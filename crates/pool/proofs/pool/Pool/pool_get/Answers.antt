@@ -23,7 +23,7 @@ returns-in-Free c =
 pub returns-in-Freeing : goal.returns-in-Freeing
 returns-in-Freeing c =
     pool_get_freeing c.args.self.now (core_of c.self.inside) c.self.inside.allocator c.self.view_is c.self.invariant c.args.property
-    c.in_bytes-in-Freeing.result c.in-Freeing.is c.in_bytes-in-Freeing.ensures
+    c.in_bytes-in-Freeing.result c.in-Freeing.is c.in_bytes-in-Freeing.ensures refl
 
 pub returns-in-Waiting : goal.returns-in-Waiting
 returns-in-Waiting c =

@@ -1,6 +1,10 @@
-use Rattle.std.proofs.Common.{◌≡◌, ◌⊎◌, Result, Ok, Err, refl, sym, ap, subst, ◌∙◌, ⊎_elim}
-use Rattle.std.specs.Prelude.{IfErr, OnOk}
-use Rattle.std.specs.FinMap.{get}
+use Rattle.std.proofs.Common.{◌≡◌, ◌⊎◌, Result, Ok, Err, map, refl, sym, ap, subst, ◌∙◌, ⊎_elim}
+use Rattle.std.specs.Prelude.{IfErr, OnOk, OnErr}
+use Rattle.std.specs.FinMap.{get, from_sorted}
+use Rattle.std.specs.Arc.{arc_value}
+use Rattle.std.proofs.lemmas.List.{map-set}
+use Rattle.std.proofs.Math.Seq.{map-set_same}
+use Rattle.name.specs.Names.{name_cmp}
 use Rattle.base.specs.Map.{Map}
 use Rattle.base.specs.declared.refusal.Refusal.{Refusal}
 use Rattle.base.specs.declared.refusal.Refusal.TheVariants.{NoDataset, NoSpace, NoMemory}
@@ -9,13 +13,18 @@ use Rattle.tree.proofs.Options.{not_some}
 use Rattle.tree.specs.declared.change.Changed.{Changed}
 use Rattle.table.specs.Places.{IsAt, IsGapFor}
 use Rattle.table.specs.Rows.{live_of}
-use Rattle.table.proofs.Rows.{get_gap, is_there, live_is, row_sorted, row_live, row_alone, row_hierarchy}
+use Rattle.table.proofs.Rows.{row_of, get_gap, is_there, live_is, row_sorted, row_live, row_alone, row_hierarchy}
 use Rattle.table.proofs.table.Table.apply_live.Goals as goal
 
 -- what holds in any case holds on success
 on_ok : {T E P : Type 0} (r : Result T E) → P → OnOk r P
 on_ok (Ok v) p = p
 on_ok (Err e) p = tt
+
+-- what follows from what holds on failure holds on failure
+on_err : {T E P Q : Type 0} (r : Result T E) → (P → Q) → OnErr r P → OnErr r Q
+on_err (Ok v) f p = tt
+on_err (Err e) f p = f p
 
 -- a tree doesn't tell of names
 other_refusal : (r : Result Changed Refusal) → IfErr r (λ e. (e ≡ NoSpace) ⊎ (e ≡ NoMemory)) → r ≡ Err NoDataset → ⊥
@@ -26,57 +35,69 @@ other_refusal r only is = neither (subst (λ (x : Result Changed Refusal). IfErr
 
 pub returns-in_default-clause-no_dataset : goal.returns-in_default-clause-no_dataset
 returns-in_default-clause-no_dataset c =
-    let gap : IsGapFor c.self.inside.file_systems.items c.args.name.now c.in_default.field-0 = rw (← c.deref.ensures.value, ← c.as_bytes.ensures) c.in_default.ensures.absent in
+    let gap : IsGapFor (map arc_value c.self.inside.file_systems.items) c.args.name.now c.in_default.field-0 = rw (← c.deref.ensures.value, ← c.as_bytes.ensures) c.in_default.ensures.absent in
     (λ _. rw (← c.self.view_is) (get_gap _ c.self.invariant.sorted c.args.name.now c.in_default.field-0 gap), λ _. refl)
 
 pub apply-requires : goal.apply-requires
 apply-requires c =
-    let at : IsAt c.self.inside.file_systems.items c.args.name.now c.in-Ok.place = rw (← c.deref.ensures.value, ← c.as_bytes.ensures) c.in-Ok.ensures.found in
-    let same = live_is _ c.self.invariant.sorted c.args.name.now c.in-Ok.place at c.index_mut.result.now c.index_mut.ensures.value in
+    let at : IsAt (map arc_value c.self.inside.file_systems.items) c.args.name.now c.in-Ok.place = rw (← c.deref.ensures.value, ← c.as_bytes.ensures) c.in-Ok.ensures.found in
+    let is = row_of arc_value c.self.inside.file_systems.items c.in-Ok.place c.index_mut-row.result.now c.index_mut-row.ensures.value in
+    let same = live_is _ c.self.invariant.sorted c.args.name.now c.in-Ok.place at (arc_value c.index_mut-row.result.now) is in
     subst (λ (m : Map). AllowsChange m c.args.updates.now c.args.group.0 c.args.young.0 c.args.allocator.now) (ap (λ m. live_of m c.args.name.now) (sym c.self.view_is) ∙ same) c.requires
 
 pub invariant_of-self : goal.invariant_of-self
 invariant_of-self c =
-    let at : IsAt c.self.inside.file_systems.items c.args.name.now c.in-Ok.place = rw (← c.deref.ensures.value, ← c.as_bytes.ensures) c.in-Ok.ensures.found in
+    let at : IsAt (map arc_value c.self.inside.file_systems.items) c.args.name.now c.in-Ok.place = rw (← c.deref.ensures.value, ← c.as_bytes.ensures) c.in-Ok.ensures.found in
+    let is = row_of arc_value c.self.inside.file_systems.items c.in-Ok.place c.index_mut-row.result.now c.index_mut-row.ensures.value in
     record {
-      sorted = row_sorted _ c.self.invariant.sorted c.args.name.now c.in-Ok.place at c.index_mut.result.now c.index_mut.ensures.value c.apply.new.self c.apply.ensures.others;
-      room = c.self.invariant.room;
-      hierarchy = row_hierarchy _ c.self.invariant.sorted c.args.name.now c.in-Ok.place at c.index_mut.result.now c.index_mut.ensures.value c.apply.new.self c.apply.ensures.others c.self.invariant.hierarchy;
+      sorted = rw map-set (row_sorted _ c.self.invariant.sorted c.args.name.now c.in-Ok.place at (arc_value c.index_mut-row.result.now) is (arc_value c.apply.new.row) c.apply.ensures.others);
+      hierarchy = rw map-set (row_hierarchy _ c.self.invariant.sorted c.args.name.now c.in-Ok.place at (arc_value c.index_mut-row.result.now) is (arc_value c.apply.new.row) c.apply.ensures.others c.self.invariant.hierarchy);
     }
 
 pub returns-clause-ok : goal.returns-clause-ok
 returns-clause-ok c =
-    let at : IsAt c.self.inside.file_systems.items c.args.name.now c.in-Ok.place = rw (← c.deref.ensures.value, ← c.as_bytes.ensures) c.in-Ok.ensures.found in
-    let before = live_is _ c.self.invariant.sorted c.args.name.now c.in-Ok.place at c.index_mut.result.now c.index_mut.ensures.value in
-    let after = row_live _ c.self.invariant.sorted c.args.name.now c.in-Ok.place at c.index_mut.result.now c.index_mut.ensures.value c.apply.new.self c.apply.ensures.others in
-    rw (← c.self.view_is, before, after) c.apply.ensures.ok
+    let at : IsAt (map arc_value c.self.inside.file_systems.items) c.args.name.now c.in-Ok.place = rw (← c.deref.ensures.value, ← c.as_bytes.ensures) c.in-Ok.ensures.found in
+    let is = row_of arc_value c.self.inside.file_systems.items c.in-Ok.place c.index_mut-row.result.now c.index_mut-row.ensures.value in
+    let before = live_is _ c.self.invariant.sorted c.args.name.now c.in-Ok.place at (arc_value c.index_mut-row.result.now) is in
+    let after = row_live _ c.self.invariant.sorted c.args.name.now c.in-Ok.place at (arc_value c.index_mut-row.result.now) is (arc_value c.apply.new.row) c.apply.ensures.others in
+    rw (← c.self.view_is, map-set, before, after) c.apply.ensures.ok
 
 pub returns-clause-others : goal.returns-clause-others
 returns-clause-others c =
-    let at : IsAt c.self.inside.file_systems.items c.args.name.now c.in-Ok.place = rw (← c.deref.ensures.value, ← c.as_bytes.ensures) c.in-Ok.ensures.found in
+    let at : IsAt (map arc_value c.self.inside.file_systems.items) c.args.name.now c.in-Ok.place = rw (← c.deref.ensures.value, ← c.as_bytes.ensures) c.in-Ok.ensures.found in
+    let is = row_of arc_value c.self.inside.file_systems.items c.in-Ok.place c.index_mut-row.result.now c.index_mut-row.ensures.value in
     on_ok c.apply.result
-    (rw (← c.self.view_is) (row_alone _ c.self.invariant.sorted c.args.name.now c.in-Ok.place at c.index_mut.result.now c.index_mut.ensures.value c.apply.new.self c.apply.ensures.others))
+    (rw (← c.self.view_is, map-set) (row_alone _ c.self.invariant.sorted c.args.name.now c.in-Ok.place at (arc_value c.index_mut-row.result.now) is (arc_value c.apply.new.row) c.apply.ensures.others))
+
+pub returns-clause-err : goal.returns-clause-err
+returns-clause-err c =
+    let items = c.self.inside.file_systems.items in
+    on_err c.apply.result (λ same. ap (from_sorted {R = name_cmp}) (map-set_same arc_value items c.in-Ok.place c.apply.new.row c.index_mut-row.result.now (same ∙ ap arc_value c.index_mut-row.ensures.value)) ∙ c.self.view_is) c.apply.ensures.err
 
 pub returns-clause-room : goal.returns-clause-room
 returns-clause-room c =
-    let at : IsAt c.self.inside.file_systems.items c.args.name.now c.in-Ok.place = rw (← c.deref.ensures.value, ← c.as_bytes.ensures) c.in-Ok.ensures.found in
-    let before = live_is _ c.self.invariant.sorted c.args.name.now c.in-Ok.place at c.index_mut.result.now c.index_mut.ensures.value in
+    let at : IsAt (map arc_value c.self.inside.file_systems.items) c.args.name.now c.in-Ok.place = rw (← c.deref.ensures.value, ← c.as_bytes.ensures) c.in-Ok.ensures.found in
+    let is = row_of arc_value c.self.inside.file_systems.items c.in-Ok.place c.index_mut-row.result.now c.index_mut-row.ensures.value in
+    let before = live_is _ c.self.invariant.sorted c.args.name.now c.in-Ok.place at (arc_value c.index_mut-row.result.now) is in
     rw (← c.self.view_is, before) c.apply.ensures.room
 
 pub returns-clause-no_dataset : goal.returns-clause-no_dataset
 returns-clause-no_dataset c =
-    let at : IsAt c.self.inside.file_systems.items c.args.name.now c.in-Ok.place = rw (← c.deref.ensures.value, ← c.as_bytes.ensures) c.in-Ok.ensures.found in
-    let there = is_there _ c.self.invariant.sorted c.args.name.now c.in-Ok.place at c.index_mut.result.now c.index_mut.ensures.value in
+    let at : IsAt (map arc_value c.self.inside.file_systems.items) c.args.name.now c.in-Ok.place = rw (← c.deref.ensures.value, ← c.as_bytes.ensures) c.in-Ok.ensures.found in
+    let is = row_of arc_value c.self.inside.file_systems.items c.in-Ok.place c.index_mut-row.result.now c.index_mut-row.ensures.value in
+    let there = is_there _ c.self.invariant.sorted c.args.name.now c.in-Ok.place at (arc_value c.index_mut-row.result.now) is in
     (λ e. absurd (other_refusal c.apply.result c.apply.ensures.only e), λ none. absurd (not_some (get c.args.self.now c.args.name.now) none (rw (← c.self.view_is) there)))
 
 pub returns-clause-no_space : goal.returns-clause-no_space
 returns-clause-no_space c =
-    let at : IsAt c.self.inside.file_systems.items c.args.name.now c.in-Ok.place = rw (← c.deref.ensures.value, ← c.as_bytes.ensures) c.in-Ok.ensures.found in
-    let before = live_is _ c.self.invariant.sorted c.args.name.now c.in-Ok.place at c.index_mut.result.now c.index_mut.ensures.value in
+    let at : IsAt (map arc_value c.self.inside.file_systems.items) c.args.name.now c.in-Ok.place = rw (← c.deref.ensures.value, ← c.as_bytes.ensures) c.in-Ok.ensures.found in
+    let is = row_of arc_value c.self.inside.file_systems.items c.in-Ok.place c.index_mut-row.result.now c.index_mut-row.ensures.value in
+    let before = live_is _ c.self.invariant.sorted c.args.name.now c.in-Ok.place at (arc_value c.index_mut-row.result.now) is in
     rw (← c.self.view_is, before) c.apply.ensures.no_space
 
 pub returns-clause-metered : goal.returns-clause-metered
 returns-clause-metered c =
-    let at : IsAt c.self.inside.file_systems.items c.args.name.now c.in-Ok.place = rw (← c.deref.ensures.value, ← c.as_bytes.ensures) c.in-Ok.ensures.found in
-    let before = live_is _ c.self.invariant.sorted c.args.name.now c.in-Ok.place at c.index_mut.result.now c.index_mut.ensures.value in
+    let at : IsAt (map arc_value c.self.inside.file_systems.items) c.args.name.now c.in-Ok.place = rw (← c.deref.ensures.value, ← c.as_bytes.ensures) c.in-Ok.ensures.found in
+    let is = row_of arc_value c.self.inside.file_systems.items c.in-Ok.place c.index_mut-row.result.now c.index_mut-row.ensures.value in
+    let before = live_is _ c.self.invariant.sorted c.args.name.now c.in-Ok.place at (arc_value c.index_mut-row.result.now) is in
     rw (← c.self.view_is, before) c.apply.ensures.metered

@@ -1,0 +1,5 @@
+pub mod Totals
+pub mod Names
+pub mod Space
+pub mod Root
+pub mod Unlimited

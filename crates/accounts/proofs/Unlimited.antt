@@ -1,0 +1,58 @@
+-- Where no file system has a limit, the limits ask only that the blocks that are reached or wait are no more than the pool has.
+use Rattle.std.proofs.Common.{◌≡◌, ℕ, ◌+◌, Bool, true, List, [], ◌∷◌, refl, ap, ◌∙◌, inl, inr, arith}
+use Rattle.std.specs.Prelude.{nat_le, max}
+use Rattle.std.specs.List.{list_all}
+use Rattle.std.specs.Option.{option_map_or}
+use Rattle.std.specs.FinMap.{entries}
+use Rattle.std.specs.FinSet.{len, union}
+use Rattle.name.specs.Names.{root_name}
+use Rattle.model.specs.World.{World, FileSystem, Live, union_of, reach_of}
+use Rattle.model.specs.State.{State, waiting_of}
+use Rattle.model.specs.Sums.{used_of, referenced_of, reservation_of}
+use Rattle.model.specs.Fits.{quotas_hold, refquotas_hold, pool_holds}
+use Rattle.world.specs.Sets.{AreDisjoint}
+use Rattle.world.specs.Blocks.{block_order as o}
+use Rattle.world.specs.Shapes.{name_order}
+use Rattle.world.specs.Usage.{IsEntry}
+use Rattle.world.specs.Worlds.{AreFileSystems}
+use Rattle.world.proofs.Maps.{at_entry}
+use Rattle.world.proofs.SetCounts.{len-union, len-union_disjoint}
+use Rattle.world.proofs.Kept.{reach_is}
+use Rattle.accounts.specs.Limits.{IsUnlimited}
+use Rattle.accounts.proofs.Root.{root_uses_union, nothing_reserved}
+
+-- ---- no quota is set
+
+-- each entry passes a test
+every : (p : (List ℕ × FileSystem) → Bool) (es : List (List ℕ × FileSystem)) → ((name : List ℕ) (s : FileSystem) → IsEntry es name s → p (name, s) ≡ true) → list_all p es ≡ true
+every p [] h = refl
+every p (e ∷ es) h = rw (h e.0 e.1 (inl (refl, refl))) (every p es (λ name s i. h name s (inr i)))
+
+pub quotas_unlimited : (w : World) → IsUnlimited w.file_systems → quotas_hold w ≡ true
+unfolding quotas_hold
+quotas_unlimited w unlimited =
+    every _ (entries w.file_systems) (λ name s i. ap (λ l. option_map_or (nat_le (used_of w name)) l.quota true) (unlimited name s (at_entry name_order w.file_systems name s i)))
+
+pub refquotas_unlimited : (w : World) → IsUnlimited w.file_systems → refquotas_hold w ≡ true
+unfolding refquotas_hold
+refquotas_unlimited w unlimited =
+    every _ (entries w.file_systems) (λ name s i. ap (λ l. option_map_or (nat_le (referenced_of w (Live name))) l.refquota true) (unlimited name s (at_entry name_order w.file_systems name s i)))
+
+-- ---- nothing is reserved
+
+-- what is used, reserved, freeing and waiting is what both worlds reach
+pub taken_unlimited : (s : State) → AreFileSystems s.now.file_systems s.now.group → AreDisjoint (union_of s.now) s.now.freeing → IsUnlimited s.now.file_systems
+    → max (used_of s.now root_name) (reservation_of s.now root_name) + len s.now.freeing + len (waiting_of s) ≡ len (union (reach_of s.now) (reach_of s.last))
+unfolding waiting_of
+taken_unlimited s good apart unlimited =
+    let used = root_uses_union s.now good unlimited in
+    let reserved = nothing_reserved s.now unlimited root_name in
+    let reached = ap len (reach_is s.now) ∙ len-union_disjoint o (union_of s.now) s.now.freeing apart in
+    let both = len-union o (reach_of s.now) (reach_of s.last) in
+    omega (arith, used, reserved, reached, both)
+
+-- so the pool has room where these are no more than its blocks
+pub pool_unlimited : (s : State) → AreFileSystems s.now.file_systems s.now.group → AreDisjoint (union_of s.now) s.now.freeing → IsUnlimited s.now.file_systems
+    → pool_holds s ≡ nat_le (len (union (reach_of s.now) (reach_of s.last))) s.size
+unfolding pool_holds
+pool_unlimited s good apart unlimited = ap (λ n. nat_le n s.size) (taken_unlimited s good apart unlimited)

@@ -1,0 +1,5 @@
+-- Words for the lemmas on a pool's steps.
+pub mod Settles
+pub mod Room
+pub mod Steady
+pub mod Edits
