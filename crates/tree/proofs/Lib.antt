@@ -3,7 +3,7 @@ pub use Rattle.batch.proofs.Lists
 pub use Rattle.batch.proofs.UpdateLaws
 pub mod Present
 pub mod Numbered
-pub mod Prepared
+pub mod Drafted
 pub mod Staying
 pub mod Committed
 pub mod Branches

@@ -62,7 +62,7 @@ any_child l j (n ∷ ns) e = ⊎_elim
     (or_cases _ _ e)
 
 -- the new blocks turned round: the same, by their keys in order
-pub map-reversed : {A B : Type 0} (f : A → B) (xs : List A) → map f (reverse xs) ≡ reverse (map f xs)
+map-reversed : {A B : Type 0} (f : A → B) (xs : List A) → map f (reverse xs) ≡ reverse (map f xs)
 map-reversed f [] = refl
 map-reversed f (x ∷ xs) =
     ap (map f) (reverse_step x xs) ∙ map-append f (reverse xs) (x ∷ []) ∙ ap (λ ys. ys ++ f x ∷ []) (map-reversed f xs) ∙ sym (reverse_step (f x) (map f xs))
@@ -119,7 +119,7 @@ module _ (m : Map) (o : Option Part) (us : List Update) (g y : ℕ) (states : Li
   keys_once = claim_keys_once m o us g y states q
 
   -- the new blocks' keys, once they are turned round
-  pub keys_rise : IsStrictlySortedBy key_cmp (reverse (map new_key (filled C ns)))
+  keys_rise : IsStrictlySortedBy key_cmp (reverse (map new_key (filled C ns)))
   keys_rise = subst (λ ks. IsStrictlySortedBy key_cmp (reverse ks)) (sym (filled_keys C ns)) (rises (map claim_key C) (claim_keys_fall m o us g y states q))
 
   kept_n : (k : Key) (x : Cell) → Made k → get m k ≡ Some x → y ≤ x.birth → N k ≡ x.number

@@ -1,4 +1,4 @@
--- What a prepared change of a tree names, and what holds of it.
+-- What a change of a tree names, and what holds of it.
 use Rattle.std.specs.Prelude.{◌≡◌, ◌<◌, ◌≤◌, ◌↔◌, ◌⊎◌, ℕ, List, Some, map, slice_get}
 use Rattle.std.specs.FinMap.{get}
 use Rattle.std.specs.List.Sorted.{IsStrictlySortedBy}
@@ -12,7 +12,7 @@ use Rattle.zalloc.specs.declared.BlockState.TheVariants.{Free}
 pub use Rattle.batch.specs.Room.{IsKept, IsReleased, young_count, HasRoom, LacksRoom}
 pub use Rattle.batch.specs.Cost.{CountsDropped}
 
--- what contracts see of a prepared change: the map that it was prepared on, the map that it leads to, the numbers that it takes, the blocks that it drops without keeping their numbers in place, and its new blocks in the order of their keys, each with its number (profile)
+-- what contracts see of a change: the map before it, the map that it leads to, the numbers that it takes, the blocks that it drops without keeping their numbers in place, and its new blocks in the order of their keys, each with its number (profile)
 pub record Shown : Type 0 where
   pub old : Map
   pub new : Map

@@ -5,7 +5,6 @@ pub mod Asking
 pub mod Taking
 pub mod Reading
 pub mod Change
-pub mod ChangeCode
 pub mod ChangeParts
 pub mod Same
 pub mod Branch

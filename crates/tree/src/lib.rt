@@ -10,7 +10,7 @@ mod subtree;
 mod tree;
 
 pub use batch::{Few, NewBlock, Update};
-pub use change::{Change, Changed};
+pub use change::Changed;
 pub use node::Cell;
 pub use subtree::Subtree;
 pub use tree::{Tree, take_all};

@@ -4,12 +4,11 @@ ghost use Rattle.std.specs.FinMap as finmap;
 ghost use Rattle.base.specs.declared.refusal.Refusal.{Refusal};
 ghost use Rattle.batch.specs.Updates.{changes_of};
 ghost use Rattle.tree.specs.Asking.{AllowsChange, IsNoSpaceOrNoMemory};
-ghost use Rattle.tree.specs.Change.{IsChange, HasRoom, LacksRoom, CountsDropped};
+ghost use Rattle.tree.specs.Change.{HasRoom, LacksRoom, CountsDropped};
 ghost use Rattle.tree.specs.ChangeParts.{HasChanged};
 ghost use Rattle.tree.specs.Taking.{AllFree, takes};
 
-use crate::build::Build;
-use crate::change::{Change, Changed};
+use crate::change::Changed;
 use crate::renew::renew_root;
 use base::meter::Meter;
 use base::number::{BlockNo, Group};
@@ -78,50 +77,13 @@ impl Tree {
         })
     }
 
-    /// Makes a batch of changes ready: new blocks for the changed leaves and all their ancestors that stay, born in `group`
+    /// Puts a batch of changes in force: new blocks for the changed leaves and all their ancestors that stay, born in `group`
     /// (On-Disk Specification, chapter 3). A block that was there and was born from `young` on keeps its number, and the others
-    /// take those of young blocks that go, and then Free ones. Nothing is changed yet. NoSpace where these numbers are fewer
-    /// than the new blocks, NoMemory where there is no memory. It costs the nodes on the way to the changes, each with its
-    /// sixteen places. The meter counts these nodes: it rises by at least one for each block that the change drops, and at `Err`
-    /// is never lower.
-    pub fn prepare_change(
-        &self,
-        alloc: Global,
-        updates: &[Update],
-        group: Group,
-        young: Group,
-        allocator: &Allocator,
-        meter: &mut Meter,
-    ) -> Result<Change, Refusal>
-        requires { AllowsChange self.now updates.now group.0 young.0 allocator.now }
-        ensures ok { IfOk result (IsChange self.now (changes_of updates.now) group.0 young.0 allocator.now) }
-        ensures room { OnOk result (HasRoom self.now (changes_of updates.now) young.0 allocator.now) }
-        ensures no_space { result ≡ Err Refusal.NoSpace → LacksRoom self.now (changes_of updates.now) young.0 allocator.now }
-        ensures only { IfErr result IsNoSpaceOrNoMemory }
-        ensures metered { OnOk result (CountsDropped self.now (changes_of updates.now) meter.old meter.new) }
-        ensures never_lower { meter.old ≤ meter.new }
-    {
-        let mut draft = draft_of(
-            alloc, &self.root, self.count, updates, young, allocator, meter,
-        )?;
-        let made = &draft.made;
-        let built = Root::build(alloc, owner_in(&self.root), 5, 0, updates, group, made, 0)?;
-        let old = keep(owner_in(&self.root))?;
-        draft.made.reverse();
-        Ok(Change {
-            old,
-            root: built.part,
-            count: draft.count,
-            released: draft.released,
-            taken: draft.taken,
-            made: draft.made,
-        })
-    }
-
-    /// Puts a batch of changes in force at once, as `prepare_change` and `commit` would, but takes no number: the answer names those
-    /// that the new blocks have. At `Err` the tree is as it was. NoSpace and NoMemory come as at `prepare_change`, and the meter
-    /// counts the same. A batch that is one write or one punch of a leaf costs the nodes on its way, and changes those where they
-    /// are that no other version of the tree shares.
+    /// have those of young blocks that go, and then Free ones. It takes no number: the answer names those that the new blocks
+    /// have. At `Err` the tree is as it was. NoSpace where these numbers are fewer than the new blocks, NoMemory where there is no
+    /// memory. It costs the nodes on the way to the changes, each with its sixteen places. The meter counts these nodes: it rises
+    /// by at least one for each block that the change drops, and at `Err` is never lower. A batch that is one write or one punch
+    /// of a leaf changes those nodes where they are that no other version of the tree shares.
     pub fn change(
         &mut self,
         alloc: Global,
@@ -152,18 +114,5 @@ impl Tree {
             taken: draft.taken,
             made: draft.made,
         })
-    }
-
-    /// Puts a change in force that was made ready on this tree, and takes its numbers. It takes no memory.
-    pub fn commit(&mut self, change: Change, allocator: &mut Allocator)
-        requires tree { self.old ≡ change.old }
-        requires allocator { AllFree allocator.old change.taken }
-        ensures tree { self.new ≡ change.new }
-        ensures allocator { allocator.new ≡ takes allocator.old change.taken }
-    {
-        take_all(allocator, change.taken());
-        let Change { root, count, .. } = change;
-        self.root = root;
-        self.count = count;
     }
 }

@@ -41,20 +41,20 @@ fn updates_within_the_limits(rt: HostRuntime) {
     assert!(rt; !is_bad_key(punch_of(255, 4095)));
 }
 
-/// Asserts how many numbers an update of a tree without a block takes, made ready first in a pool of so many.
+/// Asserts how many numbers an update of a tree without a block takes, put in force on a copy, in a pool of so many.
 fn assert_takes(rt: &impl Abort, alloc: Global, numbers: u32, update: Update, taken: usize)
     requires { numbers ≤ MOST_BLOCKS }
 {
-    let mut rig = rig_of(rt, alloc, numbers, Way::Prepared);
+    let mut rig = rig_of(rt, alloc, numbers, Way::OnACopy);
     assert_counts(rt, alloc, &mut rig, &[update], taken, taken, 0);
     assert!(rt; rig.tree.node_count() as usize == taken);
 }
 
-/// Why an update of a tree without a block is refused, if it is, made ready first in a pool of so many numbers.
+/// Why an update of a tree without a block is refused, if it is, put in force on a copy, in a pool of so many numbers.
 fn refusal_of(rt: &impl Abort, alloc: Global, numbers: u32, update: Update) -> Option<Refusal>
     requires { numbers ≤ MOST_BLOCKS }
 {
-    let mut rig = rig_of(rt, alloc, numbers, Way::Prepared);
+    let mut rig = rig_of(rt, alloc, numbers, Way::OnACopy);
     rig.apply(rt, alloc, &[update], Group(1), Group(1)).err()
 }
 

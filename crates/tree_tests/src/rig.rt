@@ -1,5 +1,5 @@
 //! A tree with the allocator of its numbers, beside a plain list of what its leaves are to have.
-ghost use Rattle.std.specs.Prelude.{◌<◌, ◌≤◌, OnOk, map};
+ghost use Rattle.std.specs.Prelude.{◌<◌, ◌≤◌, IfOk, OnOk, map};
 ghost use Rattle.base.specs.Surveys.{AreDifferent};
 ghost use Rattle.tree.specs.Asking.{AllowsChange};
 ghost use Rattle.tree.specs.Taking.{AllFree};
@@ -9,7 +9,7 @@ use base::number::{BlockNo, Dead, Group, Key};
 use base::refusal::Refusal;
 use std::alloc::Global;
 use std::process::Abort;
-use tree::{Change, Changed, Few, NewBlock, Tree, Update, take_all};
+use tree::{Changed, NewBlock, Tree, Update, take_all};
 use zalloc::{Allocator, BlockState, MOST_BLOCKS};
 
 /// How many leaves a plain list speaks of.
@@ -20,11 +20,11 @@ pub const PLACES: usize = 128;
 pub enum Way {
     /// Each at once.
     AtOnce,
-    /// Each made ready first, and then committed.
-    Prepared,
+    /// Each on a copy of the tree, which then takes the tree's place.
+    OnACopy,
 }
 
-pub const WAYS: [Way; 2] = [Way::AtOnce, Way::Prepared];
+pub const WAYS: [Way; 2] = [Way::AtOnce, Way::OnACopy];
 
 /// A tree, and the numbers that it has.
 #[derive(Drop)]
@@ -99,21 +99,6 @@ fn assert_free(rt: &impl Abort, allocator: &Allocator, numbers: &[BlockNo])
     }
 }
 
-/// What a prepared change is going to do.
-fn changed_by(alloc: Global, change: &Change) -> Result<Changed, Refusal> {
-    let mut released = Few::new(alloc);
-    released.extend_from_slice(change.released())?;
-    let mut taken = Few::new(alloc);
-    taken.extend_from_slice(change.taken())?;
-    let mut made = Few::new(alloc);
-    made.extend_from_slice(change.made())?;
-    Ok(Changed {
-        released,
-        taken,
-        made,
-    })
-}
-
 /// Asserts that the new blocks stand at their keys, born in the group.
 fn assert_made(rt: &impl Abort, tree: &Tree, made: &[NewBlock], group: Group) {
     for new in made {
@@ -136,6 +121,53 @@ pub fn byte_of(rt: &impl Abort, tree: &Tree, leaf: u32) -> u8 {
     bytes[0]
 }
 
+/// What a change of a copy has to leave: the tree's blocks, and the byte of the first leaf of each update.
+#[derive(Drop)]
+struct Look {
+    blocks: Vec<Dead>,
+    bytes: Vec<u8>,
+}
+
+impl Look {
+    fn is(&self, other: &Look) -> bool {
+        self.blocks.as_slice() == other.blocks.as_slice()
+            && self.bytes.as_slice() == other.bytes.as_slice()
+    }
+}
+
+/// The first leaf that an update of a leaf or an object covers.
+fn first_leaf(update: &Update) -> u32 {
+    match update {
+        Update::Write { leaf, .. } => *leaf,
+        Update::Punch(key) if key.level == 3 => key.index.wrapping_mul(4096),
+        Update::Punch(key) => key.index,
+    }
+}
+
+fn bytes_at(
+    rt: &impl Abort,
+    alloc: Global,
+    tree: &Tree,
+    updates: &[Update],
+) -> Result<Vec<u8>, Refusal> {
+    let mut bytes = Vec::new(alloc);
+    for update in updates {
+        bytes.push(byte_of(rt, tree, first_leaf(update)))?;
+    }
+    Ok(bytes)
+}
+
+fn look_at(
+    rt: &impl Abort,
+    alloc: Global,
+    tree: &Tree,
+    updates: &[Update],
+) -> Result<Look, Refusal> {
+    let bytes = bytes_at(rt, alloc, tree, updates)?;
+    let blocks = tree.walk_after(alloc, Group(0), &mut meter())?;
+    Ok(Look { blocks, bytes })
+}
+
 impl Rig {
     /// Asserts what a change asks of its caller.
     fn assert_asked(
@@ -154,48 +186,25 @@ impl Rig {
         Ok(())
     }
 
-    /// Puts a batch in force at once.
-    fn change(
+    /// Puts a batch in force on a copy of the tree, and then the copy in the tree's place. Until then the tree has to stay as it
+    /// was.
+    fn change_copy(
         &mut self,
         rt: &impl Abort,
         alloc: Global,
         updates: &[Update],
         group: Group,
         young: Group,
-    ) -> Result<Changed, Refusal> {
-        self.assert_asked(rt, alloc, updates, group, young)?;
+    ) -> Result<Changed, Refusal>
+        requires { AllowsChange self.old.tree updates.now group.0 young.0 self.old.allocator }
+        ensures { IfOk result (λ done. AreDifferent (map (λ b. b.0) done.taken.items)) }
+    {
+        let before = look_at(rt, alloc, &self.tree, updates)?;
+        let mut copy = self.tree.copy()?;
         let allocator = &self.allocator;
-        let done = self
-            .tree
-            .change(alloc, updates, group, young, allocator, &mut meter())?;
-        release(rt, &mut self.allocator, &done.released, young, true);
-        assert_free(rt, &self.allocator, &done.taken);
-        take_all(&mut self.allocator, &done.taken);
-        release(rt, &mut self.allocator, &done.released, young, false);
-        Ok(done)
-    }
-
-    /// Makes a batch ready, and then puts it in force.
-    fn commit(
-        &mut self,
-        rt: &impl Abort,
-        alloc: Global,
-        updates: &[Update],
-        group: Group,
-        young: Group,
-    ) -> Result<Changed, Refusal> {
-        self.assert_asked(rt, alloc, updates, group, young)?;
-        let allocator = &self.allocator;
-        let change = self
-            .tree
-            .prepare_change(alloc, updates, group, young, allocator, &mut meter())?;
-        let done = changed_by(alloc, &change)?;
-        let blocks = change.node_count();
-        release(rt, &mut self.allocator, &done.released, young, true);
-        assert_free(rt, &self.allocator, change.taken());
-        self.tree.commit(change, &mut self.allocator);
-        release(rt, &mut self.allocator, &done.released, young, false);
-        assert_eq!(rt; self.tree.node_count(), blocks);
+        let done = copy.change(alloc, updates, group, young, allocator, &mut meter())?;
+        assert!(rt; before.is(&look_at(rt, alloc, &self.tree, updates)?));
+        self.tree = copy;
         Ok(done)
     }
 
@@ -209,10 +218,19 @@ impl Rig {
         group: Group,
         young: Group,
     ) -> Result<Changed, Refusal> {
+        self.assert_asked(rt, alloc, updates, group, young)?;
+        let allocator = &self.allocator;
         let done = match self.way {
-            Way::AtOnce => self.change(rt, alloc, updates, group, young)?,
-            Way::Prepared => self.commit(rt, alloc, updates, group, young)?,
+            Way::AtOnce => {
+                self.tree
+                    .change(alloc, updates, group, young, allocator, &mut meter())?
+            }
+            Way::OnACopy => self.change_copy(rt, alloc, updates, group, young)?,
         };
+        release(rt, &mut self.allocator, &done.released, young, true);
+        assert_free(rt, &self.allocator, &done.taken);
+        take_all(&mut self.allocator, &done.taken);
+        release(rt, &mut self.allocator, &done.released, young, false);
         assert_made(rt, &self.tree, &done.made, group);
         Ok(done)
     }

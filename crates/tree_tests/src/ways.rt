@@ -1,4 +1,4 @@
-//! Batches that are put in force at once, and batches that are made ready first: both do the same.
+//! Batches that are put in force at once, and batches that are put in force on a copy: both do the same.
 use crate::equality::rig_with;
 use crate::ready::meter;
 use crate::rig::{Rig, WAYS, Way, assert_counts, byte_of, punch_at, rig_of, write_at};

@@ -11,9 +11,9 @@ use Rattle.batch.specs.Said.{said}
 use Rattle.batch.proofs.Words.{batch_in_order}
 use Rattle.batch.proofs.Filled.{new_key}
 use Rattle.batch.proofs.Prepare.{IsReady, own_kid}
-use Rattle.tree.proofs.Prepared.{born_of, allocated_of, ready_keys, ready_places, ready_sound, ready_change, turned}
+use Rattle.tree.proofs.Drafted.{born_of, allocated_of, ready_keys, ready_places, ready_sound, ready_change, turned}
 use Rattle.tree.proofs.tree.Tree.change.Goals as goal
-use Rattle.tree.proofs.tree.Tree.change.Goals.{After-deref, After-draft-2-1}
+use Rattle.tree.proofs.tree.Tree.change.Goals.{After-deref}
 
 module _ (c : After-deref) where
   ready : IsReady c.self.inside.root c.self.inside.count c.args.updates.now c.args.young.0 c.args.allocator.now
@@ -28,14 +28,11 @@ renew_root-requires c = record {
   once = subst (λ bs. AreDifferent (map new_key bs)) (sym c.deref.ensures) (ready_places _ _ _ _ _ (ready c) c.in_ok-draft.draft c.in_ok-draft.ensures.ok);
 }
 
-module _ (c : After-draft-2-1) where
-  renewed : whole c.renew_root.new.root ≡ rebuilt (said c.args.updates.now) (number_of c.in_ok-draft.draft.made.items) c.args.group.0 5 0 (whole c.self.inside.root)
-  renewed = c.in_ok-renew_root.ensures.part ∙ ap (λ bs. rebuilt (said c.args.updates.now) (number_of bs) c.args.group.0 5 0 (whole c.self.inside.root)) c.deref.ensures
-
 pub invariant_of-self-2 : goal.invariant_of-self-2
 invariant_of-self-2 c =
     let b = (goal.at.invariant_of-self-2 c).After-deref in
-    ready_sound _ _ _ _ _ (ready b) c.in_ok-draft.draft c.in_ok-draft.ensures.ok c.args.group.0 (born_of c.self.inside.root c.args.self.now c.args.group.0 c.self.view_is c.requires.born) c.renew_root.new.root (renewed c)
+    let renewed = c.in_ok-renew_root.ensures.part ∙ ap (λ bs. rebuilt (said c.args.updates.now) (number_of bs) c.args.group.0 5 0 (whole c.self.inside.root)) c.deref.ensures in
+    ready_sound _ _ _ _ _ (ready b) c.in_ok-draft.draft c.in_ok-draft.ensures.ok c.args.group.0 (born_of c.self.inside.root c.args.self.now c.args.group.0 c.self.view_is c.requires.born) c.renew_root.new.root renewed
 
 pub returns-clause-metered : goal.returns-clause-metered
 returns-clause-metered c =
@@ -45,5 +42,6 @@ returns-clause-metered c =
 pub returns-clause-ok : goal.returns-clause-ok
 returns-clause-ok c =
     let b = (goal.at.returns-clause-ok c).After-deref in
-    ready_change _ _ _ _ _ (ready b) c.in_ok-draft.draft c.in_ok-draft.ensures.ok c.args.group.0 (born_of c.self.inside.root c.args.self.now c.args.group.0 c.self.view_is c.requires.born) c.renew_root.new.root (renewed c)
+    let renewed = c.in_ok-renew_root.ensures.part ∙ ap (λ bs. rebuilt (said c.args.updates.now) (number_of bs) c.args.group.0 5 0 (whole c.self.inside.root)) c.deref.ensures in
+    ready_change _ _ _ _ _ (ready b) c.in_ok-draft.draft c.in_ok-draft.ensures.ok c.args.group.0 (born_of c.self.inside.root c.args.self.now c.args.group.0 c.self.view_is c.requires.born) c.renew_root.new.root renewed
     c.args.self.now c.self.view_is _ refl refl refl refl (ap (map made_pair) (turned c.in_ok-draft.draft.made.items c.reverse.new.self c.deref_mut.result.now c.reverse.ensures.after c.reverse.ensures.len c.deref_mut.ensures.value))

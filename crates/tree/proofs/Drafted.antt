@@ -1,23 +1,20 @@
--- A prepared change, from what a draft has given.
+-- A change, from what a draft has given.
 use Rattle.std.proofs.Common.{◌≡◌, ℕ, ◌+◌, Bool, true, false, cond, List, [], ◌∷◌, ◌++◌, length, map, reverse, take, drop, Option, refl, sym, ap, subst, ◌∙◌, arith}
 use Rattle.std.specs.Prelude.{◌&&◌}
 use Rattle.std.specs.List.{refill}
 use Rattle.std.proofs.Math.Seq.{take-append_seam}
-use Rattle.std.specs.List.Sorted.{IsStrictlySortedBy}
 use Rattle.std.specs.declared.sync.Arc.{Arc}
 use Rattle.std.specs.declared.alloc.Global.{Global}
 use Rattle.base.specs.declared.number.Key.{Key}
 use Rattle.base.specs.declared.number.Dead.{Dead}
-use Rattle.base.specs.Key.{key_cmp}
 use Rattle.base.specs.Map.{Map}
 use Rattle.base.specs.Surveys.{IsIn, AreDifferent, dead_block}
 use Rattle.zalloc.specs.declared.BlockState.{BlockState}
 use Rattle.node.specs.Entries.{map_of, key_at, cell_count}
 use Rattle.node.specs.Kid.{IsKid, birth_of, cells}
 use Rattle.node.specs.Node.{Root, whole, root_forest, root_part, shared_part}
-use Rattle.node.specs.Shape.{Part, forest_of}
+use Rattle.node.specs.Shape.{Part}
 use Rattle.node.specs.Sound.{IsSoundTree}
-use Rattle.node.proofs.Places.{forest_of-map}
 use Rattle.node.proofs.Roots.{root_kid, root_well, root_birth, root_cells}
 use Rattle.batch.specs.Build.{made_keys, rebuilt, filled, number_of, HasKeys}
 use Rattle.batch.specs.Draft.{IsDraft}
@@ -39,7 +36,7 @@ use Rattle.batch.proofs.SaidLaws.{full_size}
 use Rattle.tree.specs.Asking.{AreAllocated, AreBornBy}
 use Rattle.tree.specs.Change.{Shown, IsChange}
 use Rattle.tree.specs.ChangeParts.{made_pair}
-use Rattle.tree.proofs.Numbered.{map-reversed, keys_rise, is_change, unique_after}
+use Rattle.tree.proofs.Numbered.{is_change, unique_after}
 
 claim_keys : (t p : Bool) (k : Key) (y : ℕ) (d : Option Dead) → map claim_key (claim_of t p k y d) ≡ cond (t && p) (k ∷ []) []
 claim_keys true true k y d = refl
@@ -49,10 +46,6 @@ claim_keys false p k y d = refl
 keys_of_claims : (s : ℕ → Said) (y : ℕ) (o : Option Part) → map claim_key (claims s y 5 0 o) ≡ made_keys s 5 0 o
 keys_of_claims s y o = listing_map claim_key (λ l j x. claim_of (touched s l j x) (stays s l j x) (key_at l j) y (own_block x)) (λ l j x. cond (touched s l j x && stays s l j x) (key_at l j ∷ []) [])
     (λ l j x. claim_keys (touched s l j x) (stays s l j x) (key_at l j) y (own_block x)) 5 0 o
-
-pub same_forest : (o o' : Option (Arc Root Global)) → whole o ≡ whole o' → root_forest o ≡ root_forest o'
-same_forest o o' e =
-    sym (forest_of-map (shared_part root_part) (o ∷ [])) ∙ ap (λ (p : Option Part). forest_of (λ q. q) (p ∷ [])) e ∙ forest_of-map (shared_part root_part) (o' ∷ [])
 
 -- what is known of a map, of the root that it is the map of
 pub born_of : (root : Option (Arc Root Global)) (m : Map) (g : ℕ) → map_of (root_forest root) ≡ m → AreBornBy m g → AreBornBy (map_of (root_forest root)) g
@@ -126,12 +119,6 @@ module _ (root : Option (Arc Root Global)) (count : ℕ) (us : List Update) (y :
         counted = new_count;
         unique = unique_after m o us g y states (known g kid) d.taken.items h.enough hand h.once m' stands';
       }
-
-      -- the new blocks, turned round, stand in the order of their keys
-      pub ready_order : (bs : List NewBlock) → bs ≡ reverse d.made.items → IsStrictlySortedBy key_cmp (map new_key bs)
-      ready_order bs e =
-          subst (IsStrictlySortedBy key_cmp) (sym (ap (map new_key) (e ∙ ap reverse h.made) ∙ map-reversed new_key P))
-          (keys_rise m o us g y states (known g kid) d.taken.items h.enough hand h.once m' stands')
 
       pub ready_change : (n : Map) → m ≡ n → (v : Shown) → v.old ≡ n → v.new ≡ m' → v.taken ≡ numbers d.taken.items → v.released ≡ map dead_block d.released.items → v.made ≡ map made_pair (reverse d.made.items) → IsChange n (changes_of us) g y states v
       ready_change n is v p q t w x =
