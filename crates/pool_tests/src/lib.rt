@@ -2,11 +2,11 @@
 #![tactic(auto)]
 
 #[cfg(test)]
+mod pools;
+#[cfg(test)]
 mod rig;
 #[cfg(test)]
 mod rows;
-#[cfg(test)]
-mod pools;
 #[cfg(test)]
 mod tables;
 #[cfg(test)]
