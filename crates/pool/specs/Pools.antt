@@ -10,8 +10,8 @@ use Rattle.pool.specs.declared.pool.Pool.TheInside.{Inside}
 
 -- the pool's state: its file systems now and when the last sync had been done, with nothing to be freed, no open view and no guid used
 -- so far (profile)
-abbrev pub core_of : Inside → State
-core_of p = record {
+abbrev pub state_of : Inside → State
+state_of p = record {
   now = record { file_systems = p.present; freeing = set.empty; group = p.group.0 };
   last = record { file_systems = p.last; freeing = set.empty; group = p.last_group.0 };
   views = finmap.empty;

@@ -50,15 +50,15 @@ pub struct Pool {
 
 impl Model for Pool {
     ghost use Rattle.pool.specs.Shown.{Shown, shown, shown_code};
-    ghost use Rattle.pool.specs.Pools.{core_of, IsSound};
+    ghost use Rattle.pool.specs.Pools.{state_of, IsSound};
 
     ghost Value = { Shown };
 
     ghost coded = { shown_code };
 
-    ghost view = { λ p. shown (core_of p) p.allocator };
+    ghost view = { λ p. shown (state_of p) p.allocator };
 
-    ghost invariant = { λ p. IsSound (core_of p) p.allocator };
+    ghost invariant = { λ p. IsSound (state_of p) p.allocator };
 }
 
 // What a prepared step will do.

@@ -23,7 +23,7 @@ use Rattle.world.proofs.Kept.{reach_is}
 use Rattle.world.proofs.StateSteps.{begun, create_before}
 use Rattle.steps.specs.Steady.{IsSteady}
 use Rattle.steps.specs.Edits.{with_systems, CanPut}
-use Rattle.steps.proofs.Plain.{plain_put, plain_swept}
+use Rattle.steps.proofs.Plain.{plain_empty, plain_put, plain_swept}
 use Rattle.steps.proofs.Ruled.{no_choice, refused_by, no_memory_by, done_by}
 
 -- what is reached stays, and no number is released or taken
@@ -46,7 +46,7 @@ module _ (s : State) (steady : IsSteady s) (name : List ℕ) (may : create_refus
   create_steady : IsSteady (with_systems s (insert s.now.file_systems name empty_file_system))
   create_steady =
       let can = can_add s.now.file_systems name may in
-      let plain = plain_put s.now.file_systems steady.plain name empty_file_system (record { snaps = refl; origin = refl; limits = refl; bookmarks = refl }) in
+      let plain = plain_put s.now.file_systems steady.plain name empty_file_system plain_empty in
       record {
         good = create_before s steady.good name can.absent can.parent can.room;
         swept = plain_swept (with_systems s (insert s.now.file_systems name empty_file_system)) plain;

@@ -23,7 +23,7 @@ use Rattle.world.proofs.Slices.{fresh_keeps, none_reached}
 use Rattle.steps.specs.Settles.{state_at, AreStatesOf}
 use Rattle.steps.specs.Steady.{ArePlain, IsSteady}
 use Rattle.steps.proofs.Known.{of_states}
-use Rattle.steps.proofs.Plain.{plain_put, plain_swept}
+use Rattle.steps.proofs.Plain.{plain_empty, plain_put, plain_swept}
 
 -- the root alone
 abbrev first : FileSystems
@@ -31,7 +31,7 @@ first = finmap.insert finmap.empty root_name empty_file_system
 
 first_plain : ArePlain first
 first_plain = plain_put finmap.empty (λ name f at. absurd (no_value f (sym (get-empty name_cmp name) ∙ at))) root_name empty_file_system
-    (record { snaps = refl; origin = refl; limits = refl; bookmarks = refl })
+    plain_empty
 
 -- what holds between two steps holds of it
 pub first_steady : (id size : ℕ) → IsSteady (fresh_state id size)

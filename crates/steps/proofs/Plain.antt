@@ -27,9 +27,12 @@ use Rattle.accounts.specs.Limits.{IsUnlimited}
 use Rattle.world.proofs.StateSteps.{begun}
 use Rattle.steps.specs.Steady.{IsPlain, ArePlain, IsSteady, IsAbsent}
 
--- a live map alone
-pub plain_live : (m : Map) → IsPlain (record empty_file_system { live = m })
-plain_live m = record { snaps = refl; origin = refl; limits = refl; bookmarks = refl }
+-- a new one, and one with another live map
+pub plain_empty : IsPlain empty_file_system
+plain_empty = record { snaps = refl; origin = refl; limits = refl; bookmarks = refl }
+
+pub plain_with : (f : FileSystem) → IsPlain f → (m : Map) → IsPlain (record f { live = m })
+plain_with f plain m = record { snaps = plain.snaps; origin = plain.origin; limits = plain.limits; bookmarks = plain.bookmarks }
 
 -- one more, or another one
 pub plain_put : (ss : FileSystems) → ArePlain ss → (name : Name) (f : FileSystem) → IsPlain f → ArePlain (insert ss name f)

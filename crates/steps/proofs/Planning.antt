@@ -45,7 +45,7 @@ use Rattle.steps.proofs.States.{state_at-now, not_free}
 use Rattle.steps.proofs.Known.{states_of}
 use Rattle.steps.proofs.Room.{room_of_change, fresh_or_old, dropped_reached}
 use Rattle.steps.proofs.Counts.{count-free, len-young}
-use Rattle.steps.proofs.Plain.{plain_put, plain_swept, plain_unlimited, all_own}
+use Rattle.steps.proofs.Plain.{plain_with, plain_put, plain_swept, plain_unlimited, all_own}
 use Rattle.steps.proofs.Questions.{live_once}
 use Rattle.steps.proofs.Gives.{gives_way, live_there, union_comes}
 
@@ -137,7 +137,7 @@ module _ (s : State) (steady : IsSteady s) (name : Name) (f : FileSystem) (was :
     asked_systems = live_systems s.now steady.good.now.systems name f was m new
 
     asked_plain : ArePlain asked.file_systems
-    asked_plain = plain_put s.now.file_systems steady.plain name (record f { live = m }) (record { snaps = plain.snaps; origin = plain.origin; limits = plain.limits; bookmarks = plain.bookmarks })
+    asked_plain = plain_put s.now.file_systems steady.plain name (record f { live = m }) (plain_with f plain m)
 
     asked_apart : AreDisjoint (union_of asked) s.now.freeing
     asked_apart b h k = ⊎_elim
@@ -206,7 +206,7 @@ module _ (s : State) (steady : IsSteady s) (name : Name) (f : FileSystem) (was :
 
     after_plain : ArePlain (with_live s.now.file_systems name v.new)
     after_plain = subst ArePlain (sym (with_live_is s.now.file_systems name f v.new was))
-        (plain_put s.now.file_systems steady.plain name (record f { live = v.new }) (record { snaps = plain.snaps; origin = plain.origin; limits = plain.limits; bookmarks = plain.bookmarks }))
+        (plain_put s.now.file_systems steady.plain name (record f { live = v.new }) (plain_with f plain v.new))
 
     -- what holds of the pool between two steps holds again
     pub change_steady : IsSteady (with_systems s (with_live s.now.file_systems name v.new))

@@ -1,12 +1,12 @@
-use Rattle.pool.specs.Pools.{core_of}
+use Rattle.pool.specs.Pools.{state_of}
 use Rattle.pool.proofs.Steps.{balanced, numbered, in_states}
 use Rattle.pool.proofs.pool.Pool.apply.Goals as goal
 
 pub returns-clause-balanced : goal.returns-clause-balanced
-returns-clause-balanced c = balanced c.answer-reply.new.self (core_of c.self.inside) c.self.inside.allocator c.self.view_is c.self.invariant
+returns-clause-balanced c = balanced c.answer-reply.new.self (state_of c.self.inside) c.self.inside.allocator c.self.view_is c.self.invariant
 
 pub returns-clause-numbered : goal.returns-clause-numbered
-returns-clause-numbered c = numbered c.answer-reply.new.self (core_of c.self.inside) c.self.inside.allocator c.self.view_is c.self.invariant
+returns-clause-numbered c = numbered c.answer-reply.new.self (state_of c.self.inside) c.self.inside.allocator c.self.view_is c.self.invariant
 
 pub returns-clause-states : goal.returns-clause-states
-returns-clause-states c = in_states c.answer-reply.new.self (core_of c.self.inside) c.self.inside.allocator c.self.view_is c.self.invariant
+returns-clause-states c = in_states c.answer-reply.new.self (state_of c.self.inside) c.self.inside.allocator c.self.view_is c.self.invariant

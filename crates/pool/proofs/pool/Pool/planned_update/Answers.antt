@@ -6,7 +6,7 @@ use Rattle.steps.specs.Edits.{with_systems}
 use Rattle.pool.specs.declared.pool.Plan.TheVariants.{Put}
 use Rattle.pool.specs.Asked.{Asks}
 use Rattle.pool.specs.Plans.{CanDo, state_after_plan}
-use Rattle.pool.specs.Pools.{core_of}
+use Rattle.pool.specs.Pools.{state_of}
 use Rattle.pool.specs.Shown.{Shown}
 use Rattle.pool.proofs.Names.{absent_other}
 use Rattle.pool.proofs.Changes.{told, update_absent, update_no_memory}
@@ -19,23 +19,23 @@ returns-in-Err-clause-step c q asks = c.outside_the_limits.ensures q (subst (λ 
 
 pub returns-in_default-clause-step : goal.returns-in_default-clause-step
 returns-in_default-clause-step c q asks =
-    told c.args.self.now (core_of c.self.inside) c.self.inside.allocator c.self.view_is q _
-    (update_absent (core_of c.self.inside) c.self.inside.allocator c.self.invariant q c.args.target.now c.in-Ok.update (subst (λ r. Asks q c.args.target.now r) c.in-Ok.is asks)
+    told c.args.self.now (state_of c.self.inside) c.self.inside.allocator c.self.view_is q _
+    (update_absent (state_of c.self.inside) c.self.inside.allocator c.self.invariant q c.args.target.now c.in-Ok.update (subst (λ r. Asks q c.args.target.now r) c.in-Ok.is asks)
     (absent_other c.self.inside.present c.args.target.now c.in_default.not-FileSystem))
 
 pub apply_live-changed-requires : goal.apply_live-changed-requires
 apply_live-changed-requires c = record {
   batch = search rules;
   young = search rules;
-  born = live_born (core_of c.self.inside) c.self.inside.allocator c.self.invariant c.in-FileSystem.name c.in-Ok-copy.to c.in-Ok-copy.ensures.ok;
-  allocated = live_allocated (core_of c.self.inside) c.self.inside.allocator c.self.invariant c.in-FileSystem.name c.in-Ok-copy.to c.in-Ok-copy.ensures.ok;
+  born = live_born (state_of c.self.inside) c.self.inside.allocator c.self.invariant c.in-FileSystem.name c.in-Ok-copy.to c.in-Ok-copy.ensures.ok;
+  allocated = live_allocated (state_of c.self.inside) c.self.inside.allocator c.self.invariant c.in-FileSystem.name c.in-Ok-copy.to c.in-Ok-copy.ensures.ok;
 }
 
 pub returns-in-Err-copy-clause-step : goal.returns-in-Err-copy-clause-step
 returns-in-Err-copy-clause-step c q asks =
     subst (λ why. Step c.args.self.now.state q (Refused why) c.args.self.now.state) (sym c.in-Err-copy.ensures.err)
-    (told c.args.self.now (core_of c.self.inside) c.self.inside.allocator c.self.view_is q (Refused NoMemory)
-    (update_no_memory (core_of c.self.inside) c.self.inside.allocator c.self.invariant q c.args.target.now c.in-Ok.update (subst (λ r. Asks q c.args.target.now r) c.in-Ok.is asks)))
+    (told c.args.self.now (state_of c.self.inside) c.self.inside.allocator c.self.view_is q (Refused NoMemory)
+    (update_no_memory (state_of c.self.inside) c.self.inside.allocator c.self.invariant q c.args.target.now c.in-Ok.update (subst (λ r. Asks q c.args.target.now r) c.in-Ok.is asks)))
 
 pub returns-clause-can : goal.returns-clause-can
 returns-clause-can c = elim c.match-changed.branch [
@@ -43,7 +43,7 @@ returns-clause-can c = elim c.match-changed.branch [
       let e = w.in-Ok-changed.ensures in
       subst (λ r. CanDo c.args.self.now.state r.1) (sym w.result-is)
       (subst (λ (x : Shown). CanDo x.state (Put c.apply_live-changed.new.self w.in-Ok-changed.done)) c.self.view_is
-      (can_now (core_of c.self.inside) c.self.inside.allocator c.self.invariant c.in-FileSystem.name c.in-Ok-copy.to c.in-Ok-copy.ensures.ok
+      (can_now (state_of c.self.inside) c.self.inside.allocator c.self.invariant c.in-FileSystem.name c.in-Ok-copy.to c.in-Ok-copy.ensures.ok
       c.apply_live-changed.new.self c.in-Ok.update c.from_ref.result.now c.from_ref.ensures.value w.in-Ok-changed.done
       (record { ok = e.ok; others = e.others; room = e.room; no_dataset = e.no_dataset; no_space = e.no_space; only = e.only })))
   | in-Err-changed w ↦ subst (λ r. CanDo c.args.self.now.state r.1) (sym w.result-is) tt
@@ -55,15 +55,15 @@ returns-clause-step c q asks = elim c.match-changed.branch [
       let e = w.in-Ok-changed.ensures in
       subst (λ r. Step c.args.self.now.state q r.0 (state_after_plan c.args.self.now.state r.1)) (sym w.result-is)
       (subst (λ (x : Shown). Step x.state q Done (with_systems x.state c.apply_live-changed.new.self)) c.self.view_is
-      (done_now (core_of c.self.inside) c.self.inside.allocator c.self.invariant c.in-FileSystem.name c.in-Ok-copy.to c.in-Ok-copy.ensures.ok
+      (done_now (state_of c.self.inside) c.self.inside.allocator c.self.invariant c.in-FileSystem.name c.in-Ok-copy.to c.in-Ok-copy.ensures.ok
       c.apply_live-changed.new.self c.in-Ok.update c.from_ref.result.now c.from_ref.ensures.value w.in-Ok-changed.done
       (record { ok = e.ok; others = e.others; room = e.room; no_dataset = e.no_dataset; no_space = e.no_space; only = e.only })
       q (asks_here q c.args.target.now c.args.update c.in-FileSystem.name c.in-Ok.update c.in-FileSystem.is c.in-Ok.is asks)))
   | in-Err-changed w ↦
       let e = w.in-Err-changed.ensures in
       subst (λ r. Step c.args.self.now.state q r.0 (state_after_plan c.args.self.now.state r.1)) (sym w.result-is)
-      (told c.args.self.now (core_of c.self.inside) c.self.inside.allocator c.self.view_is q (Refused w.in-Err-changed.refusal)
-      (refused_now (core_of c.self.inside) c.self.inside.allocator c.self.invariant c.in-FileSystem.name c.in-Ok-copy.to c.in-Ok-copy.ensures.ok
+      (told c.args.self.now (state_of c.self.inside) c.self.inside.allocator c.self.view_is q (Refused w.in-Err-changed.refusal)
+      (refused_now (state_of c.self.inside) c.self.inside.allocator c.self.invariant c.in-FileSystem.name c.in-Ok-copy.to c.in-Ok-copy.ensures.ok
       c.apply_live-changed.new.self c.in-Ok.update c.from_ref.result.now c.from_ref.ensures.value w.in-Err-changed.refusal
       (record { ok = e.ok; others = e.others; room = e.room; no_dataset = e.no_dataset; no_space = e.no_space; only = e.only })
       q (asks_here q c.args.target.now c.args.update c.in-FileSystem.name c.in-Ok.update c.in-FileSystem.is c.in-Ok.is asks)))
