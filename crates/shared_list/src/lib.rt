@@ -1,0 +1,12 @@
+//! Lists whose copies share what they have in common.
+//!
+//! A list stands in chunks of at most 64 elements. A copy shares all of them, and a change makes a few of them anew, so that versions
+//! that differ in little take little more memory than one.
+#![tactic(auto)]
+
+mod chunk;
+mod iter;
+mod list;
+
+pub use iter::Iter;
+pub use list::SharedList;

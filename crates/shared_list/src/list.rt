@@ -1,0 +1,279 @@
+//! The list, and how its chunks change.
+ghost use Rattle.std.specs.Prelude.{◌≡◌, suc, ◌+◌, ◌-◌, ◌<◌, ◌≤◌, ◌++◌, ◌∷◌, [], length, take, drop, remove, slice_get, IfOk, OnOk, OnErr};
+ghost use Rattle.std.specs.Option.{option_copied};
+ghost use Rattle.shared_list.specs.Elements.{elements};
+ghost use Rattle.shared_list.specs.Left.{left};
+
+use crate::chunk::{CHUNK, Chunk};
+use crate::iter::Iter;
+use std::alloc::{AllocError, Global};
+use std::marker::Model;
+use std::sync::Arc;
+
+/// Elements in order. Contracts see the plain list of their values.
+///
+/// They stand in chunks of 1 to 64 elements (profile), which copies share. No element is ever cloned: a copy takes one more owner of
+/// each chunk, and a change makes at most three chunks anew, each by one more owner of each of its elements. A push fills the last
+/// chunk before it begins another; `remove` and `append` make one chunk of two neighbours that fit in one, unless memory for it is
+/// refused, which is no error; `split_off` can leave a chunk that isn't full on each side of the cut. So how many chunks there are no
+/// clause says.
+///
+/// Each element takes memory of its own, and a pointer in each chunk that has it. A call that is refused memory answers AllocError,
+/// and changes no list.
+#[derive(Drop)]
+pub struct SharedList<T> {
+    chunks: Vec<Arc<Chunk<T>>>,
+    len: usize,
+}
+
+impl<T> Model for SharedList<T> {
+    ghost use Rattle.std.specs.Prelude.{◌≡◌, List, length};
+    ghost use Rattle.shared_list.specs.Elements.{elements};
+
+    ghost Value = { List T };
+
+    ghost view = { λ s. elements s.chunks.items };
+
+    ghost invariant = { λ s. s.len ≡ length (elements s.chunks.items) };
+}
+
+impl<T: Drop> SharedList<T> {
+    /// A list without elements. It takes no memory, and keeps the allocator.
+    pub fn new(alloc: Global) -> SharedList<T>
+        ensures { result ≡ [] }
+    {
+        SharedList {
+            chunks: Vec::new(alloc),
+            len: 0,
+        }
+    }
+
+    /// How many elements there are. Constant time.
+    pub fn len(&self) -> usize
+        ensures { result ≡ length self.now }
+    {
+        self.len
+    }
+
+    /// The element with that index, counted from 0, or None where the list ends before it. It costs a walk over the chunks before
+    /// it: to go through a list, take `iter`.
+    #[tactic(auto, using(crate::proofs::Chunks::got))]
+    pub fn get(&self, index: usize) -> Option<&T>
+        ensures { option_copied result ≡ slice_get self.now index }
+    {
+        if index >= self.len {
+            return None;
+        }
+        let Place { k: _, chunk, at } = place_of(&self.chunks, index);
+        Some(chunk.get(at))
+    }
+
+    /// The last element, or None where there is none. Constant time.
+    #[tactic(auto, using(crate::proofs::Chunks::got_last))]
+    pub fn last(&self) -> Option<&T>
+        ensures { option_copied result ≡ slice_get self.now (length self.now - 1) }
+    {
+        let chunk: &Chunk<T> = self.chunks.last()?;
+        Some(chunk.get(chunk.len() - 1))
+    }
+
+    /// The elements, first to last. Constant time, and constant time for each element.
+    pub fn iter(&self) -> Iter<'_, T>
+        ensures { left result ≡ self.now }
+    {
+        Iter::new(&self.chunks)
+    }
+
+    /// An equal list, by one more owner of each chunk: it costs the chunks, and not their elements. AllocError where memory is
+    /// refused.
+    pub fn copy(&self) -> Result<SharedList<T>, AllocError>
+        ensures { IfOk result (λ l. l ≡ self.now) }
+    {
+        let alloc = *self.chunks.allocator();
+        let mut chunks = Vec::with_capacity(alloc, self.chunks.len())?;
+        for chunk in &self.chunks {
+            chunks.push(Arc::try_clone(chunk)?)?;
+        }
+        let len = self.len;
+        Ok(SharedList { chunks, len })
+    }
+
+    /// Adds an element at the end. It makes the last chunk anew, or begins another, which now and then moves the pointers to all
+    /// chunks. AllocError where memory is refused or there are as many elements as a usize counts; then the list is as it was, and
+    /// the element is dropped.
+    pub fn push(&mut self, value: T) -> Result<(), AllocError>
+        ensures ok { OnOk result (self.new ≡ self.old ++ value ∷ []) }
+        ensures err { OnErr result (self.new ≡ self.old) }
+    {
+        let Some(len) = self.len.checked_add(1) else {
+            return Err(AllocError);
+        };
+        let item = Arc::new(*self.chunks.allocator(), value)?;
+        add(&mut self.chunks, item)?;
+        self.len = len;
+        Ok(())
+    }
+
+    /// Removes the element with that index, which is below the length. It costs the number of chunks, and makes at most three
+    /// anew. AllocError where memory is refused; then the list is as it was.
+    pub fn remove(&mut self, index: usize) -> Result<(), AllocError>
+        requires { index < length self.old }
+        ensures ok { OnOk result (self.new ≡ remove self.old index) }
+        ensures err { OnErr result (self.new ≡ self.old) }
+    {
+        let k = take_out(&mut self.chunks, index)?;
+        join(&mut self.chunks, k.saturating_add(1));
+        join(&mut self.chunks, k);
+        self.len -= 1;
+        Ok(())
+    }
+
+    /// Keeps the elements before that index, which is at most the length, and gives the others. It costs the number of chunks, and
+    /// makes at most two anew. AllocError where memory is refused; then the list is as it was.
+    pub fn split_off(&mut self, index: usize) -> Result<SharedList<T>, AllocError>
+        requires { index ≤ length self.old }
+        ensures ok { OnOk result (self.new ≡ take index self.old) }
+        ensures rest { IfOk result (λ l. l ≡ drop index self.old) }
+        ensures err { OnErr result (self.new ≡ self.old) }
+    {
+        if index == self.len {
+            return Ok(SharedList::new(*self.chunks.allocator()));
+        }
+        let chunks = cut_off(&mut self.chunks, index)?;
+        let len = self.len - index;
+        self.len = index;
+        Ok(SharedList { chunks, len })
+    }
+
+    /// Moves all elements of the other list to the end of this one, and leaves it empty. It costs the number of the other's chunks,
+    /// and now and then of both; it makes at most one anew. AllocError where memory is refused or the two have more elements together
+    /// than a usize counts; then both lists are as they were.
+    pub fn append(&mut self, other: &mut SharedList<T>) -> Result<(), AllocError>
+        ensures ok { OnOk result (self.new ≡ self.old ++ other.old) }
+        ensures emptied { OnOk result (other.new ≡ []) }
+        ensures err { OnErr result (self.new ≡ self.old) }
+        ensures other_err { OnErr result (other.new ≡ other.old) }
+    {
+        let Some(len) = self.len.checked_add(other.len) else {
+            return Err(AllocError);
+        };
+        pour(&mut self.chunks, &mut other.chunks)?;
+        self.len = len;
+        other.len = 0;
+        Ok(())
+    }
+}
+
+/// Where an element stands: the index of its chunk, the chunk, and the element's index there.
+struct Place<'a, T> {
+    k: usize,
+    chunk: &'a Chunk<T>,
+    at: usize,
+}
+
+/// Where the element with that index stands.
+#[tactic(auto, using(crate::proofs::Chunks::whole))]
+fn place_of<'a, T: Drop>(chunks: &'a [Arc<Chunk<T>>], index: usize) -> Place<'a, T>
+    requires { index < length (elements chunks.now) }
+    ensures chunk { result.k < length chunks.now }
+    ensures whole { elements chunks.now ≡ elements (take result.k chunks.now) ++ (result.chunk.now ++ elements (drop (suc result.k) chunks.now)) }
+    ensures at { index ≡ length (elements (take result.k chunks.now)) + result.at }
+    ensures within { result.at < length result.chunk.now }
+{
+    let mut at = index;
+    for k in 0..chunks.len() {
+        let chunk: &Chunk<T> = &chunks[k];
+        let len = chunk.len();
+        if at < len {
+            return Place { k, chunk, at };
+        }
+        at -= len;
+    }
+    unreachable!()
+}
+
+/// Puts an element behind the others.
+fn add<T: Drop>(chunks: &mut Vec<Arc<Chunk<T>>>, item: Arc<T>) -> Result<(), AllocError>
+    ensures ok { OnOk result (elements chunks.new.items ≡ elements chunks.old.items ++ item.value ∷ []) }
+    ensures err { OnErr result (elements chunks.new.items ≡ elements chunks.old.items) }
+{
+    let count = chunks.len();
+    if count > 0 && chunks[count - 1].len() < CHUNK {
+        let whole = chunks[count - 1].with(item)?;
+        chunks[count - 1] = whole;
+        return Ok(());
+    }
+    let fresh = Chunk::one(*chunks.allocator(), item)?;
+    chunks.push(fresh)?;
+    Ok(())
+}
+
+/// Removes the element with that index, and gives the index of the chunk that it stood in.
+fn take_out<T: Drop>(chunks: &mut Vec<Arc<Chunk<T>>>, index: usize) -> Result<usize, AllocError>
+    requires { index < length (elements chunks.old.items) }
+    ensures ok { OnOk result (elements chunks.new.items ≡ remove (elements chunks.old.items) index) }
+    ensures err { OnErr result (elements chunks.new.items ≡ elements chunks.old.items) }
+{
+    let Place { k, chunk, at } = place_of(chunks, index);
+    if chunk.len() == 1 {
+        let _gone = chunks.remove(k);
+    } else {
+        let rest = chunk.without(at)?;
+        chunks[k] = rest;
+    }
+    Ok(k)
+}
+
+/// Makes one chunk of that one and the one before it, where they fit in one and there is memory for it.
+fn join<T: Drop>(chunks: &mut Vec<Arc<Chunk<T>>>, k: usize)
+    ensures { elements chunks.new.items ≡ elements chunks.old.items }
+{
+    if k == 0 || k >= chunks.len() {
+        return;
+    }
+    if chunks[k - 1].len() + chunks[k].len() > CHUNK {
+        return;
+    }
+    if let Ok(whole) = chunks[k - 1].joined(&chunks[k]) {
+        chunks[k - 1] = whole;
+        let _joined = chunks.remove(k);
+    }
+}
+
+/// Keeps the elements before that index, and gives the chunks of the others.
+fn cut_off<T: Drop>(
+    chunks: &mut Vec<Arc<Chunk<T>>>,
+    index: usize,
+) -> Result<Vec<Arc<Chunk<T>>>, AllocError>
+    requires { index < length (elements chunks.old.items) }
+    ensures ok { OnOk result (elements chunks.new.items ≡ take index (elements chunks.old.items)) }
+    ensures rest { IfOk result (λ v. elements v.items ≡ drop index (elements chunks.old.items)) }
+    ensures err { OnErr result (elements chunks.new.items ≡ elements chunks.old.items) }
+{
+    let Place { k, chunk, at } = place_of(chunks, index);
+    if at == 0 {
+        let rest = chunks.split_off(k)?;
+        return Ok(rest);
+    }
+    let (low, high) = chunk.split(at)?;
+    let mut rest = chunks.split_off(k)?;
+    rest[0] = high;
+    chunks.push_reserved(low);
+    Ok(rest)
+}
+
+/// Moves the other chunks behind these.
+fn pour<T: Drop>(
+    chunks: &mut Vec<Arc<Chunk<T>>>,
+    other: &mut Vec<Arc<Chunk<T>>>,
+) -> Result<(), AllocError>
+    ensures ok { OnOk result (elements chunks.new.items ≡ elements chunks.old.items ++ elements other.old.items) }
+    ensures emptied { OnOk result (other.new.items ≡ []) }
+    ensures err { OnErr result (elements chunks.new.items ≡ elements chunks.old.items) }
+    ensures other_err { OnErr result (other.new.items ≡ other.old.items) }
+{
+    let seam = chunks.len();
+    chunks.append(other)?;
+    join(chunks, seam);
+    Ok(())
+}
