@@ -4,8 +4,6 @@ use Rattle.std.specs.Prelude.{IsSome, is_some, ◌==◌}
 use Rattle.std.specs.Option.{option_map_or}
 use Rattle.std.specs.FinMap.{get, entries, keys}
 use Rattle.std.specs.FinMap as finmap
-use Rattle.std.specs.Cmp.Lexicographic.{same_text}
-use Rattle.std.proofs.lemmas.Bool.{eq-eqb}
 use Rattle.base.specs.Surveys.{IsIn, AreDifferent}
 use Rattle.name.specs.Names.{slash, same_name, before_slash, parent_of}
 use Rattle.model.specs.World.{FileSystem}
@@ -13,21 +11,11 @@ use Rattle.world.specs.Usage.{IsEntry, AreApart}
 use Rattle.world.specs.Shapes.{name_order}
 use Rattle.model.specs.Hierarchy.{FileSystems, IsHierarchy}
 use Rattle.world.proofs.Put.{parent_there}
-use Rattle.world.proofs.Maps.{same_value, no_value, entry_of, at_entry, entries_apart}
+use Rattle.world.proofs.Finding.{name_itself, one_name}
+use Rattle.world.proofs.Maps.{same_value, no_value, some_of, entry_of, at_entry, entries_apart}
 use Rattle.world.proofs.Listed.{length-mapped}
 use Rattle.accounts.specs.Levels.{slashes}
 use Rattle.accounts.proofs.Totals.{levels_few}
-
-pub name_itself : (name : List ℕ) → same_name name name ≡ true
-name_itself [] = refl
-name_itself (b ∷ bs) = rw (eq-eqb b b refl) (name_itself bs)
-
-pub one_name : (p q : List ℕ) → same_name p q ≡ true → p ≡ q
-one_name p q e = same_text p q (sym e)
-
-pub some_of : {A : Type 0} (x : Option A) → IsSome x → (a : A) × (x ≡ Some a)
-some_of None h = absurd (true≢false (sym h))
-some_of (Some a) h = (a, refl)
 
 -- ---- levels
 

@@ -1,11 +1,11 @@
 -- What the names of a request stand for in a state (zfs(8); numbers are profile).
-use Rattle.std.specs.Prelude.{ℕ, ◌-◌, ◌^◌, Bool, true, false, ◌&&◌, List, Option, None, Some, is_some, nat_lt}
+use Rattle.std.specs.Prelude.{ℕ, ◌+◌, ◌-◌, ◌^◌, Bool, true, false, ◌&&◌, List, Option, None, Some, is_some, nat_lt}
 use Rattle.std.specs.Option.{option_map}
 use Rattle.std.specs.FinMap.{contains_key}
 use Rattle.name.specs.declared.target.Target.{Target}
 use Rattle.name.specs.declared.target.Target.TheVariants.{FileSystem as OfFileSystem, Snapshot as OfSnapshot, Bookmark as OfBookmark}
 use Rattle.name.specs.declared.member.Member.{Member}
-use Rattle.model.specs.World.{Dataset, Live, Snapped, id_of, snap_named, bookmark_named}
+use Rattle.model.specs.World.{World, Dataset, Live, Snapped, id_of, snap_named, bookmark_named}
 use Rattle.model.specs.State.{State}
 
 -- ---- names
@@ -61,3 +61,21 @@ is_block object block = is_object object && nat_lt block 4096
 -- the last group, and the last of any other numbers (profile)
 abbrev pub number_limit : ℕ
 number_limit = 2 ^ 63 - 1
+
+-- the open group is the last one (profile)
+abbrev pub has_no_next_group : World → Bool
+has_no_next_group w = nat_lt number_limit (w.group + 1)
+
+-- ---- counts
+
+-- the last number of a snapshot's guid that a pool makes (profile)
+abbrev pub guid_limit : ℕ
+guid_limit = 4294967295
+
+-- the most snapshots of a pool (profile)
+abbrev pub snap_limit : ℕ
+snap_limit = 65536
+
+-- the most bytes of a whole name (profile)
+abbrev pub name_limit : ℕ
+name_limit = 255

@@ -1,12 +1,12 @@
 -- File systems, snapshots and their lineage (On-Disk Specification, chapter 4).
-use Rattle.std.specs.Prelude.{ℕ, Bool, false, ◌&&◌, List, [], ◌∷◌, Option, None, map, ◌==◌, nat_lt}
+use Rattle.std.specs.Prelude.{ℕ, Bool, false, ◌&&◌, ◌||◌, List, [], ◌∷◌, Option, None, map, ◌==◌, nat_lt}
 use Rattle.std.specs.List.{find, filter, flat_map, last_or}
 use Rattle.std.specs.Option.{option_map, option_or, option_and_then, option_map_or}
 use Rattle.std.specs.FinMap.{FinMap, get, entries, values, keys}
 use Rattle.std.specs.FinMap as finmap
 use Rattle.std.specs.FinSet as set
 use Rattle.name.specs.declared.member.Member.{Member}
-use Rattle.name.specs.Names.{name_cmp, same_name, parent_of}
+use Rattle.name.specs.Names.{name_cmp, same_name, parent_of, is_descendant}
 use Rattle.base.specs.Map.{Map, BlockSet, blocks}
 
 -- a snapshot's identity, which it keeps through a promote: its creation group and guid. It is one snapshot's, since a request
@@ -143,3 +143,7 @@ clones_of w id = map (λ e. e.0) (filter (λ e. option_map_or (same_id id) e.1.o
 -- the children of a file system (zfs(8))
 abbrev pub children_of : World → List ℕ → List (List ℕ)
 children_of w name = filter (λ child. option_map_or (same_name name) (parent_of child) false) (keys w.file_systems)
+
+-- a file system, where it is there, and its descendants, in byte order (zfs-snapshot(8), zfs-destroy(8): -r)
+abbrev pub family_of : World → List ℕ → List (List ℕ)
+family_of w name = filter (λ n. same_name n name || is_descendant name n) (keys w.file_systems)

@@ -24,6 +24,7 @@ pub mod Read
 pub mod Get
 pub mod PoolGet
 pub mod List
+pub mod Snapshot
 pub mod Sync
 
 -- what the bytes of a request say; no request has any yet (zfs-receive(8))

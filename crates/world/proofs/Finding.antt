@@ -1,11 +1,17 @@
 -- What is found in lists by a test.
-use Rattle.std.proofs.Common.{◌≡◌, Bool, true, false, cond, ◌&&◌, List, [], ◌∷◌, ◌++◌, Some, None, refl, sym, ap, subst, ◌∙◌, true≢false, ◌⊎◌, inl, inr, ⊎_elim}
+use Rattle.std.proofs.Common.{◌≡◌, ℕ, Bool, true, false, cond, ◌&&◌, ◌||◌, List, [], ◌∷◌, ◌++◌, Some, None, refl, sym, ap, subst, ◌∙◌, true≢false, ◌⊎◌, inl, inr, ⊎_elim}
 use Rattle.std.specs.Prelude.{◌==◌}
-use Rattle.std.specs.List.{find, filter, flat_map}
+use Rattle.std.specs.List.{find, filter, flat_map, list_any}
 use Rattle.std.proofs.lemmas.Bool.{eqb-true, eq-eqb, and_parts}
+use Rattle.std.specs.Cmp.Lexicographic.{same_text}
 use Rattle.base.specs.Surveys.{IsIn}
+use Rattle.name.specs.Names.{same_name}
 use Rattle.model.specs.World.{SnapId, same_id}
 use Rattle.world.proofs.Maps.{same_value, no_value}
+
+pub or_none : (a b : Bool) → (a || b) ≡ false → (a ≡ false) × (b ≡ false)
+or_none true b e = absurd (true≢false e)
+or_none false b e = (refl, e)
 
 module _ {A : Type 0} (p : A → Bool) where
   pub from_find : (xs : List A) (x : A) → find p xs ≡ Some x → IsIn xs x × (p x ≡ true)
@@ -31,6 +37,23 @@ module _ {A : Type 0} (p : A → Bool) where
       at : (b : Bool) → p y ≡ b → find p ys ≡ None → cond b (Some y) (find p ys) ≡ None
       at true e ih = absurd (each y (inl refl) e)
       at false e ih = ih
+
+  pub found_none : (xs : List A) → find p xs ≡ None → (y : A) → IsIn xs y → p y ≡ true → ⊥
+  found_none [] e y h t = h
+  found_none (x ∷ xs) e y h t = at (p x) refl (found_none xs)
+    where
+      at : (b : Bool) → p x ≡ b → (find p xs ≡ None → (y : A) → IsIn xs y → p y ≡ true → ⊥) → ⊥
+      at true k ih = no_value x (sym (sym (ap (λ b. cond b (Some x) (find p xs)) k) ∙ e))
+      at false k ih = ⊎_elim
+          (λ is. true≢false (sym t ∙ ap p is ∙ k))
+          (λ r. ih (sym (ap (λ b. cond b (Some x) (find p xs)) k) ∙ e) y r t)
+          h
+
+  pub any_none : (xs : List A) → list_any p xs ≡ false → (y : A) → IsIn xs y → p y ≡ false
+  any_none [] e y h = absurd h
+  any_none (x ∷ xs) e y h =
+      let k = or_none (p x) (list_any p xs) e in
+      ⊎_elim (λ is. ap p is ∙ k.0) (λ r. any_none xs k.1 y r) h
 
   pub filter_all : (xs : List A) → ((y : A) → IsIn xs y → p y ≡ true) → filter p xs ≡ xs
   filter_all [] each = refl
@@ -121,6 +144,14 @@ is_same_id a b e = both _ _ (eq-eqb a.group b.group (ap (λ x. x.group) e)) (eq-
     both : (x y : Bool) → x ≡ true → y ≡ true → (x && y) ≡ true
     both true y e f = f
     both false y e f = e
+
+-- names are told apart by their bytes
+pub name_itself : (name : List ℕ) → same_name name name ≡ true
+name_itself [] = refl
+name_itself (b ∷ bs) = rw (eq-eqb b b refl) (name_itself bs)
+
+pub one_name : (p q : List ℕ) → same_name p q ≡ true → p ≡ q
+one_name p q e = same_text p q (sym e)
 
 pub append_none : {A : Type 0} (xs : List A) → xs ++ [] ≡ xs
 append_none [] = refl

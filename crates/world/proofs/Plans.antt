@@ -22,7 +22,7 @@ use Rattle.zalloc.specs.declared.BlockState.{BlockState}
 use Rattle.tree.specs.Change.{Shown, IsChange, IsKept, IsReleased}
 use Rattle.world.specs.Dead.{base_of}
 use Rattle.world.proofs.SetCounts.{in_union_left, in_union_right, from_union, in_difference, from_difference, Has-cases}
-use Rattle.world.proofs.Maps.{same_value, no_value}
+use Rattle.world.proofs.Maps.{same_value, no_value, some_of}
 use Rattle.world.proofs.Lineage.{in_after, from_after, in_upto, from_upto}
 use Rattle.world.proofs.Cells.{in_blocks, from_blocks, from_new_blocks}
 use Rattle.world.proofs.Rewrites.{rewrite_is_change}
@@ -33,10 +33,6 @@ use Rattle.world.proofs.Finding.{in_filter, from_filter}
 use Rattle.world.proofs.Kept.{reach_is}
 use Rattle.world.proofs.Put.{put_here}
 use Rattle.world.proofs.Writes.{write_world, write_pairs, write_loses, union_after}
-
-some_of : {A : Type 0} (x : Option A) → is_some x ≡ true → (a : A) × (x ≡ Some a)
-some_of None h = absurd (true≢false (sym h))
-some_of (Some a) h = (a, refl)
 
 filter_different : {A : Type 0} (p : A → Bool) (xs : List A) → AreDifferent xs → AreDifferent (filter p xs)
 filter_different p [] d = tt

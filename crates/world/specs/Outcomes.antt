@@ -7,25 +7,12 @@ use Rattle.name.specs.declared.member.Member.{Member}
 use Rattle.name.specs.Names.{same_name}
 use Rattle.model.specs.World.{World, FileSystem, Snap, SnapId, id_of, same_id, empty_file_system, file_system_at, snap_at, map_of_snap}
 use Rattle.model.specs.Edits.{with_file_system, without_snaps, with_losses}
+pub use Rattle.model.specs.requests.Snapshot.{snap_of_live, with_snapshot, with_snapshots}
 
 -- a clone of a snapshot (zfs-clone(8))
 abbrev pub with_clone : World → SnapId → List ℕ → World
 with_clone w id name =
     record w { file_systems = insert w.file_systems name (record empty_file_system { live = map_of_snap w (Some id); origin = Some id }) }
-
--- a snapshot of a live map, in the open group (zfs-snapshot(8))
-abbrev pub snap_of_live : World → FileSystem → List ℕ → ℕ → Snap
-snap_of_live w s name guid = record { name = name; map = s.live; guid = guid; group = w.group; tags = []; deferred = false }
-
--- the live map kept under a name (zfs-snapshot(8))
-abbrev pub with_snapshot : World → Member → ℕ → World
-with_snapshot w m guid =
-    with_file_system w m.file_system (λ s. record s { snaps = s.snaps ++ snap_of_live w s m.component guid ∷ [] })
-
--- guids in the order of the list (profile)
-abbrev pub with_snapshots : World → ℕ → List Member → World
-with_snapshots w guid [] = w
-with_snapshots w guid (m ∷ ms) = with_snapshots (with_snapshot w m guid) (guid + 1) ms
 
 -- a file system's snapshots of a group up to this one, and those after it (On-Disk Specification, chapter 4: ds_creation_txg)
 abbrev pub snaps_upto : FileSystem → ℕ → List Snap
