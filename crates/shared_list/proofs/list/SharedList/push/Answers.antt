@@ -1,4 +1,3 @@
-use Rattle.std.proofs.Common.{◌≡◌, ◌++◌, ◌∷◌, []}
 use Rattle.shared_list.proofs.list.SharedList.push.Goals as goal
 
 pub returns-clause-ok : goal.returns-clause-ok
