@@ -1,0 +1,5 @@
+pub mod Sorted
+pub mod Rows
+pub mod Counts
+pub mod Newest
+pub mod Releases

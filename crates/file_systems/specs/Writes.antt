@@ -1,0 +1,30 @@
+-- A write to a live map whose file system has snapshots.
+use Rattle.std.specs.Prelude.{◌≡◌, ◌+◌, ℕ, List, None, max, nat_lt, map}
+use Rattle.std.specs.List.{last_or, filter}
+use Rattle.std.specs.Option.{option_map_or}
+use Rattle.base.specs.Map.{Map}
+use Rattle.base.specs.Rewrite.{Changes}
+use Rattle.base.specs.Surveys.{dead_block}
+use Rattle.zalloc.specs.declared.BlockState.{BlockState}
+use Rattle.model.specs.World.{Snap}
+use Rattle.tree.specs.declared.change.Changed.{Changed}
+use Rattle.tree.specs.Change.{Shown, IsChange}
+
+-- the creation group of the newest of these snapshots, and 0 where there is none (On-Disk Specification, chapter 4:
+-- ds_prev_snap_txg)
+abbrev pub newest_group : List Snap → ℕ
+newest_group snaps = option_map_or (λ t. t.group) (last_or None snaps) 0
+
+-- A block of a live map is its own to change in place where it was born after the newest of these snapshots and no earlier than
+-- this group, which the last sync left open (profile)
+abbrev pub young_after : List Snap → ℕ → ℕ
+young_after snaps synced = max synced (newest_group snaps + 1)
+
+-- These changes of a live map are in force: it is rewritten, and of what it drops those blocks are released that were born after
+-- the newest of these snapshots, which has all others (On-Disk Specification, chapter 4: ds_deadlist_obj)
+pub record IsWritten (old new : Map) (snaps : List Snap) (c : Changes) (group synced : ℕ) (states : List BlockState) (done : Changed) : Type 0 where
+  pub change : Shown
+  pub is : IsChange old c group (young_after snaps synced) states change
+  pub new_is : new ≡ change.new
+  pub released : map dead_block done.released.items ≡ filter (λ b. nat_lt (newest_group snaps) b.birth) change.released
+  pub taken : map (λ n. n.0) done.taken.items ≡ change.taken

@@ -1,0 +1,201 @@
+//! The file systems of a pool, by name.
+ghost use Rattle.std.specs.Prelude.{◌≡◌, ◌⊎◌, ◌↔◌, ◌≤◌, Some, None, IsSome, IfSome, IfOk, IfErr, OnOk, OnErr, map};
+ghost use Rattle.std.specs.Arc.{arc_value};
+ghost use Rattle.std.specs.Option.{option_map, option_map_or, option_copied};
+ghost use Rattle.std.specs.FinMap as finmap;
+ghost use Rattle.std.specs.FinMap.{get, insert, entries, len};
+ghost use Rattle.base.specs.declared.refusal.Refusal.{Refusal};
+ghost use Rattle.model.specs.World.{empty_file_system};
+ghost use Rattle.file_systems.specs.Rows.{live_of, snaps_at, with_live, with_snap, snap_count};
+ghost use Rattle.file_systems.specs.Writes.{young_after, IsWritten};
+ghost use Rattle.tree.specs.Asking.{AllowsChange, IsNoSpaceOrNoMemory};
+ghost use Rattle.tree.specs.Change.{HasRoom, LacksRoom, CountsDropped};
+ghost use Rattle.tree.specs.Updates.{changes_of};
+
+use crate::file_system::FileSystem;
+use crate::place::{gap, place};
+use crate::row::{apply, shared, take, with_added};
+use base::meter::Meter;
+use base::number::{Group, Guid};
+use base::refusal::Refusal;
+use name::{Component, DsName};
+use std::alloc::Global;
+use std::marker::Model;
+use std::sync::Arc;
+use tree::{Changed, Update};
+use zalloc::Allocator;
+
+/// File systems by name. Contracts see the map from their names to them.
+///
+/// They stand in byte order of their names, so that `p/a-x` comes between `p/a` and `p/a/x`. Those that were copied from one another
+/// share the file systems that none of them changed.
+#[derive(Drop)]
+pub struct FileSystems {
+    rows: Vec<Arc<FileSystem>>,
+    snapshot_count: usize,
+}
+
+impl Model for FileSystems {
+    ghost use Rattle.std.specs.Arc.{arc_value};
+    ghost use Rattle.std.specs.FinMap.{from_sorted};
+    ghost use Rattle.std.specs.Prelude.{map};
+    ghost use Rattle.file_systems.specs.Rows.{FileSystems, file_systems_code};
+    ghost use Rattle.file_systems.specs.Sorted.{IsSorted};
+
+    ghost Value = { FileSystems };
+
+    ghost coded = { file_systems_code };
+
+    ghost view = { λ t. from_sorted (map arc_value t.rows.items) };
+
+    ghost invariant = { IsSorted };
+}
+
+impl FileSystems {
+    /// One file system alone, of this name, without a block or a snapshot. NoMemory where there is none for it. Constant time.
+    pub fn new(alloc: Global, name: &DsName) -> Result<FileSystems, Refusal>
+        ensures ok { IfOk result (λ t. t ≡ insert finmap.empty name.now empty_file_system) }
+        ensures err { IfErr result (λ e. e ≡ Refusal.NoMemory) }
+    {
+        let row = Arc::new(alloc, FileSystem::new(alloc, name)?)?;
+        let mut rows = Vec::with_capacity(alloc, 1)?;
+        rows.push_reserved(row);
+        Ok(FileSystems {
+            rows,
+            snapshot_count: 0,
+        })
+    }
+
+    /// Equal file systems, by one more owner of each: no name, tree, snapshot or block is visited. NoMemory where there is none for
+    /// as many rows as there are, or for an owner. It costs the number of file systems.
+    pub fn copy(&self) -> Result<FileSystems, Refusal>
+        ensures ok { IfOk result (λ t. t ≡ self.now) }
+        ensures err { IfErr result (λ e. e ≡ Refusal.NoMemory) }
+    {
+        let rows = shared(*self.rows.allocator(), &self.rows)?;
+        Ok(FileSystems {
+            rows,
+            snapshot_count: self.snapshot_count,
+        })
+    }
+
+    /// How many file systems there are. Constant time.
+    pub fn len(&self) -> usize
+        ensures { result ≡ len self.now }
+    {
+        let rows: &[Arc<FileSystem>] = &self.rows;
+        rows.len()
+    }
+
+    /// How many snapshots they have together. Constant time.
+    pub fn snapshot_count(&self) -> usize
+        ensures { result ≡ snap_count self.now }
+    {
+        self.snapshot_count
+    }
+
+    /// All of them, in byte order of their names. Constant time.
+    pub fn as_slice(&self) -> &[Arc<FileSystem>]
+        ensures { map arc_value result.now ≡ entries self.now }
+    {
+        &self.rows
+    }
+
+    /// The file system of this name, or none. It costs the logarithm of their number.
+    pub fn find(&self, name: &DsName) -> Option<&FileSystem>
+        ensures { option_copied result ≡ option_map (λ f. (name.now, f)) (get self.now name.now) }
+    {
+        match place(&self.rows, name.as_bytes()) {
+            Ok(place) => Some(&*self.rows[place]),
+            Err(_) => None,
+        }
+    }
+
+    /// Whether there is a file system of this name. It costs the logarithm of their number.
+    pub fn contains(&self, name: &[u8]) -> bool
+        ensures { result ≡ finmap.contains_key self.now name.now }
+    {
+        place(&self.rows, name).is_ok()
+    }
+
+    /// These file systems and one more, which has this name, no block and no snapshot, and one more owner of each other one. These
+    /// stay as they are. NoMemory where there is none for the name, the rows or an owner. It costs the number of file systems and
+    /// the length of the name.
+    pub fn with_new(&self, name: &DsName) -> Result<FileSystems, Refusal>
+        requires { get self.now name.now ≡ None }
+        ensures ok { IfOk result (λ t. t ≡ insert self.now name.now empty_file_system) }
+        ensures err { IfErr result (λ e. e ≡ Refusal.NoMemory) }
+    {
+        let rows: &[Arc<FileSystem>] = &self.rows;
+        let alloc = *self.rows.allocator();
+        let place = gap(rows, name.as_bytes());
+        let added = Arc::new(alloc, FileSystem::new(alloc, name)?)?;
+        let rows = with_added(alloc, rows, place, added)?;
+        Ok(FileSystems {
+            rows,
+            snapshot_count: self.snapshot_count,
+        })
+    }
+
+    /// Puts a batch of changes of the live tree of this file system in force at once, where the last sync left group `synced` open:
+    /// the answer names the numbers that the new blocks have, and takes none; of the blocks that the tree drops it names those that
+    /// no snapshot has. NoDataset exactly where there is no file system of this name; else NoSpace exactly where the Free numbers
+    /// and those of the dropped young blocks are too few; else NoMemory where there is no memory. At `Err` all are as they were.
+    /// Where others share the file system, a copy of it, by one more owner of its name, its tree and its snapshots, is changed and
+    /// takes its place. It costs the logarithm of the number of file systems, and the change.
+    pub fn apply_live(
+        &mut self,
+        name: &DsName,
+        alloc: Global,
+        updates: &[Update],
+        group: Group,
+        synced: Group,
+        allocator: &Allocator,
+        meter: &mut Meter,
+    ) -> Result<Changed, Refusal>
+        requires { AllowsChange (live_of self.old name.now) updates.now group.0 (young_after (snaps_at self.old name.now) synced.0) allocator.now }
+        ensures ok { IfOk result (IsWritten (live_of self.old name.now) (live_of self.new name.now) (snaps_at self.old name.now) (changes_of updates.now) group.0 synced.0 allocator.now) }
+        ensures others { OnOk result (self.new ≡ with_live self.old name.now (live_of self.new name.now)) }
+        ensures room { OnOk result (HasRoom (live_of self.old name.now) (changes_of updates.now) (young_after (snaps_at self.old name.now) synced.0) allocator.now) }
+        ensures err { OnErr result (self.new ≡ self.old) }
+        ensures no_dataset { (result ≡ Err Refusal.NoDataset) ↔ (get self.old name.now ≡ None) }
+        ensures no_space { result ≡ Err Refusal.NoSpace → LacksRoom (live_of self.old name.now) (changes_of updates.now) (young_after (snaps_at self.old name.now) synced.0) allocator.now }
+        ensures only { IfErr result (λ e. (e ≡ Refusal.NoDataset) ⊎ IsNoSpaceOrNoMemory e) }
+        ensures metered { OnOk result (CountsDropped (live_of self.old name.now) (changes_of updates.now) meter.old meter.new) }
+        ensures never_lower { meter.old ≤ meter.new }
+    {
+        let Ok(place) = place(&self.rows, name.as_bytes()) else {
+            return Err(Refusal::NoDataset);
+        };
+        let row = &mut self.rows[place];
+        apply(row, alloc, updates, group, synced, allocator, meter)
+    }
+
+    /// A snapshot of the live map of this file system after its others, with this name within it, this guid and this creation group
+    /// (zfs-snapshot(8)). NoMemory where there is none for it, or there are as many snapshots as a usize counts; then all are as
+    /// they were. Where others share the file system, a copy of it takes its place. It costs the logarithm of the number of file
+    /// systems, and a 64th of the number of its snapshots.
+    pub fn take_snapshot(
+        &mut self,
+        alloc: Global,
+        name: &DsName,
+        component: &Component,
+        guid: Guid,
+        group: Group,
+    ) -> Result<(), Refusal>
+        requires { IsSome (get self.old name.now) }
+        ensures ok { OnOk result (self.new ≡ option_map_or (λ f. insert self.old name.now (with_snap f component.now guid.0 group.0)) (get self.old name.now) self.old) }
+        ensures err { OnErr result (self.new ≡ self.old) }
+        ensures only { IfErr result (λ e. e ≡ Refusal.NoMemory) }
+    {
+        let Ok(place) = place(&self.rows, name.as_bytes()) else {
+            unreachable!()
+        };
+        let Some(count) = self.snapshot_count.checked_add(1) else {
+            return Err(Refusal::NoMemory);
+        };
+        take(&mut self.rows[place], alloc, component, guid, group)?;
+        self.snapshot_count = count;
+        Ok(())
+    }
+}
