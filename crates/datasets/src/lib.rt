@@ -1,0 +1,7 @@
+//! The dataset table: the file systems of a pool and their snapshots, in the group that is open.
+#![tactic(auto)]
+
+mod parent;
+mod table;
+
+pub use table::{FILE_SYSTEM_LIMIT, Table};

@@ -1,0 +1,242 @@
+//! The datasets of a pool.
+ghost use Rattle.std.specs.Prelude.{◌≡◌, ◌⊎◌, ◌↔◌, ◌≤◌, ◌+◌, ◌<◌, ◌^◌, Some, None, IfSome, IfOk, IfErr, OnOk, OnErr, map};
+ghost use Rattle.std.specs.Arc.{arc_value};
+ghost use Rattle.std.specs.Option.{option_map, option_copied};
+ghost use Rattle.std.specs.FinMap as finmap;
+ghost use Rattle.std.specs.FinMap.{get, insert, entries, len};
+ghost use Rattle.base.specs.declared.refusal.Refusal.{Refusal};
+ghost use Rattle.name.specs.Names.{root_name};
+ghost use Rattle.model.specs.World.{empty_file_system};
+ghost use Rattle.model.specs.Hierarchy.{has_parent};
+ghost use Rattle.model.specs.requests.Create.{create_refusal};
+ghost use Rattle.tree.specs.Asking.{IsNoSpaceOrNoMemory};
+ghost use Rattle.tree.specs.Change.{HasRoom, LacksRoom, CountsDropped};
+ghost use Rattle.tree.specs.Updates.{changes_of};
+ghost use Rattle.world.specs.Worlds.{AreFileSystems};
+ghost use Rattle.world.specs.Tables.{with_system, CanSnap};
+ghost use Rattle.file_systems.specs.Rows.{live_of, snap_count, plain_snap};
+ghost use Rattle.datasets.specs.Writes.{young_of, AllowsWrite, HasWritten};
+ghost use Rattle.datasets.specs.Snapshots.{with_snap_at};
+
+use crate::parent::parent_of;
+use base::meter::Meter;
+use base::number::{Group, Guid};
+use base::refusal::Refusal;
+use file_systems::{FileSystem, FileSystems};
+use name::{Component, DsName};
+use std::alloc::Global;
+use std::marker::Model;
+use std::sync::Arc;
+use tree::{Changed, Update};
+use zalloc::Allocator;
+
+/// A pool has at most this many file systems, the root among them (profile).
+pub const FILE_SYSTEM_LIMIT: usize = 1024;
+
+/// The datasets of a pool: its file systems with their snapshots, and the group that is open. The root `p` is always there, and so is
+/// the parent of every other file system. Copies share the file systems that none of them changed.
+#[derive(Drop)]
+pub struct Table {
+    systems: FileSystems,
+    group: Group,
+}
+
+impl Model for Table {
+    ghost use Rattle.world.specs.Tables.{Datasets, datasets_code};
+    ghost use Rattle.datasets.specs.Table.{IsTable};
+
+    ghost Value = { Datasets };
+
+    ghost coded = { datasets_code };
+
+    ghost view = { λ t. record { file_systems = t.systems; group = t.group.0 } };
+
+    ghost invariant = { IsTable };
+}
+
+impl Table {
+    /// The root file system `p` alone, without a block or a snapshot, in group 1 (zpool-create(8)). NoMemory where there is none for
+    /// it. Constant time.
+    pub fn new(alloc: Global) -> Result<Table, Refusal>
+        ensures ok { IfOk result (λ t. t ≡ record { file_systems = insert finmap.empty root_name empty_file_system; group = 1 }) }
+        ensures err { IfErr result (λ e. e ≡ Refusal.NoMemory) }
+    {
+        let systems = FileSystems::new(alloc, &root_of(alloc)?)?;
+        Ok(Table {
+            systems,
+            group: Group(1),
+        })
+    }
+
+    /// An equal table, by one more owner of each file system: no name, tree, snapshot or block is visited. NoMemory where there is
+    /// none for as many rows as there are, or for an owner. It costs the number of file systems.
+    pub fn copy(&self) -> Result<Table, Refusal>
+        ensures ok { IfOk result (λ t. t ≡ self.now) }
+        ensures err { IfErr result (λ e. e ≡ Refusal.NoMemory) }
+    {
+        let systems = self.systems.copy()?;
+        Ok(Table {
+            systems,
+            group: self.group,
+        })
+    }
+
+    /// How many file systems there are, the root among them: 1 to `FILE_SYSTEM_LIMIT`. Constant time.
+    pub fn len(&self) -> usize
+        ensures len { result ≡ len self.now.file_systems }
+        ensures good { AreFileSystems self.now.file_systems self.now.group }
+    {
+        self.systems.len()
+    }
+
+    /// How many snapshots there are. Constant time.
+    pub fn snapshot_count(&self) -> usize
+        ensures { result ≡ snap_count self.now.file_systems }
+    {
+        self.systems.snapshot_count()
+    }
+
+    /// The group that is open. Constant time.
+    pub fn group(&self) -> Group
+        ensures { result.0 ≡ self.now.group }
+    {
+        self.group
+    }
+
+    /// All file systems, in byte order of their names. Constant time.
+    pub fn file_systems(&self) -> &[Arc<FileSystem>]
+        ensures { map arc_value result.now ≡ entries self.now.file_systems }
+    {
+        self.systems.as_slice()
+    }
+
+    /// The file system of this name, or none. It costs the logarithm of their number.
+    pub fn find(&self, name: &DsName) -> Option<&FileSystem>
+        ensures { option_copied result ≡ option_map (λ f. (name.now, f)) (get self.now.file_systems name.now) }
+    {
+        self.systems.find(name)
+    }
+
+    /// Why a file system of this name can't be added, if it can't: Exists where one of that name is there, else NoParent where
+    /// its parent isn't, else TooMany where there are `FILE_SYSTEM_LIMIT` already (zfs-create(8); the limit is profile). It
+    /// costs the logarithm of their number.
+    #[tactic(auto, unfolding(model::specs::requests::Create::create_refusal))]
+    pub fn create_refusal(&self, name: &DsName) -> Option<Refusal>
+        ensures { result ≡ create_refusal self.now.file_systems name.now }
+    {
+        if self.systems.contains(name.as_bytes()) {
+            return Some(Refusal::Exists);
+        }
+        if !self.has_parent(name.as_bytes()) {
+            return Some(Refusal::NoParent);
+        }
+        if self.len() >= FILE_SYSTEM_LIMIT {
+            return Some(Refusal::TooMany);
+        }
+        None
+    }
+
+    /// A table with one file system more, which has this name, no block and no snapshot, and one more owner of each other one. This
+    /// table stays as it is. Refused as `create_refusal` says; else NoMemory where there is none for the name, the rows or an owner.
+    /// It costs the number of file systems and the length of the name.
+    pub fn create(&self, name: &DsName) -> Result<Table, Refusal>
+        ensures ok { IfOk result (λ t. t ≡ with_system self.now name.now empty_file_system) }
+        ensures can { OnOk result (create_refusal self.now.file_systems name.now ≡ None) }
+        ensures refused { IfSome (create_refusal self.now.file_systems name.now) (λ e. result ≡ Err e) }
+        ensures only { IfErr result (λ e. (create_refusal self.now.file_systems name.now ≡ Some e) ⊎ (e ≡ Refusal.NoMemory)) }
+    {
+        if let Some(refusal) = self.create_refusal(name) {
+            return Err(refusal);
+        }
+        self.with_new(name)
+    }
+
+    /// Puts a batch of changes of the live tree of this file system in force at once, where the last sync left group `synced` open:
+    /// the answer names the numbers that the new blocks have, and takes none; of the blocks that the tree drops it names those that
+    /// no snapshot has. NoDataset exactly where there is no file system of this name; else NoSpace exactly where the Free numbers
+    /// and those of the dropped young blocks are too few; else NoMemory where there is no memory. At `Err` the table is as it was.
+    /// It costs the logarithm of the number of file systems, and the change.
+    pub fn apply_live(
+        &mut self,
+        name: &DsName,
+        alloc: Global,
+        updates: &[Update],
+        synced: Group,
+        allocator: &Allocator,
+        meter: &mut Meter,
+    ) -> Result<Changed, Refusal>
+        requires { AllowsWrite self.old updates.now synced.0 allocator.now }
+        ensures ok { IfOk result (HasWritten self.old self.new name.now (changes_of updates.now) synced.0 allocator.now) }
+        ensures room { OnOk result (HasRoom (live_of self.old.file_systems name.now) (changes_of updates.now) (young_of self.old name.now synced.0) allocator.now) }
+        ensures err { OnErr result (self.new ≡ self.old) }
+        ensures no_dataset { (result ≡ Err Refusal.NoDataset) ↔ (get self.old.file_systems name.now ≡ None) }
+        ensures no_space { result ≡ Err Refusal.NoSpace → LacksRoom (live_of self.old.file_systems name.now) (changes_of updates.now) (young_of self.old name.now synced.0) allocator.now }
+        ensures only { IfErr result (λ e. (e ≡ Refusal.NoDataset) ⊎ IsNoSpaceOrNoMemory e) }
+        ensures metered { OnOk result (CountsDropped (live_of self.old.file_systems name.now) (changes_of updates.now) meter.old meter.new) }
+        ensures never_lower { meter.old ≤ meter.new }
+    {
+        let group = self.group;
+        self.systems
+            .apply_live(name, alloc, updates, group, synced, allocator, meter)
+    }
+
+    /// Keeps the live map of this file system as a snapshot, with this name within it, this guid and this creation group, which is
+    /// closed (zfs-snapshot(8)). NoMemory where there is none for it, and then the table is as it was. It costs the logarithm of the
+    /// number of file systems, and a 64th of the number of its snapshots.
+    pub fn take_snapshot(
+        &mut self,
+        alloc: Global,
+        name: &DsName,
+        component: &Component,
+        guid: Guid,
+        group: Group,
+    ) -> Result<(), Refusal>
+        requires { CanSnap self.old name.now (plain_snap component.now (live_of self.old.file_systems name.now) guid.0 group.0) }
+        ensures ok { OnOk result (self.new ≡ with_snap_at self.old name.now component.now guid.0 group.0) }
+        ensures err { OnErr result (self.new ≡ self.old) }
+        ensures only { IfErr result (λ e. e ≡ Refusal.NoMemory) }
+    {
+        self.systems
+            .take_snapshot(alloc, name, component, guid, group)
+    }
+
+    /// Opens the next group. Constant time.
+    pub fn close_group(&mut self)
+        requires { self.old.group + 1 < 2 ^ 64 }
+        ensures { self.new ≡ record self.old { group = self.old.group + 1 } }
+    {
+        self.group = Group(self.group.0 + 1);
+    }
+
+    // A table with one empty file system more, which nothing refuses.
+    fn with_new(&self, name: &DsName) -> Result<Table, Refusal>
+        requires { create_refusal self.now.file_systems name.now ≡ None }
+        ensures ok { IfOk result (λ t. t ≡ with_system self.now name.now empty_file_system) }
+        ensures err { IfErr result (λ e. e ≡ Refusal.NoMemory) }
+    {
+        let systems = self.systems.with_new(name)?;
+        Ok(Table {
+            systems,
+            group: self.group,
+        })
+    }
+
+    // Whether the parent of a file system of this name is there.
+    fn has_parent(&self, name: &[u8]) -> bool
+        ensures { result ≡ has_parent self.now.file_systems name.now }
+    {
+        match parent_of(name) {
+            Some(parent) => self.systems.contains(parent),
+            None => false,
+        }
+    }
+}
+
+// The name of the root.
+#[tactic(auto, unfolding(name::specs::Reading::name_of))]
+fn root_of(alloc: Global) -> Result<DsName, Refusal>
+    ensures ok { IfOk result (λ name. name ≡ root_name) }
+    ensures err { IfErr result (λ e. e ≡ Refusal.NoMemory) }
+{
+    DsName::read(alloc, b"p")
+}
