@@ -2,7 +2,7 @@
 use Rattle.std.specs.Prelude.{◌≡◌, Option, None}
 use Rattle.stream.specs.Spelling.{Sending}
 use Rattle.model.specs.declared.request.Request.{Request}
-use Rattle.model.specs.declared.request.Request.TheVariants.{Create as ToCreate, Write as ToWrite, Punch as ToPunch, FreeObject as ToFreeObject, Read as ToRead, Get as ToGet, PoolGet as ToPoolGet, List as ToList, Sync as ToSync}
+use Rattle.model.specs.declared.request.Request.TheVariants.{Create as ToCreate, Write as ToWrite, Punch as ToPunch, FreeObject as ToFreeObject, Snapshot as ToSnapshot, Read as ToRead, Get as ToGet, PoolGet as ToPoolGet, List as ToList, Sync as ToSync}
 use Rattle.model.specs.declared.reply.Reply.TheVariants.{Done}
 use Rattle.model.specs.State.{State}
 use Rattle.model.specs.Rule.{Rule}
@@ -10,6 +10,7 @@ use Rattle.model.specs.requests.Create.{create_rule}
 use Rattle.model.specs.requests.Write.{write_rule}
 use Rattle.model.specs.requests.Punch.{punch_rule}
 use Rattle.model.specs.requests.FreeObject.{free_object_rule}
+use Rattle.model.specs.requests.Snapshot.{snapshot_rule}
 use Rattle.model.specs.requests.Read.{read_rule}
 use Rattle.model.specs.requests.Get.{get_rule}
 use Rattle.model.specs.requests.PoolGet.{pool_get_rule}
@@ -20,11 +21,11 @@ pub mod Change
 pub mod Write
 pub mod Punch
 pub mod FreeObject
+pub mod Snapshot
 pub mod Read
 pub mod Get
 pub mod PoolGet
 pub mod List
-pub mod Snapshot
 pub mod Sync
 
 -- what the bytes of a request say; no request has any yet (zfs-receive(8))
@@ -37,6 +38,7 @@ rule_of (ToCreate name) reading = create_rule name
 rule_of (ToWrite target object block bytes) reading = write_rule target object block bytes
 rule_of (ToPunch target object block) reading = punch_rule target object block
 rule_of (ToFreeObject target object) reading = free_object_rule target object
+rule_of (ToSnapshot names recursive) reading = snapshot_rule names recursive
 rule_of (ToRead target object block) reading = read_rule target object block
 rule_of (ToGet target property) reading = get_rule target property
 rule_of (ToPoolGet property) reading = pool_get_rule property

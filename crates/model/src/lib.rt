@@ -6,3 +6,4 @@ pub mod laws;
 pub mod names;
 pub mod reply;
 pub mod request;
+pub mod snap_names;

@@ -1,13 +1,19 @@
 //! What a pool can be asked.
 ghost use Rattle.std.specs.Prelude.{◌≡◌, ◌↔◌, IsTrue};
 
+use crate::snap_names::SnapNames;
 use base::data::Data;
 use name::{DsName, Target};
 
 /// What `Get` may ask of a dataset or bookmark (zfsprops(7)).
 #[derive(Clone, Copy, PartialEq, Eq, Debug)]
 pub enum Property {
+    /// The blocks of a file system's live map or of a snapshot's, in bytes.
     Referenced,
+    /// A snapshot's guid, a number; also a bookmark's, which is its snapshot's.
+    Guid,
+    /// A snapshot's creation group, a number; also a bookmark's, which is its snapshot's.
+    CreateTxg,
 }
 
 impl Property {
@@ -17,6 +23,9 @@ impl Property {
     {
         match (self, other) {
             (Property::Referenced, Property::Referenced) => true,
+            (Property::Guid, Property::Guid) => true,
+            (Property::CreateTxg, Property::CreateTxg) => true,
+            _ => false,
         }
     }
 }
@@ -84,13 +93,24 @@ pub enum Request {
         target: Target,
         object: u32,
     },
+    /// Makes a snapshot of the live map of each named file system, and with `recursive` (zfs-snapshot(8): -r) one of the same
+    /// component of each of its descendants too, in list order and then byte order; all are in the open group, which it closes.
+    /// The reply is Done. An empty list changes nothing. It is refused NoDataset where a named file system isn't there, BadName
+    /// where a whole name would have more than 255 bytes, Exists where a name has a snapshot or a file system stands twice,
+    /// TooMany where the pool would have more than 65,536 snapshots, the open group is the last one, or the guids would go past
+    /// the counter's last, 2^32 - 1, and then Quota, RefQuota or NoSpace as a write is: the first of these, or NoMemory.
+    Snapshot {
+        names: SnapNames,
+        recursive: bool,
+    },
     /// The bytes of a block, or none where it is a hole. The reply is Data. It is refused NoDataset and BadKey as a write is.
     Read {
         target: Target,
         object: u32,
         block: u32,
     },
-    /// The value of a property. The reply is Value. It is refused NoDataset where nothing has the name.
+    /// The value of a property, NotApplicable where what has the name is of a kind without it. The reply is Value. It is refused
+    /// NoDataset where nothing has the name.
     Get {
         target: Target,
         property: Property,
@@ -150,6 +170,16 @@ impl Request {
                     object: p,
                 },
             ) => t.same(u) && *o == *p,
+            (
+                Request::Snapshot {
+                    names: n,
+                    recursive: r,
+                },
+                Request::Snapshot {
+                    names: m,
+                    recursive: s,
+                },
+            ) => n.same(m) && *r == *s,
             (
                 Request::Read {
                     target: t,

@@ -1,34 +1,31 @@
 -- A change of a live map, from the update that a request asks for to the step.
-use Rattle.std.proofs.Common.{◌≡◌, ◌≤◌, ◌⊎◌, ◌↔◌, ℕ, Bool, true, false, ◌&&◌, List, Result, Ok, Err, None, refl, sym, ap, subst, [], ◌∷◌, inl, inr, ⊎_elim}
+use Rattle.std.proofs.Common.{◌≡◌, ◌≤◌, ◌⊎◌, ◌↔◌, ℕ, Bool, true, false, ◌&&◌, List, Result, Ok, Err, Some, None, refl, sym, ap, subst, [], ◌∷◌, inl, inr, ⊎_elim}
 use Rattle.std.specs.Prelude.{nat_lt}
+use Rattle.std.specs.FinMap.{get}
 use Rattle.std.proofs.lemmas.Bool.{ltb-false, le-ltb}
 use Rattle.name.specs.declared.target.Target.{Target}
+use Rattle.name.specs.declared.target.Target.TheVariants.{FileSystem as OfFileSystem}
 use Rattle.base.specs.declared.refusal.Refusal.{Refusal}
-use Rattle.base.specs.declared.refusal.Refusal.TheVariants.{NoDataset, BadKey, NoSpace, NoMemory}
+use Rattle.base.specs.declared.refusal.Refusal.TheVariants.{NoDataset, BadKey, NoMemory}
 use Rattle.base.specs.Rewrite.{Changes}
 use Rattle.zalloc.specs.declared.BlockState.{BlockState}
 use Rattle.batch.specs.declared.update.Update.{Update}
 use Rattle.tree.specs.Updates.{changes_of}
-use Rattle.tree.specs.Change.{Shown as ShownChange, IsChange, HasRoom, LacksRoom}
+use Rattle.model.specs.World.{FileSystem}
 use Rattle.model.specs.declared.request.Request.{Request}
 use Rattle.model.specs.declared.reply.Reply.{Reply}
-use Rattle.model.specs.declared.reply.Reply.TheVariants.{Done, Refused}
+use Rattle.model.specs.declared.reply.Reply.TheVariants.{Refused}
 use Rattle.model.specs.Targets.{is_object, is_block}
 use Rattle.model.specs.Step.{Step}
-use Rattle.table.specs.Rows.{Row}
-use Rattle.table.specs.Rows.{with_live}
 use Rattle.model.specs.State.{State}
 use Rattle.model.specs.requests.{rule_of}
 use Rattle.model.specs.requests.Change.{change_rule}
-use Rattle.steps.specs.Steady.{IsAbsent}
-use Rattle.steps.specs.Edits.{with_systems}
-use Rattle.steps.proofs.Plain.{plain_young}
-use Rattle.steps.proofs.Changing.{change_refused, change_no_memory, change_no_dataset, change_done}
+use Rattle.steps.proofs.Changing.{change_no_memory, change_no_dataset, change_read_only, change_bad_key}
 use Rattle.pool.specs.Asked.{Asks}
-use Rattle.pool.specs.Named.{row_named}
+use Rattle.pool.specs.Named.{IsNoLive}
 use Rattle.pool.specs.Pools.{IsSound}
 use Rattle.pool.specs.Shown.{Shown, shown}
-use Rattle.pool.proofs.Names.{IsFound, absent}
+use Rattle.pool.proofs.Names.{found, absent, is_snapshot}
 
 -- ---- numbers of objects and blocks
 
@@ -67,59 +64,53 @@ update_error why = Err why
 
 -- ---- the steps of a request that asks for an update
 
--- a tree doesn't tell of numbers outside the limits
-no_bad_key : (why : Refusal) → (why ≡ NoSpace) ⊎ (why ≡ NoMemory) → why ≡ BadKey → ⊥
-no_bad_key why = ⊎_elim (λ e f. cc) (λ e f. cc)
+module _ (s : State) (numbers : List BlockState) (sound : IsSound s numbers) (q : Request) where
+  -- where the name is no file system's
+  pub no_live : (target : Target) (update : Result Update Refusal) → Asks q target update → (why : Refusal) → IsNoLive s.now.file_systems target why
+      → Step s q (Refused why) s
+  no_live target update asks why is = ⊎_elim
+      (λ t. subst (λ x. Step s q (Refused x) s) (sym t.0)
+      (change_read_only s sound.steady q target asks.changes asks.in_range asks.rule
+      (found s sound.steady target t.1 t.2).there (is_snapshot s.now.file_systems target t.1 is.never t.2)))
+      (λ t. subst (λ x. Step s q (Refused x) s) (sym t.0)
+      (change_no_dataset s sound.steady q target asks.changes asks.in_range asks.rule (absent s.now.file_systems target t.1)))
+      is.which
 
-module _ (s : State) (numbers : List BlockState) (sound : IsSound s numbers) (q : Request) (target : Target) where
-  -- where its numbers are outside their limits
-  module _ (why : Refusal) (asks : Asks q target (Err why)) where
-    outside : asks.in_range ≡ false
-    outside = asks.bad_key.0 (ap Err asks.only)
+  module _ (name : List ℕ) where
+    -- where its numbers are outside their limits
+    module _ (why : Refusal) (asks : Asks q (OfFileSystem name) (Err why)) where
+      outside : asks.in_range ≡ false
+      outside = asks.bad_key.0 (ap Err asks.only)
 
-    pub outside_absent : None ≡ row_named s.now.file_systems target → Step s q (Refused NoDataset) s
-    outside_absent none = change_no_dataset s sound.steady q target asks.changes asks.in_range asks.rule (absent s.now.file_systems target none)
+      pub outside_absent : get s.now.file_systems name ≡ None → Step s q (Refused NoDataset) s
+      outside_absent none = change_no_dataset s sound.steady q (OfFileSystem name) asks.changes asks.in_range asks.rule none
 
-    pub outside_refused : (row : Row) → IsFound s.now.file_systems target row → Step s q (Refused why) s
-    outside_refused row is =
-        change_refused s sound.steady q target asks.changes asks.in_range asks.rule row.0 row.1 is.named is.there s.last.group (plain_young s sound.steady row.0 row.1 is.there) numbers sound.states why
-        (λ _. outside) (λ e. let f = asks.only in absurd (no_space_here e f)) (inl asks.only)
-      where
-        no_space_here : why ≡ NoSpace → why ≡ BadKey → ⊥
-        no_space_here e f = cc
+      pub outside_refused : (f : FileSystem) → get s.now.file_systems name ≡ Some f → Step s q (Refused why) s
+      outside_refused f was = subst (λ x. Step s q (Refused x) s) (sym asks.only)
+          (change_bad_key s sound.steady q (OfFileSystem name) asks.changes asks.in_range asks.rule name f refl was outside)
 
-  -- where they are within them
-  module _ (u : Update) (asks : Asks q target (Ok u)) where
-    abbrev ch : Changes
-    ch = changes_of (u ∷ [])
+    -- where they are within them
+    module _ (u : Update) (asks : Asks q (OfFileSystem name) (Ok u)) where
+      abbrev ch : Changes
+      ch = changes_of (u ∷ [])
 
-    within : asks.in_range ≡ true
-    within = not_false asks.in_range (λ e. no_error (asks.bad_key.1 e))
-      where
-        no_error : Ok u ≡ update_error BadKey → ⊥
-        no_error e = cc
+      pub within : asks.in_range ≡ true
+      within = not_false asks.in_range (λ e. no_error (asks.bad_key.1 e))
+        where
+          no_error : Ok u ≡ update_error BadKey → ⊥
+          no_error e = cc
 
-    rule : rule_of q None ≡ change_rule target ch asks.in_range
-    rule = subst (λ x. rule_of q None ≡ change_rule target x asks.in_range) (sym asks.is) asks.rule
+      pub rule : rule_of q None ≡ change_rule (OfFileSystem name) (changes_of (u ∷ [])) asks.in_range
+      rule = subst (λ x. rule_of q None ≡ change_rule (OfFileSystem name) x asks.in_range) (sym asks.is) asks.rule
 
-    pub update_absent : IsAbsent s.now.file_systems target → Step s q (Refused NoDataset) s
-    update_absent none = change_no_dataset s sound.steady q target ch asks.in_range rule none
-
-    pub update_no_memory : Step s q (Refused NoMemory) s
-    update_no_memory = change_no_memory s sound.steady q target ch asks.in_range rule
-
-    module _ (row : Row) (is : IsFound s.now.file_systems target row) where
-      pub update_done : (v : ShownChange) → HasRoom row.1.live ch s.last.group numbers → IsChange row.1.live ch s.now.group s.last.group numbers v
-          → Step s q Done (with_systems s (with_live s.now.file_systems row.0 v.new))
-      update_done v room change =
-          change_done s sound.steady q target ch asks.in_range rule row.0 row.1 is.named is.there s.last.group (plain_young s sound.steady row.0 row.1 is.there) numbers sound.states within v room change
-
-      pub update_refused : (why : Refusal) → (why ≡ NoSpace → LacksRoom row.1.live ch s.last.group numbers) → (why ≡ NoSpace) ⊎ (why ≡ NoMemory)
-          → Step s q (Refused why) s
-      update_refused why lacks which =
-          change_refused s sound.steady q target ch asks.in_range rule row.0 row.1 is.named is.there s.last.group (plain_young s sound.steady row.0 row.1 is.there) numbers sound.states why
-          (λ e. absurd (no_bad_key why which e)) (λ e. (within, lacks e)) (inr which)
+      pub update_no_memory : Step s q (Refused NoMemory) s
+      update_no_memory = change_no_memory s sound.steady q (OfFileSystem name) ch asks.in_range rule
 
 -- an answer with the pool as it was, told of what contracts see
 pub told : (seen : Shown) (s : State) (numbers : List BlockState) → shown s numbers ≡ seen → (q : Request) (reply : Reply) → Step s q reply s → Step seen.state q reply seen.state
 told seen s numbers view q reply step = subst (λ (x : Shown). Step x.state q reply x.state) view step
+
+-- why a name is no file system's, told of the state
+pub told_no_live : (seen : Shown) (s : State) (numbers : List BlockState) → shown s numbers ≡ seen → (target : Target) (why : Refusal) → IsNoLive seen.state.now.file_systems target why
+    → IsNoLive s.now.file_systems target why
+told_no_live seen s numbers view target why is = subst (λ (x : Shown). IsNoLive x.state.now.file_systems target why) (sym view) is

@@ -1,3 +1,4 @@
+pub mod Yielded
 pub mod Names
 pub mod Commits
 pub mod Changes

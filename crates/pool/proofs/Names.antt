@@ -1,39 +1,45 @@
--- What it tells of a name that a file system was found by it, or none.
-use Rattle.std.proofs.Common.{◌≡◌, ℕ, List, Option, Some, None, refl, ap, sym, ◌∙◌}
+-- What it tells of a name that a dataset was found by it, or none.
+use Rattle.std.proofs.Common.{◌≡◌, ℕ, List, Option, Some, None, true, refl, sym, subst}
 use Rattle.std.specs.Option.{option_map}
 use Rattle.std.specs.FinMap.{get}
+use Rattle.base.specs.Map.{Map}
 use Rattle.name.specs.declared.target.Target.{Target}
 use Rattle.name.specs.declared.target.Target.TheVariants.{FileSystem as OfFileSystem, Snapshot as OfSnapshot, Bookmark as OfBookmark}
-use Rattle.model.specs.World.{FileSystem}
-use Rattle.table.specs.Rows.{Row, FileSystems}
-use Rattle.steps.specs.Steady.{IsAbsent}
+use Rattle.model.specs.Hierarchy.{FileSystems}
+use Rattle.model.specs.Targets.{is_snapshot_name}
+use Rattle.model.specs.State.{State}
 use Rattle.world.proofs.Maps.{same_value, no_value}
-use Rattle.steps.proofs.Lookups.{found as value_found, not_found}
-use Rattle.pool.specs.Named.{row_named}
+use Rattle.steps.specs.Steady.{IsSteady, IsAbsent, IsNamed, snap_in}
+use Rattle.steps.proofs.Named.{named_live, named_snap}
+use Rattle.pool.specs.Named.{map_named}
 
--- a file system that was found stands under its name, which is the one that was sought
-pub record IsFound (ss : FileSystems) (target : Target) (row : Row) : Type 0 where
-  pub named : target ≡ OfFileSystem row.0
-  pub there : get ss row.0 ≡ Some row.1
+-- what a value that is told of is told of
+pub mapped : {A B : Type 0} (g : A → B) (o : Option A) (m : B) → Some m ≡ option_map g o → (x : A) × (o ≡ Some x) × (g x ≡ m)
+mapped g None m e = absurd (no_value m (sym e))
+mapped g (Some x) m e = (x, refl, sym (same_value m (g x) e))
 
-pub found : (ss : FileSystems) (target : Target) (row : Row) → Some row ≡ row_named ss target → IsFound ss target row
-found ss (OfFileSystem name) row e =
-    let here = under name (get ss name) row e in
-    record { named = ap (λ n. OfFileSystem n) (sym here); there = ap (get ss) here ∙ value_found name (get ss name) row e }
-  where
-    under : (name : List ℕ) (x : Option FileSystem) (row : Row) → Some row ≡ option_map (λ f. (name, f)) x → row.0 ≡ name
-    under name None row e = absurd (no_value row (sym e))
-    under name (Some s) row e = ap (λ (r : Row). r.0) (same_value row (name, s) e)
-found ss (OfSnapshot m) row e = absurd (no_value row (sym e))
-found ss (OfBookmark m) row e = absurd (no_value row (sym e))
+pub unmapped : {A B : Type 0} (g : A → B) (o : Option A) → None ≡ option_map g o → o ≡ None
+unmapped g None e = refl
+unmapped g (Some x) e = absurd (no_value (g x) e)
 
-pub absent : (ss : FileSystems) (target : Target) → None ≡ row_named ss target → IsAbsent ss target
-absent ss (OfFileSystem name) e = not_found name (get ss name) e
-absent ss (OfSnapshot m) e = tt
-absent ss (OfBookmark m) e = tt
+-- a map that was found is that of the dataset of the name
+pub found : (s : State) → IsSteady s → (target : Target) (m : Map) → Some m ≡ map_named s.now.file_systems target → IsNamed s target m
+found s steady (OfFileSystem name) m e =
+    let is = mapped (λ f. f.live) (get s.now.file_systems name) m e in
+    subst (λ x. IsNamed s (OfFileSystem name) x) is.2 (named_live s name is.0 is.1)
+found s steady (OfSnapshot n) m e =
+    let is = mapped (λ t. t.map) (snap_in s.now.file_systems n) m e in
+    subst (λ x. IsNamed s (OfSnapshot n) x) is.2 (named_snap s steady n is.0 is.1)
+found s steady (OfBookmark n) m e = absurd (no_value m (sym e))
 
--- what is no file system's name
-pub absent_other : (ss : FileSystems) (target : Target) → ((name : List ℕ) → target ≡ OfFileSystem name → ⊥) → IsAbsent ss target
-absent_other ss (OfFileSystem name) other = absurd (other name refl)
-absent_other ss (OfSnapshot m) other = tt
-absent_other ss (OfBookmark m) other = tt
+pub absent : (ss : FileSystems) (target : Target) → None ≡ map_named ss target → IsAbsent ss target
+absent ss (OfFileSystem name) e = unmapped (λ f. f.live) (get ss name) e
+absent ss (OfSnapshot n) e = unmapped (λ t. t.map) (snap_in ss n) e
+absent ss (OfBookmark n) e = tt
+
+-- what is found and no file system is a snapshot
+pub is_snapshot : (ss : FileSystems) (target : Target) (m : Map) → ((name : List ℕ) → target ≡ OfFileSystem name → ⊥) → Some m ≡ map_named ss target
+    → is_snapshot_name target ≡ true
+is_snapshot ss (OfFileSystem name) m never e = absurd (never name refl)
+is_snapshot ss (OfSnapshot n) m never e = refl
+is_snapshot ss (OfBookmark n) m never e = absurd (no_value m (sym e))

@@ -1,9 +1,13 @@
 -- The steps of a pool, as its functions need them: over what a contract sees of it.
-use Rattle.std.proofs.Common.{◌≡◌, ◌≤◌, ◌<◌, ◌+◌, ◌*◌, ◌⊎◌, ◌↔◌, ℕ, List, Option, Result, Ok, Err, None, Some, [], refl, sym, ap, subst, ◌∙◌}
-use Rattle.std.specs.Prelude.{count_by, map}
-use Rattle.std.specs.FinMap.{get, entries, insert}
+use Rattle.std.proofs.Common.{◌≡◌, ◌≤◌, ◌<◌, ◌+◌, ◌-◌, ◌*◌, ◌⊎◌, ◌↔◌, ℕ, Bool, true, false, ◌||◌, List, Option, Result, Ok, Err, None, Some, [], ◌∷◌, length, refl, sym, ap, subst, ◌∙◌, arith}
+use Rattle.std.specs.Prelude.{count_by, nat_lt}
+use Rattle.std.specs.List.{flat_map}
+use Rattle.std.specs.FinMap.{get, entries}
 use Rattle.std.specs.FinMap.{len as map_len}
+use Rattle.std.proofs.lemmas.Bool.{ltb-false, le-ltb, lt-ltb}
+use Rattle.name.specs.declared.member.Member.{Member}
 use Rattle.name.specs.declared.target.Target.{Target}
+use Rattle.name.specs.declared.target.Target.TheVariants.{FileSystem as OfFileSystem, Snapshot as OfSnapshot, Bookmark as OfBookmark}
 use Rattle.base.specs.declared.refusal.Refusal.{Refusal}
 use Rattle.base.specs.declared.refusal.Refusal.TheVariants.{NoDataset, BadKey, TooMany, NoMemory}
 use Rattle.base.specs.Key.{leaf_index}
@@ -11,41 +15,76 @@ use Rattle.base.specs.Map.{Map, contents, block_cmp}
 use Rattle.zalloc.specs.declared.BlockState.{BlockState}
 use Rattle.zalloc.specs.States.{is_free, is_allocated, is_waiting}
 use Rattle.model.specs.declared.request.Request.{Request}
-use Rattle.model.specs.declared.request.Request.TheVariants.{Create, Read, Get, PoolGet, List as ListNames, Sync}
+use Rattle.model.specs.declared.request.Request.TheVariants.{Create, Snapshot, Read, Get, PoolGet, List as ListNames, Sync}
 use Rattle.model.specs.declared.request.Property.{Property}
-use Rattle.model.specs.declared.request.Property.TheVariants.{Referenced}
+use Rattle.model.specs.declared.request.Property.TheVariants.{Referenced, Guid, CreateTxg}
 use Rattle.model.specs.declared.request.PoolProperty.{PoolProperty}
 use Rattle.model.specs.declared.request.PoolProperty.TheVariants.{Size as SizeAsked, Allocated, Free, Freeing, Waiting, Group}
 use Rattle.model.specs.declared.reply.Reply.{Reply}
 use Rattle.model.specs.declared.reply.Reply.TheVariants.{Done, Refused, Data, Value as ValueIs, Group as GroupIs, Names as NamesAre}
+use Rattle.model.specs.declared.reply.Value.{Value}
 use Rattle.model.specs.declared.reply.Value.TheVariants.{Size, Number}
 use Rattle.std.specs.FinSet as set
-use Rattle.model.specs.World.{empty_file_system}
-use Rattle.model.specs.Targets.{is_block, number_limit}
+use Rattle.model.specs.World.{World, FileSystem, Snap, empty_file_system, snaps_of}
+use Rattle.model.specs.Targets.{is_block, number_limit, guid_limit, snap_limit, has_no_next_group}
+use Rattle.model.specs.Rule.{first_of}
 use Rattle.model.specs.Step.{Step}
 use Rattle.model.specs.Sums.{IsBalanced}
 use Rattle.model.specs.Numbers.{IsNumbered, HasStates}
-use Rattle.table.specs.Rows.{Row, FileSystems}
 use Rattle.model.specs.requests.Create.{create_refusal}
+use Rattle.model.specs.requests.Snapshot.{snapshot_names, taking_row, guid_by}
 use Rattle.model.specs.State.{State}
-use Rattle.model.specs.Edits.{with_next_group}
+use Rattle.world.specs.Tables.{Datasets, with_system}
 use Rattle.world.proofs.States.{state_numbered}
-use Rattle.steps.specs.Edits.{with_systems, CanPut}
+use Rattle.world.proofs.Takings.{may_take}
+use Rattle.file_systems.specs.Rows.{Row}
+use Rattle.datasets.specs.Snapshots.{taken_of}
+use Rattle.snap.specs.Taking.{after_taking}
+use Rattle.steps.specs.Steady.{IsAbsent, snap_in}
+use Rattle.steps.specs.Edits.{datasets_of, put, synced, CanPut, CanSync}
+use Rattle.steps.specs.Listed.{own_names}
 use Rattle.steps.proofs.Creating as creates
+use Rattle.steps.proofs.Snapping as snaps
 use Rattle.steps.proofs.Questions as reads
+use Rattle.steps.proofs.Named.{named_live, named_snap}
+use Rattle.steps.proofs.Identities.{get_guid_of_live, get_group_of_live, get_guid_of_snap, get_group_of_snap}
 use Rattle.steps.proofs.Listing.{list_no_memory, list_done}
 use Rattle.steps.proofs.Properties as properties
 use Rattle.steps.proofs.Syncing as sync
-use Rattle.pool.specs.Named.{row_named}
+use Rattle.pool.specs.Named.{map_named, live_value, snapshot_value}
 use Rattle.pool.specs.Pools.{IsSound}
-use Rattle.pool.specs.Plans.{CanSync}
 use Rattle.pool.specs.Shown.{Shown, shown}
 use Rattle.pool.proofs.Changes.{not_false, block_tells}
-use Rattle.pool.proofs.Names.{IsFound, found, absent}
+use Rattle.pool.proofs.Names.{found, absent}
 
 -- a read that was refused
 abbrev no_bytes : (B : Type 0) → Refusal → Result B Refusal
 no_bytes B why = Err why
+
+-- a group below the last one has a next one
+not_last : (g : ℕ) → g < number_limit → nat_lt number_limit (g + 1) ≡ false
+not_last g l = le-ltb number_limit (g + 1) (omega (arith))
+
+plus_none : (n : ℕ) → n ≡ n + 0
+plus_none n = omega (arith)
+
+-- names that there are
+taken_some : (t : Datasets) (guid : ℕ) (ms : List Member) → nat_lt 0 (length ms) ≡ true → after_taking t guid ms ≡ taken_of t guid ms
+taken_some t guid [] e = absurd (cc)
+taken_some t guid (m ∷ ms) e = refl
+
+-- the guids of names that nothing refuses are below the last one
+guids_fit : (w : World) (next_guid : ℕ) (names all : List Member) → first_of (taking_row w next_guid names all) ≡ None → nat_lt 0 (length all) ≡ true → (count : ℕ) → count ≡ length all
+    → next_guid + count ≤ guid_limit + 1
+guids_fit w next_guid names all none longer count counted =
+    let room = (may_take w next_guid names all none).room longer in
+    let l : next_guid + length all - 1 ≤ guid_limit = ltb-false guid_limit (next_guid + length all - 1) (second (nat_lt snap_limit (length (snaps_of w) + length all)) (has_no_next_group w) _ room) in
+    omega (arith, counted)
+  where
+    second : (a b c : Bool) → (a || (b || c)) ≡ false → c ≡ false
+    second true b c e = absurd (cc)
+    second false true c e = absurd (cc)
+    second false false c e = e
 
 module _ (seen : Shown) (s : State) (numbers : List BlockState) (view : shown s numbers ≡ seen) (sound : IsSound s numbers) where
   at : (q : Request) (r : Reply) → Step s q r s → Step seen.state q r seen.state
@@ -58,40 +97,59 @@ module _ (seen : Shown) (s : State) (numbers : List BlockState) (view : shown s 
   -- ---- reads
 
   module _ (t : Target) (ob bl : ℕ) where
-    pub read_absent : None ≡ row_named s.now.file_systems t → Step seen.state (Read t ob bl) (Refused NoDataset) seen.state
+    pub read_absent : None ≡ map_named s.now.file_systems t → Step seen.state (Read t ob bl) (Refused NoDataset) seen.state
     read_absent none = at _ _ (reads.read_no_dataset s sound.steady t ob bl (absent s.now.file_systems t none))
 
-    module _ (row : Row) (there : Some row ≡ row_named s.now.file_systems t) (m : Map) (same : m ≡ row.1.live) where
-      is : IsFound s.now.file_systems t row
-      is = found s.now.file_systems t row there
-
+    module _ (m : Map) (there : Some m ≡ map_named s.now.file_systems t) where
       pub read_refused : {B : Type 0} (why : Refusal) → why ≡ BadKey → (no_bytes B why ≡ no_bytes B BadKey) ↔ ((256 ≤ ob) ⊎ (4096 ≤ bl))
           → Step seen.state (Read t ob bl) (Refused why) seen.state
       read_refused {B} why e tells = refused_for (Read t ob bl) why BadKey e
-          (reads.read_bad_key s sound.steady t ob bl row.0 row.1 is.named is.there ((block_tells ob bl tells).0 (ap (no_bytes B) e)))
+          (reads.read_bad_key s sound.steady t ob bl m (found s sound.steady t m there) ((block_tells ob bl tells).0 (ap (no_bytes B) e)))
 
-      pub read_done : {B : Type 0} (found : B) (bytes : Option (List ℕ)) → bytes ≡ get (contents m) (leaf_index ob bl) → (Ok found ≡ Err BadKey) ↔ ((256 ≤ ob) ⊎ (4096 ≤ bl))
+      pub read_done : {B : Type 0} (bytes_found : B) (bytes : Option (List ℕ)) → bytes ≡ get (contents m) (leaf_index ob bl) → (Ok bytes_found ≡ Err BadKey) ↔ ((256 ≤ ob) ⊎ (4096 ≤ bl))
           → Step seen.state (Read t ob bl) (Data bytes) seen.state
-      read_done {B} found bytes e tells = at _ _
-          (reads.read_done s sound.steady t ob bl row.0 row.1 is.named is.there
-          (not_false (is_block ob bl) (λ f. no_refusal ((block_tells ob bl tells).1 f))) bytes
-          (e ∙ ap (λ x. get (contents x) (leaf_index ob bl)) same))
+      read_done {B} bytes_found bytes e tells = at _ _
+          (reads.read_done s sound.steady t ob bl m (found s sound.steady t m there)
+          (not_false (is_block ob bl) (λ f. no_refusal ((block_tells ob bl tells).1 f))) bytes e)
         where
-          no_refusal : Ok found ≡ Err BadKey → ⊥
+          no_refusal : Ok bytes_found ≡ Err BadKey → ⊥
           no_refusal h = cc
 
   -- ---- properties
 
-  pub get_absent : (t : Target) (property : Property) → None ≡ row_named s.now.file_systems t → Step seen.state (Get t property) (Refused NoDataset) seen.state
-  get_absent t property none = at _ _ (reads.get_no_dataset s sound.steady t property (absent s.now.file_systems t none))
+  get_absent : (t : Target) (property : Property) → IsAbsent s.now.file_systems t → Step seen.state (Get t property) (Refused NoDataset) seen.state
+  get_absent t property none = at _ _ (reads.get_no_dataset s sound.steady t property none)
 
-  pub get_referenced : (t : Target) (property : Property) → property ≡ Referenced → (row : Row) → Some row ≡ row_named s.now.file_systems t → (m : Map) → m ≡ row.1.live
-      → (n : ℕ) → n ≡ map_len m → (r : Reply) → r ≡ ValueIs (Size (512 * n)) → Step seen.state (Get t property) r seen.state
-  get_referenced t property what row there m same n e r is =
-      let f = found s.now.file_systems t row there in
-      subst (λ p. Step seen.state (Get t p) r seen.state) (sym what)
-      (subst (λ x. Step seen.state (Get t Referenced) x seen.state) (sym is)
-      (at _ _ (reads.get_referenced s sound.steady t row.0 row.1 f.named f.there n (e ∙ ap map_len same))))
+  pub get_absent_live : (t : Target) (property : Property) (name : List ℕ) → t ≡ OfFileSystem name → get s.now.file_systems name ≡ None → Step seen.state (Get t property) (Refused NoDataset) seen.state
+  get_absent_live t property name named none = get_absent t property (subst (λ x. IsAbsent s.now.file_systems x) (sym named) none)
+
+  pub get_absent_snapshot : (t : Target) (property : Property) (m : Member) → t ≡ OfSnapshot m → snap_in s.now.file_systems m ≡ None → Step seen.state (Get t property) (Refused NoDataset) seen.state
+  get_absent_snapshot t property m named none = get_absent t property (subst (λ x. IsAbsent s.now.file_systems x) (sym named) none)
+
+  pub get_absent_bookmark : (t : Target) (property : Property) (m : Member) → t ≡ OfBookmark m → Step seen.state (Get t property) (Refused NoDataset) seen.state
+  get_absent_bookmark t property m named = get_absent t property (subst (λ x. IsAbsent s.now.file_systems x) (sym named) tt)
+
+  pub get_of_live : (t : Target) (name : List ℕ) → t ≡ OfFileSystem name → (f : FileSystem) → get s.now.file_systems name ≡ Some f → (property : Property) (v : Value) → v ≡ live_value f property
+      → Step seen.state (Get t property) (ValueIs v) seen.state
+  get_of_live t name named f was property v is =
+      subst (λ x. Step seen.state (Get x property) (ValueIs v) seen.state) (sym named)
+      (subst (λ x. Step seen.state (Get (OfFileSystem name) property) (ValueIs x) seen.state) (sym is) (at _ _ (live_property property)))
+    where
+      live_property : (p : Property) → Step s (Get (OfFileSystem name) p) (ValueIs (live_value f p)) s
+      live_property Referenced = reads.get_referenced s sound.steady (OfFileSystem name) f.live (named_live s name f was) (map_len f.live) refl
+      live_property Guid = get_guid_of_live s sound.steady name f was
+      live_property CreateTxg = get_group_of_live s sound.steady name f was
+
+  pub get_of_snapshot : (t : Target) (m : Member) → t ≡ OfSnapshot m → (x : Snap) → snap_in s.now.file_systems m ≡ Some x → (property : Property) (v : Value) → v ≡ snapshot_value x property
+      → Step seen.state (Get t property) (ValueIs v) seen.state
+  get_of_snapshot t m named x was property v is =
+      subst (λ y. Step seen.state (Get y property) (ValueIs v) seen.state) (sym named)
+      (subst (λ y. Step seen.state (Get (OfSnapshot m) property) (ValueIs y) seen.state) (sym is) (at _ _ (snapshot_property property)))
+    where
+      snapshot_property : (p : Property) → Step s (Get (OfSnapshot m) p) (ValueIs (snapshot_value x p)) s
+      snapshot_property Referenced = reads.get_referenced s sound.steady (OfSnapshot m) x.map (named_snap s sound.steady m x was) (map_len x.map) refl
+      snapshot_property Guid = get_guid_of_snap s sound.steady m x was x.guid refl
+      snapshot_property CreateTxg = get_group_of_snap s sound.steady m x was x.group refl
 
   -- each block is allocated, free or waiting
   pub balanced : IsBalanced seen.state
@@ -106,36 +164,36 @@ module _ (seen : Shown) (s : State) (numbers : List BlockState) (view : shown s 
   in_states = subst (λ (x : Shown). HasStates x.state x.numbers) view sound.states
 
   -- a property of the pool, by a variable that stands for it
-  module _ (p : PoolProperty) (r : Reply) where
-    asked : (q : PoolProperty) (t : Reply) → p ≡ q → r ≡ t → Step s (PoolGet q) t s → Step seen.state (PoolGet p) r seen.state
+  module _ (p : PoolProperty) (v : Value) where
+    asked : (q : PoolProperty) (t : Value) → p ≡ q → v ≡ t → Step s (PoolGet q) (ValueIs t) s → Step seen.state (PoolGet p) (ValueIs v) seen.state
     asked q t is same step =
-        subst (λ x. Step seen.state (PoolGet x) r seen.state) (sym is)
-        (subst (λ x. Step seen.state (PoolGet q) x seen.state) (sym same) (at _ _ step))
+        subst (λ x. Step seen.state (PoolGet x) (ValueIs v) seen.state) (sym is)
+        (subst (λ x. Step seen.state (PoolGet q) (ValueIs x) seen.state) (sym same) (at _ _ step))
 
-    pub pool_get_size : p ≡ SizeAsked → r ≡ ValueIs (Size (512 * s.size)) → Step seen.state (PoolGet p) r seen.state
+    pub pool_get_size : p ≡ SizeAsked → v ≡ Size (512 * s.size) → Step seen.state (PoolGet p) (ValueIs v) seen.state
     pool_get_size is same = asked SizeAsked _ is same (properties.size_done s sound.steady s.size refl)
 
-    pub pool_get_group : p ≡ Group → r ≡ ValueIs (Number s.now.group) → Step seen.state (PoolGet p) r seen.state
+    pub pool_get_group : p ≡ Group → v ≡ Number s.now.group → Step seen.state (PoolGet p) (ValueIs v) seen.state
     pool_get_group is same = asked Group _ is same (properties.group_done s sound.steady s.now.group refl)
 
-    pub pool_get_freeing : p ≡ Freeing → r ≡ ValueIs (Size 0) → s.now.freeing ≡ set.empty → Step seen.state (PoolGet p) r seen.state
+    pub pool_get_freeing : p ≡ Freeing → v ≡ Size 0 → s.now.freeing ≡ set.empty → Step seen.state (PoolGet p) (ValueIs v) seen.state
     pool_get_freeing is same none = asked Freeing _ is same (properties.freeing_done s sound.steady 0 (sym (ap set.len none ∙ set.len-empty block_cmp)))
 
     module _ (n : ℕ) where
-      pub pool_get_allocated : p ≡ Allocated → r ≡ ValueIs (Size (512 * n)) → n ≡ count_by is_allocated numbers → Step seen.state (PoolGet p) r seen.state
+      pub pool_get_allocated : p ≡ Allocated → v ≡ Size (512 * n) → n ≡ count_by is_allocated numbers → Step seen.state (PoolGet p) (ValueIs v) seen.state
       pool_get_allocated is same e = asked Allocated _ is same (properties.allocated_done s sound.steady numbers sound.states n e)
 
-      pub pool_get_free : p ≡ Free → r ≡ ValueIs (Size (512 * n)) → n ≡ count_by is_free numbers → Step seen.state (PoolGet p) r seen.state
+      pub pool_get_free : p ≡ Free → v ≡ Size (512 * n) → n ≡ count_by is_free numbers → Step seen.state (PoolGet p) (ValueIs v) seen.state
       pool_get_free is same e = asked Free _ is same (properties.free_done s sound.steady numbers sound.states n e)
 
-      pub pool_get_waiting : p ≡ Waiting → r ≡ ValueIs (Size (512 * n)) → n ≡ count_by is_waiting numbers → Step seen.state (PoolGet p) r seen.state
+      pub pool_get_waiting : p ≡ Waiting → v ≡ Size (512 * n) → n ≡ count_by is_waiting numbers → Step seen.state (PoolGet p) (ValueIs v) seen.state
       pool_get_waiting is same e = asked Waiting _ is same (properties.waiting_done s sound.steady numbers sound.states n e)
 
   -- ---- names
 
-  pub names_listed : (names : List (List ℕ)) (rows : List Row) → rows ≡ entries s.now.file_systems → names ≡ map (λ f. f.0) rows
+  pub names_listed : (names : List (List ℕ)) (rows : List Row) → rows ≡ entries s.now.file_systems → names ≡ flat_map own_names rows
       → (told : List (List ℕ)) → told ≡ names → Step seen.state ListNames (NamesAre told) seen.state
-  names_listed names rows all e told same = at _ _ (list_done s sound.steady told (same ∙ e ∙ ap (map (λ (f : Row). f.0)) all))
+  names_listed names rows all e told same = at _ _ (list_done s sound.steady told (same ∙ e ∙ ap (flat_map own_names) all))
 
   pub names_refused : (why : Refusal) → why ≡ NoMemory → Step seen.state ListNames (Refused why) seen.state
   names_refused why e = refused_for ListNames why NoMemory e (list_no_memory s)
@@ -148,35 +206,58 @@ module _ (seen : Shown) (s : State) (numbers : List BlockState) (view : shown s 
     create_refused why which = at _ _
         (creates.create_refused s name why which)
 
-    module _ (to : FileSystems) (made : to ≡ insert s.now.file_systems name empty_file_system) (may : create_refusal s.now.file_systems name ≡ None) where
-      pub create_can : CanPut seen.state to [] []
-      create_can = subst (λ (x : Shown). CanPut x.state to [] []) view (subst (λ m. CanPut s m [] []) (sym made) (creates.create_can s sound.steady name may))
+    module _ (to : Datasets) (made : to ≡ with_system (datasets_of s) name empty_file_system) (may : create_refusal s.now.file_systems name ≡ None) where
+      pub create_can : CanPut seen.state to 0 × (seen.state.next_guid + 0 ≤ guid_limit + 1)
+      create_can = subst (λ (x : Shown). CanPut x.state to 0 × (x.state.next_guid + 0 ≤ guid_limit + 1)) view (subst (λ t. CanPut s t 0) (sym made) (creates.create_can s sound.steady name may), subst (λ n. n ≤ guid_limit + 1) (plus_none s.next_guid) sound.guids)
 
-      pub create_done : Step seen.state (Create name) Done (with_systems seen.state to)
-      create_done = subst (λ (x : Shown). Step x.state (Create name) Done (with_systems x.state to)) view
-          (subst (λ m. Step s (Create name) Done (with_systems s m)) (sym made) (creates.create_done s name sound.steady may))
+      pub create_done : Step seen.state (Create name) Done (put seen.state to 0)
+      create_done = subst (λ (x : Shown). Step x.state (Create name) Done (put x.state to 0)) view
+          (subst (λ t. Step s (Create name) Done (put s t 0)) (sym made) (creates.create_done s name sound.steady may))
+
+  -- ---- snapshots
+
+  module _ (names : List Member) (recursive : Bool) where
+    abbrev all : List Member
+    all = snapshot_names s.now names recursive
+
+    -- those that were refused
+    pub snapshot_refused : (why : Refusal) → (first_of (taking_row s.now s.next_guid names (snapshot_names s.now names recursive)) ≡ Some why) ⊎ (why ≡ NoMemory)
+        → Step seen.state (Snapshot names recursive) (Refused why) seen.state
+    snapshot_refused why which = at _ _ (snaps.snapshot_refused s (Snapshot names recursive) names recursive refl why which)
+
+    module _ (none : first_of (taking_row s.now s.next_guid names (snapshot_names s.now names recursive)) ≡ None) (count : ℕ) (counted : count ≡ length (snapshot_names s.now names recursive)) where
+      -- no name at all
+      pub snapshot_nothing : count ≡ 0 → Step seen.state (Snapshot names recursive) Done seen.state
+      snapshot_nothing e = at _ _ (snaps.snapshot_nothing s (Snapshot names recursive) names recursive refl sound.steady none (ap (λ n. nat_lt 0 n) (sym counted ∙ e)))
+
+      module _ (some : 0 < count) (to : Datasets) (is : to ≡ after_taking (datasets_of s) (guid_by s.pool s.next_guid) (snapshot_names s.now names recursive)) where
+        longer : nat_lt 0 (length all) ≡ true
+        longer = ap (λ n. nat_lt 0 n) (sym counted) ∙ lt-ltb 0 count some
+
+        taken_is : to ≡ taken_of (datasets_of s) (guid_by s.pool s.next_guid) all
+        taken_is = is ∙ taken_some (datasets_of s) (guid_by s.pool s.next_guid) all longer
+
+        pub snapshot_can : CanPut seen.state to count × (seen.state.next_guid + count ≤ guid_limit + 1)
+        snapshot_can = subst (λ (x : Shown). CanPut x.state to count × (x.state.next_guid + count ≤ guid_limit + 1)) view
+            (subst (λ n. CanPut s to n) (sym counted) (subst (λ t. CanPut s t (length all)) (sym taken_is) (snaps.taking_can s sound.steady names recursive none)), guids_fit s.now s.next_guid names all none longer count counted)
+
+        pub snapshot_done : Step seen.state (Snapshot names recursive) Done (put seen.state to count)
+        snapshot_done = subst (λ (x : Shown). Step x.state (Snapshot names recursive) Done (put x.state to count)) view
+            (subst (λ n. Step s (Snapshot names recursive) Done (put s to n)) (sym counted)
+            (subst (λ t. Step s (Snapshot names recursive) Done (put s t (length all))) (sym taken_is)
+            (snaps.snapshot_done s (Snapshot names recursive) names recursive refl sound.steady none numbers sound.states longer)))
 
   -- ---- a sync
 
   pub sync_too_many : number_limit ≤ s.now.group → Step seen.state Sync (Refused TooMany) seen.state
   sync_too_many l = at _ _ (sync.sync_too_many s l)
 
-  -- a copy that was refused
-  pub sync_refused : (why : Refusal) → why ≡ NoMemory → Step seen.state Sync (Refused why) seen.state
-  sync_refused why e = refused_for Sync why NoMemory e (sync.sync_no_memory s)
+  module _ (last : Datasets) (is : last ≡ record (datasets_of s) { group = s.now.group + 1 }) (next : s.now.group < number_limit) where
+    can : CanSync s last
+    can = record { is = is; next = not_last s.now.group next }
 
-  pub sync_can : (last : FileSystems) → last ≡ s.now.file_systems → s.now.group < number_limit → CanSync seen.state last
-  sync_can last e l = subst (λ (x : Shown). CanSync x.state last) view (record { last_is = e; next = l })
+    pub sync_can : CanSync seen.state last
+    sync_can = subst (λ (x : Shown). CanSync x.state last) view can
 
-  abbrev synced_by : State → FileSystems → State
-  synced_by t last = record t { now = with_next_group t.now; last = record (with_next_group t.now) { file_systems = last } }
-
-  pub sync_done : (last : FileSystems) → last ≡ s.now.file_systems → s.now.group < number_limit
-      → Step seen.state Sync (GroupIs (s.now.group + 1)) (record seen.state { now = with_next_group seen.state.now; last = record (with_next_group seen.state.now) { file_systems = last } })
-  sync_done last e l = subst (λ (x : Shown). Step x.state Sync (GroupIs (s.now.group + 1)) (synced_by x.state last)) view
-      (subst (λ m. Step s Sync (GroupIs (s.now.group + 1)) (synced_by s m)) (sym e)
-      (sync.sync_done s sound.steady l))
-
--- there is one property so far
-pub property_is : (p : Property) → p ≡ Referenced
-property_is Referenced = refl
+    pub sync_done : Step seen.state Sync (GroupIs (s.now.group + 1)) (synced seen.state last)
+    sync_done = subst (λ (x : Shown). Step x.state Sync (GroupIs (s.now.group + 1)) (synced x.state last)) view (sync.sync_done s sound.steady last can)

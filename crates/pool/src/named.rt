@@ -1,44 +1,119 @@
 //! File systems by a name of any kind, and what is told of them.
-ghost use Rattle.std.specs.Prelude.{◌≡◌, ◌*◌, IfOk, IfErr, map};
+ghost use Rattle.std.specs.Prelude.{◌≡◌, ◌*◌, ◌++◌, IfOk, IfErr, OnOk, map, codes};
 ghost use Rattle.std.specs.Arc.{arc_value};
 ghost use Rattle.std.specs.Option.{option_copied};
-ghost use Rattle.table.specs.Rows.{Row};
-ghost use Rattle.pool.specs.Named.{row_named};
+ghost use Rattle.std.specs.List.{flat_map};
+ghost use Rattle.steps.specs.Steady.{snap_in};
+ghost use Rattle.steps.specs.Listed.{own_names};
+ghost use Rattle.pool.specs.Named.{map_named, live_value, snapshot_value};
 
 use base::refusal::Refusal;
 use base::text::Bytes;
-use model::reply::{Reply, Value};
-use name::Target;
+use datasets::Table;
+use file_systems::{FileSystem, Snapshot};
+use model::reply::Value;
+use model::request::Property;
+use name::{Member, Target};
 use std::alloc::Global;
 use std::sync::Arc;
-use table::{FileSystem, Table};
+use tree::Tree;
 
-/// The file system that the name is of, or none. It costs the logarithm of the number of file systems.
-pub fn find<'a>(table: &'a Table, target: &Target) -> Option<&'a FileSystem>
-    ensures { option_copied result ≡ row_named table.now target.now }
+/// The tree of the dataset that the name is of, a file system's live one or a snapshot's, or none. It costs the logarithm of the
+/// number of file systems, and for a snapshot the number of its file system's.
+pub fn tree_named<'a>(table: &'a Table, target: &Target) -> Option<&'a Tree>
+    ensures { option_copied result ≡ map_named table.now.file_systems target.now }
 {
     match target {
-        Target::FileSystem(name) => table.find(name),
-        _ => None,
+        Target::FileSystem(name) => table.find(name).map(FileSystem::live),
+        Target::Snapshot(name) => snapshot_named(table, name.member()).map(Snapshot::tree),
+        Target::Bookmark(_) => None,
     }
 }
 
-/// Copies of the names of file systems, in their order. NoMemory where there is none for them. It costs the names.
+/// The snapshot of this name, or none. It costs the logarithm of the number of file systems, and the number of its file system's
+/// snapshots.
+pub fn snapshot_named<'a>(table: &'a Table, member: &Member) -> Option<&'a Snapshot>
+    ensures { option_copied result ≡ snap_in table.now.file_systems member.now }
+{
+    table
+        .find(&member.file_system)?
+        .snapshot_named(member.component.as_bytes())
+}
+
+/// Copies of the names of file systems, each with those of its snapshots after it. NoMemory where there is none for them. It costs
+/// the names.
 pub fn names_of(alloc: Global, file_systems: &[Arc<FileSystem>]) -> Result<Vec<Bytes>, Refusal>
-    ensures ok { IfOk result (λ names. names.items ≡ map (λ (f : Row). f.0) (map arc_value file_systems.now)) }
+    ensures ok { IfOk result (λ names. names.items ≡ flat_map own_names (map arc_value file_systems.now)) }
     ensures err { IfErr result (λ e. e ≡ Refusal.NoMemory) }
 {
-    let mut names = Vec::with_capacity(alloc, file_systems.len())?;
+    let mut names = Vec::new(alloc);
     for file_system in file_systems {
-        let name = file_system.name().as_bytes().to_vec(alloc)?;
-        names.push_reserved(Bytes::from(name));
+        push_names(alloc, &mut names, file_system)?;
     }
     Ok(names)
 }
 
-/// A number of blocks in bytes, 512 a block.
-pub fn in_bytes(blocks: u32) -> Reply
-    ensures { result ≡ Reply.Value (Value.Size (512 * blocks)) }
+// Adds the name of a file system, and those of its snapshots.
+fn push_names(
+    alloc: Global,
+    names: &mut Vec<Bytes>,
+    file_system: &FileSystem,
+) -> Result<(), Refusal>
+    ensures ok { OnOk result (names.new.items ≡ names.old.items ++ own_names file_system.now) }
+    ensures err { IfErr result (λ e. e ≡ Refusal.NoMemory) }
 {
-    Reply::Value(Value::Size(512 * (blocks as u64)))
+    let name = file_system.name().as_bytes();
+    names.push(text_of(alloc, name)?)?;
+    for snapshot in file_system.snapshots().iter() {
+        names.push(snapshot_text(alloc, name, snapshot.name().as_bytes())?)?;
+    }
+    Ok(())
+}
+
+// A copy of a name.
+fn text_of(alloc: Global, name: &[u8]) -> Result<Bytes, Refusal>
+    ensures ok { IfOk result (λ text. text ≡ name.now) }
+    ensures err { IfErr result (λ e. e ≡ Refusal.NoMemory) }
+{
+    Ok(Bytes::from(name.to_vec(alloc)?))
+}
+
+// A snapshot's name in print, `p/a@s` (zfs(8)).
+fn snapshot_text(alloc: Global, file_system: &[u8], component: &[u8]) -> Result<Bytes, Refusal>
+    ensures ok { IfOk result (λ text. text ≡ file_system.now ++ codes "@" ++ component.now) }
+    ensures err { IfErr result (λ e. e ≡ Refusal.NoMemory) }
+{
+    let mut text = Vec::with_capacity(alloc, file_system.len() + 1 + component.len())?;
+    text.extend_from_slice(file_system)?;
+    text.push(b'@')?;
+    text.extend_from_slice(component)?;
+    Ok(Bytes::from(text))
+}
+
+/// A property of a file system: of its live dataset. It has neither a guid nor a creation group. Constant time.
+pub fn value_of_live(file_system: &FileSystem, property: Property) -> Value
+    ensures { result ≡ live_value file_system.now.1 property }
+{
+    match property {
+        Property::Referenced => in_bytes(file_system.live().node_count()),
+        Property::Guid | Property::CreateTxg => Value::NotApplicable,
+    }
+}
+
+/// A property of a snapshot. Constant time.
+pub fn value_of_snapshot(snapshot: &Snapshot, property: Property) -> Value
+    ensures { result ≡ snapshot_value snapshot.now property }
+{
+    match property {
+        Property::Referenced => in_bytes(snapshot.tree().node_count()),
+        Property::Guid => Value::Number(snapshot.guid().0),
+        Property::CreateTxg => Value::Number(snapshot.group().0),
+    }
+}
+
+/// A number of blocks in bytes, 512 a block.
+pub fn in_bytes(blocks: u32) -> Value
+    ensures { result ≡ Value.Size (512 * blocks) }
+{
+    Value::Size(512 * (blocks as u64))
 }

@@ -10,24 +10,29 @@ ghost use Rattle.model.specs.Numbers.{IsNumbered, HasStates};
 ghost use Rattle.model.specs.Sums.{IsBalanced};
 ghost use Rattle.model.specs.Run.{Run};
 ghost use Rattle.steps.specs.Settles.{AllAllocated, releases};
+ghost use Rattle.name.specs.declared.target.Target.{Target};
 ghost use Rattle.pool.specs.Asked.{Asks};
+ghost use Rattle.pool.specs.Named.{IsNoLive};
 ghost use Rattle.pool.specs.Plans.{state_after_plan, CanDo};
 
-use crate::named::{find, in_bytes, names_of};
+use crate::named::{
+    in_bytes, names_of, snapshot_named, tree_named, value_of_live, value_of_snapshot,
+};
 use base::meter::Meter;
 use base::number::{Dead, Group};
 use base::refusal::Refusal;
-use batch::Few;
+use datasets::Table;
 use model::names::Names;
 use model::reply::{Reply, Value};
 use model::request::{PoolProperty, Property, Request};
+use model::snap_names::SnapNames;
 use name::{DsName, Target};
 use objset::{free_of, punch_of, write_of};
+use snap::{Guids, Taken, snapshot};
 use std::alloc::Global;
 use std::marker::Model;
 use std::slice::from_ref;
 use std::snapshot::Snapshot;
-use table::Table;
 use toll::Toll;
 use tree::{Changed, Update, take_all};
 use zalloc::{Allocator, MOST_BLOCKS};
@@ -39,9 +44,8 @@ const LAST_GROUP: u64 = 9223372036854775807;
 #[derive(Drop)]
 pub struct Pool {
     present: Table,
-    group: Group,
     last: Table,
-    last_group: Group,
+    next_guid: u64,
     size: u32,
     id: u32,
     allocator: Allocator,
@@ -65,7 +69,8 @@ impl Model for Pool {
 #[derive(Drop)]
 enum Plan {
     Nothing,
-    Put { to: Table, done: Changed },
+    Change { to: Table, done: Changed },
+    Put { to: Table, guids: u64 },
     Sync(Table),
 }
 
@@ -117,9 +122,8 @@ impl Pool {
         let last = present.copy()?;
         Ok(Pool {
             present,
-            group: Group(1),
             last,
-            last_group: Group(1),
+            next_guid: 1,
             size: blocks,
             id,
             allocator,
@@ -139,7 +143,7 @@ impl Pool {
         ensures states { HasStates self.old.state self.old.numbers }
         ensures balanced { IsBalanced self.old.state }
     {
-        let _group = self.group;
+        let _size = self.size;
         let (reply, plan) = self.planned(alloc, request);
         let from = Snapshot::of(self);
         (reply, Ready { plan, from })
@@ -151,7 +155,10 @@ impl Pool {
         ensures step { Step self.old.state request.now result.0 (state_after_plan self.old.state result.1) }
     {
         match request {
-            Request::Create { name } => self.planned_create(alloc, name),
+            Request::Create { name } => self.planned_create(name),
+            Request::Snapshot { names, recursive } => {
+                self.planned_snapshot(alloc, names, *recursive)
+            }
             Request::Write {
                 target,
                 object,
@@ -178,22 +185,40 @@ impl Pool {
         }
     }
 
-    fn planned_create(&self, alloc: Global, name: &DsName) -> (Reply, Plan)
+    fn planned_create(&self, name: &DsName) -> (Reply, Plan)
         ensures can { CanDo self.now.state result.1 }
         ensures step { Step self.now.state (Request.Create name.now) result.0 (state_after_plan self.now.state result.1) }
     {
-        let _group = self.group;
+        let _size = self.size;
         match self.present.create(name) {
-            Ok(to) => {
-                let done = Changed {
-                    released: Few::new(alloc),
-                    taken: Few::new(alloc),
-                    made: Few::new(alloc),
-                };
-                (Reply::Done, Plan::Put { to, done })
-            }
+            Ok(to) => (Reply::Done, Plan::Put { to, guids: 0 }),
             Err(refusal) => (Reply::Refused(refusal), Plan::Nothing),
         }
+    }
+
+    fn planned_snapshot(&self, alloc: Global, names: &SnapNames, recursive: bool) -> (Reply, Plan)
+        ensures can { CanDo self.now.state result.1 }
+        ensures step { Step self.now.state (Request.Snapshot names.now recursive) result.0 (state_after_plan self.now.state result.1) }
+    {
+        let guids = Guids {
+            pool: self.id,
+            next: self.next_guid,
+        };
+        let Taken { to, count } = match snapshot(
+            alloc,
+            &self.present,
+            names.as_slice(),
+            recursive,
+            guids,
+        ) {
+            Ok(taken) => taken,
+            Err(refusal) => return (Reply::Refused(refusal), Plan::Nothing),
+        };
+        if count == 0 {
+            return (Reply::Done, Plan::Nothing);
+        }
+        let guids = count as u64;
+        (Reply::Done, Plan::Put { to, guids })
     }
 
     // Plans this update of the live tree of a file system, or its refusal.
@@ -208,13 +233,14 @@ impl Pool {
         ensures can { CanDo self.old.state result.1 }
         ensures step { (q : Request) → Asks q target.now update → Step self.old.state q result.0 (state_after_plan self.old.state result.1) }
     {
-        let _group = self.group;
+        let _size = self.size;
+        let name = match self.live_name(target) {
+            Ok(name) => name,
+            Err(refusal) => return (Reply::Refused(refusal), Plan::Nothing),
+        };
         let update = match update {
             Ok(update) => update,
-            Err(refusal) => return (self.outside_the_limits(target, refusal), Plan::Nothing),
-        };
-        let Target::FileSystem(name) = target else {
-            return (Reply::Refused(Refusal::NoDataset), Plan::Nothing);
+            Err(refusal) => return (self.outside_the_limits(name, refusal), Plan::Nothing),
         };
         let mut to = match self.present.copy() {
             Ok(to) => to,
@@ -224,13 +250,12 @@ impl Pool {
             name,
             alloc,
             from_ref(&update),
-            self.group,
-            self.last_group,
+            self.last.group(),
             &self.allocator,
             &mut self.meter,
         );
         match changed {
-            Ok(done) => (Reply::Done, Plan::Put { to, done }),
+            Ok(done) => (Reply::Done, Plan::Change { to, done }),
             Err(refusal) => (Reply::Refused(refusal), Plan::Nothing),
         }
     }
@@ -239,11 +264,11 @@ impl Pool {
         ensures same { self.new ≡ self.old }
         ensures step { Step self.old.state (Request.Read target.now object block) result self.old.state }
     {
-        let _group = self.group;
-        let Some(file_system) = find(&self.present, target) else {
+        let _size = self.size;
+        let Some(tree) = tree_named(&self.present, target) else {
             return Reply::Refused(Refusal::NoDataset);
         };
-        match objset::read(file_system.live(), object, block, &mut self.meter) {
+        match objset::read(tree, object, block, &mut self.meter) {
             Ok(bytes) => Reply::Data(bytes.copied()),
             Err(refusal) => Reply::Refused(refusal),
         }
@@ -252,19 +277,24 @@ impl Pool {
     fn get(&self, target: &Target, property: Property) -> Reply
         ensures { Step self.now.state (Request.Get target.now property) result self.now.state }
     {
-        let _group = self.group;
-        let Some(file_system) = find(&self.present, target) else {
-            return Reply::Refused(Refusal::NoDataset);
-        };
-        match property {
-            Property::Referenced => in_bytes(file_system.live().node_count()),
+        let _size = self.size;
+        match target {
+            Target::FileSystem(name) => match self.present.find(name) {
+                Some(file_system) => Reply::Value(value_of_live(file_system, property)),
+                None => Reply::Refused(Refusal::NoDataset),
+            },
+            Target::Snapshot(name) => match snapshot_named(&self.present, name.member()) {
+                Some(snapshot) => Reply::Value(value_of_snapshot(snapshot, property)),
+                None => Reply::Refused(Refusal::NoDataset),
+            },
+            Target::Bookmark(_) => Reply::Refused(Refusal::NoDataset),
         }
     }
 
     fn list(&self, alloc: Global) -> Reply
         ensures { Step self.now.state Request.List result self.now.state }
     {
-        let _group = self.group;
+        let _size = self.size;
         match names_of(alloc, self.present.file_systems()) {
             Ok(names) => Reply::Names(Names::from(names)),
             Err(refusal) => Reply::Refused(refusal),
@@ -276,12 +306,12 @@ impl Pool {
     {
         let counts = self.allocator.counts();
         match property {
-            PoolProperty::Size => in_bytes(self.size),
-            PoolProperty::Allocated => in_bytes(counts.allocated),
-            PoolProperty::Free => in_bytes(counts.free),
-            PoolProperty::Freeing => in_bytes(0),
-            PoolProperty::Waiting => in_bytes(counts.waiting),
-            PoolProperty::Group => Reply::Value(Value::Number(self.group.0)),
+            PoolProperty::Size => Reply::Value(in_bytes(self.size)),
+            PoolProperty::Allocated => Reply::Value(in_bytes(counts.allocated)),
+            PoolProperty::Free => Reply::Value(in_bytes(counts.free)),
+            PoolProperty::Freeing => Reply::Value(in_bytes(0)),
+            PoolProperty::Waiting => Reply::Value(in_bytes(counts.waiting)),
+            PoolProperty::Group => Reply::Value(Value::Number(self.present.group().0)),
         }
     }
 
@@ -289,12 +319,15 @@ impl Pool {
         ensures can { CanDo self.now.state result.1 }
         ensures step { Step self.now.state Request.Sync result.0 (state_after_plan self.now.state result.1) }
     {
-        let group = self.group;
+        let group = self.present.group();
         if group.0 >= LAST_GROUP {
             return (Reply::Refused(Refusal::TooMany), Plan::Nothing);
         }
         match self.present.copy() {
-            Ok(last) => (Reply::Group(group.0 + 1), Plan::Sync(last)),
+            Ok(mut last) => {
+                last.close_group();
+                (Reply::Group(group.0 + 1), Plan::Sync(last))
+            }
             Err(refusal) => (Reply::Refused(refusal), Plan::Nothing),
         }
     }
@@ -309,15 +342,18 @@ impl Pool {
         let Ready { plan, from } = ready;
         match plan {
             Plan::Nothing => {}
-            Plan::Put { to, done } => {
-                release_all(&mut self.allocator, &done.released, self.last_group);
+            Plan::Change { to, done } => {
+                release_all(&mut self.allocator, &done.released, self.last.group());
                 take_all(&mut self.allocator, &done.taken);
                 self.present = to;
             }
+            Plan::Put { to, guids } => {
+                self.present = to;
+                self.next_guid += guids;
+            }
             Plan::Sync(last) => {
+                self.present.close_group();
                 self.last = last;
-                self.group = Group(self.group.0 + 1);
-                self.last_group = self.group;
                 self.allocator.end_group();
             }
         }
@@ -332,7 +368,7 @@ impl Pool {
         ensures balanced { IsBalanced self.new.state }
     {
         let reply = self.answer(alloc, request);
-        let _group = self.group;
+        let _size = self.size;
         reply
     }
 
@@ -363,7 +399,9 @@ impl Pool {
             Request::Get { target, property } => self.get(target, *property),
             Request::PoolGet { property } => self.pool_get(*property),
             Request::List => self.list(alloc),
-            Request::Create { .. } | Request::Sync => self.answer_prepared(alloc, request),
+            Request::Create { .. } | Request::Snapshot { .. } | Request::Sync => {
+                self.answer_prepared(alloc, request)
+            }
         }
     }
 
@@ -387,20 +425,20 @@ impl Pool {
         requires { IfOk update (λ u. IsBatch (u ∷ [])) }
         ensures { (q : Request) → Asks q target.now update → Step self.old.state q result self.new.state }
     {
+        let _size = self.size;
+        let name = match self.live_name(target) {
+            Ok(name) => name,
+            Err(refusal) => return Reply::Refused(refusal),
+        };
         let update = match update {
             Ok(update) => update,
-            Err(refusal) => return self.outside_the_limits(target, refusal),
-        };
-        let _group = self.group;
-        let Target::FileSystem(name) = target else {
-            return Reply::Refused(Refusal::NoDataset);
+            Err(refusal) => return self.outside_the_limits(name, refusal),
         };
         let changed = self.present.apply_live(
             name,
             alloc,
             from_ref(&update),
-            self.group,
-            self.last_group,
+            self.last.group(),
             &self.allocator,
             &mut self.meter,
         );
@@ -408,17 +446,32 @@ impl Pool {
             Ok(done) => done,
             Err(refusal) => return Reply::Refused(refusal),
         };
-        release_all(&mut self.allocator, &done.released, self.last_group);
+        release_all(&mut self.allocator, &done.released, self.last.group());
         take_all(&mut self.allocator, &done.taken);
         Reply::Done
     }
 
-    // The answer where no update is asked for, since numbers are outside their limits: that there is no such file system comes first.
-    fn outside_the_limits(&self, target: &Target, refusal: Refusal) -> Reply
-        ensures { (q : Request) → Asks q target.now (Err refusal) → Step self.now.state q result self.now.state }
+    // The name of the file system that a change is asked of: ReadOnly where the target is a snapshot, and NoDataset where it is
+    // nothing that is there.
+    fn live_name<'a>(&self, target: &'a Target) -> Result<&'a DsName, Refusal>
+        ensures ok { IfOk result (λ name. target.now ≡ Target.FileSystem name.now) }
+        ensures err { IfErr result (λ why. IsNoLive self.now.state.now.file_systems target.now why) }
     {
-        let _group = self.group;
-        match find(&self.present, target) {
+        match target {
+            Target::FileSystem(name) => Ok(name),
+            _ => Err(match tree_named(&self.present, target) {
+                Some(_) => Refusal::ReadOnly,
+                None => Refusal::NoDataset,
+            }),
+        }
+    }
+
+    // The answer where no update is asked for, since numbers are outside their limits: that there is no such file system comes first.
+    fn outside_the_limits(&self, name: &DsName, refusal: Refusal) -> Reply
+        ensures { (q : Request) → Asks q (Target.FileSystem name.now) (Err refusal) → Step self.now.state q result self.now.state }
+    {
+        let _size = self.size;
+        match self.present.find(name) {
             Some(_) => Reply::Refused(refusal),
             None => Reply::Refused(Refusal::NoDataset),
         }

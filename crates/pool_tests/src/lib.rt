@@ -1,4 +1,4 @@
-//! Tests of `model`, `table` and `pool` from outside.
+//! Tests of `model` and `pool` from outside.
 #![tactic(auto)]
 
 #[cfg(test)]
@@ -8,6 +8,6 @@ mod rig;
 #[cfg(test)]
 mod rows;
 #[cfg(test)]
-mod tables;
+mod snapshots;
 #[cfg(test)]
 mod values;

@@ -7,7 +7,8 @@ use model::laws::run_laws;
 use model::names::Names;
 use model::reply::{Reply, Value};
 use model::request::{PoolProperty, Property, Request};
-use name::{DsName, Target};
+use model::snap_names::SnapNames;
+use name::{DsName, SnapName, Target};
 use std::alloc::Global;
 use std::process::Abort;
 
@@ -65,6 +66,54 @@ fn are_same_creations(rt: &impl Abort, alloc: Global, one: &[u8], other: &[u8]) 
     are_same(one, creation(rt, alloc, other))
 }
 
+fn snap_names(rt: &impl Abort, alloc: Global, first: &[u8]) -> SnapNames {
+    let name = SnapName::read(alloc, first).expect(rt, "memory for a name");
+    SnapNames::from(vec![in alloc; name].expect(rt, "memory for names"))
+}
+
+fn are_same_snap_names(rt: &impl Abort, alloc: Global, one: &[u8], other: &[u8]) -> bool {
+    snap_names(rt, alloc, one).same(&snap_names(rt, alloc, other))
+}
+
+// Whether a list of this one name lends it, as its two parts.
+fn is_lent(rt: &impl Abort, alloc: Global, file_system: &[u8], component: &[u8]) -> bool {
+    match snap_names(rt, alloc, b"p/a@s").as_slice() {
+        [only] => {
+            let member = only.member();
+            member.file_system.as_bytes() == file_system && member.component.as_bytes() == component
+        }
+        _ => false,
+    }
+}
+
+#[test]
+fn names_of_snapshots_compared(rt: HostRuntime) {
+    let alloc = rt.alloc();
+    assert!(rt; are_same_snap_names(&rt, alloc, b"p@s", b"p@s"));
+    assert!(rt; !are_same_snap_names(&rt, alloc, b"p@s", b"p@t"));
+    assert!(rt; !are_same_snap_names(&rt, alloc, b"p@s", b"p/a@s"));
+    assert!(rt; !SnapNames::from(Vec::new(alloc)).same(&snap_names(&rt, alloc, b"p@s")));
+    assert!(rt; SnapNames::from(Vec::new(alloc)).same(&SnapNames::from(Vec::new(alloc))));
+    assert!(rt; is_lent(&rt, alloc, b"p/a", b"s"));
+}
+
+// Whether a request for a snapshot is the one for `p@s` with its descendants.
+fn is_the_snapshot(rt: &impl Abort, alloc: Global, name: &[u8], recursive: bool) -> bool {
+    let names = snap_names(rt, alloc, name);
+    let one = Request::Snapshot { names, recursive };
+    let names = snap_names(rt, alloc, b"p@s");
+    let recursive = true;
+    are_same(one, Request::Snapshot { names, recursive })
+}
+
+#[test]
+fn snapshots_compared(rt: HostRuntime) {
+    let alloc = rt.alloc();
+    assert!(rt; is_the_snapshot(&rt, alloc, b"p@s", true));
+    assert!(rt; !is_the_snapshot(&rt, alloc, b"p@s", false));
+    assert!(rt; !is_the_snapshot(&rt, alloc, b"p@t", true));
+}
+
 fn is_the_read(rt: &impl Abort, alloc: Global, one: Request) -> bool {
     are_same(one, read(rt, alloc, b"p", 1))
 }
@@ -83,6 +132,9 @@ fn requests_compared(rt: HostRuntime) {
 #[test]
 fn properties_and_values_compared(rt: HostRuntime) {
     assert!(rt; Property::Referenced.same(&Property::Referenced));
+    assert!(rt; Property::Guid.same(&Property::Guid));
+    assert!(rt; Property::CreateTxg.same(&Property::CreateTxg));
+    assert!(rt; !Property::Guid.same(&Property::CreateTxg));
     assert!(rt; PoolProperty::Free.same(&PoolProperty::Free));
     assert!(rt; !PoolProperty::Free.same(&PoolProperty::Freeing));
     assert!(rt; Value::Size(3).same(&Value::Size(3)));

@@ -79,6 +79,12 @@ fn lines_of_bad_shape(rt: HostRuntime) {
         "read p 0 0 0",
         "get nothing p",
         "get referenced",
+        "get Guid p@s",
+        "get creation p@s",
+        "snapshot",
+        "snapshot -r",
+        "snapshot  p@s",
+        "snapshot p@s ",
         "read p/ 0 x",
         "READ p 0 0",
         "sync extra",
@@ -99,6 +105,37 @@ fn lines_of_good_shape(rt: HostRuntime) {
     assert!(rt; answers(&rt, alloc, b"read p/ 256 0", b"error 1 BadName\n"));
     assert!(rt; answers(&rt, alloc, b"write p 255 4095 aF", b"ok\n"));
     assert!(rt; answers(&rt, alloc, b"pget group", b"1\n"));
+}
+
+#[test]
+fn lines_of_snapshots(rt: HostRuntime) {
+    let alloc = rt.alloc();
+    for line in [
+        "snapshot p",
+        "snapshot p#s",
+        "snapshot p@",
+        "snapshot p@s -r",
+        "snapshot -r -r p@s",
+        "snapshot p/none@s p",
+        "get guid p@",
+    ] {
+        let reply = b"error 1 BadName\n";
+        assert!(rt; answers(&rt, alloc, line.as_bytes(), reply), "{line}");
+    }
+    for line in [
+        "snapshot p/none@s",
+        "snapshot p@s p/none@s",
+        "get guid p@s",
+        "get createtxg p@s",
+    ] {
+        let reply = b"error 2 NoDataset\n";
+        assert!(rt; answers(&rt, alloc, line.as_bytes(), reply), "{line}");
+    }
+    assert!(rt; answers(&rt, alloc, b"snapshot p@s", b"ok\n"));
+    assert!(rt; answers(&rt, alloc, b"snapshot -r p@s", b"ok\n"));
+    assert!(rt; answers(&rt, alloc, b"snapshot p@s p@t", b"error 3 Exists\n"));
+    assert!(rt; answers(&rt, alloc, b"get guid p", b"-\n"));
+    assert!(rt; answers(&rt, alloc, b"get createtxg p", b"-\n"));
 }
 
 /// A line of 4,194,305 of these bytes, and a read.

@@ -4,3 +4,4 @@ pub mod RunLemmas
 pub mod WorkedProofs
 pub mod NumberProofs
 pub mod NamesLemmas
+pub mod SnapWords

@@ -2,14 +2,14 @@
 use Rattle.std.proofs.Common.{refl}
 use Rattle.std.specs.Fmt.{digits}
 use Rattle.hex.proofs.OnLiterals.{hex_on_literals}
-use Rattle.name.specs.Reading.{name_of, target_of}
+use Rattle.name.specs.Reading.{name_of, snap_of, target_of}
 use Rattle.script.specs.Lines.{lines, line_limit}
 use Rattle.script.specs.Words.{number_of_word, block_of_word, property_of_word, pool_property_of_word}
-use Rattle.script.specs.Meaning.{meaning, request_of, words_meaning, command_of, create_of, write_of, block_request_of, free_object_of, get_of, pool_get_of}
+use Rattle.script.specs.Meaning.{meaning, request_of, words_meaning, command_of, create_of, write_of, block_request_of, free_object_of, snapshots_of, snapshot_of, get_of, pool_get_of}
 use Rattle.script.specs.Examples.{WorkedLines}
 
 pub worked_lines : WorkedLines
-unfolding lines line_limit meaning request_of words_meaning command_of create_of write_of block_request_of free_object_of get_of pool_get_of number_of_word block_of_word property_of_word pool_property_of_word name_of target_of digits hex_on_literals
+unfolding lines line_limit meaning request_of words_meaning command_of create_of write_of block_request_of free_object_of snapshots_of snapshot_of get_of pool_get_of number_of_word block_of_word property_of_word pool_property_of_word name_of snap_of target_of digits hex_on_literals
 worked_lines = record {
   three = refl;
   ended = refl;
@@ -19,10 +19,17 @@ worked_lines = record {
   read = refl;
   of_snapshot = refl;
   get = refl;
+  get_guid = refl;
+  get_group = refl;
   create = refl;
   create_slash = refl;
   punch = refl;
   free_object = refl;
+  snapshot = refl;
+  snapshot_all = refl;
+  snapshot_two = refl;
+  snapshot_none = refl;
+  snapshot_file_system = refl;
   list = refl;
   sync = refl;
   sync_extra = refl;

@@ -1,11 +1,11 @@
 -- Worked lines.
-use Rattle.std.specs.Prelude.{◌≡◌, ◌↔◌, ◌≤◌, ℕ, List, Some, ◌++◌, [], ◌∷◌, codes, replicate}
+use Rattle.std.specs.Prelude.{◌≡◌, ◌↔◌, ◌≤◌, ℕ, true, false, List, Some, ◌++◌, [], ◌∷◌, codes, replicate}
 use Rattle.std.specs.Fmt.{decimal}
 use Rattle.base.specs.declared.refusal.Refusal.TheVariants.{BadName, NoDataset, BadLine}
 use Rattle.name.specs.declared.target.Target.TheVariants.{FileSystem, Snapshot}
-use Rattle.model.specs.declared.request.Property.TheVariants.{Referenced}
+use Rattle.model.specs.declared.request.Property.TheVariants.{Referenced, Guid, CreateTxg}
 use Rattle.model.specs.declared.request.PoolProperty.TheVariants.{Free, Freeing}
-use Rattle.model.specs.declared.request.Request.TheVariants.{Create, Write, Punch, FreeObject, Read, Get, PoolGet, List as ListNames, Sync}
+use Rattle.model.specs.declared.request.Request.TheVariants.{Create, Write, Punch, FreeObject, Snapshot as TakeSnapshots, Read, Get, PoolGet, List as ListNames, Sync}
 use Rattle.model.specs.declared.reply.Reply.TheVariants.{Done, Refused, Group, Names}
 use Rattle.script.specs.Lines.{lines}
 use Rattle.script.specs.Words.{number_of_word}
@@ -22,10 +22,19 @@ pub record WorkedLines : Type 0 where
   pub read : meaning (codes "read p/a 0 17") ≡ Asks (Read (FileSystem (codes "p/a")) 0 17)
   pub of_snapshot : meaning (codes "read p@s 1 2") ≡ Asks (Read (Snapshot (record { file_system = codes "p"; component = codes "s" })) 1 2)
   pub get : meaning (codes "get referenced p") ≡ Asks (Get (FileSystem (codes "p")) Referenced)
+  pub get_guid : meaning (codes "get guid p@s") ≡ Asks (Get (Snapshot (record { file_system = codes "p"; component = codes "s" })) Guid)
+  pub get_group : meaning (codes "get createtxg p@s") ≡ Asks (Get (Snapshot (record { file_system = codes "p"; component = codes "s" })) CreateTxg)
   pub create : meaning (codes "create p/a") ≡ Asks (Create (codes "p/a"))
   pub create_slash : meaning (codes "create p/a/") ≡ Faulty BadName
   pub punch : meaning (codes "punch p/a 0 17") ≡ Asks (Punch (FileSystem (codes "p/a")) 0 17)
   pub free_object : meaning (codes "rmobj p/a 3") ≡ Asks (FreeObject (FileSystem (codes "p/a")) 3)
+  pub snapshot : meaning (codes "snapshot p@s") ≡ Asks (TakeSnapshots (record { file_system = codes "p"; component = codes "s" } ∷ []) false)
+  pub snapshot_all : meaning (codes "snapshot -r p@s") ≡ Asks (TakeSnapshots (record { file_system = codes "p"; component = codes "s" } ∷ []) true)
+  pub snapshot_two :
+      meaning (codes "snapshot p/a@n p@m")
+      ≡ Asks (TakeSnapshots (record { file_system = codes "p/a"; component = codes "n" } ∷ record { file_system = codes "p"; component = codes "m" } ∷ []) false)
+  pub snapshot_none : meaning (codes "snapshot -r") ≡ Faulty BadLine
+  pub snapshot_file_system : meaning (codes "snapshot p@s p") ≡ Faulty BadName
   pub list : meaning (codes "list") ≡ Asks ListNames
   pub sync : meaning (codes "sync") ≡ Asks Sync
   pub sync_extra : meaning (codes "sync extra") ≡ Faulty BadLine

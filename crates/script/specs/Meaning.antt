@@ -1,13 +1,15 @@
 -- What a line asks for.
-use Rattle.std.specs.Prelude.{ℕ, ◌==◌, nat_lt, List, [], ◌∷◌, Option, Some, None, length, if◌then◌else◌, codes}
+use Rattle.std.specs.Prelude.{ℕ, ◌==◌, nat_lt, Bool, true, false, List, [], ◌∷◌, Option, Some, None, length, if◌then◌else◌, codes}
 use Rattle.std.specs.List.{list_all}
+use Rattle.std.specs.Option.{option_map, option_and_then}
 use Rattle.std.specs.Str.{bytes_eq}
 use Rattle.base.specs.declared.refusal.Refusal.{Refusal}
 use Rattle.base.specs.declared.refusal.Refusal.TheVariants.{BadName, BadLine}
+use Rattle.name.specs.declared.member.Member.{Member}
 use Rattle.name.specs.declared.target.Target.{Target}
-use Rattle.name.specs.Reading.{name_of, target_of}
+use Rattle.name.specs.Reading.{name_of, snap_of, target_of}
 use Rattle.model.specs.declared.request.Request.{Request}
-use Rattle.model.specs.declared.request.Request.TheVariants.{Create, Write, Punch, FreeObject, Read, Get, PoolGet, List as ListNames, Sync}
+use Rattle.model.specs.declared.request.Request.TheVariants.{Create, Write, Punch, FreeObject, Snapshot, Read, Get, PoolGet, List as ListNames, Sync}
 use Rattle.script.specs.Lines.{line_limit}
 use Rattle.script.specs.Words.{is_printable, words_of, is_word, number_of_word, block_of_word, property_of_word, pool_property_of_word}
 
@@ -65,6 +67,21 @@ unfoldable pub free_object_of : List (List ℕ) → Meaning
 free_object_of operands =
     shaped (two_of operands) (λ w. shaped (number_of_word w.1) (λ object. named (target_of w.0) (λ target. Asks (FreeObject target object))))
 
+-- the snapshots that words name, in their order, where each is a snapshot's name (zfs(8))
+abbrev pub snap_names_of : List (List ℕ) → Option (List Member)
+snap_names_of [] = Some []
+snap_names_of (w ∷ ws) = option_and_then (λ m. option_map (λ ms. m ∷ ms) (snap_names_of ws)) (snap_of w)
+
+-- `SNAP ..`: snapshots of these names, one or more (zfs-snapshot(8))
+unfoldable pub snapshots_of : Bool → List (List ℕ) → Meaning
+snapshots_of recursive [] = Faulty BadLine
+snapshots_of recursive (w ∷ ws) = named (snap_names_of (w ∷ ws)) (λ names. Asks (Snapshot names recursive))
+
+-- `snapshot [-r] SNAP ..` (zfs-snapshot(8))
+unfoldable pub snapshot_of : List (List ℕ) → Meaning
+snapshot_of [] = Faulty BadLine
+snapshot_of (w ∷ ws) = if bytes_eq w (codes "-r") then snapshots_of true ws else snapshots_of false (w ∷ ws)
+
 -- `get PROP TARGET` (profile)
 unfoldable pub get_of : List (List ℕ) → Meaning
 get_of operands =
@@ -86,6 +103,7 @@ command_of command operands =
     else if bytes_eq command (codes "write") then write_of operands
     else if bytes_eq command (codes "punch") then block_request_of Punch operands
     else if bytes_eq command (codes "rmobj") then free_object_of operands
+    else if bytes_eq command (codes "snapshot") then snapshot_of operands
     else if bytes_eq command (codes "read") then block_request_of Read operands
     else if bytes_eq command (codes "get") then get_of operands
     else if bytes_eq command (codes "pget") then pool_get_of operands

@@ -5,7 +5,7 @@ use Rattle.std.specs.Str.{bytes_eq}
 use Rattle.hex.specs.Hex.{decode_of}
 use Rattle.hex.specs.declared.error.FromHexError.{FromHexError}
 use Rattle.model.specs.declared.request.Property.{Property}
-use Rattle.model.specs.declared.request.Property.TheVariants.{Referenced}
+use Rattle.model.specs.declared.request.Property.TheVariants.{Referenced, Guid, CreateTxg}
 use Rattle.model.specs.declared.request.PoolProperty.{PoolProperty}
 use Rattle.model.specs.declared.request.PoolProperty.TheVariants.{Size, Allocated, Free, Freeing, Waiting, Group}
 
@@ -52,7 +52,11 @@ block_of_word word =
 
 -- PROP: a property's name (zfsprops(7))
 unfoldable pub property_of_word : List ℕ → Option Property
-property_of_word word = if bytes_eq word (codes "referenced") then Some Referenced else None
+property_of_word word =
+    if bytes_eq word (codes "referenced") then Some Referenced
+    else if bytes_eq word (codes "guid") then Some Guid
+    else if bytes_eq word (codes "createtxg") then Some CreateTxg
+    else None
 
 -- PROP of a pool: a property's name (zpoolprops(7); `waiting` and `group` are profile)
 unfoldable pub pool_property_of_word : List ℕ → Option PoolProperty

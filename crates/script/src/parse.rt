@@ -4,8 +4,9 @@ ghost use Rattle.std.specs.Bool.{OnTrue, OnFalse};
 ghost use Rattle.std.specs.Option.{option_map, option_copied};
 ghost use Rattle.std.specs.List.{list_all};
 ghost use Rattle.hex.specs.Hex.{decode_of};
+ghost use Rattle.name.specs.Reading.{Reads};
 ghost use Rattle.script.specs.Words.{is_printable, is_word, words_of, number_of_word, number_without_zero, number_from, block_of_word, filled, property_of_word, pool_property_of_word};
-ghost use Rattle.script.specs.Meaning.{request_of, command_of, create_of, write_of, block_request_of, free_object_of, get_of, pool_get_of, bare, one_of, two_of, three_of, four_of};
+ghost use Rattle.script.specs.Meaning.{request_of, command_of, create_of, write_of, block_request_of, free_object_of, snap_names_of, snapshots_of, snapshot_of, get_of, pool_get_of, bare, one_of, two_of, three_of, four_of};
 ghost use Rattle.script.specs.Reading.{words_left, Means, MeansBlock};
 
 use crate::lines::LINE_LIMIT;
@@ -13,7 +14,8 @@ use base::data::Data;
 use base::refusal::Refusal;
 use memchr::memchr;
 use model::request::{PoolProperty, Property, Request};
-use name::{DsName, Target};
+use model::snap_names::SnapNames;
+use name::{DsName, SnapName, Target};
 use std::alloc::Global;
 
 /// Reads the request of a line, or its fault; NoMemory where there is no memory for its name or its bytes.
@@ -118,6 +120,8 @@ fn command_at(alloc: Global, command: &[u8], operands: Option<&[u8]>) -> Result<
         punch(alloc, operands)
     } else if command == b"rmobj".as_slice() {
         free_object(alloc, operands)
+    } else if command == b"snapshot".as_slice() {
+        snapshot(alloc, operands)
     } else if command == b"read".as_slice() {
         read(alloc, operands)
     } else if command == b"get".as_slice() {
@@ -229,6 +233,49 @@ fn free_object(alloc: Global, operands: Option<&[u8]>) -> Result<Request, Refusa
 }
 
 #[inline(never)]
+#[tactic(auto, unfolding(crate::specs::Meaning::snapshot_of))]
+fn snapshot(alloc: Global, operands: Option<&[u8]>) -> Result<Request, Refusal>
+    ensures { Means result (snapshot_of (words_left (option_copied operands.entry))) }
+{
+    let Some(words) = operands else {
+        return Err(Refusal::BadLine);
+    };
+    let (first, rest) = next_word(words);
+    if first == b"-r".as_slice() {
+        snapshots(alloc, rest, true)
+    } else {
+        snapshots(alloc, operands, false)
+    }
+}
+
+// A request for snapshots of these names, one or more.
+#[tactic(auto, using(crate::proofs::SnapWords::snapshots_asked), unfolding(crate::specs::Meaning::snapshots_of))]
+fn snapshots(alloc: Global, operands: Option<&[u8]>, recursive: bool) -> Result<Request, Refusal>
+    ensures { Means result (snapshots_of recursive (words_left (option_copied operands.entry))) }
+{
+    let Some(words) = operands else {
+        return Err(Refusal::BadLine);
+    };
+    let names = snap_names(alloc, words)?;
+    Ok(Request::Snapshot { names, recursive })
+}
+
+// The snapshots that the words name, in their order.
+#[tactic(auto, using(crate::proofs::SnapWords::names_kept))]
+fn snap_names(alloc: Global, words: &[u8]) -> Result<SnapNames, Refusal>
+    ensures { Reads result (snap_names_of (words_of words.now)) }
+{
+    let mut names = Vec::new(alloc);
+    let mut left = Some(words);
+    while let Some(more) = left {
+        let (word, rest) = next_word(more);
+        names.push(SnapName::read(alloc, word)?)?;
+        left = rest;
+    }
+    Ok(SnapNames::from(names))
+}
+
+#[inline(never)]
 #[tactic(auto, unfolding(crate::specs::Meaning::get_of))]
 fn get(alloc: Global, operands: Option<&[u8]>) -> Result<Request, Refusal>
     ensures { Means result (get_of (words_left (option_copied operands.entry))) }
@@ -274,6 +321,10 @@ fn property_named(word: &[u8]) -> Option<Property>
 {
     if word == b"referenced".as_slice() {
         Some(Property::Referenced)
+    } else if word == b"guid".as_slice() {
+        Some(Property::Guid)
+    } else if word == b"createtxg".as_slice() {
+        Some(Property::CreateTxg)
     } else {
         None
     }

@@ -1,73 +1,79 @@
 -- A file system created.
-use Rattle.std.proofs.Common.{◌≡◌, ℕ, List, [], Some, None, refl, sym, ap, subst, ◌∙◌, ◌⊎◌, inl, ⊎_elim}
-use Rattle.std.specs.FinMap.{insert}
+use Rattle.std.proofs.Common.{◌≡◌, ℕ, ◌<◌, Bool, true, false, cond, not, List, Option, Some, None, refl, sym, ap, subst, ◌∙◌, ◌⊎◌, ⊎_elim, true≢false, arith}
+use Rattle.std.specs.Prelude.{IsTrue, is_some, nat_le}
+use Rattle.std.specs.FinMap.{get, contains_key, len}
 use Rattle.std.specs.FinSet.{union}
-use Rattle.std.proofs.lemmas.Bool.{ltb-true, lt-ltb}
+use Rattle.std.proofs.lemmas.Bool.Decides.{nat_tests}
 use Rattle.base.specs.declared.refusal.Refusal.{Refusal}
-use Rattle.base.specs.declared.refusal.Refusal.TheVariants.{NoMemory}
-use Rattle.base.specs.Map.{BlockSet}
+use Rattle.base.specs.declared.refusal.Refusal.TheVariants.{NoMemory, Exists, NoParent, TooMany}
 use Rattle.model.specs.declared.request.Request.TheVariants.{Create}
 use Rattle.model.specs.declared.reply.Reply.TheVariants.{Done, Refused}
 use Rattle.model.specs.World.{empty_file_system, reach_of}
 use Rattle.model.specs.State.{State}
-use Rattle.model.specs.Hierarchy.{FileSystems}
+use Rattle.model.specs.Hierarchy.{FileSystems, has_parent, file_system_limit}
 use Rattle.model.specs.requests.Create.{create_refusal, create_rule}
 use Rattle.model.specs.Refusals.{refusal_of}
 use Rattle.model.specs.Step.{Step}
-use Rattle.table.proofs.Rows.{can_add}
-use Rattle.world.specs.Sets.{Has}
-use Rattle.world.specs.Plans.{IsSettling}
-use Rattle.world.specs.Worlds.{AreReached}
+use Rattle.world.specs.Tables.{Datasets, with_system}
 use Rattle.world.proofs.Creations.{create_union}
 use Rattle.world.proofs.Kept.{reach_is}
 use Rattle.world.proofs.StateSteps.{begun, create_before}
 use Rattle.steps.specs.Steady.{IsSteady}
-use Rattle.steps.specs.Edits.{with_systems, CanPut}
+use Rattle.steps.specs.Edits.{datasets_of, with_datasets, put, CanPut}
 use Rattle.steps.proofs.Plain.{plain_empty, plain_put, plain_swept}
+use Rattle.steps.proofs.Putting.{put_none}
 use Rattle.steps.proofs.Ruled.{no_choice, refused_by, no_memory_by, done_by}
 
--- what is reached stays, and no number is released or taken
-pub settles_same : (now new last : BlockSet) (synced group size : ℕ) → new ≡ now → AreReached now last synced group size → IsSettling now new last synced [] []
-settles_same now new last synced group size same reached = record {
-  unique = reached.unique;
-  there = λ b i. absurd i;
-  came = λ b h. inl (b, subst (λ s. Has s b) same h, refl, λ i. i);
-  stays = λ b h out. let here = subst (λ s. Has s b) (sym same) h in ((b, here, refl), λ l. here);
-  made = λ n i. absurd i;
-  waits = λ b h. (λ l. lt-ltb b.birth synced (reached.since.older b l), λ t. reached.since.stays b h (ltb-true b.birth synced t));
-  once = tt;
-  taken_once = tt;
-}
+-- where a file system of this name can be added
+pub record CanAdd (m : FileSystems) (k : List ℕ) : Type 0 where
+  pub absent : get m k ≡ None
+  pub parent : IsTrue (has_parent m k)
+  pub room : len m < file_system_limit
+
+none_from : {A : Type 0} (o : Option A) → is_some o ≡ false → o ≡ None
+none_from None h = refl
+none_from (Some a) h = absurd (true≢false h)
+
+-- nothing refuses it exactly then
+pub can_add : (m : FileSystems) (k : List ℕ) → create_refusal m k ≡ None → CanAdd m k
+unfolding create_refusal
+can_add m k e = from (contains_key m k) (has_parent m k) (nat_le file_system_limit (len m)) refl refl refl e
+  where
+    from : (a b c : Bool) → contains_key m k ≡ a → has_parent m k ≡ b → nat_le file_system_limit (len m) ≡ c
+        → ◌≡◌ {A = Option Refusal} (cond a (Some Exists) (cond (not b) (Some NoParent) (cond c (Some TooMany) None))) None → CanAdd m k
+    from true b c p q r is = absurd (cc)
+    from false true true p q r is = absurd (cc)
+    from false true false p q r is = record { absent = none_from _ p; parent = q; room = grind (arith, nat_tests) }
+    from false false c p q r is = absurd (cc)
 
 module _ (s : State) (steady : IsSteady s) (name : List ℕ) (may : create_refusal s.now.file_systems name ≡ None) where
-  abbrev with_new : FileSystems
-  with_new = insert s.now.file_systems name empty_file_system
+  abbrev created : Datasets
+  created = with_system (datasets_of s) name empty_file_system
 
-  create_steady : IsSteady (with_systems s (insert s.now.file_systems name empty_file_system))
-  create_steady =
+  with_new_steady : IsSteady (with_datasets s (with_system (datasets_of s) name empty_file_system))
+  with_new_steady =
       let can = can_add s.now.file_systems name may in
       let plain = plain_put s.now.file_systems steady.plain name empty_file_system plain_empty in
       record {
         good = create_before s steady.good name can.absent can.parent can.room;
-        swept = plain_swept (with_systems s (insert s.now.file_systems name empty_file_system)) plain;
+        swept = plain_swept (with_datasets s created) plain;
         plain = plain;
       }
 
-  create_reach : reach_of (with_systems s (insert s.now.file_systems name empty_file_system)).now ≡ reach_of s.now
+  create_steady : IsSteady (put s (with_system (datasets_of s) name empty_file_system) 0)
+  create_steady = subst IsSteady (sym (put_none s created)) with_new_steady
+
+  create_reach : reach_of (put s (with_system (datasets_of s) name empty_file_system) 0).now ≡ reach_of s.now
   create_reach =
       let can = can_add s.now.file_systems name may in
-      reach_is (with_systems s with_new).now
+      reach_is (put s created 0).now
       ∙ ap (λ u. union u s.now.freeing)
       (create_union s.size s.now steady.good.now name can.absent can.parent can.room (begun s.now.file_systems s.now.group steady.good.now.systems))
       ∙ sym (reach_is s.now)
 
-  -- the file systems with the new one can be put in place
-  pub create_can : CanPut s (insert s.now.file_systems name empty_file_system) [] []
-  create_can = record {
-    steady = create_steady;
-    settling = settles_same (reach_of s.now) (reach_of (with_systems s with_new).now) (reach_of s.last) s.last.group s.now.group s.size create_reach steady.good.pair.reached;
-    takable = λ n i. absurd i;
-  }
+  -- the datasets with the new one can be put in place
+  pub create_can : CanPut s (with_system (datasets_of s) name empty_file_system) 0
+  create_can = record { steady = create_steady; reach = create_reach }
 
 -- ---- steps
 
@@ -84,6 +90,6 @@ module _ (s : State) (name : List ℕ) where
       which
 
   pub create_done : IsSteady s → create_refusal s.now.file_systems name ≡ None
-      → Step s (Create name) Done (with_systems s (insert s.now.file_systems name empty_file_system))
-  create_done steady may = done_by (Create name) (create_rule name) refl s no_choice (with_systems s (insert s.now.file_systems name empty_file_system)) Done
-      refl refl (row_is ∙ may) refl refl (create_steady s steady name may)
+      → Step s (Create name) Done (put s (with_system (datasets_of s) name empty_file_system) 0)
+  create_done steady may = done_by (Create name) (create_rule name) refl s no_choice (put s (with_system (datasets_of s) name empty_file_system) 0) Done
+      refl refl (row_is ∙ may) refl (put_none s (with_system (datasets_of s) name empty_file_system)) (create_steady s steady name may)

@@ -7,7 +7,9 @@ pub mod Lookups
 pub mod Ruled
 pub mod Room
 pub mod Plain
+pub mod Named
 pub mod Questions
+pub mod Identities
 pub mod Listing
 pub mod Known
 pub mod Creating
@@ -20,3 +22,5 @@ pub mod Changing
 pub mod Fresh
 pub mod Counts
 pub mod Settling
+pub mod Writing
+pub mod Snapping

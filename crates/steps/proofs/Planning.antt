@@ -1,10 +1,11 @@
 -- A live map changed, as its tree prepares it: the facts of the worlds hold again, and the numbers are settled.
 use Rattle.std.proofs.Common.{◌≡◌, ℕ, ◌+◌, ◌<◌, ◌≤◌, true, List, Option, Some, None, refl, sym, ap, subst, ◌∙◌, ◌⊎◌, inl, inr, ⊎_elim, length, arith}
-use Rattle.std.specs.Prelude.{nat_le, count_by, slice_get, IfSome, max}
+use Rattle.std.specs.Prelude.{nat_le, nat_lt, count_by, slice_get, IfSome, max}
+use Rattle.std.specs.List.{filter}
 use Rattle.std.specs.Option.{option_map_or}
 use Rattle.std.specs.FinMap.{get, insert}
 use Rattle.std.specs.FinSet.{union, len}
-use Rattle.std.proofs.lemmas.Bool.{le-leb}
+use Rattle.std.proofs.lemmas.Bool.{le-leb, lt-ltb}
 use Rattle.std.proofs.lemmas.Bool.Decides.{leb_tells}
 use Rattle.std.proofs.lemmas.Option.{slice_get_within}
 use Rattle.base.specs.declared.number.Key.{Key}
@@ -15,7 +16,7 @@ use Rattle.zalloc.specs.declared.BlockState.{BlockState}
 use Rattle.zalloc.specs.declared.BlockState.TheVariants.{Free, Allocated}
 use Rattle.zalloc.specs.States.{is_free}
 use Rattle.tree.specs.Change.{Shown, IsChange, young_count}
-use Rattle.table.specs.Rows.{with_live}
+use Rattle.file_systems.specs.Rows.{with_live}
 use Rattle.model.specs.World.{World, FileSystem, Live, union_of, reach_of}
 use Rattle.model.specs.State.{State}
 use Rattle.model.specs.Hierarchy.{FileSystems}
@@ -28,11 +29,13 @@ use Rattle.world.specs.Blocks.{block_order as o}
 use Rattle.world.specs.Shapes.{Name}
 use Rattle.world.specs.Plans.{IsSettling}
 use Rattle.world.specs.Plans.{AreTakable as AreTakableOf}
+use Rattle.world.specs.Tables.{Datasets}
 use Rattle.world.specs.Worlds.{AreFileSystems, IsPoolState}
 use Rattle.world.specs.Dead.{base_of}
 use Rattle.world.proofs.Maps.{same_value}
 use Rattle.world.proofs.SetCounts.{in_union_left, in_union_right}
 use Rattle.world.proofs.Cells.{in_blocks}
+use Rattle.world.proofs.Finding.{in_filter}
 use Rattle.world.proofs.Kept.{reach_is}
 use Rattle.world.proofs.Plans.{plan_settles}
 use Rattle.world.proofs.StateSteps.{change_is, change_before}
@@ -40,13 +43,12 @@ use Rattle.world.proofs.TableWrites.{live_systems}
 use Rattle.accounts.proofs.Unlimited.{quotas_unlimited, refquotas_unlimited, pool_unlimited}
 use Rattle.steps.specs.Settles.{state_at}
 use Rattle.steps.specs.Steady.{IsPlain, ArePlain, IsSteady}
-use Rattle.steps.specs.Edits.{with_systems, CanPut}
+use Rattle.steps.specs.Edits.{datasets_of, with_datasets, CanChange}
 use Rattle.steps.proofs.States.{state_at-now, not_free}
 use Rattle.steps.proofs.Known.{states_of}
 use Rattle.steps.proofs.Room.{room_of_change, fresh_or_old, dropped_reached}
 use Rattle.steps.proofs.Counts.{count-free, len-young}
-use Rattle.steps.proofs.Plain.{plain_with, plain_put, plain_swept, plain_unlimited, all_own}
-use Rattle.steps.proofs.Questions.{live_once}
+use Rattle.steps.proofs.Plain.{plain_with, plain_put, plain_swept, plain_unlimited, live_once}
 use Rattle.steps.proofs.Gives.{gives_way, live_there, union_comes}
 
 -- a bound moved by the same number on both sides
@@ -192,16 +194,17 @@ module _ (s : State) (steady : IsSteady s) (name : Name) (f : FileSystem) (was :
     abbrev planned : World
     planned = record s.now { file_systems = insert s.now.file_systems name (record f { live = rewrite f.live ch s.now.group is.number }) }
 
-    abbrev after_it : FileSystems
-    after_it = with_live s.now.file_systems name v.new
+    -- the datasets with the changed live map
+    abbrev pub after_it : Datasets
+    after_it = record (datasets_of s) { file_systems = with_live s.now.file_systems name v.new }
 
-    to_planned : (with_systems s (with_live s.now.file_systems name v.new)).now ≡ planned
+    to_planned : (with_datasets s after_it).now ≡ planned
     to_planned =
         (λ i. record s.now { file_systems = with_live_is s.now.file_systems name f v.new was i })
         ∙ (λ i. record s.now { file_systems = insert s.now.file_systems name (record f { live = is.new_is i }) })
 
     -- the state afterwards is that of the model
-    pub leads_to : with_systems s (with_live s.now.file_systems name v.new) ≡ with_now s (after_change s.now name ch is.number)
+    pub leads_to : with_datasets s after_it ≡ with_now s (after_change s.now name ch is.number)
     leads_to = ap (with_now s) (to_planned ∙ sym (change_is s steady.good name f was ch young late own_late states v is takable))
 
     after_plain : ArePlain (with_live s.now.file_systems name v.new)
@@ -209,26 +212,24 @@ module _ (s : State) (steady : IsSteady s) (name : Name) (f : FileSystem) (was :
         (plain_put s.now.file_systems steady.plain name (record f { live = v.new }) (plain_with f plain v.new))
 
     -- what holds of the pool between two steps holds again
-    pub change_steady : IsSteady (with_systems s (with_live s.now.file_systems name v.new))
+    pub change_steady : IsSteady (with_datasets s after_it)
     change_steady = record {
       good = subst IsPoolState (sym leads_to) (change_before s steady.good name f was ch young late own_late states v is takable);
-      swept = plain_swept (with_systems s after_it) after_plain;
+      swept = plain_swept (with_datasets s after_it) after_plain;
       plain = after_plain;
     }
 
-    released_in : (b : Block) → IsIn v.released b → Has (blocks f.live) b
-    released_in b i = let r = (is.released b).0 i in subst (λ y. Has (blocks f.live) y) r.is (in_blocks f.live r.key r.cell r.there)
+    young_stays : (b : Block) → IsIn v.released b → young ≤ b.birth → IsIn (filter (λ b. nat_lt (base_of s.now (Live name)) b.birth) v.released) b
+    young_stays b i l = in_filter (λ b. nat_lt (base_of s.now (Live name)) b.birth) v.released b i (lt-ltb (base_of s.now (Live name)) b.birth (let k = own_late in omega arith))
 
-    -- and it can be put in place
-    pub change_can : CanPut s (with_live s.now.file_systems name v.new) v.released v.taken
+    -- and it can be put in place, where the released blocks are those that the live map alone has
+    pub change_can : CanChange s after_it (filter (λ b. nat_lt (base_of s.now (Live name)) b.birth) v.released) v.taken
     change_can = record {
       steady = change_steady;
-      settling = subst (λ r. IsSettling A r L s.last.group v.released v.taken) (sym (ap reach_of to_planned))
-          (subst (λ bs. IsSettling A (reach_of planned) L s.last.group bs v.taken)
-          (all_own s.now steady.good.now.systems name f was plain v.released released_in)
-          (plan_settles s.size s.now s.last steady.good.now steady.good.last steady.good.pair name f was ch young late own_late states v is takable));
+      settling = subst (λ r. IsSettling A r L s.last.group (filter (λ b. nat_lt (base_of s.now (Live name)) b.birth) v.released) v.taken) (sym (ap reach_of to_planned))
+          (plan_settles s.size s.now s.last steady.good.now steady.good.last steady.good.pair name f was ch young late own_late states v is takable);
       takable = λ n i. ⊎_elim
           (λ e. inl (free_small n e, same_value _ _ (sym (known.each n (free_small n e)) ∙ e)))
-          (λ w. inr (w.0, w.1, (let l = w.2 in omega (arith, l, late)), w.3))
+          (λ w. inr (w.0, young_stays w.0 w.1 w.2, (let l = w.2 in omega (arith, l, late)), w.3))
           (is.taken_free n i);
     }

@@ -1,9 +1,8 @@
 -- A sync.
-use Rattle.std.proofs.Common.{◌≡◌, ℕ, ◌+◌, ◌<◌, ◌≤◌, Bool, true, false, cond, List, Some, None, refl, sym, ap, subst, ◌∙◌, map, arith}
-use Rattle.std.specs.Prelude.{nat_lt}
+use Rattle.std.proofs.Common.{◌≡◌, ℕ, ◌+◌, ◌≤◌, Bool, true, false, cond, List, Some, None, refl, sym, ap, subst, ◌∙◌, map, arith}
 use Rattle.std.specs.Option.{option_map}
 use Rattle.std.specs.FinSet.{difference}
-use Rattle.std.proofs.lemmas.Bool.{false_from_ne_true, le-ltb, lt-ltb}
+use Rattle.std.proofs.lemmas.Bool.{false_from_ne_true, lt-ltb}
 use Rattle.std.proofs.lemmas.List.{length-map}
 use Rattle.std.proofs.lemmas.Option.{slice_get-map}
 use Rattle.base.specs.declared.refusal.Refusal.TheVariants.{TooMany, NoMemory}
@@ -15,7 +14,7 @@ use Rattle.model.specs.declared.request.Request.TheVariants.{Sync}
 use Rattle.model.specs.declared.reply.Reply.TheVariants.{Refused, Group as GroupIs}
 use Rattle.model.specs.World.{reach_of}
 use Rattle.model.specs.State.{State, is_number_of}
-use Rattle.model.specs.Targets.{number_limit}
+use Rattle.model.specs.Targets.{number_limit, has_no_next_group}
 use Rattle.model.specs.Edits.{with_next_group}
 use Rattle.model.specs.Numbers.{HasStates}
 use Rattle.model.specs.requests.Sync.{sync_rule}
@@ -28,7 +27,8 @@ use Rattle.world.proofs.Groups.{next_keeps, next_reach, sync_pairs}
 use Rattle.world.proofs.Views.{snap_stays}
 use Rattle.steps.specs.Settles.{state_at, AreStatesOf}
 use Rattle.steps.specs.Steady.{IsSteady}
-use Rattle.steps.specs.Edits.{synced}
+use Rattle.world.specs.Tables.{Datasets}
+use Rattle.steps.specs.Edits.{datasets_of, synced, CanSync}
 use Rattle.steps.proofs.Known.{states_of, of_states}
 use Rattle.steps.proofs.Plain.{plain_swept}
 use Rattle.steps.proofs.Ruled.{no_choice, refused_by, no_memory_by, done_by}
@@ -57,32 +57,43 @@ module _ (now last : BlockSet) where
     each = λ n l. slice_get-map after_group states n ∙ ap (option_map after_group) (known.each n l) ∙ ap Some (ended_state n);
   }
 
+-- the present datasets in the next group
+abbrev next_of : State → Datasets
+next_of s = record (datasets_of s) { group = s.now.group + 1 }
+
 module _ (s : State) (steady : IsSteady s) where
-  reach_next : reach_of (synced s).now ≡ reach_of s.now
+  reach_next : reach_of (with_next_group s.now) ≡ reach_of s.now
   reach_next = next_reach s.size s.now steady.good.now
 
-  -- what holds of the pool between two steps holds again
-  pub sync_steady : IsSteady (synced s)
-  sync_steady = record {
+  next_steady : IsSteady (synced s (next_of s))
+  next_steady = record {
     good = record {
       now = next_keeps s.size s.now steady.good.now;
       last = next_keeps s.size s.now steady.good.now;
       pair = sync_pairs s.size s.now steady.good.now s.last steady.good.pair;
       views = λ v id e. snap_stays s.now (with_next_group s.now) (s.now.group + 1) (next_keeps s.size s.now steady.good.now).systems.lines (λ q x u at h. (q, x, u, at, h, refl)) id (steady.good.views v id e);
     };
-    swept = plain_swept (synced s) steady.plain;
+    swept = plain_swept (synced s (next_of s)) steady.plain;
     plain = steady.plain;
   }
 
-  -- the end of the group gives every number the state that the worlds give it after a sync
-  pub sync_states : (states : List BlockState) → HasStates s states → HasStates (synced s) (map after_group states)
-  sync_states states known = of_states (synced s) (map after_group states)
-      (subst (λ r. AreStatesOf r r s.size (map after_group states)) (sym reach_next) (sync_states_of (reach_of s.now) (reach_of s.last) s.size states (states_of s states known)))
+  next_states : (numbers : List BlockState) → HasStates s numbers → HasStates (synced s (next_of s)) (map after_group numbers)
+  next_states numbers known = of_states (synced s (next_of s)) (map after_group numbers)
+      (subst (λ r. AreStatesOf r r s.size (map after_group numbers)) (sym reach_next) (sync_states_of (reach_of s.now) (reach_of s.last) s.size numbers (states_of s numbers known)))
+
+  module _ (t : Datasets) (can : CanSync s t) where
+    -- what holds of the pool between two steps holds again
+    pub sync_steady : IsSteady (synced s t)
+    sync_steady = subst (λ x. IsSteady (synced s x)) (sym can.is) next_steady
+
+    -- the end of the group gives every number the state that the worlds give it after a sync
+    pub sync_states : (numbers : List BlockState) → HasStates s numbers → HasStates (synced s t) (map after_group numbers)
+    sync_states numbers known = subst (λ x. HasStates (synced s x) (map after_group numbers)) (sym can.is) (next_states numbers known)
 
 -- ---- steps
 
 module _ (s : State) where
-  row_is : (b : Bool) → nat_lt number_limit (s.now.group + 1) ≡ b → refusal_of s sync_rule ≡ cond b (Some TooMany) None
+  row_is : (b : Bool) → has_no_next_group s.now ≡ b → refusal_of s sync_rule ≡ cond b (Some TooMany) None
   unfolding refusal_of
   row_is b e = ap (λ t. cond t (Some TooMany) None) e
 
@@ -92,6 +103,6 @@ module _ (s : State) where
   pub sync_too_many : number_limit ≤ s.now.group → Step s Sync (Refused TooMany) s
   sync_too_many l = refused_by Sync sync_rule refl s TooMany (row_is true (lt-ltb number_limit (s.now.group + 1) (omega arith)))
 
-  pub sync_done : IsSteady s → s.now.group < number_limit → Step s Sync (GroupIs (s.now.group + 1)) (synced s)
-  sync_done steady l = done_by Sync sync_rule refl s no_choice (synced s) (GroupIs (s.now.group + 1)) refl refl
-      (row_is false (le-ltb number_limit (s.now.group + 1) (omega arith))) refl refl (sync_steady s steady)
+pub sync_done : (s : State) → IsSteady s → (t : Datasets) → CanSync s t → Step s Sync (GroupIs (s.now.group + 1)) (synced s t)
+sync_done s steady t can = done_by Sync sync_rule refl s no_choice (synced s t) (GroupIs (s.now.group + 1)) refl refl
+    (row_is s false can.next) refl (ap (synced s) can.is) (sync_steady s steady t can)

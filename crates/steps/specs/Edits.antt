@@ -1,28 +1,48 @@
--- Other file systems put in the place of a pool's, and what that does to its numbers.
-use Rattle.std.specs.Prelude.{◌≡◌, ◌<◌, ◌≤◌, ◌⊎◌, ℕ, List}
+-- Other datasets put in the place of a pool's, and what that does to its numbers.
+use Rattle.std.specs.Prelude.{◌≡◌, ◌<◌, ◌≤◌, ◌⊎◌, ◌+◌, ℕ, List, false}
 use Rattle.base.specs.Map.{Block}
 use Rattle.base.specs.Surveys.{IsIn}
 use Rattle.zalloc.specs.declared.BlockState.TheVariants.{Free}
 use Rattle.model.specs.World.{reach_of}
 use Rattle.model.specs.State.{State, block_state}
-use Rattle.model.specs.Hierarchy.{FileSystems}
-use Rattle.model.specs.Edits.{with_now, with_next_group}
+use Rattle.model.specs.Edits.{with_now}
+use Rattle.model.specs.Targets.{has_no_next_group}
 use Rattle.world.specs.Plans.{IsSettling}
+use Rattle.world.specs.Tables.{Datasets}
 use Rattle.steps.specs.Steady.{IsSteady}
 
--- the same state with other file systems (profile)
-abbrev pub with_systems : State → FileSystems → State
-with_systems s ss = with_now s (record s.now { file_systems = ss })
+-- the datasets of a state's present world (profile)
+abbrev pub datasets_of : State → Datasets
+datasets_of s = record { file_systems = s.now.file_systems; group = s.now.group }
 
--- the pool once its open group is synced: the last synced world is the one that the sync leaves (zpool-sync(8))
-abbrev pub synced : State → State
-synced s = record s { now = with_next_group s.now; last = with_next_group s.now }
+-- the same state with these datasets (profile)
+abbrev pub with_datasets : State → Datasets → State
+with_datasets s t = with_now s (record s.now { file_systems = t.file_systems; group = t.group })
+
+-- the same state with these datasets, which so many guids were made for (profile)
+abbrev pub put : State → Datasets → ℕ → State
+put s t guids = record (with_datasets s t) { next_guid = s.next_guid + guids }
+
+-- the pool with these datasets, once they are synced: the last synced world is theirs (zpool-sync(8))
+abbrev pub synced : State → Datasets → State
+synced s t = record s { now = record s.now { file_systems = t.file_systems; group = t.group }; last = record s.now { file_systems = t.file_systems; group = t.group } }
+
+-- They can be put there, and no number changes its state: what holds between two steps holds after it, and the same blocks are
+-- reached (profile)
+pub record CanPut (s : State) (t : Datasets) (guids : ℕ) : Type 0 where
+  pub steady : IsSteady (put s t guids)
+  pub reach : reach_of (put s t guids).now ≡ reach_of s.now
 
 -- They can be put there once these blocks are released and these numbers are taken: what holds between two steps holds after it,
 -- and each number is Free, or that of a released block that the last synced world hasn't (profile)
-pub record CanPut (s : State) (ss : FileSystems) (released : List Block) (taken : List ℕ) : Type 0 where
-  pub steady : IsSteady (with_systems s ss)
-  pub settling : IsSettling (reach_of s.now) (reach_of (with_systems s ss).now) (reach_of s.last) s.last.group released taken
+pub record CanChange (s : State) (t : Datasets) (released : List Block) (taken : List ℕ) : Type 0 where
+  pub steady : IsSteady (with_datasets s t)
+  pub settling : IsSettling (reach_of s.now) (reach_of (with_datasets s t).now) (reach_of s.last) s.last.group released taken
   pub takable :
       (n : ℕ) → IsIn taken n
       → ((n < s.size) × (block_state s n ≡ Free)) ⊎ ((b : Block) × IsIn released b × (s.last.group ≤ b.birth) × (b.number ≡ n))
+
+-- a sync can leave them: they are the present ones in the next group, which there is (zpool-sync(8); numbers are profile)
+pub record CanSync (s : State) (t : Datasets) : Type 0 where
+  pub is : t ≡ record (datasets_of s) { group = s.now.group + 1 }
+  pub next : has_no_next_group s.now ≡ false

@@ -3,3 +3,4 @@ pub mod Settles
 pub mod Room
 pub mod Steady
 pub mod Edits
+pub mod Listed

@@ -32,11 +32,11 @@ pub maps_through : (a b c : FileSystems) → AreMapsFrom a b → AreMapsFrom b c
 maps_through a b c f k name s m at h = ⊎_elim inl (λ r. f r.0 r.1 m r.2 r.3) (k name s m at h)
 
 -- what is still to be snapped: a live map that was born by g, after a dataset of a lower group
-abbrev IsReady : FileSystems → ℕ → Name → Type 0
+abbrev pub IsReady : FileSystems → ℕ → Name → Type 0
 IsReady ss g name = (n : Row Dataset) → lineages (shapes ss) (g + 1) (Live name) n → (n.base < g) × ((b : Block) → Has n.blocks b → b.birth ≤ g)
 
 -- the identities that a request makes from here on are new
-abbrev AreIdsBelow : FileSystems → ℕ → ℕ → Type 0
+abbrev pub AreIdsBelow : FileSystems → ℕ → ℕ → Type 0
 AreIdsBelow ss g guid = (q : Name) (e : FileSystem) (u : Snap) → get ss q ≡ Some e → IsIn e.snaps u → (u.group < g) ⊎ ((u.group ≡ g) × (u.guid < guid))
 
 record IsTakenFrom (w new : World) : Type 0 where
@@ -66,7 +66,7 @@ module _ (m : Member) (ms : List Member) (guid : ℕ) (w : World) (good : AreFil
   abbrev name : Name
   name = m.file_system
 
-  here : get w.file_systems m.file_system ≡ Some can.0.0
+  pub here : get w.file_systems m.file_system ≡ Some can.0.0
   here = can.0.1
 
   abbrev longer : FileSystem
@@ -75,10 +75,10 @@ module _ (m : Member) (ms : List Member) (guid : ℕ) (w : World) (good : AreFil
   abbrev v : World
   v = record w { file_systems = insert w.file_systems m.file_system (record can.0.0 { snaps = can.0.0.snaps ++ snap_of_live w can.0.0 m.component guid ∷ [] }) }
 
-  r : ((before_live (start w.file_systems (w.group + 1) good.lines name s here) (map snap_shape s.snaps)).base < w.group) × ((b : Block) → Has (blocks s.live) b → b.birth ≤ w.group)
+  pub r : ((before_live (start w.file_systems (w.group + 1) good.lines name s here) (map snap_shape s.snaps)).base < w.group) × ((b : Block) → Has (blocks s.live) b → b.birth ≤ w.group)
   r = ready m (inl refl) (live_row w.file_systems (w.group + 1) good.lines name s here) (live_there w.file_systems (w.group + 1) good.lines name s here)
 
-  fresh : (q : Name) (e : FileSystem) (u : Snap) → get w.file_systems q ≡ Some e → IsIn e.snaps u → id_of u ≡ id_of t → ⊥
+  pub fresh : (q : Name) (e : FileSystem) (u : Snap) → get w.file_systems q ≡ Some e → IsIn e.snaps u → id_of u ≡ id_of t → ⊥
   fresh q e u is i ids =
       let a : u.group ≡ w.group = ap (λ (x : SnapId). x.group) ids in
       let b : u.guid ≡ guid = ap (λ (x : SnapId). x.guid) ids in
@@ -87,10 +87,10 @@ module _ (m : Member) (ms : List Member) (guid : ℕ) (w : World) (good : AreFil
   opens : w.group < w.group + 1
   opens = omega arith
 
-  good' : AreFileSystems (insert w.file_systems m.file_system (record can.0.0 { snaps = can.0.0.snaps ++ snap_of_live w can.0.0 m.component guid ∷ [] })) (w.group + 1)
+  pub good' : AreFileSystems (insert w.file_systems m.file_system (record can.0.0 { snaps = can.0.0.snaps ++ snap_of_live w can.0.0 m.component guid ∷ [] })) (w.group + 1)
   good' = take_systems w.file_systems (w.group + 1) good name s here t refl fresh can.0.2 r.1 r.0 opens
 
-  below' : AreIdsBelow (insert w.file_systems m.file_system (record can.0.0 { snaps = can.0.0.snaps ++ snap_of_live w can.0.0 m.component guid ∷ [] })) w.group (guid + 1)
+  pub below' : AreIdsBelow (insert w.file_systems m.file_system (record can.0.0 { snaps = can.0.0.snaps ++ snap_of_live w can.0.0 m.component guid ∷ [] })) w.group (guid + 1)
   below' q e u is i = ⊎_elim
       (λ k. ⊎_elim
       (λ a. wider u (below name s u here a))
@@ -103,7 +103,7 @@ module _ (m : Member) (ms : List Member) (guid : ℕ) (w : World) (good : AreFil
       wider u (inl a) = inl a
       wider u (inr a) = inr (a.0, (let l = a.1 in omega arith))
 
-  ready' : (k : Member) → IsIn ms k → IsReady (insert w.file_systems m.file_system (record can.0.0 { snaps = can.0.0.snaps ++ snap_of_live w can.0.0 m.component guid ∷ [] })) w.group k.file_system
+  pub ready' : (k : Member) → IsIn ms k → IsReady (insert w.file_systems m.file_system (record can.0.0 { snaps = can.0.0.snaps ++ snap_of_live w can.0.0 m.component guid ∷ [] })) w.group k.file_system
   ready' k i n h = ⊎_elim
       (λ x. absurd (can.1 k i (same_live k.file_system name x.0)))
       (⊎_elim (λ x. absurd (live_or_snap k.file_system (id_of t) x.0)) (λ x. ready k (inr i) n x.2))

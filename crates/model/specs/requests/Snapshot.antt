@@ -1,4 +1,4 @@
--- Snapshot (zfs-snapshot(8)). A pool has no request of this rule yet.
+-- Snapshot (zfs-snapshot(8)).
 use Rattle.std.specs.Prelude.{ℕ, ◌+◌, ◌-◌, ◌*◌, ◌^◌, Bool, true, false, not, ◌&&◌, ◌||◌, List, [], ◌∷◌, ◌++◌, map, length, is_some, nat_lt, if◌then◌else◌}
 use Rattle.std.specs.List.{flat_map, list_any}
 use Rattle.std.specs.FinMap.{contains_key}

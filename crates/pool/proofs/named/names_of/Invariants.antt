@@ -1,10 +1,9 @@
-use Rattle.std.proofs.Common.{◌≡◌, ◌≤◌, length, map, take, vec_len}
-use Rattle.std.specs.Prelude.{vec_capacity}
+use Rattle.std.proofs.Common.{◌≡◌, map, take}
 use Rattle.std.specs.Arc.{arc_value}
-use Rattle.table.specs.Rows.{Row}
+use Rattle.std.specs.List.{flat_map}
+use Rattle.steps.specs.Listed.{own_names}
 use Rattle.pool.proofs.named.names_of.Given as goal
 
--- the names so far, with room for the rest
+-- the names so far
 abbrev pub invariant-loop-file_system : goal.invariant-loop-file_system
-invariant-loop-file_system l =
-    (l.names.items ≡ map (λ (f : Row). f.0) (map arc_value (take l.file_system-index l.file_systems))) × (vec_len l.names ≡ l.file_system-index) × (length l.file_systems ≤ vec_capacity l.names)
+invariant-loop-file_system l = l.names.items ≡ flat_map own_names (map arc_value (take l.file_system-index l.file_systems))

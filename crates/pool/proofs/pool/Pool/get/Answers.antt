@@ -1,11 +1,34 @@
+use Rattle.std.proofs.Common.{ap, ◌∙◌, sym}
+use Rattle.std.specs.FinMap.{get}
+use Rattle.file_systems.specs.Rows.{Row}
+use Rattle.steps.specs.Steady.{snap_in}
+use Rattle.pool.specs.Named.{live_value}
 use Rattle.pool.specs.Pools.{state_of}
-use Rattle.pool.proofs.Steps.{get_absent, get_referenced, property_is}
+use Rattle.pool.proofs.Names.{mapped, unmapped}
+use Rattle.pool.proofs.Steps.{get_absent_live, get_absent_snapshot, get_absent_bookmark, get_of_live, get_of_snapshot}
 use Rattle.pool.proofs.pool.Pool.get.Goals as goal
 
-pub returns-in_default : goal.returns-in_default
-returns-in_default c = get_absent c.args.self.now (state_of c.self.inside) c.self.inside.allocator c.self.view_is c.self.invariant c.args.target.now c.args.property c.in_default.ensures
+pub returns-in-Some : goal.returns-in-Some
+returns-in-Some c =
+    let found = mapped (λ f. (c.in-FileSystem.name, f)) (get c.self.inside.present.file_systems c.in-FileSystem.name) c.in-Some.file_system.now c.in-Some.ensures in
+    get_of_live c.args.self.now (state_of c.self.inside) c.self.inside.allocator c.self.view_is c.self.invariant c.args.target.now c.in-FileSystem.name c.in-FileSystem.is
+    found.0 found.1 c.args.property c.value_of_live.result (c.value_of_live.ensures ∙ ap (λ (r : Row). live_value r.1 c.args.property) (sym found.2))
 
-pub returns : goal.returns
-returns c =
-    get_referenced c.args.self.now (state_of c.self.inside) c.self.inside.allocator c.self.view_is c.self.invariant c.args.target.now c.args.property (property_is c.args.property)
-    c.in-Some.file_system.now c.in-Some.ensures c.live.result.now c.live.ensures c.node_count.result c.node_count.ensures c.in_bytes.result c.in_bytes.ensures
+pub returns-in-None : goal.returns-in-None
+returns-in-None c =
+    get_absent_live c.args.self.now (state_of c.self.inside) c.self.inside.allocator c.self.view_is c.self.invariant c.args.target.now c.args.property c.in-FileSystem.name c.in-FileSystem.is
+    (unmapped (λ f. (c.in-FileSystem.name, f)) _ c.in-None.ensures)
+
+pub returns-in-Some-snapshot_named : goal.returns-in-Some-snapshot_named
+returns-in-Some-snapshot_named c =
+    get_of_snapshot c.args.self.now (state_of c.self.inside) c.self.inside.allocator c.self.view_is c.self.invariant c.args.target.now c.in-Snapshot.name c.in-Snapshot.is
+    c.in-Some-snapshot_named.snapshot.now (ap (snap_in c.self.inside.present.file_systems) (sym c.member.ensures) ∙ sym c.in-Some-snapshot_named.ensures) c.args.property c.value_of_snapshot.result c.value_of_snapshot.ensures
+
+pub returns-in-None-snapshot_named : goal.returns-in-None-snapshot_named
+returns-in-None-snapshot_named c =
+    get_absent_snapshot c.args.self.now (state_of c.self.inside) c.self.inside.allocator c.self.view_is c.self.invariant c.args.target.now c.args.property c.in-Snapshot.name c.in-Snapshot.is
+    (ap (snap_in c.self.inside.present.file_systems) (sym c.member.ensures) ∙ sym c.in-None-snapshot_named.ensures)
+
+pub returns-in-Bookmark : goal.returns-in-Bookmark
+returns-in-Bookmark c =
+    get_absent_bookmark c.args.self.now (state_of c.self.inside) c.self.inside.allocator c.self.view_is c.self.invariant c.args.target.now c.args.property c.in-Bookmark.field-0 c.in-Bookmark.is

@@ -4,8 +4,7 @@ use Rattle.pool.proofs.pool.Pool.planned_create.Goals as goal
 
 pub returns-in-Ok-clause-can : goal.returns-in-Ok-clause-can
 returns-in-Ok-clause-can c =
-    rw (c.new.ensures.items, c.new-in-Ok.ensures.items)
-    (create_can c.args.self.now (state_of c.self.inside) c.self.inside.allocator c.self.view_is c.self.invariant c.args.name.now c.in-Ok.to c.in-Ok.ensures.ok c.in-Ok.ensures.can)
+    create_can c.args.self.now (state_of c.self.inside) c.self.inside.allocator c.self.view_is c.self.invariant c.args.name.now c.in-Ok.to c.in-Ok.ensures.ok c.in-Ok.ensures.can
 
 pub returns-in-Ok-clause-step : goal.returns-in-Ok-clause-step
 returns-in-Ok-clause-step c = create_done c.args.self.now (state_of c.self.inside) c.self.inside.allocator c.self.view_is c.self.invariant c.args.name.now c.in-Ok.to c.in-Ok.ensures.ok c.in-Ok.ensures.can

@@ -1,13 +1,28 @@
+use Rattle.std.proofs.Common.{◌≤◌, ◌<◌, ◌+◌, subst, sym, ap, ◌∙◌}
+use Rattle.model.specs.declared.request.Request.TheVariants.{Sync}
+use Rattle.model.specs.declared.reply.Reply.TheVariants.{Group}
+use Rattle.model.specs.Targets.{number_limit}
+use Rattle.model.specs.Step.{Step}
+use Rattle.world.specs.Tables.{Datasets}
+use Rattle.steps.specs.Edits.{synced}
 use Rattle.pool.specs.Pools.{state_of}
-use Rattle.pool.proofs.Steps.{sync_too_many, sync_done}
+use Rattle.pool.proofs.Steps.{sync_too_many, sync_can, sync_done}
 use Rattle.pool.proofs.pool.Pool.planned_sync.Goals as goal
 
 pub returns-then-group-ge-LAST_GROUP-clause-step : goal.returns-then-group-ge-LAST_GROUP-clause-step
 returns-then-group-ge-LAST_GROUP-clause-step c =
     sync_too_many c.args.self.now (state_of c.self.inside) c.self.inside.allocator c.self.view_is c.self.invariant
-    c.if-group-ge-LAST_GROUP.true
+    (subst (λ n. number_limit ≤ n) c.group-group.ensures c.if-group-ge-LAST_GROUP.true)
+
+pub returns-in-Ok-clause-can : goal.returns-in-Ok-clause-can
+returns-in-Ok-clause-can c =
+    sync_can c.args.self.now (state_of c.self.inside) c.self.inside.allocator c.self.view_is c.self.invariant c.close_group.new.self
+    (c.close_group.ensures ∙ ap (λ (t : Datasets). record t { group = t.group + 1 }) c.in-Ok.ensures.ok)
+    (subst (λ n. n < number_limit) c.group-group.ensures c.if-group-ge-LAST_GROUP.false)
 
 pub returns-in-Ok-clause-step : goal.returns-in-Ok-clause-step
 returns-in-Ok-clause-step c =
-    sync_done c.args.self.now (state_of c.self.inside) c.self.inside.allocator c.self.view_is c.self.invariant c.in-Ok.last
-    c.in-Ok.ensures.ok c.if-group-ge-LAST_GROUP.false
+    subst (λ n. Step c.args.self.now.state Sync (Group (n + 1)) (synced c.args.self.now.state c.close_group.new.self)) (sym c.group-group.ensures)
+    (sync_done c.args.self.now (state_of c.self.inside) c.self.inside.allocator c.self.view_is c.self.invariant c.close_group.new.self
+    (c.close_group.ensures ∙ ap (λ (t : Datasets). record t { group = t.group + 1 }) c.in-Ok.ensures.ok)
+    (subst (λ n. n < number_limit) c.group-group.ensures c.if-group-ge-LAST_GROUP.false))

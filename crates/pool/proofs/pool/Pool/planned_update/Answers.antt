@@ -1,51 +1,44 @@
-use Rattle.std.proofs.Common.{sym, subst, rules}
+use Rattle.std.proofs.Common.{sym, subst, rules, Err, Ok}
 use Rattle.base.specs.declared.refusal.Refusal.TheVariants.{NoMemory}
+use Rattle.pool.specs.declared.pool.Plan.TheVariants.{Change}
+use Rattle.pool.specs.Plans.{CanDo, state_after_plan}
 use Rattle.model.specs.declared.reply.Reply.TheVariants.{Done, Refused}
 use Rattle.model.specs.Step.{Step}
-use Rattle.steps.specs.Edits.{with_systems}
-use Rattle.pool.specs.declared.pool.Plan.TheVariants.{Put}
-use Rattle.pool.specs.Asked.{Asks}
-use Rattle.pool.specs.Plans.{CanDo, state_after_plan}
+use Rattle.steps.specs.Edits.{with_datasets}
 use Rattle.pool.specs.Pools.{state_of}
 use Rattle.pool.specs.Shown.{Shown}
-use Rattle.pool.proofs.Names.{absent_other}
-use Rattle.pool.proofs.Changes.{told, update_absent, update_no_memory}
-use Rattle.pool.proofs.Immediate.{live_born, live_allocated, asks_here, refused_now, can_now, done_now}
+use Rattle.pool.proofs.Changes.{told, no_live, told_no_live, update_no_memory}
+use Rattle.pool.proofs.Immediate.{allowed, asks_here, refused_now, can_now, done_now}
 use Rattle.pool.proofs.pool.Pool.planned_update.Goals as goal
 use Rattle.pool.proofs.pool.Pool.planned_update.Goals.{in-Ok-changed, in-Err-changed}
 
 pub returns-in-Err-clause-step : goal.returns-in-Err-clause-step
-returns-in-Err-clause-step c q asks = c.outside_the_limits.ensures q (subst (λ r. Asks q c.args.target.now r) c.in-Err.is asks)
-
-pub returns-in_default-clause-step : goal.returns-in_default-clause-step
-returns-in_default-clause-step c q asks =
+returns-in-Err-clause-step c q asks =
     told c.args.self.now (state_of c.self.inside) c.self.inside.allocator c.self.view_is q _
-    (update_absent (state_of c.self.inside) c.self.inside.allocator c.self.invariant q c.args.target.now c.in-Ok.update (subst (λ r. Asks q c.args.target.now r) c.in-Ok.is asks)
-    (absent_other c.self.inside.present c.args.target.now c.in_default.not-FileSystem))
+    (no_live (state_of c.self.inside) c.self.inside.allocator c.self.invariant q c.args.target.now c.args.update asks c.in-Err.refusal
+    (told_no_live c.args.self.now (state_of c.self.inside) c.self.inside.allocator c.self.view_is c.args.target.now c.in-Err.refusal c.in-Err.ensures.err))
+
+pub returns-in-Err-update-clause-step : goal.returns-in-Err-update-clause-step
+returns-in-Err-update-clause-step c q asks = c.outside_the_limits.ensures q (asks_here q c.args.target.now c.args.update c.in-Ok.name.now (Err c.in-Err-update.refusal) c.in-Ok.ensures.ok c.in-Err-update.is asks)
 
 pub apply_live-changed-requires : goal.apply_live-changed-requires
-apply_live-changed-requires c = record {
-  batch = search rules;
-  young = search rules;
-  born = live_born (state_of c.self.inside) c.self.inside.allocator c.self.invariant c.in-FileSystem.name c.in-Ok-copy.to c.in-Ok-copy.ensures.ok;
-  allocated = live_allocated (state_of c.self.inside) c.self.inside.allocator c.self.invariant c.in-FileSystem.name c.in-Ok-copy.to c.in-Ok-copy.ensures.ok;
-}
+apply_live-changed-requires c = allowed (state_of c.self.inside) c.self.inside.allocator c.self.invariant c.in-Ok-copy.to c.in-Ok-copy.ensures.ok c.group.result.0 c.group.ensures c.from_ref.result.now (search rules)
 
 pub returns-in-Err-copy-clause-step : goal.returns-in-Err-copy-clause-step
 returns-in-Err-copy-clause-step c q asks =
     subst (λ why. Step c.args.self.now.state q (Refused why) c.args.self.now.state) (sym c.in-Err-copy.ensures.err)
     (told c.args.self.now (state_of c.self.inside) c.self.inside.allocator c.self.view_is q (Refused NoMemory)
-    (update_no_memory (state_of c.self.inside) c.self.inside.allocator c.self.invariant q c.args.target.now c.in-Ok.update (subst (λ r. Asks q c.args.target.now r) c.in-Ok.is asks)))
+    (update_no_memory (state_of c.self.inside) c.self.inside.allocator c.self.invariant q c.in-Ok.name.now c.in-Ok-update.update (asks_here q c.args.target.now c.args.update c.in-Ok.name.now (Ok c.in-Ok-update.update) c.in-Ok.ensures.ok c.in-Ok-update.is asks)))
 
 pub returns-clause-can : goal.returns-clause-can
 returns-clause-can c = elim c.match-changed.branch [
   | in-Ok-changed w ↦
       let e = w.in-Ok-changed.ensures in
       subst (λ r. CanDo c.args.self.now.state r.1) (sym w.result-is)
-      (subst (λ (x : Shown). CanDo x.state (Put c.apply_live-changed.new.self w.in-Ok-changed.done)) c.self.view_is
-      (can_now (state_of c.self.inside) c.self.inside.allocator c.self.invariant c.in-FileSystem.name c.in-Ok-copy.to c.in-Ok-copy.ensures.ok
-      c.apply_live-changed.new.self c.in-Ok.update c.from_ref.result.now c.from_ref.ensures.value w.in-Ok-changed.done
-      (record { ok = e.ok; others = e.others; room = e.room; no_dataset = e.no_dataset; no_space = e.no_space; only = e.only })))
+      (subst (λ (x : Shown). CanDo x.state (Change c.apply_live-changed.new.self w.in-Ok-changed.done)) c.self.view_is
+      (can_now (state_of c.self.inside) c.self.inside.allocator c.self.invariant c.in-Ok-copy.to c.in-Ok-copy.ensures.ok c.group.result.0 c.group.ensures c.in-Ok.name.now
+      c.apply_live-changed.new.self c.in-Ok-update.update c.from_ref.result.now c.from_ref.ensures.value w.in-Ok-changed.done
+      (record { ok = e.ok; room = e.room; no_dataset = e.no_dataset; no_space = e.no_space; only = e.only })))
   | in-Err-changed w ↦ subst (λ r. CanDo c.args.self.now.state r.1) (sym w.result-is) tt
 ]
 
@@ -54,17 +47,17 @@ returns-clause-step c q asks = elim c.match-changed.branch [
   | in-Ok-changed w ↦
       let e = w.in-Ok-changed.ensures in
       subst (λ r. Step c.args.self.now.state q r.0 (state_after_plan c.args.self.now.state r.1)) (sym w.result-is)
-      (subst (λ (x : Shown). Step x.state q Done (with_systems x.state c.apply_live-changed.new.self)) c.self.view_is
-      (done_now (state_of c.self.inside) c.self.inside.allocator c.self.invariant c.in-FileSystem.name c.in-Ok-copy.to c.in-Ok-copy.ensures.ok
-      c.apply_live-changed.new.self c.in-Ok.update c.from_ref.result.now c.from_ref.ensures.value w.in-Ok-changed.done
-      (record { ok = e.ok; others = e.others; room = e.room; no_dataset = e.no_dataset; no_space = e.no_space; only = e.only })
-      q (asks_here q c.args.target.now c.args.update c.in-FileSystem.name c.in-Ok.update c.in-FileSystem.is c.in-Ok.is asks)))
+      (subst (λ (x : Shown). Step x.state q Done (with_datasets x.state c.apply_live-changed.new.self)) c.self.view_is
+      (done_now (state_of c.self.inside) c.self.inside.allocator c.self.invariant c.in-Ok-copy.to c.in-Ok-copy.ensures.ok c.group.result.0 c.group.ensures c.in-Ok.name.now
+      c.apply_live-changed.new.self c.in-Ok-update.update c.from_ref.result.now c.from_ref.ensures.value w.in-Ok-changed.done
+      (record { ok = e.ok; room = e.room; no_dataset = e.no_dataset; no_space = e.no_space; only = e.only })
+      q (asks_here q c.args.target.now c.args.update c.in-Ok.name.now (Ok c.in-Ok-update.update) c.in-Ok.ensures.ok c.in-Ok-update.is asks)))
   | in-Err-changed w ↦
       let e = w.in-Err-changed.ensures in
       subst (λ r. Step c.args.self.now.state q r.0 (state_after_plan c.args.self.now.state r.1)) (sym w.result-is)
       (told c.args.self.now (state_of c.self.inside) c.self.inside.allocator c.self.view_is q (Refused w.in-Err-changed.refusal)
-      (refused_now (state_of c.self.inside) c.self.inside.allocator c.self.invariant c.in-FileSystem.name c.in-Ok-copy.to c.in-Ok-copy.ensures.ok
-      c.apply_live-changed.new.self c.in-Ok.update c.from_ref.result.now c.from_ref.ensures.value w.in-Err-changed.refusal
-      (record { ok = e.ok; others = e.others; room = e.room; no_dataset = e.no_dataset; no_space = e.no_space; only = e.only })
-      q (asks_here q c.args.target.now c.args.update c.in-FileSystem.name c.in-Ok.update c.in-FileSystem.is c.in-Ok.is asks)))
+      (refused_now (state_of c.self.inside) c.self.inside.allocator c.self.invariant c.in-Ok-copy.to c.in-Ok-copy.ensures.ok c.group.result.0 c.group.ensures c.in-Ok.name.now
+      c.apply_live-changed.new.self c.in-Ok-update.update c.from_ref.result.now c.from_ref.ensures.value w.in-Err-changed.refusal
+      (record { ok = e.ok; room = e.room; no_dataset = e.no_dataset; no_space = e.no_space; only = e.only })
+      q (asks_here q c.args.target.now c.args.update c.in-Ok.name.now (Ok c.in-Ok-update.update) c.in-Ok.ensures.ok c.in-Ok-update.is asks)))
 ]

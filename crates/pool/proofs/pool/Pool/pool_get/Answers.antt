@@ -1,6 +1,5 @@
-use Rattle.std.proofs.Common.{refl}
+use Rattle.std.proofs.Common.{refl, ap}
 use Rattle.model.specs.declared.reply.Value.TheVariants.{Number}
-use Rattle.model.specs.declared.reply.Reply.TheVariants.{Value}
 use Rattle.pool.specs.Pools.{state_of}
 use Rattle.pool.proofs.Steps.{pool_get_size, pool_get_allocated, pool_get_free, pool_get_freeing, pool_get_waiting, pool_get_group}
 use Rattle.pool.proofs.pool.Pool.pool_get.Goals as goal
@@ -33,4 +32,4 @@ returns-in-Waiting c =
 pub returns-in-Group : goal.returns-in-Group
 returns-in-Group c =
     pool_get_group c.args.self.now (state_of c.self.inside) c.self.inside.allocator c.self.view_is c.self.invariant c.args.property
-    (Value (Number c.self.inside.group.0)) c.in-Group.is refl
+    (Number c.group.result.0) c.in-Group.is (ap Number c.group.ensures)

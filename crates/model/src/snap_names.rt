@@ -1,0 +1,46 @@
+//! Lists of snapshots' names.
+ghost use Rattle.std.specs.Prelude.{◌≡◌, ◌↔◌, IsTrue};
+
+use name::SnapName;
+use std::marker::Model;
+
+/// Names of snapshots to be made, in their order (zfs-snapshot(8)). Contracts see the list of their parts.
+#[derive(Drop, Debug)]
+pub struct SnapNames {
+    items: Vec<SnapName>,
+}
+
+impl Model for SnapNames {
+    ghost use Rattle.std.specs.Prelude.{List};
+    ghost use Rattle.name.specs.declared.member.Member.{Member};
+
+    ghost Value = { List Member };
+
+    ghost view = { λ n. n.items.items };
+}
+
+impl From<Vec<SnapName>> for SnapNames {
+    ghost use Rattle.std.specs.Prelude.{◌≡◌};
+
+    ghost from_gives = { λ items n. n ≡ items.items };
+
+    fn from(items: Vec<SnapName>) -> SnapNames {
+        SnapNames { items }
+    }
+}
+
+impl SnapNames {
+    /// The names.
+    pub fn as_slice(&self) -> &[SnapName]
+        ensures { result.now ≡ self.now }
+    {
+        &self.items
+    }
+
+    /// Whether the other is the same list.
+    pub fn same(&self, other: &SnapNames) -> bool
+        ensures { IsTrue result ↔ (self.now ≡ other.now) }
+    {
+        self.items.as_slice() == other.items.as_slice()
+    }
+}

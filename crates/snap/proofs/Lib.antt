@@ -1,0 +1,5 @@
+pub mod Rests
+pub mod Families
+pub mod Twice
+pub mod Rooms
+pub mod Turns

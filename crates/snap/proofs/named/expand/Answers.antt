@@ -1,0 +1,24 @@
+use Rattle.std.proofs.Common.{[], ◌∷◌, map, sym, ap, ◌∙◌}
+use Rattle.std.specs.List.{filter}
+use Rattle.name.specs.declared.member.Member.{Member}
+use Rattle.model.specs.requests.Snapshot.{named_with}
+use Rattle.file_systems.specs.Rows.{Row}
+use Rattle.world.specs.Tables.{world_of}
+use Rattle.snap.specs.Taking.{is_in_family}
+use Rattle.snap.proofs.Rests.{next_left}
+use Rattle.snap.proofs.Families.{grows}
+use Rattle.snap.proofs.named.expand.Goals as goal
+use Rattle.snap.proofs.named.expand.Goals.{then-recursive+in_ok-add_family, else-recursive+in_ok-push}
+
+pub loop-name-preserved : goal.loop-name-preserved
+loop-name-preserved c =
+    let left = next_left c.args.names.now c.loop-name.name-index c.name-item.result c.loop-name-test.true c.name-item.is in
+    elim c.if-recursive.branch [
+      | then-recursive+in_ok-add_family w ↦
+          grows c.args.table.now c.args.recursive c.name-item.result _ _ left _ _ c.loop-name.invariant c.if-recursive.all.items _ (ap (λ v. v.items) w.all-is ∙ w.in_ok-add_family.ensures.ok)
+          ((λ j. map (λ n. record (c.member-member.ensures j) { file_system = n }) (filter (is_in_family (c.member-member.ensures j).file_system) (map (λ (r : Row). r.0) (w.file_systems.ensures j))))
+          ∙ ap (λ b. named_with (world_of c.args.table.now) b c.name-item.result) (sym w.if-recursive.true))
+      | else-recursive+in_ok-push w ↦
+          grows c.args.table.now c.args.recursive c.name-item.result _ _ left _ _ c.loop-name.invariant c.if-recursive.all.items _ (ap (λ v. v.items) w.all-is ∙ w.in_ok-push.ensures.items)
+          (ap (λ (y : Member). y ∷ []) c.member-member.ensures ∙ ap (λ b. named_with (world_of c.args.table.now) b c.name-item.result) (sym w.if-recursive.false))
+    ]

@@ -1,0 +1,2 @@
+-- What the snapshots of one request are.
+pub mod Taking

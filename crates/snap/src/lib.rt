@@ -1,0 +1,69 @@
+//! The snapshots of one request.
+//!
+//! A request names snapshots, and with -r each name stands for one of every descendant of its file system too. They are taken together,
+//! of the group that was open, which is then closed (zfs-snapshot(8)).
+#![tactic(auto)]
+
+ghost use Rattle.std.specs.Prelude.{◌≡◌, ◌↔◌, ◌⊎◌, Some, None, IfSome, IfOk, IfErr, OnOk, length};
+ghost use Rattle.model.specs.requests.Snapshot.{guid_by};
+ghost use Rattle.snap.specs.Taking.{all_of, refusal_of, after_taking};
+
+mod check;
+mod named;
+mod take;
+
+use crate::check::{any_missing, check};
+use crate::named::expand;
+use crate::take::take;
+use base::refusal::Refusal;
+use datasets::Table;
+use name::SnapName;
+use std::alloc::Global;
+
+/// What the guids of new snapshots are made of: the pool's id, and the counter's number for the next one, 0 to 4294967295, or
+/// 4294967296 where none is left (profile).
+#[derive(Clone, Copy, PartialEq, Eq, Debug)]
+pub struct Guids {
+    pub pool: u32,
+    pub next: u64,
+}
+
+/// What a request for snapshots leaves: the table with them, and how many they are.
+#[derive(Drop)]
+pub struct Taken {
+    pub to: Table,
+    pub count: usize,
+}
+
+/// A table with a snapshot of each of these names, and with `recursive` of each descendant of their file systems too, of the group
+/// that was open, which is closed. This table stays as it is. Without a name the table is the same. Refused are NoDataset where a
+/// file system isn't there, else BadName where a whole name is over 255 bytes, else Exists where there is a snapshot of such a name
+/// or a file system stands twice, else TooMany where the pool would have over 65,536 snapshots, the group is the last one or the
+/// counter has no guids left. NoMemory, where there is none for the names or the snapshots, may come before all of these but
+/// NoDataset (zfs-snapshot(8); numbers are profile). With n snapshots it costs the number of file systems, with `recursive` once for
+/// each name, n times its logarithm and that of n, and the number of snapshots that the n file systems had.
+pub fn snapshot(
+    alloc: Global,
+    table: &Table,
+    names: &[SnapName],
+    recursive: bool,
+    guids: Guids,
+) -> Result<Taken, Refusal>
+    ensures ok { IfOk result (λ taken. taken.to ≡ after_taking table.now (guid_by guids.pool guids.next) (all_of table.now names.now recursive)) }
+    ensures count { IfOk result (λ taken. taken.count ≡ length (all_of table.now names.now recursive)) }
+    ensures can { OnOk result (refusal_of table.now guids.next names.now recursive ≡ None) }
+    ensures refused { IfSome (refusal_of table.now guids.next names.now recursive) (λ e. (result ≡ Err e) ⊎ (result ≡ Err Refusal.NoMemory)) }
+    ensures no_dataset { (result ≡ Err Refusal.NoDataset) ↔ (refusal_of table.now guids.next names.now recursive ≡ Some Refusal.NoDataset) }
+    ensures only { IfErr result (λ e. (refusal_of table.now guids.next names.now recursive ≡ Some e) ⊎ (e ≡ Refusal.NoMemory)) }
+{
+    if any_missing(table, names) {
+        return Err(Refusal::NoDataset);
+    }
+    let all = expand(alloc, table, names, recursive)?;
+    check(alloc, table, &all, guids.next)?;
+    let to = take(alloc, table, &all, guids)?;
+    Ok(Taken {
+        to,
+        count: all.len(),
+    })
+}

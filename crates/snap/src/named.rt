@@ -1,0 +1,87 @@
+//! What the names of a request stand for.
+ghost use Rattle.std.specs.Prelude.{◌≡◌, ◌++◌, IfOk, IfErr, OnOk, map};
+ghost use Rattle.std.specs.Arc.{arc_value};
+ghost use Rattle.std.specs.List.{filter};
+ghost use Rattle.file_systems.specs.Rows.{Row};
+ghost use Rattle.snap.specs.Taking.{all_of, is_in_family};
+
+use base::refusal::Refusal;
+use datasets::Table;
+use file_systems::FileSystem;
+use name::{Component, DsName, Member, SnapName};
+use std::alloc::Global;
+use std::marker::Model;
+use std::sync::Arc;
+
+/// The name of a snapshot, lent by a request or a table. Contracts see the name.
+#[derive(Drop)]
+pub struct Named<'a> {
+    pub file_system: &'a DsName,
+    pub component: &'a Component,
+}
+
+impl<'a> Model for Named<'a> {
+    ghost use Rattle.name.specs.declared.member.Member.{Member};
+
+    ghost Value = { Member };
+
+    ghost view = { λ n. record { file_system = n.file_system.now; component = n.component.now } };
+}
+
+// Whether the name is the ancestor's own or a descendant's. It costs the length of the ancestor's name.
+fn is_in_family(ancestor: &[u8], name: &[u8]) -> bool
+    ensures { result ≡ is_in_family ancestor.now name.now }
+{
+    match name.strip_prefix(ancestor) {
+        Some([]) => true,
+        Some([b, ..]) => *b == b'/',
+        None => false,
+    }
+}
+
+// Adds the name's component under each of these file systems that is of its family. NoMemory where there is none for that. It costs
+// their number.
+fn add_family<'a>(
+    all: &mut Vec<Named<'a>>,
+    file_systems: &'a [Arc<FileSystem>],
+    name: &'a Member,
+) -> Result<(), Refusal>
+    ensures ok { OnOk result (all.new.items ≡ all.old.items ++ map (λ n. record name.now { file_system = n }) (filter (is_in_family name.now.file_system) (map (λ (r : Row). r.0) (map arc_value file_systems.now)))) }
+    ensures err { IfErr result (λ e. e ≡ Refusal.NoMemory) }
+{
+    for file_system in file_systems {
+        if is_in_family(name.file_system.as_bytes(), file_system.name().as_bytes()) {
+            all.push(Named {
+                file_system: file_system.name(),
+                component: &name.component,
+            })?;
+        }
+    }
+    Ok(())
+}
+
+/// What these names stand for: with `recursive` a name stands for one under each file system of its family. NoMemory where there is
+/// none for them. It costs the names, and with `recursive` each times the number of file systems.
+pub fn expand<'a>(
+    alloc: Global,
+    table: &'a Table,
+    names: &'a [SnapName],
+    recursive: bool,
+) -> Result<Vec<Named<'a>>, Refusal>
+    ensures ok { IfOk result (λ all. all.items ≡ all_of table.now names.now recursive) }
+    ensures err { IfErr result (λ e. e ≡ Refusal.NoMemory) }
+{
+    let mut all = Vec::with_capacity(alloc, names.len())?;
+    for name in names {
+        let member = name.member();
+        if recursive {
+            add_family(&mut all, table.file_systems(), member)?;
+        } else {
+            all.push(Named {
+                file_system: &member.file_system,
+                component: &member.component,
+            })?;
+        }
+    }
+    Ok(all)
+}

@@ -1,3 +1,0 @@
-pub mod Sorted
-pub mod Rows
-pub mod Parents

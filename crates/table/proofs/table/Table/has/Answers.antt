@@ -1,9 +1,0 @@
-use Rattle.std.proofs.Common.{map}
-use Rattle.std.specs.Arc.{arc_value}
-use Rattle.table.proofs.Rows.{found_is}
-use Rattle.table.proofs.table.Table.has.Goals as goal
-
--- a name is there where the search finds it
-pub returns : goal.returns
-returns c =
-    rw (c.is_ok.ensures.value, ← c.self.view_is) (found_is (map arc_value c.self.inside.file_systems.items) c.self.invariant.sorted c.args.name.now c.place.result (rw (← c.deref.ensures.value) c.place.ensures.found) (rw (← c.deref.ensures.value) c.place.ensures.absent))
