@@ -207,6 +207,7 @@ module _ (t : Datasets) (good : AreFileSystems t.file_systems t.group) (plain : 
           to_is = λ i. record t { file_systems = to_is w.change w.new_is is i };
           released = w.released ∙ ap (λ n. filter (λ (b : Block). nat_lt n b.birth) w.change.released) (sym (base_is t good plain name));
           taken = w.taken;
+          made = w.made;
         }
         at (Err e) w is = tt
 

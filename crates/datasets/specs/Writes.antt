@@ -11,6 +11,7 @@ use Rattle.zalloc.specs.declared.BlockState.TheVariants.{Allocated}
 use Rattle.model.specs.World.{Live, union_of}
 use Rattle.tree.specs.declared.change.Changed.{Changed}
 use Rattle.tree.specs.Change.{Shown, IsChange}
+use Rattle.tree.specs.ChangeParts.{made_pair}
 use Rattle.file_systems.specs.Rows.{live_of, with_live}
 use Rattle.world.specs.Sets.{Has}
 use Rattle.world.specs.Reach.{AreNumbersUnique}
@@ -38,3 +39,4 @@ pub record HasWritten (t u : Datasets) (name : List ℕ) (c : Changes) (synced :
   pub to_is : u ≡ record t { file_systems = with_live t.file_systems name change.new }
   pub released : map dead_block done.released.items ≡ filter (λ b. nat_lt (base_of (world_of t) (Live name)) b.birth) change.released
   pub taken : map (λ n. n.0) done.taken.items ≡ change.taken
+  pub made : map made_pair done.made.items ≡ change.made

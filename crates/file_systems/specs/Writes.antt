@@ -9,6 +9,7 @@ use Rattle.zalloc.specs.declared.BlockState.{BlockState}
 use Rattle.model.specs.World.{Snap}
 use Rattle.tree.specs.declared.change.Changed.{Changed}
 use Rattle.tree.specs.Change.{Shown, IsChange}
+use Rattle.tree.specs.ChangeParts.{made_pair}
 
 -- the creation group of the newest of these snapshots, and 0 where there is none (On-Disk Specification, chapter 4:
 -- ds_prev_snap_txg)
@@ -28,3 +29,4 @@ pub record IsWritten (old new : Map) (snaps : List Snap) (c : Changes) (group sy
   pub new_is : new ≡ change.new
   pub released : map dead_block done.released.items ≡ filter (λ b. nat_lt (newest_group snaps) b.birth) change.released
   pub taken : map (λ n. n.0) done.taken.items ≡ change.taken
+  pub made : map made_pair done.made.items ≡ change.made

@@ -23,4 +23,5 @@ returns-clause-ok c =
       new_is = refl;
       released = ap (map dead_block) (kept ∙ ap (λ n. filter (λ (d : Dead). nat_lt n d.birth.0) done.released.items) c.newest_group-newest.ensures) ∙ map_filter dead_block (λ b. nat_lt newest b.birth) done.released.items;
       taken = refl;
+      made = refl;
     }
