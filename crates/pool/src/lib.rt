@@ -1,7 +1,7 @@
-//! A pool of blocks with its file systems, which answers one request after another.
+//! A pool of blocks with its file systems and snapshots, which answers one request after another.
 //!
 //! A pool keeps the present world and the one that the last sync left, and the state of each block number. So far it has file
-//! systems alone, without snapshots.
+//! systems and their snapshots, without clones, tags, bookmarks or limits.
 #![tactic(auto)]
 
 mod named;

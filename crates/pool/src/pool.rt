@@ -40,7 +40,7 @@ use zalloc::{Allocator, MOST_BLOCKS};
 /// The last group, which no sync closes (profile).
 const LAST_GROUP: u64 = 9223372036854775807;
 
-/// A pool of blocks with its file systems. Contracts see its state, and the state of each block number.
+/// A pool of blocks with its file systems and snapshots. Contracts see its state, and the state of each block number.
 #[derive(Drop)]
 pub struct Pool {
     present: Table,
@@ -132,9 +132,10 @@ impl Pool {
     }
 
     /// Makes all growths of a request, and its reply. The state stays as it is until `commit`. A name costs the logarithm of the
-    /// number of file systems. What changes file systems is made on a copy of them, which costs a count for each: beside it a write or
-    /// a punch costs the path to its leaf, and to free an object costs its nodes. A read costs the path, and takes no memory. A list
-    /// costs the names. Nothing else grows.
+    /// number of file systems, and a snapshot's the number of its file system's snapshots. What changes file systems is made on a
+    /// copy of them, which costs a count for each: beside it a write or a punch costs the path to its leaf, to free an object costs
+    /// its nodes, and a snapshot costs its names and a 64th of the snapshots of its file system, but no block. A read costs the path,
+    /// and takes no memory. A list costs the names. Nothing else grows.
     pub fn prepare(&mut self, alloc: Global, request: &Request) -> (Reply, Ready)
         ensures same { self.new ≡ self.old }
         ensures from { result.1.from ≡ self.new }
