@@ -4,8 +4,9 @@
     python3 bench/gate.py [--cores 0,1] [--log FILE]
 
 It prints what the gate took, and a line a crate: its lines of source, how many must-fail edits it has, and the CPU minutes of its
-proof, of its tests' proof, and of its edits with the full checks before and after them. A process is looked at twice a second, so
-each check may have taken half a second more than is told. Let the machine do nothing else meanwhile.
+proof, of its tests' proof, and of its edits with the full checks before and after them; and then each edit that took longer than
+30 seconds. A process is looked at twice a second, so each check may have taken half a second more than is told. Let the machine do
+nothing else meanwhile.
 """
 
 import argparse
@@ -13,7 +14,7 @@ import os
 import subprocess
 import tempfile
 import time
-from collections import Counter
+from collections import Counter, defaultdict
 from pathlib import Path
 
 TICKS = os.sysconf("SC_CLK_TCK")
@@ -68,7 +69,8 @@ def look_at_all(top, taken):
 
 
 def run(root, cores, log):
-    """Runs the gate to its end: its last line, its minutes, and the CPU minutes by crate and kind."""
+    """Runs the gate to its end: its last line, its minutes, the CPU minutes by crate and kind, and the CPU seconds of the edits of
+    each crate in their order, the first with a check of all, and one check of all after them."""
     words = (["taskset", "-c", cores] if cores else []) + ["bash", ".ci/run"]
     taken, begun = {}, time.monotonic()
     with open(log, "w", encoding="utf-8") as out:
@@ -76,10 +78,12 @@ def run(root, cores, log):
         while gate.poll() is None:
             look_at_all(gate.pid, taken)
             time.sleep(0.5)
-    sums = Counter()
-    for what, seconds in taken.values():
+    sums, tried = Counter(), defaultdict(list)
+    for _, (what, seconds) in sorted(taken.items(), key=lambda one: int(one[0][1])):
         sums[what] += seconds / 60
-    return Path(log).read_text(encoding="utf-8").splitlines()[-1], (time.monotonic() - begun) / 60, sums
+        if what[1] == "edits":
+            tried[what[0]].append(seconds)
+    return Path(log).read_text(encoding="utf-8").splitlines()[-1], (time.monotonic() - begun) / 60, sums, tried
 
 
 def lines_of(crate):
@@ -94,7 +98,7 @@ def main():
     with tempfile.TemporaryDirectory() as room:
         root = Path(room) / "repository"
         subprocess.run(["git", "clone", "-q", ".", str(root)], check=True)
-        last, minutes, sums = run(root, options.cores, options.log)
+        last, minutes, sums, tried = run(root, options.cores, options.log)
         print(f"{last}; {minutes:.1f} minutes on the processors {options.cores or 'all'}; {sum(sums.values()):.1f} CPU minutes\n")
         print("| Crate | Lines | Edits | Proof | Tests | Edits' minutes |\n|---|---|---|---|---|---|")
         for name in crates_of(root):
@@ -102,6 +106,11 @@ def main():
             edits = len(list((crate / "must-fail").glob("*.edit")))
             told = " | ".join(f"{sums[name, kind]:.1f}" for kind in ("proof", "tests", "edits"))
             print(f"| `{name}` | {lines_of(crate)} | {edits} | {told} |")
+        for name in crates_of(root):
+            edits = sorted(edit.name for edit in (root / "crates" / name / "must-fail").glob("*.edit"))
+            for edit, seconds in list(zip(edits, tried[name]))[1:]:
+                if seconds > 30:
+                    print(f"{name}/{edit}: {seconds:.0f} seconds")
 
 
 if __name__ == "__main__":
