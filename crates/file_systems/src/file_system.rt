@@ -163,9 +163,9 @@ impl FileSystem {
     {
         let newest = self.newest_group();
         let young = synced.max(Group(newest.0 + 1));
-        let mut changed = self
-            .live
-            .change(alloc, updates, group, young, allocator, meter)?;
+        let live = &mut self.live;
+        let draft = live.draft(alloc, updates, young, allocator, meter)?;
+        let mut changed = live.put(alloc, updates, group, draft)?;
         changed.released.retain(|dead| dead.birth > newest);
         Ok(changed)
     }

@@ -26,7 +26,7 @@ use Rattle.batch.specs.declared.draft.Draft.{Draft}
 use Rattle.batch.specs.declared.numbers.NewBlock.{NewBlock}
 use Rattle.batch.specs.declared.plan.Claim.{Claim}
 use Rattle.batch.specs.declared.update.Update.{Update}
-use Rattle.batch.proofs.Batch.{IsAsked, claim_keys_once}
+use Rattle.batch.proofs.Batch.{IsAsked, claim_keys_once, released_to, released_from, released_blocks_once}
 use Rattle.batch.proofs.Filled.{claim_key, new_key, filled_has, placed_keys}
 use Rattle.batch.proofs.Listing.{listing_map}
 use Rattle.batch.proofs.Prepare.{IsReady, asked, own_kid}
@@ -34,7 +34,7 @@ use Rattle.batch.proofs.Remade.{rebuilt_sound, rebuilt_cells}
 use Rattle.batch.proofs.Standing.{Stands, stands_of}
 use Rattle.batch.proofs.SaidLaws.{full_size}
 use Rattle.tree.specs.Asking.{AreAllocated, AreBornBy}
-use Rattle.tree.specs.Change.{Shown, IsChange}
+use Rattle.tree.specs.Change.{Shown, IsChange, AreReleased}
 use Rattle.tree.specs.ChangeParts.{made_pair}
 use Rattle.tree.proofs.Numbered.{is_change, unique_after}
 
@@ -85,6 +85,18 @@ module _ (root : Option (Arc Root Global)) (count : ℕ) (us : List Update) (y :
 
     pub ready_places : AreDifferent (map new_key d.made.items)
     ready_places = subst (λ bs. AreDifferent (map new_key bs)) (sym h.made) (placed_keys C d.taken.items h.enough (claim_keys_once m o us b y states (known b (own_kid root count us y states r))) h.once)
+
+    -- what it lets go
+    pub ready_released : (n : Map) → m ≡ n → AreReleased n (changes_of us) y (map dead_block d.released.items)
+    ready_released n is = subst (λ (k : Map). AreReleased k (changes_of us) y (map dead_block d.released.items)) is
+        (let q = known b (own_kid root count us y states r) in
+        let same : map dead_block d.released.items ≡ map dead_block R = ap (map dead_block) h.released in record {
+          each = λ x. (
+            λ i. released_to m o us b y states q x (subst (λ xs. IsIn xs x) same i),
+            λ i. subst (λ xs. IsIn xs x) (sym same) (released_from m o us b y states q x i),
+          );
+          once = subst AreDifferent (sym same) (released_blocks_once m o us b y states q);
+        })
 
     hand : (n : ℕ) → IsIn (numbers d.taken.items) n → IsAtHand states y R n
     hand n i = subst (λ ds. IsAtHand states y ds n) h.released (h.at_hand n i)

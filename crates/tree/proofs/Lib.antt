@@ -7,3 +7,4 @@ pub mod Drafted
 pub mod Staying
 pub mod Committed
 pub mod Branches
+pub mod Putting

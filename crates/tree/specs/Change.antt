@@ -36,3 +36,8 @@ pub record IsChange (m : Map) (c : Changes) (g young : ℕ) (states : List Block
   pub made : (k : Key) (n : ℕ) → IsIn v.made (k, n) ↔ (IsMadeKey m c k × (number k ≡ n))
   pub made_order : IsStrictlySortedBy key_cmp (map (λ e. e.0) v.made)
   pub tree : (n : ℕ) → IsTree n m → ((k : ℕ) → IsIn v.taken k → k < n) → IsTree n v.new
+
+-- these are the blocks that touched keys had which don't keep their numbers, each once (profile)
+pub record AreReleased (m : Map) (c : Changes) (young : ℕ) (bs : List Block) : Type 0 where
+  pub each : (b : Block) → IsIn bs b ↔ IsReleased m c young b
+  pub once : AreDifferent bs

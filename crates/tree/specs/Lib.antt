@@ -5,6 +5,7 @@ pub mod Asking
 pub mod Taking
 pub mod Reading
 pub mod Change
+pub mod Drafting
 pub mod ChangeParts
 pub mod Same
 pub mod Branch

@@ -2,10 +2,12 @@
 ghost use Rattle.std.specs.Prelude.{◌≡◌, ◌≤◌, IfOk, IfErr, OnOk, OnErr, map};
 ghost use Rattle.std.specs.FinMap as finmap;
 ghost use Rattle.base.specs.declared.refusal.Refusal.{Refusal};
-ghost use Rattle.batch.specs.Updates.{changes_of};
-ghost use Rattle.tree.specs.Asking.{AllowsChange, IsNoSpaceOrNoMemory};
-ghost use Rattle.tree.specs.Change.{HasRoom, LacksRoom, CountsDropped};
-ghost use Rattle.tree.specs.ChangeParts.{HasChanged};
+ghost use Rattle.base.specs.Surveys.{dead_block};
+ghost use Rattle.batch.specs.Updates.{changes_of, IsBatch};
+ghost use Rattle.node.specs.Unique.{IsUnique};
+ghost use Rattle.tree.specs.Asking.{AreAllocated, IsNoSpaceOrNoMemory};
+ghost use Rattle.tree.specs.Change.{AreReleased, HasRoom, LacksRoom, CountsDropped};
+ghost use Rattle.tree.specs.Drafting.{IsDraftOf, CanPut, HasPut};
 ghost use Rattle.tree.specs.Taking.{AllFree, takes};
 
 use crate::change::Changed;
@@ -13,7 +15,7 @@ use crate::renew::renew_root;
 use base::meter::Meter;
 use base::number::{BlockNo, Group};
 use base::refusal::Refusal;
-use batch::{Update, draft_of};
+use batch::{Draft, Update, draft_of};
 use node::{Root, keep, owner_in};
 use std::alloc::Global;
 use std::marker::Model;
@@ -77,34 +79,52 @@ impl Tree {
         })
     }
 
-    /// Puts a batch of changes in force: new blocks for the changed leaves and all their ancestors that stay, born in `group`
-    /// (On-Disk Specification, chapter 3). A block that was there and was born from `young` on keeps its number, and the others
-    /// have those of young blocks that go, and then Free ones. It takes no number: the answer names those that the new blocks
-    /// have. At `Err` the tree is as it was. NoSpace where these numbers are fewer than the new blocks, NoMemory where there is no
-    /// memory. It costs the nodes on the way to the changes, each with its sixteen places. The meter counts these nodes: it rises
-    /// by at least one for each block that the change drops, and at `Err` is never lower. A batch that is one write or one punch
-    /// of a leaf changes those nodes where they are that no other version of the tree shares.
-    pub fn change(
+    /// What a batch of changes is to make and what it lets go, before any node of it is made, with the blocks young that were born
+    /// from `young` on: `put` puts it in force. NoSpace where the numbers are fewer than the new blocks, NoMemory where there is no
+    /// memory. It costs the nodes on the way to the changes, each with its sixteen places. The meter counts these nodes: it rises by
+    /// at least one for each block that the change drops, and at `Err` is never lower.
+    pub fn draft(
+        &self,
+        alloc: Global,
+        updates: &[Update],
+        young: Group,
+        allocator: &Allocator,
+        meter: &mut Meter,
+    ) -> Result<Draft, Refusal>
+        requires batch { IsBatch updates.now }
+        requires allocated { AreAllocated self.now allocator.now }
+        ensures ok { IfOk result (IsDraftOf self.now updates.now young.0 allocator.now) }
+        ensures unique { IsUnique self.now }
+        ensures released { IfOk result (λ d. AreReleased self.now (changes_of updates.now) young.0 (map dead_block d.released.items)) }
+        ensures room { OnOk result (HasRoom self.now (changes_of updates.now) young.0 allocator.now) }
+        ensures no_space { result ≡ Err Refusal.NoSpace → LacksRoom self.now (changes_of updates.now) young.0 allocator.now }
+        ensures only { IfErr result IsNoSpaceOrNoMemory }
+        ensures metered { OnOk result (CountsDropped self.now (changes_of updates.now) meter.old meter.new) }
+        ensures never_lower { meter.old ≤ meter.new }
+    {
+        draft_of(
+            alloc, &self.root, self.count, updates, young, allocator, meter,
+        )
+    }
+
+    /// Puts a draft of a batch of changes in force: new blocks for the changed leaves and all their ancestors that stay, born in
+    /// `group` (On-Disk Specification, chapter 3). A block that was there and was born from the draft's `young` on keeps its number,
+    /// and the others have those of young blocks that go, and then Free ones. It takes no number: the answer names those that the new
+    /// blocks have. NoMemory where there is none for the nodes, and then the tree is as it was. It costs the nodes on the way to the
+    /// changes, each with its sixteen places. A batch that is one write or one punch of a leaf changes those nodes where they are
+    /// that no other version of the tree shares.
+    pub fn put(
         &mut self,
         alloc: Global,
         updates: &[Update],
         group: Group,
-        young: Group,
-        allocator: &Allocator,
-        meter: &mut Meter,
+        mut draft: Draft,
     ) -> Result<Changed, Refusal>
-        requires { AllowsChange self.old updates.now group.0 young.0 allocator.now }
-        ensures ok { IfOk result (HasChanged self.old self.new (changes_of updates.now) group.0 young.0 allocator.now) }
-        ensures room { OnOk result (HasRoom self.old (changes_of updates.now) young.0 allocator.now) }
+        requires { CanPut self.old updates.now group.0 draft }
+        ensures ok { IfOk result (HasPut self.old self.new updates.now group.0 draft) }
         ensures err { OnErr result (self.new ≡ self.old) }
-        ensures no_space { result ≡ Err Refusal.NoSpace → LacksRoom self.old (changes_of updates.now) young.0 allocator.now }
-        ensures only { IfErr result IsNoSpaceOrNoMemory }
-        ensures metered { OnOk result (CountsDropped self.old (changes_of updates.now) meter.old meter.new) }
-        ensures never_lower { meter.old ≤ meter.new }
+        ensures only { OnErr result (result ≡ Err Refusal.NoMemory) }
     {
-        let mut draft = draft_of(
-            alloc, &self.root, self.count, updates, young, allocator, meter,
-        )?;
         let (touched, new_blocks) = (draft.touched, &draft.made);
         renew_root(&mut self.root, alloc, touched, updates, group, new_blocks)?;
         self.count = draft.count;

@@ -202,7 +202,8 @@ impl Rig {
         let before = look_at(rt, alloc, &self.tree, updates)?;
         let mut copy = self.tree.copy()?;
         let allocator = &self.allocator;
-        let done = copy.change(alloc, updates, group, young, allocator, &mut meter())?;
+        let draft = copy.draft(alloc, updates, young, allocator, &mut meter())?;
+        let done = copy.put(alloc, updates, group, draft)?;
         assert!(rt; before.is(&look_at(rt, alloc, &self.tree, updates)?));
         self.tree = copy;
         Ok(done)
@@ -222,8 +223,9 @@ impl Rig {
         let allocator = &self.allocator;
         let done = match self.way {
             Way::AtOnce => {
-                self.tree
-                    .change(alloc, updates, group, young, allocator, &mut meter())?
+                let tree = &mut self.tree;
+                let draft = tree.draft(alloc, updates, young, allocator, &mut meter())?;
+                tree.put(alloc, updates, group, draft)?
             }
             Way::OnACopy => self.change_copy(rt, alloc, updates, group, young)?,
         };

@@ -35,7 +35,8 @@ fn full_tree(alloc: Global, updates: &[Update], numbers: u32) -> Result<Tree, Re
     if !is_batch(updates) || !is_ready(alloc, &tree, &allocator, Group(1))? {
         return Err(Refusal::BadKey);
     }
-    tree.change(alloc, updates, Group(1), Group(1), &allocator, &mut meter())?;
+    let draft = tree.draft(alloc, updates, Group(1), &allocator, &mut meter())?;
+    tree.put(alloc, updates, Group(1), draft)?;
     Ok(tree)
 }
 

@@ -1,0 +1,43 @@
+use Rattle.std.proofs.Common.{map, refl, sym, ap, subst, ◌∙◌}
+use Rattle.base.specs.Surveys.{AreDifferent}
+use Rattle.batch.specs.Build.{made_keys, HasKeys, number_of, rebuilt}
+use Rattle.batch.specs.Said.{said}
+use Rattle.batch.proofs.Filled.{new_key}
+use Rattle.batch.proofs.Prepare.{own_kid}
+use Rattle.batch.proofs.Words.{batch_in_order}
+use Rattle.node.specs.Node.{whole}
+use Rattle.tree.specs.ChangeParts.{made_pair}
+use Rattle.tree.proofs.Drafted.{turned}
+use Rattle.tree.proofs.Putting.{here, ready, put_keys, put_places, put_sound, put_change, same_sound}
+use Rattle.tree.proofs.tree.Tree.put.Goals as goal
+
+pub renew_root-requires : goal.renew_root-requires
+renew_root-requires c =
+    let r = c.requires in record {
+      order = batch_in_order c.args.updates.now r.asks.batch;
+      sound = own_kid _ _ _ _ _ (ready c.self.inside.root c.self.inside.count c.self.invariant c.args.self.now c.self.view_is c.args.updates.now c.args.group.0 r.young r.states c.args.draft r.asks r.is);
+      touched = (here c.self.inside.root c.self.inside.count c.self.invariant c.args.self.now c.self.view_is c.args.updates.now c.args.group.0 r.young r.states c.args.draft r.asks r.is).touched;
+      keys = subst (λ bs. HasKeys bs 0 (made_keys (said c.args.updates.now) 5 0 (whole c.self.inside.root))) (sym c.deref.ensures)
+          (put_keys c.self.inside.root c.self.inside.count c.self.invariant c.args.self.now c.self.view_is c.args.updates.now c.args.group.0 r.young r.states c.args.draft r.asks r.is);
+      once = subst (λ bs. AreDifferent (map new_key bs)) (sym c.deref.ensures)
+          (put_places c.self.inside.root c.self.inside.count c.self.invariant c.args.self.now c.self.view_is c.args.updates.now c.args.group.0 r.young r.states c.args.draft r.asks r.is);
+    }
+
+pub invariant_of-self : goal.invariant_of-self
+invariant_of-self c = same_sound c.self.inside.root c.renew_root.new.root c.self.inside.count c.in_err-renew_root.ensures.same c.self.invariant
+
+pub invariant_of-self-2 : goal.invariant_of-self-2
+invariant_of-self-2 c =
+    let r = c.requires in
+    let renewed = c.in_ok-renew_root.ensures.part ∙ ap (λ bs. rebuilt (said c.args.updates.now) (number_of bs) c.args.group.0 5 0 (whole c.self.inside.root)) c.deref.ensures in
+    put_sound c.self.inside.root c.self.inside.count c.self.invariant c.args.self.now c.self.view_is c.args.updates.now c.args.group.0 r.young r.states c.args.draft r.asks r.is c.renew_root.new.root renewed
+
+pub returns-clause-ok : goal.returns-clause-ok
+returns-clause-ok c =
+    let renewed = c.in_ok-renew_root.ensures.part ∙ ap (λ bs. rebuilt (said c.args.updates.now) (number_of bs) c.args.group.0 5 0 (whole c.self.inside.root)) c.deref.ensures in
+    record {
+      changed = λ young states asks of.
+          put_change c.self.inside.root c.self.inside.count c.self.invariant c.args.self.now c.self.view_is c.args.updates.now c.args.group.0 young states c.args.draft asks of c.renew_root.new.root renewed
+          _ refl refl refl refl (ap (map made_pair) (turned c.args.draft.made.items c.reverse.new.self c.deref_mut.result.now c.reverse.ensures.after c.reverse.ensures.len c.deref_mut.ensures.value));
+      released = refl;
+    }
