@@ -3,6 +3,7 @@
 
 mod build;
 mod change;
+mod copy;
 mod reading;
 mod renew;
 mod same;

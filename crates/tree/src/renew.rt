@@ -10,6 +10,7 @@ ghost use Rattle.batch.specs.Build.{made_keys, rebuilt, number_of, HasKeys};
 ghost use Rattle.tree.specs.Others.{HasOther};
 
 use crate::build::{Build, number_at};
+use crate::copy::own;
 use base::number::Group;
 use base::refusal::Refusal;
 use batch::{NewBlock, Update, Way, Word, way_of, word_of};
@@ -57,8 +58,9 @@ fn replace<C: Build>(
 /// A level whose parts can be changed where they are.
 pub trait Renew: Build {
     /// Puts into a place the part with an index among those of its level after a batch that touches it, and answers the place
-    /// after the numbers used, as `build` does. Where the batch writes or punches one leaf, a node that stays and has no other
-    /// owner is changed where it is, however old. At `Err` the place has the part that it had.
+    /// after the numbers used, as `build` does. Where the batch writes or punches one leaf, a node that stays is changed where it
+    /// is, however old, if it has no other owner, and else a copy of it comes to the place and is changed. At `Err` the place has
+    /// the part that it had.
     fn renew(
         slot: &mut Option<Arc<Self>>,
         alloc: Global,
@@ -181,8 +183,9 @@ impl<C: Renew> Renew for Inner<C> {
     ) -> Result<usize, Refusal> {
         if let Some(way) = way_of(updates, level, index) {
             if let Some(owner) = slot {
-                if let Some(node) = Arc::get_mut(owner) {
-                    if surely_stays(node, way) {
+                if surely_stays(owner, way) {
+                    own(owner, alloc)?;
+                    if let Some(node) = Arc::get_mut(owner) {
                         return renew_node(
                             node, way, alloc, level, index, updates, group, made, next,
                         );

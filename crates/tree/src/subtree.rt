@@ -16,11 +16,12 @@ ghost use Rattle.node.specs.Node.{leaf_part, inner_part, shared_part};
 ghost use Rattle.node.specs.Shape.{Part, part_at, forest_of};
 ghost use Rattle.node.specs.Cells.{dead_of};
 
+use crate::copy::owners_below;
 use crate::tree::Tree;
 use base::meter::Meter;
 use base::number::{Dead, Group, Key};
 use base::refusal::Refusal;
-use node::{Inner, Leaf, Level, Root, keep};
+use node::{Inner, Leaf, Level, Root};
 use std::marker::Model;
 use std::sync::Arc;
 
@@ -161,21 +162,6 @@ fn subtrees_of<C: Top>(kids: [Option<Arc<C>>; 16], key: Key) -> [Option<Subtree>
         }
     }
     subtrees
-}
-
-/// One more owner of each part directly below a node. NoMemory where there is none for one.
-fn owners_below<C: Top>(node: &Inner<C>) -> Result<[Option<Arc<C>>; 16], Refusal>
-    ensures ok { IfOk result (λ kids. forest_of (shared_part C.part) kids ≡ (inner_part C.part node.now).below) }
-    ensures err { OnErr result (result ≡ Err Refusal.NoMemory) }
-{
-    let mut kids = [
-        None, None, None, None, None, None, None, None, None, None, None, None, None, None, None,
-        None,
-    ];
-    for place in 0..node.place_count() {
-        kids[place as usize] = keep(node.owner(place as usize))?;
-    }
-    Ok(kids)
 }
 
 /// The subtrees directly below a node: of the parts that it owned, where nobody else owns the node, and else of one more owner of

@@ -1,7 +1,7 @@
 use Rattle.std.proofs.Common.{arith}
 use Rattle.node.specs.Node.{shared_part}
 use Rattle.node.proofs.Sameness.{same_forest}
-use Rattle.tree.proofs.subtree.owners_below.Goals as goal
+use Rattle.tree.proofs.copy.keep_below.Goals as goal
 
 pub returns-clause-ok : goal.returns-clause-ok
 returns-clause-ok g c =

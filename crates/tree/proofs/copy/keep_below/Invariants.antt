@@ -1,7 +1,7 @@
 -- The places so far have the parts of the node.
 use Rattle.std.proofs.Common.{◌≡◌, ℕ, ◌<◌, get_or, length, None}
 use Rattle.node.specs.Node.{part_of_slot}
-use Rattle.tree.proofs.subtree.owners_below.Given as goal
+use Rattle.tree.proofs.copy.keep_below.Given as goal
 
 abbrev pub invariant-loop-place : goal.invariant-loop-place
 invariant-loop-place g l = record {
