@@ -108,6 +108,42 @@ impl Build for Leaf {
     }
 }
 
+/// The part at a place below, as `build` has it. Where the batch does nothing to it, nothing below it is looked at.
+fn build_kid<C: Build>(
+    alloc: Global,
+    old: Option<&Arc<C>>,
+    level: u8,
+    index: u32,
+    updates: &[Update],
+    group: Group,
+    made: &[NewBlock],
+    next: usize,
+) -> Result<Built<C>, Refusal>
+    requires level { level ≡ C.height }
+    requires within { (index + 1) * 16 ^ level ≤ 1048576 }
+    requires low { level ≤ 5 }
+    requires order { AreInOrder updates.now }
+    requires sound { IsSoundKid C.height (part_of_owner C.part old) }
+    requires keys { HasKeys made.now next (made_keys (said updates.now) C.height index (part_of_owner C.part old)) }
+    requires once { AreDifferent (map (λ b. b.key) made.now) }
+    ensures part { IfOk result (λ b. part_of_slot C.part b.part ≡ rebuilt (said updates.now) (number_of made.now) group.0 C.height index (part_of_owner C.part old.entry)) }
+    ensures touched { IfOk result (λ b. b.touched ≡ touched (said updates.now) C.height index (part_of_owner C.part old.entry)) }
+    ensures stays { IfOk result (λ b. b.stays ≡ stays (said updates.now) C.height index (part_of_owner C.part old.entry)) }
+    ensures next { IfOk result (λ b. b.next ≡ next + length (made_keys (said updates.now) C.height index (part_of_owner C.part old.entry))) }
+    ensures err { OnErr result (result ≡ Err Refusal.NoMemory) }
+{
+    let present = old.is_some();
+    if is_idle(updates, present) {
+        return Ok(Built {
+            part: keep(old)?,
+            touched: false,
+            stays: present,
+            next,
+        });
+    }
+    C::build(alloc, old, level, index, updates, group, made, next)
+}
+
 /// The places of a part after a batch, made from the last to the first. The places have a level, and the indices from one on.
 fn build_kids<C: Build>(
     alloc: Global,
@@ -147,7 +183,7 @@ fn build_kids<C: Build>(
         let (mine, earlier) = split_at_leaf(rest, index * span);
         rest = earlier;
         let kid = owner_at(old, place as usize);
-        let built = C::build(alloc, kid, level, index, mine, group, made, at)?;
+        let built = build_kid(alloc, kid, level, index, mine, group, made, at)?;
         any_touched |= built.touched;
         any_stays |= built.stays;
         at = built.next;

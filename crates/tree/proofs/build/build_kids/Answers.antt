@@ -39,13 +39,13 @@ overflow_add-index g c =
 pub split_at_leaf-requires : goal.split_at_leaf-requires
 split_at_leaf-requires g c = c.loop-back.invariant.order
 
-pub build-requires-clause-sound : goal.build-requires-clause-sound
-build-requires-clause-sound g c =
+pub build_kid-requires-clause-sound : goal.build_kid-requires-clause-sound
+build_kid-requires-clause-sound g c =
     let old = part_of_owner (inner_part g.C.Level.part) c.args.old in
     kid_sound g.C.Level.height (birth_of old) (15 - c.loop-back.back) old _ c.requires.sound c.owner_at-kid.ensures
 
-pub build-requires-clause-keys : goal.build-requires-clause-keys
-build-requires-clause-keys g c =
+pub build_kid-requires-clause-keys : goal.build_kid-requires-clause-keys
+build_kid-requires-clause-keys g c =
     let h = g.C.Level.height in
     let old = part_of_owner (inner_part g.C.Level.part) c.args.old in
     let os = places_of old in
