@@ -373,7 +373,8 @@ impl Pool {
         reply
     }
 
-    // One step: a change of a tree at once, a question as it is, and each other request prepared and committed.
+    // One step: a change of a tree and a sync at once, a question as it is, and each other request prepared and committed.
+    #[inline(never)]
     fn answer(&mut self, alloc: Global, request: &Request) -> Reply
         ensures { Step self.old.state request.now result self.new.state }
     {
@@ -400,7 +401,8 @@ impl Pool {
             Request::Get { target, property } => self.get(target, *property),
             Request::PoolGet { property } => self.pool_get(*property),
             Request::List => self.list(alloc),
-            Request::Create { .. } | Request::Snapshot { .. } | Request::Sync => {
+            Request::Sync => self.sync_now(),
+            Request::Create { .. } | Request::Snapshot { .. } => {
                 self.answer_prepared(alloc, request)
             }
         }
@@ -413,6 +415,26 @@ impl Pool {
         let (reply, ready) = self.prepare(alloc, request);
         self.commit(ready);
         reply
+    }
+
+    // Syncs at once, or answers why it can't, and then nothing has changed.
+    fn sync_now(&mut self) -> Reply
+        ensures { Step self.old.state Request.Sync result self.new.state }
+    {
+        let group = self.present.group();
+        if group.0 >= LAST_GROUP {
+            return Reply::Refused(Refusal::TooMany);
+        }
+        let mut next = match self.present.copy() {
+            Ok(next) => next,
+            Err(refusal) => return Reply::Refused(refusal),
+        };
+        next.close_group();
+        let open = next.group();
+        self.present.close_group();
+        self.last = next;
+        self.allocator.end_group();
+        Reply::Group(open.0)
     }
 
     // Puts this update of the live tree of a file system in force at once. Only then it releases the dropped blocks, and takes the new
