@@ -1,3 +1,4 @@
 pub mod Parents
 pub mod Kept
 pub mod Written
+pub mod Above

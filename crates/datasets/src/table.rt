@@ -19,7 +19,7 @@ ghost use Rattle.datasets.specs.Writes.{young_of, AllowsWrite, HasWritten};
 ghost use Rattle.datasets.specs.Snapshots.{with_snap_at};
 
 use crate::parent::parent_of;
-use base::meter::Meter;
+use base::meter::{Meter, SegMeter};
 use base::number::{Group, Guid};
 use base::refusal::Refusal;
 use file_systems::{FileSystem, FileSystems};
@@ -164,6 +164,7 @@ impl Table {
         synced: Group,
         allocator: &Allocator,
         meter: &mut Meter,
+        segments: &mut SegMeter,
     ) -> Result<Changed, Refusal>
         requires { AllowsWrite self.old updates.now synced.0 allocator.now }
         ensures ok { IfOk result (HasWritten self.old self.new name.now (changes_of updates.now) synced.0 allocator.now) }
@@ -176,8 +177,9 @@ impl Table {
         ensures never_lower { meter.old ≤ meter.new }
     {
         let group = self.group;
-        self.systems
-            .apply_live(name, alloc, updates, group, synced, allocator, meter)
+        self.systems.apply_live(
+            name, alloc, updates, group, synced, allocator, meter, segments,
+        )
     }
 
     /// Keeps the live map of this file system as a snapshot, with this name within it, this guid and this creation group, which is
@@ -206,6 +208,29 @@ impl Table {
         ensures { self.new ≡ record self.old { group = self.old.group + 1 } }
     {
         self.group = Group(self.group.0 + 1);
+    }
+
+    /// Keeps the live map of this file system as a snapshot of the group that is open, with this name within it and this guid, and
+    /// closes that group (zfs-snapshot(8)). NoMemory where there is none for it, and then the table is as it was. It costs the
+    /// logarithm of the number of file systems; and where another table shares this one, a 64th of the number of its snapshots.
+    pub fn keep_live(
+        &mut self,
+        alloc: Global,
+        name: &DsName,
+        component: &Component,
+        guid: Guid,
+    ) -> Result<(), Refusal>
+        requires opens { self.old.group + 1 < 2 ^ 64 }
+        requires can { CanSnap (record self.old { group = self.old.group + 1 }) name.now (plain_snap component.now (live_of self.old.file_systems name.now) guid.0 self.old.group) }
+        ensures ok { OnOk result (self.new ≡ with_snap_at (record self.old { group = self.old.group + 1 }) name.now component.now guid.0 self.old.group) }
+        ensures err { OnErr result (self.new ≡ self.old) }
+        ensures only { IfErr result (λ e. e ≡ Refusal.NoMemory) }
+    {
+        let open = self.group;
+        self.systems
+            .take_snapshot(alloc, name, component, guid, open)?;
+        self.group = Group(open.0 + 1);
+        Ok(())
     }
 
     // A table with one empty file system more, which nothing refuses.

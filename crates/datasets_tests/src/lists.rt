@@ -29,6 +29,8 @@ fn a_new_one_is_empty(rt: HostRuntime) {
     assert!(rt; file_system.snapshots().len() == 0);
     assert!(rt; file_system.newest_group() == Group(0));
     assert!(rt; file_system.snapshot_named(b"s").is_none());
+    assert!(rt; file_system.written() == 0);
+    assert!(rt; file_system.written_at(b"s").is_none());
     let copy = file_system.copy().expect(&rt, "memory for a copy");
     assert!(rt; copy.name().as_bytes() == b"p/a".as_slice());
 }

@@ -4,7 +4,7 @@ use base::number::{Group, Guid};
 use base::refusal::Refusal;
 use datasets::Table;
 use name::SnapName;
-use snap::{Guids, Taken, snapshot};
+use snap::{Guids, Taken, snapshot, snapshot_one};
 use std::alloc::Global;
 use std::process::Abort;
 
@@ -146,4 +146,89 @@ fn refused_memory_takes_nothing(rt: HostRuntime) {
     assert!(rt; is_out_of_memory(snapshot(alloc, &table, std::slice::from_ref(&one), true, guids)));
     assert!(rt; table.group() == Group(1));
     assert!(rt; table.snapshot_count() == 0);
+}
+
+/// Why a snapshot of this name alone is refused, with this number of its counter, by a pool with id 7; if it isn't, it is taken.
+fn refused_one(
+    rt: &impl Abort,
+    alloc: Global,
+    table: &mut Table,
+    bytes: &[u8],
+    next: u64,
+) -> Option<Refusal> {
+    let one = SnapName::read(alloc, bytes).expect(rt, "memory for a name");
+    snapshot_one(alloc, table, &one, Guids { pool: 7, next }).err()
+}
+
+#[test]
+fn one_after_another_in_place(rt: HostRuntime) {
+    let alloc = rt.alloc();
+    let mut table = family(&rt, alloc);
+    let copy = table.copy().expect(&rt, "memory for a copy");
+    assert!(rt; refused_one(&rt, alloc, &mut table, b"p/a@s", 1).is_none());
+    assert!(rt; refused_one(&rt, alloc, &mut table, b"p/b@s", 2).is_none());
+    assert!(rt; table.group() == Group(3));
+    assert!(rt; table.snapshot_count() == 2);
+    assert!(rt;
+        has_one(
+            &rt,
+            alloc,
+            &table,
+            b"p/a",
+            b"s",
+            Guid(30064771073),
+            Group(1)
+        )
+    );
+    assert!(rt;
+        has_one(
+            &rt,
+            alloc,
+            &table,
+            b"p/b",
+            b"s",
+            Guid(30064771074),
+            Group(2)
+        )
+    );
+    assert!(rt; copy.group() == Group(1));
+    assert!(rt; copy.snapshot_count() == 0);
+}
+
+#[test]
+fn refusals_of_one_name(rt: HostRuntime) {
+    let alloc = rt.alloc();
+    let mut table = family(&rt, alloc);
+    assert!(rt; refused_one(&rt, alloc, &mut table, b"p/a@s", 4294967295).is_none());
+    for (bytes, next, why) in [
+        ("p/z@s", 4294967296, Refusal::NoDataset),
+        ("p/a@s", 4294967296, Refusal::Exists),
+        ("p@s", 4294967296, Refusal::TooMany),
+    ] {
+        let refused = refused_one(&rt, alloc, &mut table, bytes.as_bytes(), next);
+        assert!(rt; refused == Some(why), "{bytes}");
+    }
+    assert!(rt; table.group() == Group(2));
+    assert!(rt; table.snapshot_count() == 1);
+}
+
+/// Run it with each allocation refused in turn: the table has the snapshot, or stays as it was.
+#[test]
+fn refused_memory_keeps_no_live_map(rt: HostRuntime) {
+    let alloc = rt.alloc();
+    let Ok(one) = SnapName::read(alloc, b"p@s") else {
+        return;
+    };
+    let Ok(mut table) = Table::new(alloc) else {
+        return;
+    };
+    let kept = snapshot_one(alloc, &mut table, &one, Guids { pool: 7, next: 1 });
+    let (group, count) = if kept.is_ok() {
+        (Group(2), 1)
+    } else {
+        (Group(1), 0)
+    };
+    assert!(rt; is_out_of_memory(kept));
+    assert!(rt; table.group() == group);
+    assert!(rt; table.snapshot_count() == count);
 }

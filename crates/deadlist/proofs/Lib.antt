@@ -9,3 +9,4 @@ pub mod Joins
 pub mod Counts
 pub mod Merges
 pub mod Meters
+pub mod Pushes

@@ -141,6 +141,20 @@ impl Deadlist {
         self.count += 1;
     }
 
+    /// Puts in those of these entries that were born by the cut, in their order, for which a `reserve` made room. It takes no memory, and
+    /// costs the number of these entries.
+    pub fn push_upto(&mut self, entries: &[Dead], cut: Group)
+        requires { length (filter (is_upto cut.0) entries.now) ≤ self.old.room }
+        ensures entries { self.new.entries ≡ self.old.entries ++ filter (is_upto cut.0) entries.now }
+        ensures cuts { self.new.cuts ≡ self.old.cuts }
+    {
+        for dead in entries {
+            if dead.birth.0 <= cut.0 {
+                self.push_reserved(*dead);
+            }
+        }
+    }
+
     /// Adds the other's entries and cuts: whole segments where the cuts agree, and its new entries by a binary search each. The meter
     /// counts the segments of both. NoMemory where memory is refused, and then the other is handed back, and both are unchanged.
     pub fn append(
@@ -239,6 +253,13 @@ impl Deadlist {
     {
         reach(meter, self.segments());
         Iter::new(&self.parts, self.fresh.as_slice())
+    }
+
+    /// How many entries it has. Constant time.
+    pub fn len(&self) -> u64
+        ensures { result ≡ length self.now.entries }
+    {
+        self.count
     }
 
     /// How many segments it has: one more than cuts, which rise.

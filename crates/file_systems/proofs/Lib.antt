@@ -3,3 +3,4 @@ pub mod Rows
 pub mod Counts
 pub mod Newest
 pub mod Releases
+pub mod Accounts

@@ -1,4 +1,5 @@
 pub mod Rows
 pub mod Places
 pub mod Writes
+pub mod Dead
 pub mod Sorted

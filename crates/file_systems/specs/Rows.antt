@@ -8,6 +8,7 @@ use Rattle.std.specs.FinMap as finmap
 use Rattle.base.specs.Map.{Map}
 use Rattle.model.specs.World.{FileSystem, Snap}
 pub use Rattle.model.specs.Hierarchy.{FileSystems}
+pub use Rattle.snapshots.specs.Snaps.{plain_snap}
 use Rattle.model.specs.Codes.{file_system_code}
 
 -- a name, and the file system under it (On-Disk Specification, chapter 4)
@@ -33,10 +34,6 @@ snaps_at m name = option_map_or (λ f. f.snaps) (get m name) []
 -- the file system of this name with another live map, and all others as they are (On-Disk Specification, chapter 4)
 abbrev pub with_live : FileSystems → List ℕ → Map → FileSystems
 with_live m name live = option_map_or (λ f. insert m name (record f { live = live })) (get m name) m
-
--- a snapshot that has no tag and isn't deferred (zfs-snapshot(8))
-abbrev pub plain_snap : List ℕ → Map → ℕ → ℕ → Snap
-plain_snap name map guid group = record { name = name; map = map; guid = guid; group = group; tags = []; deferred = false }
 
 -- a snapshot of its live map after its others (zfs-snapshot(8))
 abbrev pub with_snap : FileSystem → List ℕ → ℕ → ℕ → FileSystem

@@ -1,22 +1,30 @@
 //! One file system, with its snapshots.
-ghost use Rattle.std.specs.Prelude.{◌≡◌, ◌≤◌, IfOk, IfErr, OnOk, OnErr};
-ghost use Rattle.std.specs.Option.{option_copied};
+ghost use Rattle.std.specs.Prelude.{◌≡◌, ◌≤◌, ◌++◌, ◌∷◌, [], List, IfOk, IfErr, OnOk, OnErr};
+ghost use Rattle.std.specs.Option.{option_map, option_copied};
+ghost use Rattle.std.specs.Arc.{arc_value};
+ghost use Rattle.std.specs.FinSet.{empty, len};
 ghost use Rattle.std.specs.List.{find};
 ghost use Rattle.name.specs.Names.{name_cmp, same_name};
 ghost use Rattle.base.specs.declared.refusal.Refusal.{Refusal};
+ghost use Rattle.base.specs.Map.{blocks};
 ghost use Rattle.model.specs.World.{empty_file_system};
-ghost use Rattle.tree.specs.Asking.{AllowsChange, IsNoSpaceOrNoMemory};
+ghost use Rattle.model.specs.Sums.{size_without};
+ghost use Rattle.tree.specs.Asking.{IsNoSpaceOrNoMemory};
 ghost use Rattle.tree.specs.Change.{HasRoom, LacksRoom, CountsDropped};
 ghost use Rattle.tree.specs.Updates.{changes_of};
+ghost use Rattle.file_systems.specs.Dead.{snaps_in, newest_blocks, blocks_kept, written_from, IsIndex, AllowsLive};
+ghost use Rattle.snapshots.specs.declared.kept.Kept.{Kept};
 ghost use Rattle.file_systems.specs.Rows.{with_snap};
 ghost use Rattle.file_systems.specs.Writes.{newest_group, young_after, IsWritten};
 
-use crate::snapshot::Snapshot;
-use base::meter::Meter;
+use crate::dead::put;
+use base::meter::{Meter, SegMeter};
 use base::number::{Group, Guid};
 use base::refusal::Refusal;
+use deadlist::deadlist::Deadlist;
 use name::{Component, DsName};
 use shared_list::SharedList;
+use snapshots::{ByName, Kept, Snapshot};
 use std::alloc::Global;
 use std::cmp::Ordering;
 use std::marker::Model;
@@ -25,12 +33,18 @@ use tree::{Changed, Tree, Update};
 use zalloc::Allocator;
 
 /// A file system: its name, its live dataset, and its snapshots in order of their creation groups (On-Disk Specification, chapter
-/// 4). Contracts see the pair of its name and of what a world has under that name. Copies share the name, the tree and the snapshots.
+/// 4). Contracts see the pair of its name and of what a world has under that name. Copies share the name, the tree, the dead lists and
+/// the snapshots.
+///
+/// Its snapshots are found by name in an index over them. Where memory for the index is refused, the snapshot is taken all the same, and
+/// from then on this file system has none: its snapshots are then found by a walk.
 #[derive(Drop)]
 pub struct FileSystem {
     name: Arc<DsName>,
     live: Tree,
-    snapshots: SharedList<Snapshot>,
+    dead: Arc<Deadlist>,
+    snapshots: SharedList<Kept>,
+    by_name: Option<ByName>,
 }
 
 impl Model for FileSystem {
@@ -41,7 +55,11 @@ impl Model for FileSystem {
 
     ghost coded = { row_code };
 
-    ghost view = { λ f. (f.name.value, record empty_file_system { live = f.live; snaps = f.snapshots }) };
+    ghost use Rattle.file_systems.specs.Dead.{snaps_in, IsKeeping};
+
+    ghost view = { λ f. (f.name.value, record empty_file_system { live = f.live; snaps = snaps_in f.snapshots }) };
+
+    ghost invariant = { IsKeeping };
 }
 
 impl FileSystem {
@@ -51,11 +69,14 @@ impl FileSystem {
         ensures ok { IfOk result (λ f. f ≡ (name.now, empty_file_system)) }
         ensures err { IfErr result (λ e. e ≡ Refusal.NoMemory) }
     {
-        let name = Arc::new(alloc, name.clone()?)?;
+        let name = shared_name(alloc, name)?;
+        let dead = Arc::new(alloc, Deadlist::new(alloc))?;
         Ok(FileSystem {
             name,
             live: Tree::new(),
+            dead,
             snapshots: SharedList::new(alloc),
+            by_name: Some(ByName::new(alloc)),
         })
     }
 
@@ -74,19 +95,18 @@ impl FileSystem {
     }
 
     /// Its snapshots, in order of their creation groups. Constant time.
-    pub fn snapshots(&self) -> &SharedList<Snapshot>
-        ensures { result.now ≡ self.now.1.snaps }
+    pub fn snapshots(&self) -> &SharedList<Kept>
+        ensures { snaps_in result.now ≡ self.now.1.snaps }
     {
         &self.snapshots
     }
 
-    /// The snapshot of this name within the file system, or none. It costs the number of its snapshots.
+    /// The snapshot of this name within the file system, or none. It costs the logarithm of the number of its snapshots, or, where it has
+    /// no index, their number.
     pub fn snapshot_named(&self, component: &[u8]) -> Option<&Snapshot>
         ensures { option_copied result ≡ find (λ t. same_name t.name component.now) self.now.1.snaps }
     {
-        self.snapshots
-            .iter()
-            .find(|snapshot| snapshot.name().as_bytes() == component)
+        self.kept_named(component).map(|kept| &kept.snapshot)
     }
 
     /// The creation group of its newest snapshot, and 0 where it has none. Constant time.
@@ -94,12 +114,30 @@ impl FileSystem {
         ensures { result.0 ≡ newest_group self.now.1.snaps }
     {
         match self.snapshots.last() {
-            Some(snapshot) => snapshot.group(),
+            Some(kept) => kept.snapshot.group(),
             None => Group(0),
         }
     }
 
-    /// An equal file system, by one more owner of its name, of its tree and of each 64 of its snapshots: no block is visited.
+    /// How many blocks its live dataset has that its newest snapshot hasn't, and all of them where it has none (zfsprops(7): written).
+    /// Constant time.
+    pub fn written(&self) -> u32
+        ensures { result ≡ size_without (blocks self.now.1.live) (newest_blocks self.now.1.snaps) }
+    {
+        let newest = count_of(self.snapshots.last());
+        (u64::from(self.live.node_count()) + self.dead.len() - u64::from(newest)) as u32
+    }
+
+    /// How many blocks the snapshot of this name has that the one before it hasn't, or all of them where it is the oldest (zfsprops(7):
+    /// written); none where there is no such snapshot. It costs what `snapshot_named` does.
+    pub fn written_at(&self, component: &[u8]) -> Option<u32>
+        ensures { result ≡ written_from empty self.now.1.snaps component.now }
+    {
+        self.kept_named(component).map(|kept| kept.written)
+    }
+
+    /// An equal file system, by one more owner of its name, of its tree, of its dead list and of each 64 of its snapshots: no block is
+    /// visited.
     /// NoMemory where there is none for that. It costs a 64th of the number of its snapshots.
     pub fn copy(&self) -> Result<FileSystem, Refusal>
         ensures ok { IfOk result (λ f. f ≡ self.now) }
@@ -107,11 +145,15 @@ impl FileSystem {
     {
         let name = Arc::try_clone(&self.name)?;
         let live = self.live.copy()?;
+        let dead = Arc::try_clone(&self.dead)?;
         let snapshots = self.snapshots.copy()?;
+        let by_name = copy_of_index(&self.by_name)?;
         Ok(FileSystem {
             name,
             live,
+            dead,
             snapshots,
+            by_name,
         })
     }
 
@@ -120,6 +162,17 @@ impl FileSystem {
         ensures { result ≡ name_cmp self.now.0 name.now }
     {
         self.name.as_bytes().cmp(&name)
+    }
+
+    // What is kept of the snapshot of this name, or none.
+    fn kept_named(&self, component: &[u8]) -> Option<&Kept>
+        ensures snapshot { option_map (λ k. k.snapshot) (option_copied result) ≡ find (λ t. same_name t.name component.now) self.now.1.snaps }
+        ensures written { option_map (λ k. k.written) (option_copied result) ≡ written_from empty self.now.1.snaps component.now }
+    {
+        match &self.by_name {
+            Some(index) => index.get(component),
+            None => walk(&self.snapshots, component),
+        }
     }
 
     // A snapshot of its live map after its others.
@@ -134,14 +187,26 @@ impl FileSystem {
         ensures err { OnErr result (self.new ≡ self.old) }
         ensures only { IfErr result (λ e. e ≡ Refusal.NoMemory) }
     {
-        let name = name.clone()?;
-        let tree = self.live.copy()?;
-        self.snapshots.push(Snapshot::new(name, tree, guid, group))?;
+        let written = self.written();
+        let snapshot = Snapshot::new(copy_of(name)?, self.live.copy()?, guid, group);
+        let dead = Arc::try_clone(&self.dead)?;
+        let fresh = Arc::new(alloc, Deadlist::new(alloc))?;
+        let kept = Arc::new(
+            alloc,
+            Kept {
+                snapshot,
+                dead,
+                written,
+            },
+        )?;
+        self.snapshots.push_shared(Arc::try_clone(&kept)?)?;
+        index(&mut self.by_name, kept);
+        self.dead = fresh;
         Ok(())
     }
 
     // Puts a batch of changes of the live tree in force at once, where the last sync left group `synced` open. It takes no number,
-    // and releases of the blocks that the tree drops those that no snapshot has.
+    // and of the blocks that the tree drops it releases those that no snapshot has; the others go onto the dead list.
     pub(crate) fn apply(
         &mut self,
         alloc: Global,
@@ -150,8 +215,9 @@ impl FileSystem {
         synced: Group,
         allocator: &Allocator,
         meter: &mut Meter,
+        segments: &mut SegMeter,
     ) -> Result<Changed, Refusal>
-        requires { AllowsChange self.old.1.live updates.now group.0 (young_after self.old.1.snaps synced.0) allocator.now }
+        requires { AllowsLive self.old.1.live self.old.1.snaps updates.now group.0 synced.0 allocator.now }
         ensures ok { IfOk result (IsWritten self.old.1.live self.new.1.live self.old.1.snaps (changes_of updates.now) group.0 synced.0 allocator.now) }
         ensures others { self.new ≡ (self.old.0, record self.old.1 { live = self.new.1.live }) }
         ensures room { OnOk result (HasRoom self.old.1.live (changes_of updates.now) (young_after self.old.1.snaps synced.0) allocator.now) }
@@ -163,10 +229,72 @@ impl FileSystem {
     {
         let newest = self.newest_group();
         let young = synced.max(Group(newest.0 + 1));
-        let live = &mut self.live;
-        let draft = live.draft(alloc, updates, young, allocator, meter)?;
-        let mut changed = live.put(alloc, updates, group, draft)?;
+        let draft = self.live.draft(alloc, updates, young, allocator, meter)?;
+        let (dead, live) = (&mut self.dead, &mut self.live);
+        let mut changed = put(dead, live, alloc, updates, group, draft, newest, segments)?;
         changed.released.retain(|dead| dead.birth > newest);
         Ok(changed)
+    }
+}
+
+// How many blocks a snapshot has, and none where there is no snapshot.
+fn count_of(kept: Option<&Kept>) -> u32
+    ensures { result ≡ len (blocks_kept (option_copied kept.entry)) }
+{
+    match kept {
+        Some(kept) => kept.snapshot.tree().node_count(),
+        None => 0,
+    }
+}
+
+// A copy of a name, which others can own too.
+fn shared_name(alloc: Global, name: &DsName) -> Result<Arc<DsName>, Refusal>
+    ensures ok { IfOk result (λ a. arc_value a ≡ name.now) }
+    ensures err { IfErr result (λ e. e ≡ Refusal.NoMemory) }
+{
+    Ok(Arc::new(alloc, name.clone()?)?)
+}
+
+// A copy of a name within a file system.
+fn copy_of(name: &Component) -> Result<Component, Refusal>
+    ensures ok { IfOk result (λ n. n ≡ name.now) }
+    ensures err { IfErr result (λ e. e ≡ Refusal.NoMemory) }
+{
+    Ok(name.clone()?)
+}
+
+// An equal index, by one more owner of each of its chunks.
+fn copy_of_index(by_name: &Option<ByName>) -> Result<Option<ByName>, Refusal>
+    ensures ok { IfOk result (λ b. b ≡ by_name.now) }
+    ensures err { IfErr result (λ e. e ≡ Refusal.NoMemory) }
+{
+    match by_name {
+        Some(index) => Ok(Some(index.copy()?)),
+        None => Ok(None),
+    }
+}
+
+// The first of these snapshots that has this name. It costs their number.
+fn walk<'a>(snapshots: &'a SharedList<Kept>, component: &[u8]) -> Option<&'a Kept>
+    ensures { option_copied result ≡ find (λ k. same_name k.snapshot.name component.now) snapshots.now }
+{
+    snapshots
+        .iter()
+        .find(|kept| kept.snapshot.name().as_bytes() == component)
+}
+
+// Puts a snapshot that comes behind the others into their index. Where one of its name is there that stays; where memory is refused
+// there is no index any more.
+fn index(by_name: &mut Option<ByName>, kept: Arc<Kept>)
+    ensures { (ks : List Kept) → IsIndex by_name.old ks → IsIndex by_name.new (ks ++ arc_value kept ∷ []) }
+{
+    let Some(index) = by_name else {
+        return;
+    };
+    if index.get(kept.snapshot.name().as_bytes()).is_some() {
+        return;
+    }
+    if index.insert(kept).is_err() {
+        *by_name = None;
     }
 }

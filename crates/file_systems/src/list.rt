@@ -6,16 +6,17 @@ ghost use Rattle.std.specs.FinMap as finmap;
 ghost use Rattle.std.specs.FinMap.{get, insert, entries, len};
 ghost use Rattle.base.specs.declared.refusal.Refusal.{Refusal};
 ghost use Rattle.model.specs.World.{empty_file_system};
+ghost use Rattle.file_systems.specs.Dead.{AllowsLive};
 ghost use Rattle.file_systems.specs.Rows.{live_of, snaps_at, with_live, with_snap, snap_count};
 ghost use Rattle.file_systems.specs.Writes.{young_after, IsWritten};
-ghost use Rattle.tree.specs.Asking.{AllowsChange, IsNoSpaceOrNoMemory};
+ghost use Rattle.tree.specs.Asking.{IsNoSpaceOrNoMemory};
 ghost use Rattle.tree.specs.Change.{HasRoom, LacksRoom, CountsDropped};
 ghost use Rattle.tree.specs.Updates.{changes_of};
 
 use crate::file_system::FileSystem;
 use crate::place::{gap, place};
 use crate::row::{apply, shared, take, with_added};
-use base::meter::Meter;
+use base::meter::{Meter, SegMeter};
 use base::number::{Group, Guid};
 use base::refusal::Refusal;
 use name::{Component, DsName};
@@ -152,8 +153,9 @@ impl FileSystems {
         synced: Group,
         allocator: &Allocator,
         meter: &mut Meter,
+        segments: &mut SegMeter,
     ) -> Result<Changed, Refusal>
-        requires { AllowsChange (live_of self.old name.now) updates.now group.0 (young_after (snaps_at self.old name.now) synced.0) allocator.now }
+        requires { AllowsLive (live_of self.old name.now) (snaps_at self.old name.now) updates.now group.0 synced.0 allocator.now }
         ensures ok { IfOk result (IsWritten (live_of self.old name.now) (live_of self.new name.now) (snaps_at self.old name.now) (changes_of updates.now) group.0 synced.0 allocator.now) }
         ensures others { OnOk result (self.new ≡ with_live self.old name.now (live_of self.new name.now)) }
         ensures room { OnOk result (HasRoom (live_of self.old name.now) (changes_of updates.now) (young_after (snaps_at self.old name.now) synced.0) allocator.now) }
@@ -168,7 +170,9 @@ impl FileSystems {
             return Err(Refusal::NoDataset);
         };
         let row = &mut self.rows[place];
-        apply(row, alloc, updates, group, synced, allocator, meter)
+        apply(
+            row, alloc, updates, group, synced, allocator, meter, segments,
+        )
     }
 
     /// A snapshot of the live map of this file system after its others, with this name within it, this guid and this creation group

@@ -3,14 +3,15 @@ ghost use Rattle.std.specs.Prelude.{◌≡◌, ◌+◌, ◌≤◌, ◌++◌, IfO
 ghost use Rattle.std.specs.Arc.{arc_value};
 ghost use Rattle.std.specs.List.{insert};
 ghost use Rattle.base.specs.declared.refusal.Refusal.{Refusal};
-ghost use Rattle.tree.specs.Asking.{AllowsChange, IsNoSpaceOrNoMemory};
+ghost use Rattle.tree.specs.Asking.{IsNoSpaceOrNoMemory};
 ghost use Rattle.tree.specs.Change.{HasRoom, LacksRoom, CountsDropped};
 ghost use Rattle.tree.specs.Updates.{changes_of};
+ghost use Rattle.file_systems.specs.Dead.{AllowsLive};
 ghost use Rattle.file_systems.specs.Rows.{with_snap};
 ghost use Rattle.file_systems.specs.Writes.{young_after, IsWritten};
 
 use crate::file_system::FileSystem;
-use base::meter::Meter;
+use base::meter::{Meter, SegMeter};
 use base::number::{Group, Guid};
 use base::refusal::Refusal;
 use name::Component;
@@ -75,8 +76,9 @@ pub fn apply(
     synced: Group,
     allocator: &Allocator,
     meter: &mut Meter,
+    segments: &mut SegMeter,
 ) -> Result<Changed, Refusal>
-    requires { AllowsChange (arc_value row.old).1.live updates.now group.0 (young_after (arc_value row.old).1.snaps synced.0) allocator.now }
+    requires { AllowsLive (arc_value row.old).1.live (arc_value row.old).1.snaps updates.now group.0 synced.0 allocator.now }
     ensures ok { IfOk result (IsWritten (arc_value row.old).1.live (arc_value row.new).1.live (arc_value row.old).1.snaps (changes_of updates.now) group.0 synced.0 allocator.now) }
     ensures others { arc_value row.new ≡ ((arc_value row.old).0, record (arc_value row.old).1 { live = (arc_value row.new).1.live }) }
     ensures room { OnOk result (HasRoom (arc_value row.old).1.live (changes_of updates.now) (young_after (arc_value row.old).1.snaps synced.0) allocator.now) }
@@ -87,10 +89,10 @@ pub fn apply(
     ensures never_lower { meter.old ≤ meter.new }
 {
     if let Some(file_system) = Arc::get_mut(row) {
-        return file_system.apply(alloc, updates, group, synced, allocator, meter);
+        return file_system.apply(alloc, updates, group, synced, allocator, meter, segments);
     }
     let mut file_system = row.copy()?;
-    let changed = file_system.apply(alloc, updates, group, synced, allocator, meter)?;
+    let changed = file_system.apply(alloc, updates, group, synced, allocator, meter, segments)?;
     *row = Arc::new(alloc, file_system)?;
     Ok(changed)
 }

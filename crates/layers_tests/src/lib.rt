@@ -1,10 +1,12 @@
-//! Tests of `zalloc`, `deadlist` and `shared_list` from outside.
+//! Tests of `zalloc`, `deadlist`, `shared_list` and `snapshots` from outside.
 #![tactic(auto)]
 
 #[cfg(test)]
 mod dead_blocks;
 #[cfg(test)]
 mod lists;
+#[cfg(test)]
+mod names;
 #[cfg(test)]
 mod numbers;
 #[cfg(test)]

@@ -3,6 +3,7 @@
 use shared_list::SharedList;
 use std::alloc::{AllocError, Global};
 use std::mem;
+use std::sync::Arc;
 
 /// Whether the list has these elements and then those: by its length, by walking, by index, and the last one.
 fn has_both(list: &SharedList<u32>, low: &[u32], high: &[u32]) -> bool {
@@ -45,6 +46,13 @@ impl Pair {
 
     fn push(&mut self, n: u32) -> Result<(), AllocError> {
         self.list.push(n)?;
+        self.plain.push(n)?;
+        Ok(())
+    }
+
+    /// Pushes by an owner.
+    fn push_shared(&mut self, alloc: Global, n: u32) -> Result<(), AllocError> {
+        self.list.push_shared(Arc::new(alloc, n)?)?;
         self.plain.push(n)?;
         Ok(())
     }
@@ -194,6 +202,30 @@ fn copies_change_at_each_place(rt: HostRuntime) {
     for len in [0u32, 1, 63, 64, 65, 128, 130] {
         assert!(rt;
             is_changed_everywhere(rt.alloc(), len) == Ok(true),
+            "{len} elements"
+        );
+    }
+}
+
+/// Whether a copy stays as it was while elements are added, to chunks that it has too and to others.
+fn is_pushed_beside_a_copy(alloc: Global, len: u32) -> Result<bool, AllocError> {
+    let mut pair = Pair::new(alloc);
+    pair.push_run(0, len)?;
+    let copy = pair.copy(alloc)?;
+    pair.push(len)?;
+    pair.push_shared(alloc, 7)?;
+    let beside = copy.agrees() && pair.agrees();
+    drop(copy);
+    pair.push(8)?;
+    pair.push_shared(alloc, 9)?;
+    Ok(beside && pair.agrees())
+}
+
+#[test]
+fn a_copy_stays_beside_pushes(rt: HostRuntime) {
+    for len in [0u32, 1, 62, 63, 64, 65, 127, 128] {
+        assert!(rt;
+            is_pushed_beside_a_copy(rt.alloc(), len) == Ok(true),
             "{len} elements"
         );
     }

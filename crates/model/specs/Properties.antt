@@ -8,7 +8,7 @@ use Rattle.std.specs.Option.{option_map_or}
 use Rattle.name.specs.declared.target.Target.{Target}
 use Rattle.name.specs.declared.target.Target.TheVariants.{FileSystem as OfFileSystem, Snapshot as OfSnapshot, Bookmark as OfBookmark}
 use Rattle.model.specs.declared.request.Property.{Property}
-use Rattle.model.specs.declared.request.Property.TheVariants.{Referenced, Guid, CreateTxg}
+use Rattle.model.specs.declared.request.Property.TheVariants.{Referenced, Written, Guid, CreateTxg}
 use Rattle.model.specs.declared.request.PoolProperty.{PoolProperty}
 use Rattle.model.specs.declared.request.PoolProperty.TheVariants.{Size as PoolSize, Allocated, Free, Freeing, Waiting, Group}
 use Rattle.model.specs.declared.reply.Value.{Value}
@@ -16,7 +16,7 @@ use Rattle.model.specs.declared.reply.Value.TheVariants.{Size, Number, NotApplic
 use Rattle.name.specs.Names.{name_cmp, snap_text, mark_text}
 use Rattle.model.specs.World.{World, FileSystem, Snap, Bookmark, Live, Snapped, id_of, file_system_at, snap_named, bookmark_named}
 use Rattle.model.specs.State.{State}
-use Rattle.model.specs.Sums.{referenced_of, allocated_of, free_of, freeing_of, waiting_count}
+use Rattle.model.specs.Sums.{referenced_of, written_of, allocated_of, free_of, freeing_of, waiting_count}
 
 -- a size in bytes, 512 a block (profile)
 abbrev pub in_bytes : ℕ → Value
@@ -25,18 +25,21 @@ in_bytes n = Size (512 * n)
 -- a property of a file system (zfsprops(7))
 unfoldable pub file_system_value : World → List ℕ → Property → Value
 file_system_value w name Referenced = in_bytes (referenced_of w (Live name))
+file_system_value w name Written = in_bytes (written_of w (Live name))
 file_system_value w name Guid = NotApplicable
 file_system_value w name CreateTxg = NotApplicable
 
 -- a property of a snapshot (zfsprops(7))
 unfoldable pub snap_value : World → Snap → Property → Value
 snap_value w t Referenced = in_bytes (referenced_of w (Snapped (id_of t)))
+snap_value w t Written = in_bytes (written_of w (Snapped (id_of t)))
 snap_value w t Guid = Number t.guid
 snap_value w t CreateTxg = Number t.group
 
 -- a property of a bookmark, which keeps its snapshot's guid and creation group (zfsprops(7), zfs-bookmark(8))
 unfoldable pub bookmark_value : Bookmark → Property → Value
 bookmark_value b Referenced = NotApplicable
+bookmark_value b Written = NotApplicable
 bookmark_value b Guid = Number b.guid
 bookmark_value b CreateTxg = Number b.group
 

@@ -10,6 +10,8 @@ use name::{DsName, Target};
 pub enum Property {
     /// The blocks of a file system's live map or of a snapshot's, in bytes.
     Referenced,
+    /// The blocks that a file system's live map or a snapshot's has and the snapshot's before it hasn't, in bytes.
+    Written,
     /// A snapshot's guid, a number; also a bookmark's, which is its snapshot's.
     Guid,
     /// A snapshot's creation group, a number; also a bookmark's, which is its snapshot's.
@@ -23,6 +25,7 @@ impl Property {
     {
         match (self, other) {
             (Property::Referenced, Property::Referenced) => true,
+            (Property::Written, Property::Written) => true,
             (Property::Guid, Property::Guid) => true,
             (Property::CreateTxg, Property::CreateTxg) => true,
             _ => false,

@@ -1,7 +1,9 @@
--- A change of a live map that is in force: the numbers can be released and taken, then the pool is sound again, and that is a step.
-use Rattle.std.proofs.Common.{◌≡◌, ◌⊎◌, ◌↔◌, ℕ, List, Result, Ok, Err, None, refl, sym, ap, subst, [], ◌∷◌, map}
+-- A change of a live map that is in force, and a snapshot of one name: what is asked for can be done, then the pool is sound again, and
+-- that is a step.
+use Rattle.std.proofs.Common.{◌≡◌, ◌⊎◌, ◌↔◌, ◌+◌, ◌≤◌, ℕ, List, Result, Ok, Err, None, false, refl, sym, ap, subst, [], ◌∷◌, map, arith}
 use Rattle.std.specs.Prelude.{IfOk, IfErr, OnOk}
 use Rattle.std.specs.FinMap.{get}
+use Rattle.name.specs.declared.member.Member.{Member}
 use Rattle.name.specs.declared.target.Target.{Target}
 use Rattle.name.specs.declared.target.Target.TheVariants.{FileSystem as OfFileSystem}
 use Rattle.base.specs.declared.refusal.Refusal.{Refusal}
@@ -16,15 +18,22 @@ use Rattle.tree.specs.Change.{HasRoom, LacksRoom}
 use Rattle.model.specs.declared.request.Request.{Request}
 use Rattle.model.specs.declared.reply.Reply.TheVariants.{Done, Refused}
 use Rattle.model.specs.Step.{Step}
+use Rattle.model.specs.Targets.{guid_limit}
+use Rattle.model.specs.Rule.{first_of}
+use Rattle.model.specs.requests.Snapshot.{taking_row, guid_by}
 use Rattle.model.specs.State.{State}
 use Rattle.world.specs.Tables.{Datasets}
 use Rattle.file_systems.specs.Rows.{live_of}
 use Rattle.datasets.specs.Writes.{young_of, AllowsWrite, HasWritten}
-use Rattle.steps.specs.Edits.{datasets_of, with_datasets, CanChange}
+use Rattle.snap.specs.Taking.{after_taking}
+use Rattle.steps.specs.Edits.{datasets_of, with_datasets, put, CanChange, CanPut}
 use Rattle.steps.proofs.Writing.{allows, written_can, written_done, write_refused}
 use Rattle.pool.specs.Asked.{Asks}
 use Rattle.pool.specs.Pools.{IsSound}
+use Rattle.pool.specs.Shown.{shown}
 use Rattle.pool.proofs.Changes.{within, rule}
+use Rattle.pool.proofs.Commits.{sound_put}
+use Rattle.pool.proofs.Steps.{snapshot_can}
 
 -- a change that the table refuses
 abbrev table_error : Refusal → Result Changed Refusal
@@ -81,3 +90,13 @@ module _ (s : State) (numbers : List BlockState) (sound : IsSound s numbers) (ol
 pub asks_here : (q : Request) (target : Target) (update : Result Update Refusal) (name : List ℕ) (r : Result Update Refusal) → target ≡ OfFileSystem name → update ≡ r
     → Asks q target update → Asks q (OfFileSystem name) r
 asks_here q target update name r named is asks = subst (λ t. Asks q t r) named (subst (λ x. Asks q target x) is asks)
+
+-- a snapshot of one name that nothing refuses
+module _ (s : State) (numbers : List BlockState) (sound : IsSound s numbers) (m : Member) (to : Datasets)
+    (none : first_of (taking_row s.now s.next_guid (m ∷ []) (m ∷ [])) ≡ None) (is : to ≡ after_taking (datasets_of s) (guid_by s.pool s.next_guid) (m ∷ [])) where
+  -- the datasets with it can be put in place, and the counter has a next number
+  pub can_keep : CanPut s to 1 × (s.next_guid + 1 ≤ guid_limit + 1)
+  can_keep = snapshot_can (shown s numbers) s numbers refl sound (m ∷ []) false none 1 refl (omega arith) to is
+
+  pub sound_kept : IsSound (put s to 1) numbers
+  sound_kept = sound_put s numbers sound to 1 can_keep.0 can_keep.1

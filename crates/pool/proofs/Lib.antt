@@ -1,5 +1,6 @@
 pub mod Yielded
 pub mod Names
+pub mod Values
 pub mod Commits
 pub mod Changes
 pub mod Steps

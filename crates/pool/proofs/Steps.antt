@@ -3,7 +3,6 @@ use Rattle.std.proofs.Common.{◌≡◌, ◌≤◌, ◌<◌, ◌+◌, ◌-◌, �
 use Rattle.std.specs.Prelude.{count_by, nat_lt}
 use Rattle.std.specs.List.{flat_map}
 use Rattle.std.specs.FinMap.{get, entries}
-use Rattle.std.specs.FinMap.{len as map_len}
 use Rattle.std.proofs.lemmas.Bool.{ltb-false, le-ltb, lt-ltb}
 use Rattle.name.specs.declared.member.Member.{Member}
 use Rattle.name.specs.declared.target.Target.{Target}
@@ -17,7 +16,6 @@ use Rattle.zalloc.specs.States.{is_free, is_allocated, is_waiting}
 use Rattle.model.specs.declared.request.Request.{Request}
 use Rattle.model.specs.declared.request.Request.TheVariants.{Create, Snapshot, Read, Get, PoolGet, List as ListNames, Sync}
 use Rattle.model.specs.declared.request.Property.{Property}
-use Rattle.model.specs.declared.request.Property.TheVariants.{Referenced, Guid, CreateTxg}
 use Rattle.model.specs.declared.request.PoolProperty.{PoolProperty}
 use Rattle.model.specs.declared.request.PoolProperty.TheVariants.{Size as SizeAsked, Allocated, Free, Freeing, Waiting, Group}
 use Rattle.model.specs.declared.reply.Reply.{Reply}
@@ -25,7 +23,7 @@ use Rattle.model.specs.declared.reply.Reply.TheVariants.{Done, Refused, Data, Va
 use Rattle.model.specs.declared.reply.Value.{Value}
 use Rattle.model.specs.declared.reply.Value.TheVariants.{Size, Number}
 use Rattle.std.specs.FinSet as set
-use Rattle.model.specs.World.{World, FileSystem, Snap, empty_file_system, snaps_of}
+use Rattle.model.specs.World.{World, FileSystem, empty_file_system, snaps_of}
 use Rattle.model.specs.Targets.{is_block, number_limit, guid_limit, snap_limit, has_no_next_group}
 use Rattle.model.specs.Rule.{first_of}
 use Rattle.model.specs.Step.{Step}
@@ -40,22 +38,21 @@ use Rattle.world.proofs.Takings.{may_take}
 use Rattle.file_systems.specs.Rows.{Row}
 use Rattle.datasets.specs.Snapshots.{taken_of}
 use Rattle.snap.specs.Taking.{after_taking}
-use Rattle.steps.specs.Steady.{IsAbsent, snap_in}
+use Rattle.steps.specs.Steady.{IsAbsent}
 use Rattle.steps.specs.Edits.{datasets_of, put, synced, CanPut, CanSync}
 use Rattle.steps.specs.Listed.{own_names}
 use Rattle.steps.proofs.Creating as creates
 use Rattle.steps.proofs.Snapping as snaps
 use Rattle.steps.proofs.Questions as reads
-use Rattle.steps.proofs.Named.{named_live, named_snap}
-use Rattle.steps.proofs.Identities.{get_guid_of_live, get_group_of_live, get_guid_of_snap, get_group_of_snap}
 use Rattle.steps.proofs.Listing.{list_no_memory, list_done}
 use Rattle.steps.proofs.Properties as properties
 use Rattle.steps.proofs.Syncing as sync
-use Rattle.pool.specs.Named.{map_named, live_value, snapshot_value}
+use Rattle.pool.specs.Named.{map_named, live_value, value_in}
 use Rattle.pool.specs.Pools.{IsSound}
 use Rattle.pool.specs.Shown.{Shown, shown}
 use Rattle.pool.proofs.Changes.{not_false, block_tells}
 use Rattle.pool.proofs.Names.{found, absent}
+use Rattle.pool.proofs.Values.{live_told, snapshot_told, no_snapshot}
 
 -- a read that was refused
 abbrev no_bytes : (B : Type 0) → Refusal → Result B Refusal
@@ -123,8 +120,9 @@ module _ (seen : Shown) (s : State) (numbers : List BlockState) (view : shown s 
   pub get_absent_live : (t : Target) (property : Property) (name : List ℕ) → t ≡ OfFileSystem name → get s.now.file_systems name ≡ None → Step seen.state (Get t property) (Refused NoDataset) seen.state
   get_absent_live t property name named none = get_absent t property (subst (λ x. IsAbsent s.now.file_systems x) (sym named) none)
 
-  pub get_absent_snapshot : (t : Target) (property : Property) (m : Member) → t ≡ OfSnapshot m → snap_in s.now.file_systems m ≡ None → Step seen.state (Get t property) (Refused NoDataset) seen.state
-  get_absent_snapshot t property m named none = get_absent t property (subst (λ x. IsAbsent s.now.file_systems x) (sym named) none)
+  pub get_absent_snapshot : (t : Target) (property : Property) (m : Member) → t ≡ OfSnapshot m → None ≡ value_in s.now.file_systems m property
+      → Step seen.state (Get t property) (Refused NoDataset) seen.state
+  get_absent_snapshot t property m named none = get_absent t property (subst (λ x. IsAbsent s.now.file_systems x) (sym named) (no_snapshot s.now.file_systems m property none))
 
   pub get_absent_bookmark : (t : Target) (property : Property) (m : Member) → t ≡ OfBookmark m → Step seen.state (Get t property) (Refused NoDataset) seen.state
   get_absent_bookmark t property m named = get_absent t property (subst (λ x. IsAbsent s.now.file_systems x) (sym named) tt)
@@ -133,23 +131,12 @@ module _ (seen : Shown) (s : State) (numbers : List BlockState) (view : shown s 
       → Step seen.state (Get t property) (ValueIs v) seen.state
   get_of_live t name named f was property v is =
       subst (λ x. Step seen.state (Get x property) (ValueIs v) seen.state) (sym named)
-      (subst (λ x. Step seen.state (Get (OfFileSystem name) property) (ValueIs x) seen.state) (sym is) (at _ _ (live_property property)))
-    where
-      live_property : (p : Property) → Step s (Get (OfFileSystem name) p) (ValueIs (live_value f p)) s
-      live_property Referenced = reads.get_referenced s sound.steady (OfFileSystem name) f.live (named_live s name f was) (map_len f.live) refl
-      live_property Guid = get_guid_of_live s sound.steady name f was
-      live_property CreateTxg = get_group_of_live s sound.steady name f was
+      (subst (λ x. Step seen.state (Get (OfFileSystem name) property) (ValueIs x) seen.state) (sym is) (at _ _ (live_told s sound.steady name f was property)))
 
-  pub get_of_snapshot : (t : Target) (m : Member) → t ≡ OfSnapshot m → (x : Snap) → snap_in s.now.file_systems m ≡ Some x → (property : Property) (v : Value) → v ≡ snapshot_value x property
+  pub get_of_snapshot : (t : Target) (m : Member) → t ≡ OfSnapshot m → (property : Property) (v : Value) → Some v ≡ value_in s.now.file_systems m property
       → Step seen.state (Get t property) (ValueIs v) seen.state
-  get_of_snapshot t m named x was property v is =
-      subst (λ y. Step seen.state (Get y property) (ValueIs v) seen.state) (sym named)
-      (subst (λ y. Step seen.state (Get (OfSnapshot m) property) (ValueIs y) seen.state) (sym is) (at _ _ (snapshot_property property)))
-    where
-      snapshot_property : (p : Property) → Step s (Get (OfSnapshot m) p) (ValueIs (snapshot_value x p)) s
-      snapshot_property Referenced = reads.get_referenced s sound.steady (OfSnapshot m) x.map (named_snap s sound.steady m x was) (map_len x.map) refl
-      snapshot_property Guid = get_guid_of_snap s sound.steady m x was x.guid refl
-      snapshot_property CreateTxg = get_group_of_snap s sound.steady m x was x.group refl
+  get_of_snapshot t m named property v is =
+      subst (λ y. Step seen.state (Get y property) (ValueIs v) seen.state) (sym named) (at _ _ (snapshot_told s sound.steady m property v is))
 
   -- each block is allocated, free or waiting
   pub balanced : IsBalanced seen.state

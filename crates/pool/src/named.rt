@@ -5,7 +5,7 @@ ghost use Rattle.std.specs.Option.{option_copied};
 ghost use Rattle.std.specs.List.{flat_map};
 ghost use Rattle.steps.specs.Steady.{snap_in};
 ghost use Rattle.steps.specs.Listed.{own_names};
-ghost use Rattle.pool.specs.Named.{map_named, live_value, snapshot_value};
+ghost use Rattle.pool.specs.Named.{map_named, live_value, snapshot_value, value_in};
 
 use base::refusal::Refusal;
 use base::text::Bytes;
@@ -19,7 +19,7 @@ use std::sync::Arc;
 use tree::Tree;
 
 /// The tree of the dataset that the name is of, a file system's live one or a snapshot's, or none. It costs the logarithm of the
-/// number of file systems, and for a snapshot the number of its file system's.
+/// number of file systems, and for a snapshot that of the number of its file system's.
 pub fn tree_named<'a>(table: &'a Table, target: &Target) -> Option<&'a Tree>
     ensures { option_copied result ≡ map_named table.now.file_systems target.now }
 {
@@ -30,9 +30,8 @@ pub fn tree_named<'a>(table: &'a Table, target: &Target) -> Option<&'a Tree>
     }
 }
 
-/// The snapshot of this name, or none. It costs the logarithm of the number of file systems, and the number of its file system's
-/// snapshots.
-pub fn snapshot_named<'a>(table: &'a Table, member: &Member) -> Option<&'a Snapshot>
+// The snapshot of this name, or none.
+fn snapshot_named<'a>(table: &'a Table, member: &Member) -> Option<&'a Snapshot>
     ensures { option_copied result ≡ snap_in table.now.file_systems member.now }
 {
     table
@@ -64,8 +63,9 @@ fn push_names(
 {
     let name = file_system.name().as_bytes();
     names.push(text_of(alloc, name)?)?;
-    for snapshot in file_system.snapshots().iter() {
-        names.push(snapshot_text(alloc, name, snapshot.name().as_bytes())?)?;
+    for kept in file_system.snapshots().iter() {
+        let component = kept.snapshot.name().as_bytes();
+        names.push(snapshot_text(alloc, name, component)?)?;
     }
     Ok(())
 }
@@ -96,19 +96,33 @@ pub fn value_of_live(file_system: &FileSystem, property: Property) -> Value
 {
     match property {
         Property::Referenced => in_bytes(file_system.live().node_count()),
+        Property::Written => in_bytes(file_system.written()),
         Property::Guid | Property::CreateTxg => Value::NotApplicable,
     }
 }
 
-/// A property of a snapshot. Constant time.
-pub fn value_of_snapshot(snapshot: &Snapshot, property: Property) -> Value
-    ensures { result ≡ snapshot_value snapshot.now property }
+/// A property of the snapshot of this name, or none where there is no such snapshot. It costs the logarithm of the number of file
+/// systems, and that of the number of its file system's snapshots.
+pub fn value_of_snapshot(table: &Table, member: &Member, property: Property) -> Option<Value>
+    ensures { result ≡ value_in table.now.file_systems member.now property }
 {
-    match property {
-        Property::Referenced => in_bytes(snapshot.tree().node_count()),
-        Property::Guid => Value::Number(snapshot.guid().0),
-        Property::CreateTxg => Value::Number(snapshot.group().0),
-    }
+    let file_system = table.find(&member.file_system)?;
+    value_within(file_system, member.component.as_bytes(), property)
+}
+
+// A property of the snapshot of this name within its file system, or none where there is no such snapshot.
+fn value_within(file_system: &FileSystem, component: &[u8], property: Property) -> Option<Value>
+    ensures { result ≡ snapshot_value file_system.now.1 component.now property }
+{
+    let value = match property {
+        Property::Referenced => in_bytes(
+            file_system.snapshot_named(component)?.tree().node_count(),
+        ),
+        Property::Written => in_bytes(file_system.written_at(component)?),
+        Property::Guid => Value::Number(file_system.snapshot_named(component)?.guid().0),
+        Property::CreateTxg => Value::Number(file_system.snapshot_named(component)?.group().0),
+    };
+    Some(value)
 }
 
 /// A number of blocks in bytes, 512 a block.

@@ -1,5 +1,5 @@
 //! The pool and its steps.
-ghost use Rattle.std.specs.Prelude.{◌≡◌, ◌<◌, ◌≤◌, ◌⊎◌, ◌↔◌, [], ◌∷◌, Err, IfOk, IfErr, map};
+ghost use Rattle.std.specs.Prelude.{◌≡◌, ◌<◌, ◌≤◌, ◌⊎◌, ◌↔◌, [], ◌∷◌, false, Err, IfOk, IfErr, map};
 ghost use Rattle.base.specs.declared.refusal.Refusal.{Refusal};
 ghost use Rattle.base.specs.Surveys.{dead_block};
 ghost use Rattle.tree.specs.Updates.{IsBatch};
@@ -15,10 +15,8 @@ ghost use Rattle.pool.specs.Asked.{Asks};
 ghost use Rattle.pool.specs.Named.{IsNoLive};
 ghost use Rattle.pool.specs.Plans.{state_after_plan, CanDo};
 
-use crate::named::{
-    in_bytes, names_of, snapshot_named, tree_named, value_of_live, value_of_snapshot,
-};
-use base::meter::Meter;
+use crate::named::{in_bytes, names_of, tree_named, value_of_live, value_of_snapshot};
+use base::meter::{Meter, SegMeter};
 use base::number::{Dead, Group};
 use base::refusal::Refusal;
 use datasets::Table;
@@ -26,9 +24,9 @@ use model::names::Names;
 use model::reply::{Reply, Value};
 use model::request::{PoolProperty, Property, Request};
 use model::snap_names::SnapNames;
-use name::{DsName, Target};
+use name::{DsName, SnapName, Target};
 use objset::{free_of, punch_of, write_of};
-use snap::{Guids, Taken, snapshot};
+use snap::{Guids, Taken, snapshot, snapshot_one};
 use std::alloc::Global;
 use std::marker::Model;
 use std::slice::from_ref;
@@ -50,6 +48,7 @@ pub struct Pool {
     id: u32,
     allocator: Allocator,
     meter: Meter,
+    segments: SegMeter,
 }
 
 impl Model for Pool {
@@ -128,6 +127,7 @@ impl Pool {
             id,
             allocator,
             meter: Meter::new(Toll::new()),
+            segments: SegMeter::new(Toll::new()),
         })
     }
 
@@ -254,6 +254,7 @@ impl Pool {
             self.last.group(),
             &self.allocator,
             &mut self.meter,
+            &mut self.segments,
         );
         match changed {
             Ok(done) => (Reply::Done, Plan::Change { to, done }),
@@ -284,8 +285,12 @@ impl Pool {
                 Some(file_system) => Reply::Value(value_of_live(file_system, property)),
                 None => Reply::Refused(Refusal::NoDataset),
             },
-            Target::Snapshot(name) => match snapshot_named(&self.present, name.member()) {
-                Some(snapshot) => Reply::Value(value_of_snapshot(snapshot, property)),
+            Target::Snapshot(name) => match value_of_snapshot(
+                &self.present,
+                name.member(),
+                property,
+            ) {
+                Some(value) => Reply::Value(value),
                 None => Reply::Refused(Refusal::NoDataset),
             },
             Target::Bookmark(_) => Reply::Refused(Refusal::NoDataset),
@@ -361,7 +366,8 @@ impl Pool {
     }
 
     /// One step: the request is done, or refused with the state as it was. A write, a punch and a freed object change the tree at
-    /// once, and cost the path to the leaf or the object's nodes; every other request costs what `prepare` and `commit` do.
+    /// once, and cost the path to the leaf or the object's nodes. A snapshot of one name without its descendants is taken at once,
+    /// and costs the number of snapshots of its file system. Every other request costs what `prepare` and `commit` do.
     pub fn apply(&mut self, alloc: Global, request: &Request) -> Reply
         ensures step { Step self.old.state request.now result self.new.state }
         ensures numbered { IsNumbered self.new.state }
@@ -373,7 +379,8 @@ impl Pool {
         reply
     }
 
-    // One step: a change of a tree and a sync at once, a question as it is, and each other request prepared and committed.
+    // One step: a change of a tree, a snapshot of one name and a sync at once, a question as it is, and each other request prepared
+    // and committed.
     #[inline(never)]
     fn answer(&mut self, alloc: Global, request: &Request) -> Reply
         ensures { Step self.old.state request.now result self.new.state }
@@ -402,6 +409,13 @@ impl Pool {
             Request::PoolGet { property } => self.pool_get(*property),
             Request::List => self.list(alloc),
             Request::Sync => self.sync_now(),
+            Request::Snapshot {
+                names,
+                recursive: false,
+            } => match names.as_slice() {
+                [name] => self.snapshot_now(alloc, name),
+                _ => self.answer_prepared(alloc, request),
+            },
             Request::Create { .. } | Request::Snapshot { .. } => {
                 self.answer_prepared(alloc, request)
             }
@@ -464,6 +478,7 @@ impl Pool {
             self.last.group(),
             &self.allocator,
             &mut self.meter,
+            &mut self.segments,
         );
         let done = match changed {
             Ok(done) => done,
@@ -472,6 +487,24 @@ impl Pool {
         release_all(&mut self.allocator, &done.released, self.last.group());
         take_all(&mut self.allocator, &done.taken);
         Reply::Done
+    }
+
+    // Takes a snapshot of this name alone at once.
+    fn snapshot_now(&mut self, alloc: Global, name: &SnapName) -> Reply
+        ensures { Step self.old.state (Request.Snapshot (name.now ∷ []) false) result self.new.state }
+    {
+        let _size = self.size;
+        let guids = Guids {
+            pool: self.id,
+            next: self.next_guid,
+        };
+        match snapshot_one(alloc, &mut self.present, name, guids) {
+            Ok(()) => {
+                self.next_guid += 1;
+                Reply::Done
+            }
+            Err(refusal) => Reply::Refused(refusal),
+        }
     }
 
     // The name of the file system that a change is asked of: ReadOnly where the target is a snapshot, and NoDataset where it is

@@ -8,6 +8,6 @@ mod rig;
 #[cfg(test)]
 mod rows;
 #[cfg(test)]
-mod snapshots;
+mod taken;
 #[cfg(test)]
 mod values;

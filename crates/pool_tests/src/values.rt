@@ -132,6 +132,8 @@ fn requests_compared(rt: HostRuntime) {
 #[test]
 fn properties_and_values_compared(rt: HostRuntime) {
     assert!(rt; Property::Referenced.same(&Property::Referenced));
+    assert!(rt; Property::Written.same(&Property::Written));
+    assert!(rt; !Property::Written.same(&Property::Referenced));
     assert!(rt; Property::Guid.same(&Property::Guid));
     assert!(rt; Property::CreateTxg.same(&Property::CreateTxg));
     assert!(rt; !Property::Guid.same(&Property::CreateTxg));

@@ -79,6 +79,7 @@ fn lines_of_bad_shape(rt: HostRuntime) {
         "read p 0 0 0",
         "get nothing p",
         "get referenced",
+        "get Written p",
         "get Guid p@s",
         "get creation p@s",
         "snapshot",
@@ -125,6 +126,7 @@ fn lines_of_snapshots(rt: HostRuntime) {
     for line in [
         "snapshot p/none@s",
         "snapshot p@s p/none@s",
+        "get written p@s",
         "get guid p@s",
         "get createtxg p@s",
     ] {
@@ -134,6 +136,7 @@ fn lines_of_snapshots(rt: HostRuntime) {
     assert!(rt; answers(&rt, alloc, b"snapshot p@s", b"ok\n"));
     assert!(rt; answers(&rt, alloc, b"snapshot -r p@s", b"ok\n"));
     assert!(rt; answers(&rt, alloc, b"snapshot p@s p@t", b"error 3 Exists\n"));
+    assert!(rt; answers(&rt, alloc, b"get written p", b"0\n"));
     assert!(rt; answers(&rt, alloc, b"get guid p", b"-\n"));
     assert!(rt; answers(&rt, alloc, b"get createtxg p", b"-\n"));
 }

@@ -19,6 +19,7 @@ worked_lines = record {
   read = refl;
   of_snapshot = refl;
   get = refl;
+  get_written = refl;
   get_guid = refl;
   get_group = refl;
   create = refl;

@@ -3,7 +3,7 @@ use Rattle.std.specs.Prelude.{◌≡◌, ◌↔◌, ◌≤◌, ℕ, true, false,
 use Rattle.std.specs.Fmt.{decimal}
 use Rattle.base.specs.declared.refusal.Refusal.TheVariants.{BadName, NoDataset, BadLine}
 use Rattle.name.specs.declared.target.Target.TheVariants.{FileSystem, Snapshot}
-use Rattle.model.specs.declared.request.Property.TheVariants.{Referenced, Guid, CreateTxg}
+use Rattle.model.specs.declared.request.Property.TheVariants.{Referenced, Written, Guid, CreateTxg}
 use Rattle.model.specs.declared.request.PoolProperty.TheVariants.{Free, Freeing}
 use Rattle.model.specs.declared.request.Request.TheVariants.{Create, Write, Punch, FreeObject, Snapshot as TakeSnapshots, Read, Get, PoolGet, List as ListNames, Sync}
 use Rattle.model.specs.declared.reply.Reply.TheVariants.{Done, Refused, Group, Names}
@@ -22,6 +22,7 @@ pub record WorkedLines : Type 0 where
   pub read : meaning (codes "read p/a 0 17") ≡ Asks (Read (FileSystem (codes "p/a")) 0 17)
   pub of_snapshot : meaning (codes "read p@s 1 2") ≡ Asks (Read (Snapshot (record { file_system = codes "p"; component = codes "s" })) 1 2)
   pub get : meaning (codes "get referenced p") ≡ Asks (Get (FileSystem (codes "p")) Referenced)
+  pub get_written : meaning (codes "get written p/a@s") ≡ Asks (Get (Snapshot (record { file_system = codes "p/a"; component = codes "s" })) Written)
   pub get_guid : meaning (codes "get guid p@s") ≡ Asks (Get (Snapshot (record { file_system = codes "p"; component = codes "s" })) Guid)
   pub get_group : meaning (codes "get createtxg p@s") ≡ Asks (Get (Snapshot (record { file_system = codes "p"; component = codes "s" })) CreateTxg)
   pub create : meaning (codes "create p/a") ≡ Asks (Create (codes "p/a"))

@@ -5,7 +5,7 @@ use Rattle.std.specs.Str.{bytes_eq}
 use Rattle.hex.specs.Hex.{decode_of}
 use Rattle.hex.specs.declared.error.FromHexError.{FromHexError}
 use Rattle.model.specs.declared.request.Property.{Property}
-use Rattle.model.specs.declared.request.Property.TheVariants.{Referenced, Guid, CreateTxg}
+use Rattle.model.specs.declared.request.Property.TheVariants.{Referenced, Written, Guid, CreateTxg}
 use Rattle.model.specs.declared.request.PoolProperty.{PoolProperty}
 use Rattle.model.specs.declared.request.PoolProperty.TheVariants.{Size, Allocated, Free, Freeing, Waiting, Group}
 
@@ -54,6 +54,7 @@ block_of_word word =
 unfoldable pub property_of_word : List ℕ → Option Property
 property_of_word word =
     if bytes_eq word (codes "referenced") then Some Referenced
+    else if bytes_eq word (codes "written") then Some Written
     else if bytes_eq word (codes "guid") then Some Guid
     else if bytes_eq word (codes "createtxg") then Some CreateTxg
     else None

@@ -321,6 +321,8 @@ fn property_named(word: &[u8]) -> Option<Property>
 {
     if word == b"referenced".as_slice() {
         Some(Property::Referenced)
+    } else if word == b"written".as_slice() {
+        Some(Property::Written)
     } else if word == b"guid".as_slice() {
         Some(Property::Guid)
     } else if word == b"createtxg".as_slice() {

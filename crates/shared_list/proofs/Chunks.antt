@@ -1,13 +1,14 @@
 -- The elements of chunks around one of them.
 use Rattle.std.proofs.Common.{◌≡◌, ℕ, zero, suc, ◌+◌, ◌-◌, ◌<◌, ◌≤◌, List, [], ◌∷◌, ◌++◌, length, take, drop, remove, get_or, set, slice_get, Some, refl, ap, sym, ◌∙◌, arith, append_assoc, add-one}
-use Rattle.std.proofs.lemmas.List.{take-map, drop-map, map-append, take_rest, length-map, set_split, drop_more, take-append-drop, take-append-le, drop-append-le, drop_all, drop_at, append-nil, length-append}
+use Rattle.std.proofs.lemmas.List.{take-map, drop-map, map-append, take_rest, length-map, set_split, drop_more, take-append-drop, take-append-le, drop-append-le, drop_all, drop_at, append-nil, length-append, length-take-le, length-drop, get_or_default}
+use Rattle.std.specs.Prelude.{insert}
 use Rattle.std.proofs.lemmas.Option.{get_or_from_slice_get}
 use Rattle.std.proofs.lemmas.List.Concat.{flat_map-append}
-use Rattle.std.proofs.lemmas.List.Edits.{remove-append_left, remove-append_right}
+use Rattle.std.proofs.lemmas.List.Edits.{remove-append_left, remove-append_right, insert_end, insert-append_left, insert-append_right}
 use Rattle.std.proofs.Math.Seq.{take-append-add, drop-append-add}
 use Rattle.std.specs.Global.{Global}
 use Rattle.std.specs.declared.sync.Arc.{Arc}
-use Rattle.shared_list.specs.Elements.{elements}
+use Rattle.shared_list.specs.Elements.{values, elements}
 
 -- parts of a mapped list
 pub ruleset mapped = (take-map, drop-map, map-append, take_rest, length-map)
@@ -117,3 +118,74 @@ pub begun : {X : Type 0} (xs : List (Arc (List X) Global)) (k : ℕ) (b : Arc (L
 begun [] k b h = absurd (omega arith)
 begun (x ∷ xs) zero b h = refl
 begun (x ∷ xs) (suc k) b h = begun xs k b (omega arith)
+
+-- what items with one more own
+pub inserted : {X : Type 0} (xs : List (Arc X Global)) (i : ℕ) (x : Arc X Global) → values (insert xs i x) ≡ insert (values xs) i x.value
+inserted xs i x = simp (map-append, take-map, drop-map)
+
+-- items that were put together from those before a place, one more, and the others
+pub put_together : {X : Type 0} (xs a b d : List (Arc X Global)) (i : ℕ) (x : Arc X Global) → values a ≡ values (take i xs) → b ≡ a ++ x ∷ [] → values d ≡ values b ++ values (drop i xs) → values d ≡ insert (values xs) i x.value
+put_together xs a b d i x front one rest =
+    let more : values b ≡ values a ++ x.value ∷ [] = ap values one ∙ map-append (λ c. c.value) a (x ∷ []) in
+    rw (rest, more, front) (simp (append_assoc, take-map, drop-map))
+
+-- one more element at the end of the last chunk
+pub added_one : {X : Type 0} (xs : List (Arc (List X) Global)) (k n : ℕ) (a b : Arc (List X) Global) (y : X) → k + 1 ≡ length xs → a ≡ get_or xs k a → n ≡ length a.value → b.value ≡ insert a.value n y → elements (set xs k b) ≡ elements xs ++ y ∷ []
+added_one xs k n a b y last read m put =
+    added xs k a b (y ∷ []) last read (put ∙ ap (λ i. insert a.value i y) m ∙ insert_end a.value y)
+
+-- other elements of the same values
+pub kept : {X : Type 0} (xs : List (Arc (List X) Global)) (k : ℕ) (a b : Arc (List X) Global) → k < length xs → a ≡ get_or xs k a → b.value ≡ a.value → elements (set xs k b) ≡ elements xs
+kept xs k a b h read same = replaced xs k b h ∙ ap (λ v. elements (take k xs) ++ (v ++ elements (drop (suc k) xs))) same ∙ sym (whole xs k a h read)
+
+-- two reads of one chunk
+pub read_same : {X : Type 0} (xs : List X) (k : ℕ) (a b : X) → k < length xs → a ≡ get_or xs k a → b ≡ get_or xs k b → a ≡ b
+read_same xs k a b h e f = e ∙ get_or_default xs k a b h ∙ sym f
+
+-- one more element in the middle part of a list
+pub inserted_between : {X : Type 0} (all low mid high : List X) (i : ℕ) (y : X) → all ≡ low ++ (mid ++ high) → i ≤ length mid → insert all (length low + i) y ≡ low ++ (insert mid i y ++ high)
+inserted_between all low mid high i y e h =
+    let beyond : length low ≤ length low + i = omega arith in
+    let rest : length low + i - length low ≡ i = omega arith in
+    rw e (insert-append_right low (mid ++ high) (length low) (length low + i) y refl beyond ∙ ap (λ j. low ++ insert (mid ++ high) j y) rest ∙ ap (λ ys. low ++ ys) (insert-append_left mid high i y h))
+
+-- one more element in a chunk
+pub put_within : {X : Type 0} (xs : List (Arc (List X) Global)) (k i : ℕ) (a b : Arc (List X) Global) (y : X) → k < length xs → a ≡ get_or xs k a → i ≤ length a.value → b.value ≡ insert a.value i y → elements (set xs k b) ≡ insert (elements xs) (length (elements (take k xs)) + i) y
+put_within xs k i a b y h read within put =
+    replaced xs k b h
+    ∙ ap (λ v. elements (take k xs) ++ (v ++ elements (drop (suc k) xs))) put
+    ∙ sym (inserted_between (elements xs) (elements (take k xs)) a.value (elements (drop (suc k) xs)) i y (whole xs k a h read) within)
+
+-- two chunks in the place of one
+two_for_one : {X : Type 0} (xs : List (Arc (List X) Global)) (k : ℕ) (low high : Arc (List X) Global) → k < length xs → elements (set (insert xs (suc k) high) k low) ≡ elements (take k xs) ++ ((low.value ++ high.value) ++ elements (drop (suc k) xs))
+two_for_one [] k low high h = absurd (omega arith)
+two_for_one (x ∷ xs) zero low high h = sym (append_assoc low.value high.value (elements xs))
+two_for_one (x ∷ xs) (suc k) low high h =
+    ap (λ ys. x.value ++ ys) (two_for_one xs k low high (omega arith))
+    ∙ sym (append_assoc x.value (elements (take k xs)) ((low.value ++ high.value) ++ elements (drop (suc k) xs)))
+
+pub split_within : {X : Type 0} (xs : List (Arc (List X) Global)) (k n i : ℕ) (a low high : Arc (List X) Global) (y : X) → n ≡ suc k → k < length xs → a ≡ get_or xs k a → i ≤ length a.value → low.value ++ high.value ≡ insert a.value i y → elements (set (insert xs n high) k low) ≡ insert (elements xs) (length (elements (take k xs)) + i) y
+split_within xs k n i a low high y next h read within put =
+    ap (λ m. elements (set (insert xs m high) k low)) next
+    ∙ two_for_one xs k low high h
+    ∙ ap (λ v. elements (take k xs) ++ (v ++ elements (drop (suc k) xs))) put
+    ∙ sym (inserted_between (elements xs) (elements (take k xs)) a.value (elements (drop (suc k) xs)) i y (whole xs k a h read) within)
+
+-- one more element in either part of a list
+module _ {X : Type 0} (s low high : List X) (n i : ℕ) (y : X) (front : low ≡ take n s) (back : high ≡ drop n s) (within : n ≤ length s) where
+  pub low_long : length low ≡ n
+  low_long = ap length front ∙ length-take-le n s within
+
+  pub high_long : length high + n ≡ length s
+  high_long = omega (arith, ap length back, length-drop n s)
+
+  both : low ++ high ≡ s
+  both = rw (front, back) (take-append-drop n s)
+
+  pub put_low : (new : List X) → i ≤ n → new ≡ insert low i y → new ++ high ≡ insert s i y
+  put_low new h put =
+      let le : i ≤ length low = omega (arith, low_long) in
+      ap (λ v. v ++ high) put ∙ sym (insert-append_left low high i y le) ∙ ap (λ v. insert v i y) both
+
+  pub put_high : (new : List X) → n ≤ i → new ≡ insert high (i - n) y → low ++ new ≡ insert s i y
+  put_high new h put = ap (λ v. low ++ v) put ∙ sym (insert-append_right low high n i y low_long h) ∙ ap (λ v. insert v i y) both

@@ -1,5 +1,5 @@
-//! Chunks of a list, which never change once they are made.
-ghost use Rattle.std.specs.Prelude.{◌≡◌, ◌+◌, ◌<◌, ◌≤◌, ◌++◌, ◌∷◌, [], length, take, drop, remove, slice_get, IfOk, OnOk};
+//! Chunks of a list, which change only where they have one owner.
+ghost use Rattle.std.specs.Prelude.{◌≡◌, ◌+◌, ◌-◌, ◌<◌, ◌≤◌, ◌++◌, ◌∷◌, [], length, take, drop, insert, remove, slice_get, IfOk, OnOk, OnErr};
 ghost use Rattle.shared_list.specs.Elements.{values};
 
 use std::alloc::{AllocError, Global};
@@ -7,7 +7,10 @@ use std::marker::Model;
 use std::sync::Arc;
 
 /// How many elements a full chunk has (profile).
-pub const CHUNK: usize = 64;
+pub(crate) const CHUNK: usize = 64;
+
+/// How many of them the first chunk keeps, where a full one becomes two (profile).
+const HALF: usize = 32;
 
 /// Some elements, from 1 to `CHUNK`, each of which other chunks may own too.
 #[derive(Drop)]
@@ -28,7 +31,7 @@ impl<T> Model for Chunk<T> {
 
 impl<T: Drop> Chunk<T> {
     /// A chunk of one element.
-    pub fn one(alloc: Global, item: Arc<T>) -> Result<Arc<Chunk<T>>, AllocError>
+    pub(crate) fn one(alloc: Global, item: Arc<T>) -> Result<Arc<Chunk<T>>, AllocError>
         ensures { IfOk result (λ c. c.value ≡ item.value ∷ []) }
     {
         let mut items = Vec::with_capacity(alloc, 1)?;
@@ -37,7 +40,7 @@ impl<T: Drop> Chunk<T> {
     }
 
     /// How many elements it has.
-    pub fn len(&self) -> usize
+    pub(crate) fn len(&self) -> usize
         ensures len { result ≡ length self.now }
         ensures some { 0 < result }
         ensures most { result ≤ CHUNK }
@@ -46,28 +49,42 @@ impl<T: Drop> Chunk<T> {
     }
 
     /// The element with that index.
-    pub fn get(&self, index: usize) -> &T
+    pub(crate) fn get(&self, index: usize) -> &T
         requires { index < length self.now }
         ensures { slice_get self.now index ≡ Some result.now }
     {
         &self.items[index]
     }
 
-    /// Its elements and one more.
-    pub fn with(&self, item: Arc<T>) -> Result<Arc<Chunk<T>>, AllocError>
-        requires { length self.now < CHUNK }
-        ensures { IfOk result (λ c. c.value ≡ self.now ++ item.value ∷ []) }
+    /// Its elements and one more, which gets that index.
+    #[tactic(auto, using(crate::proofs::Chunks::mapped))]
+    pub(crate) fn with(&self, at: usize, item: Arc<T>) -> Result<Arc<Chunk<T>>, AllocError>
+        requires room { length self.now < CHUNK }
+        requires at { at ≤ length self.now }
+        ensures { IfOk result (λ c. c.value ≡ insert self.now at item.value) }
     {
         let alloc = *self.items.allocator();
         let mut items = Vec::with_capacity(alloc, self.items.len() + 1)?;
-        share(&mut items, &self.items)?;
+        share(&mut items, &self.items[..at])?;
         items.push(item)?;
+        share(&mut items, &self.items[at..])?;
         Ok(Arc::new(alloc, Chunk { items })?)
+    }
+
+    // Puts one more element at that index.
+    fn put(&mut self, at: usize, item: Arc<T>) -> Result<(), AllocError>
+        requires room { length self.old < CHUNK }
+        requires at { at ≤ length self.old }
+        ensures ok { OnOk result (self.new ≡ insert self.old at item.value) }
+        ensures err { OnErr result (self.new ≡ self.old) }
+    {
+        self.items.insert(at, item)?;
+        Ok(())
     }
 
     /// Its elements but the one with that index.
     #[tactic(auto, using(crate::proofs::Chunks::mapped))]
-    pub fn without(&self, index: usize) -> Result<Arc<Chunk<T>>, AllocError>
+    pub(crate) fn without(&self, index: usize) -> Result<Arc<Chunk<T>>, AllocError>
         requires index { index < length self.now }
         requires more { 1 < length self.now }
         ensures { IfOk result (λ c. c.value ≡ remove self.now index) }
@@ -81,7 +98,7 @@ impl<T: Drop> Chunk<T> {
 
     /// Its elements before that index, and the others.
     #[tactic(auto, using(crate::proofs::Chunks::mapped))]
-    pub fn split(&self, index: usize) -> Result<(Arc<Chunk<T>>, Arc<Chunk<T>>), AllocError>
+    pub(crate) fn split(&self, index: usize) -> Result<(Arc<Chunk<T>>, Arc<Chunk<T>>), AllocError>
         requires some { 0 < index }
         requires index { index < length self.now }
         ensures { IfOk result (λ p. (p.0.value ≡ take index self.now) × (p.1.value ≡ drop index self.now)) }
@@ -96,8 +113,27 @@ impl<T: Drop> Chunk<T> {
         Ok((low, high))
     }
 
+    /// Its elements and one more, which gets that index, in two chunks. It is full.
+    pub(crate) fn split_with(
+        &self,
+        at: usize,
+        item: Arc<T>,
+    ) -> Result<(Arc<Chunk<T>>, Arc<Chunk<T>>), AllocError>
+        requires full { length self.now ≡ CHUNK }
+        requires at { at ≤ length self.now }
+        ensures { IfOk result (λ p. p.0.value ++ p.1.value ≡ insert self.now at item.value) }
+    {
+        let (mut low, mut high) = self.split(HALF)?;
+        if at <= HALF {
+            put_in(&mut low, at, item)?;
+            return Ok((low, high));
+        }
+        put_in(&mut high, at - HALF, item)?;
+        Ok((low, high))
+    }
+
     /// Its elements and the other's behind them.
-    pub fn joined(&self, other: &Chunk<T>) -> Result<Arc<Chunk<T>>, AllocError>
+    pub(crate) fn joined(&self, other: &Chunk<T>) -> Result<Arc<Chunk<T>>, AllocError>
         requires { length self.now + length other.now ≤ CHUNK }
         ensures { IfOk result (λ c. c.value ≡ self.now ++ other.now) }
     {
@@ -106,6 +142,13 @@ impl<T: Drop> Chunk<T> {
         share(&mut items, &self.items)?;
         share(&mut items, &other.items)?;
         Ok(Arc::new(alloc, Chunk { items })?)
+    }
+
+    /// The last element. Constant time.
+    pub fn last(&self) -> &T
+        ensures { slice_get self.now (length self.now - 1) ≡ Some result.now }
+    {
+        &self.items[self.items.len() - 1]
     }
 
     /// Its elements, in the owners that it has.
@@ -123,5 +166,25 @@ fn share<T: Drop>(to: &mut Vec<Arc<T>>, items: &[Arc<T>]) -> Result<(), AllocErr
     for item in items {
         to.push(Arc::try_clone(item)?)?;
     }
+    Ok(())
+}
+
+/// Puts one more element into a chunk at that index: where the chunk is, if it has no other owner, and else in a chunk made anew, which
+/// comes to its place.
+pub(crate) fn put_in<T: Drop>(
+    place: &mut Arc<Chunk<T>>,
+    at: usize,
+    item: Arc<T>,
+) -> Result<(), AllocError>
+    requires room { length place.old.value < CHUNK }
+    requires at { at ≤ length place.old.value }
+    ensures ok { OnOk result (place.new.value ≡ insert place.old.value at item.value) }
+    ensures err { OnErr result (place.new.value ≡ place.old.value) }
+{
+    if let Some(chunk) = Arc::get_mut(place) {
+        return chunk.put(at, item);
+    }
+    let whole = place.with(at, item)?;
+    *place = whole;
     Ok(())
 }

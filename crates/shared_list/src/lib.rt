@@ -5,8 +5,10 @@
 #![tactic(auto)]
 
 mod chunk;
+pub mod edits;
 mod iter;
 mod list;
 
+pub use chunk::Chunk;
 pub use iter::Iter;
 pub use list::SharedList;

@@ -5,6 +5,7 @@ ghost use Rattle.shared_list.specs.Elements.{elements};
 ghost use Rattle.shared_list.specs.Left.{left};
 
 use crate::chunk::{CHUNK, Chunk};
+use crate::edits::{copied, push_item};
 use crate::iter::Iter;
 use std::alloc::{AllocError, Global};
 use std::marker::Model;
@@ -13,7 +14,8 @@ use std::sync::Arc;
 /// Elements in order. Contracts see the plain list of their values.
 ///
 /// They stand in chunks of 1 to 64 elements (profile), which copies share. No element is ever cloned: a copy takes one more owner of
-/// each chunk, and a change makes at most three chunks anew, each by one more owner of each of its elements. A push fills the last
+/// each chunk, and a change makes at most three chunks anew, each by one more owner of each of its elements, but for a push into a last
+/// chunk that no copy has, which is changed where it is. A push fills the last
 /// chunk before it begins another; `remove` and `append` make one chunk of two neighbours that fit in one, unless memory for it is
 /// refused, which is no error; `split_off` can leave a chunk that isn't full on each side of the cut. So how many chunks there are no
 /// clause says.
@@ -90,26 +92,32 @@ impl<T: Drop> SharedList<T> {
         ensures { IfOk result (λ l. l ≡ self.now) }
     {
         let alloc = *self.chunks.allocator();
-        let mut chunks = Vec::with_capacity(alloc, self.chunks.len())?;
-        for chunk in &self.chunks {
-            chunks.push(Arc::try_clone(chunk)?)?;
-        }
+        let chunks = copied(alloc, &self.chunks)?;
         let len = self.len;
         Ok(SharedList { chunks, len })
     }
 
-    /// Adds an element at the end. It makes the last chunk anew, or begins another, which now and then moves the pointers to all
-    /// chunks. AllocError where memory is refused or there are as many elements as a usize counts; then the list is as it was, and
-    /// the element is dropped.
+    /// Adds an element at the end. Constant time, where the last chunk has no other owner, but for a growth of what holds its pointers;
+    /// else it makes the last chunk anew. Where that is full it begins another, which now and then moves the pointers to all chunks.
+    /// AllocError where memory is refused or there are as many elements as a usize counts; then the list is as it was, and the element
+    /// is dropped.
     pub fn push(&mut self, value: T) -> Result<(), AllocError>
         ensures ok { OnOk result (self.new ≡ self.old ++ value ∷ []) }
+        ensures err { OnErr result (self.new ≡ self.old) }
+    {
+        let item = Arc::new(*self.chunks.allocator(), value)?;
+        self.push_shared(item)
+    }
+
+    /// Adds at the end an element that has other owners, as `push` does.
+    pub fn push_shared(&mut self, item: Arc<T>) -> Result<(), AllocError>
+        ensures ok { OnOk result (self.new ≡ self.old ++ item.value ∷ []) }
         ensures err { OnErr result (self.new ≡ self.old) }
     {
         let Some(len) = self.len.checked_add(1) else {
             return Err(AllocError);
         };
-        let item = Arc::new(*self.chunks.allocator(), value)?;
-        add(&mut self.chunks, item)?;
+        push_item(&mut self.chunks, item)?;
         self.len = len;
         Ok(())
     }
@@ -190,22 +198,6 @@ fn place_of<'a, T: Drop>(chunks: &'a [Arc<Chunk<T>>], index: usize) -> Place<'a,
         at -= len;
     }
     unreachable!()
-}
-
-/// Puts an element behind the others.
-fn add<T: Drop>(chunks: &mut Vec<Arc<Chunk<T>>>, item: Arc<T>) -> Result<(), AllocError>
-    ensures ok { OnOk result (elements chunks.new.items ≡ elements chunks.old.items ++ item.value ∷ []) }
-    ensures err { OnErr result (elements chunks.new.items ≡ elements chunks.old.items) }
-{
-    let count = chunks.len();
-    if count > 0 && chunks[count - 1].len() < CHUNK {
-        let whole = chunks[count - 1].with(item)?;
-        chunks[count - 1] = whole;
-        return Ok(());
-    }
-    let fresh = Chunk::one(*chunks.allocator(), item)?;
-    chunks.push(fresh)?;
-    Ok(())
 }
 
 /// Removes the element with that index, and gives the index of the chunk that it stood in.

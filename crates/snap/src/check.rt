@@ -1,5 +1,5 @@
 //! Why snapshots can't be taken.
-ghost use Rattle.std.specs.Prelude.{◌≡◌, ◌<◌, ◌⊎◌, Some, None, IfOk, IfErr, OnOk, is_some, nat_lt, not, length};
+ghost use Rattle.std.specs.Prelude.{◌≡◌, ◌<◌, ◌⊎◌, [], ◌∷◌, false, Some, None, IfOk, IfErr, OnOk, is_some, nat_lt, not, length};
 ghost use Rattle.std.specs.List.{list_any};
 ghost use Rattle.std.specs.FinMap.{contains_key};
 ghost use Rattle.name.specs.Names.{whole_length};
@@ -8,7 +8,7 @@ ghost use Rattle.model.specs.Targets.{name_limit};
 ghost use Rattle.model.specs.Rule.{first_of};
 ghost use Rattle.model.specs.requests.Snapshot.{has_twice, has_no_room_for};
 ghost use Rattle.world.specs.Tables.{world_of};
-ghost use Rattle.snap.specs.Taking.{naming_row};
+ghost use Rattle.snap.specs.Taking.{naming_row, refusal_of};
 
 use crate::named::Named;
 use base::refusal::Refusal;
@@ -127,4 +127,29 @@ pub fn check(alloc: Global, table: &Table, all: &[Named], next: u64) -> Result<(
         return Err(Refusal::TooMany);
     }
     Ok(())
+}
+
+/// Why a snapshot of this name alone is refused, if it is: NoDataset where its file system isn't there, else as `check` says. It takes
+/// no memory. It costs the logarithm of the number of file systems, and the number of snapshots of this one.
+pub fn refusal_of_one(table: &Table, name: &SnapName, next: u64) -> Option<Refusal>
+    ensures { result ≡ refusal_of table.now next (name.now ∷ []) false }
+{
+    if is_missing(table, name) {
+        return Some(Refusal::NoDataset);
+    }
+    let member = name.member();
+    let named = Named {
+        file_system: &member.file_system,
+        component: &member.component,
+    };
+    if is_too_long(&named) {
+        return Some(Refusal::BadName);
+    }
+    if is_taken(table, &named) {
+        return Some(Refusal::Exists);
+    }
+    if has_no_room(table, next, 1) {
+        return Some(Refusal::TooMany);
+    }
+    None
 }

@@ -4,7 +4,8 @@
 //! of the group that was open, which is then closed (zfs-snapshot(8)).
 #![tactic(auto)]
 
-ghost use Rattle.std.specs.Prelude.{◌≡◌, ◌↔◌, ◌⊎◌, Some, None, IfSome, IfOk, IfErr, OnOk, length};
+ghost use Rattle.std.specs.Prelude.{◌≡◌, ◌↔◌, ◌⊎◌, [], ◌∷◌, false, Some, None, IfSome, IfOk, IfErr, OnOk, OnErr, length};
+ghost use Rattle.base.specs.declared.refusal.Refusal.{Refusal};
 ghost use Rattle.model.specs.requests.Snapshot.{guid_by};
 ghost use Rattle.snap.specs.Taking.{all_of, refusal_of, after_taking};
 
@@ -12,9 +13,9 @@ mod check;
 mod named;
 mod take;
 
-use crate::check::{any_missing, check};
+use crate::check::{any_missing, check, refusal_of_one};
 use crate::named::expand;
-use crate::take::take;
+use crate::take::{take, take_one};
 use base::refusal::Refusal;
 use datasets::Table;
 use name::SnapName;
@@ -66,4 +67,25 @@ pub fn snapshot(
         to,
         count: all.len(),
     })
+}
+
+/// Takes a snapshot of this name in this table, of the group that was open, which is closed. Refused as `snapshot` of this name alone
+/// without `recursive`, but NoMemory comes after all that refuses it; then, as at each refusal, the table is as it was (zfs-snapshot(8);
+/// numbers are profile). It costs the logarithm of the number of file systems, and the number of snapshots of this one.
+pub fn snapshot_one(
+    alloc: Global,
+    table: &mut Table,
+    name: &SnapName,
+    guids: Guids,
+) -> Result<(), Refusal>
+    ensures ok { OnOk result (table.new ≡ after_taking table.old (guid_by guids.pool guids.next) (all_of table.old (name.now ∷ []) false)) }
+    ensures err { OnErr result (table.new ≡ table.old) }
+    ensures can { OnOk result (refusal_of table.old guids.next (name.now ∷ []) false ≡ None) }
+    ensures refused { IfSome (refusal_of table.old guids.next (name.now ∷ []) false) (λ e. result ≡ Err e) }
+    ensures only { IfErr result (λ e. (refusal_of table.old guids.next (name.now ∷ []) false ≡ Some e) ⊎ (e ≡ Refusal.NoMemory)) }
+{
+    if let Some(refusal) = refusal_of_one(table, name, guids.next) {
+        return Err(refusal);
+    }
+    take_one(alloc, table, name.member(), guids)
 }

@@ -1,5 +1,6 @@
 //! The taking of snapshots that nothing refuses.
-ghost use Rattle.std.specs.Prelude.{◌≡◌, ◌+◌, ◌<◌, ◌≤◌, true, false, IfOk, IfErr, length, nat_lt};
+ghost use Rattle.std.specs.Prelude.{◌≡◌, ◌+◌, ◌<◌, ◌≤◌, [], ◌∷◌, true, false, IfOk, IfErr, OnOk, OnErr, length, nat_lt};
+ghost use Rattle.base.specs.declared.refusal.Refusal.{Refusal};
 ghost use Rattle.model.specs.Targets.{guid_limit};
 ghost use Rattle.model.specs.requests.Snapshot.{guid_by, has_no_room_for};
 ghost use Rattle.world.specs.Tables.{world_of};
@@ -12,6 +13,7 @@ use crate::named::Named;
 use base::number::Guid;
 use base::refusal::Refusal;
 use datasets::Table;
+use name::Member;
 use std::alloc::Global;
 
 // The guid of the snapshot at this place of a request. Constant time.
@@ -56,4 +58,25 @@ pub fn take(alloc: Global, table: &Table, all: &[Named], guids: Guids) -> Result
         return table.copy();
     }
     take_all(alloc, table, all, guids)
+}
+
+/// Takes a snapshot of this name alone in this table, of the group that was open, which is closed. NoMemory where there is none for
+/// it, and then the table is as it was. It costs the logarithm of the number of file systems; and where another table shares this
+/// one, a 64th of the number of its snapshots.
+pub fn take_one(
+    alloc: Global,
+    table: &mut Table,
+    name: &Member,
+    guids: Guids,
+) -> Result<(), Refusal>
+    requires takable { AreTakable table.old.file_systems (name.now ∷ []) }
+    requires room { has_no_room_for (world_of table.old) guids.next 1 ≡ false }
+    ensures ok { OnOk result (table.new ≡ taken_of table.old (guid_by guids.pool guids.next) (name.now ∷ [])) }
+    ensures err { OnErr result (table.new ≡ table.old) }
+    ensures only { IfErr result (λ e. e ≡ Refusal.NoMemory) }
+{
+    // It tells of the file systems what a snapshot needs.
+    let _count = table.len();
+    let guid = guid_at(guids, 0);
+    table.keep_live(alloc, &name.file_system, &name.component, guid)
 }

@@ -1,5 +1,5 @@
--- The steps that ask for a guid and a creation group, which a snapshot has and a file system hasn't.
-use Rattle.std.proofs.Common.{◌≡◌, ℕ, List, Some, sym, ap, ◌∙◌}
+-- The steps that ask for a guid and a creation group, which a snapshot has and a file system hasn't, and for what either has written.
+use Rattle.std.proofs.Common.{◌≡◌, ℕ, ◌*◌, List, Some, sym, ap, ◌∙◌}
 use Rattle.std.specs.Prelude.{is_some}
 use Rattle.std.specs.Option.{option_map_or}
 use Rattle.std.specs.FinMap.{get}
@@ -7,10 +7,11 @@ use Rattle.name.specs.declared.member.Member.{Member}
 use Rattle.name.specs.declared.target.Target.TheVariants.{FileSystem as OfFileSystem, Snapshot as OfSnapshot}
 use Rattle.model.specs.declared.request.Request.TheVariants.{Get}
 use Rattle.model.specs.declared.request.Property.{Property}
-use Rattle.model.specs.declared.request.Property.TheVariants.{Guid, CreateTxg}
+use Rattle.model.specs.declared.request.Property.TheVariants.{Written, Guid, CreateTxg}
 use Rattle.model.specs.declared.reply.Reply.TheVariants.{Value as ValueIs}
-use Rattle.model.specs.declared.reply.Value.TheVariants.{Number, NotApplicable}
-use Rattle.model.specs.World.{FileSystem, Snap}
+use Rattle.model.specs.declared.reply.Value.TheVariants.{Size, Number, NotApplicable}
+use Rattle.model.specs.World.{FileSystem, Snap, Live, Snapped, id_of}
+use Rattle.model.specs.Sums.{written_of}
 use Rattle.model.specs.Properties.{property_value, file_system_value, snap_value}
 use Rattle.model.specs.State.{State}
 use Rattle.model.specs.Step.{Step}
@@ -31,6 +32,11 @@ module _ (s : State) (good : IsSteady s) where
     unfolding file_system_value
     get_group_of_live = get_done s good (OfFileSystem name) CreateTxg NotApplicable (ap is_some was) (live_value CreateTxg)
 
+    -- zfsprops(7), written
+    pub get_written_of_live : (n : ℕ) → n ≡ written_of s.now (Live name) → Step s (Get (OfFileSystem name) Written) (ValueIs (Size (512 * n))) s
+    unfolding file_system_value
+    get_written_of_live n e = get_done s good (OfFileSystem name) Written (Size (512 * n)) (ap is_some was) (live_value Written ∙ ap (λ k. Size (512 * k)) (sym e))
+
   module _ (m : Member) (t : Snap) (found : snap_in s.now.file_systems m ≡ Some t) (n : ℕ) where
     kept_value : (property : Property) → property_value s (OfSnapshot m) property ≡ snap_value s.now t property
     unfolding property_value
@@ -45,3 +51,8 @@ module _ (s : State) (good : IsSteady s) where
     pub get_group_of_snap : n ≡ t.group → Step s (Get (OfSnapshot m) CreateTxg) (ValueIs (Number n)) s
     unfolding snap_value
     get_group_of_snap e = get_done s good (OfSnapshot m) CreateTxg (Number n) (ap is_some found) (kept_value CreateTxg ∙ ap Number (sym e))
+
+    -- zfsprops(7), written
+    pub get_written_of_snap : n ≡ written_of s.now (Snapped (id_of t)) → Step s (Get (OfSnapshot m) Written) (ValueIs (Size (512 * n))) s
+    unfolding snap_value
+    get_written_of_snap e = get_done s good (OfSnapshot m) Written (Size (512 * n)) (ap is_some found) (kept_value Written ∙ ap (λ k. Size (512 * k)) (sym e))

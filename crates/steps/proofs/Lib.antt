@@ -2,7 +2,6 @@ pub mod Surveys
 pub mod Settles
 pub mod Free
 pub mod States
-pub mod BlockCounts
 pub mod Lookups
 pub mod Ruled
 pub mod Room
@@ -10,6 +9,8 @@ pub mod Plain
 pub mod Named
 pub mod Questions
 pub mod Identities
+pub mod Below
+pub mod WrittenBy
 pub mod Listing
 pub mod Known
 pub mod Creating

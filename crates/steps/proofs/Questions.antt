@@ -31,7 +31,7 @@ use Rattle.steps.specs.Room.{AreKeysOne}
 use Rattle.steps.specs.Steady.{IsSteady, IsAbsent, IsNamed}
 use Rattle.steps.proofs.Plain.{no_dataset, no_target}
 use Rattle.steps.proofs.Ruled.{refused_by, answered_by}
-use Rattle.steps.proofs.BlockCounts.{len-blocks}
+use Rattle.world.proofs.BlockCounts.{len-blocks}
 
 module _ (s : State) (good : IsSteady s) where
   -- each number of a dataset's map is one key's

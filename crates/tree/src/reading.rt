@@ -6,6 +6,7 @@ ghost use Rattle.base.specs.Counting.{counted};
 ghost use Rattle.base.specs.Surveys.{dead_block};
 ghost use Rattle.base.specs.declared.refusal.Refusal.{Refusal};
 ghost use Rattle.node.specs.Cells.{cell_of};
+ghost use Rattle.node.specs.Unique.{IsUnique};
 ghost use Rattle.node.specs.Walk.{born_after, blocks_of};
 ghost use Rattle.tree.specs.Reading.{present_on_path};
 
@@ -38,9 +39,10 @@ impl Tree {
         }
     }
 
-    /// How many blocks the tree has.
+    /// How many blocks the tree has, no two of one number. Constant time.
     pub fn node_count(&self) -> u32
-        ensures { result ≡ len self.now }
+        ensures count { result ≡ len self.now }
+        ensures unique { IsUnique self.now }
     {
         self.count
     }

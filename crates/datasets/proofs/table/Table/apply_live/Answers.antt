@@ -6,14 +6,18 @@ use Rattle.tree.specs.Updates.{changes_of}
 use Rattle.file_systems.specs.Rows.{live_of}
 use Rattle.world.specs.Tables.{Datasets}
 use Rattle.datasets.specs.Writes.{young_of, AllowsWrite, HasWritten}
+use Rattle.datasets.proofs.Above.{is_above}
 use Rattle.datasets.proofs.Written.{asks, young_is, has_written, kept_facts}
 use Rattle.datasets.proofs.table.Table.apply_live.Goals as goal
 
 pub apply_live-requires : goal.apply_live-requires
 apply_live-requires c =
     let allows = subst (λ (t : Datasets). AllowsWrite t c.args.updates.now c.args.synced.0 c.args.allocator.now) (sym c.self.view_is) c.requires in
-    asks _ c.self.invariant.systems c.self.invariant.plain c.args.name.now c.args.updates.now c.args.synced.0 c.args.allocator.now allows _
-    (let n = allows.not_after in omega arith)
+    record {
+      asks = asks _ c.self.invariant.systems c.self.invariant.plain c.args.name.now c.args.updates.now c.args.synced.0 c.args.allocator.now allows _
+          (let n = allows.not_after in omega arith);
+      above = is_above _ c.self.invariant.systems c.self.invariant.plain c.args.name.now;
+    }
 
 pub invariant_of-self : goal.invariant_of-self
 invariant_of-self c =

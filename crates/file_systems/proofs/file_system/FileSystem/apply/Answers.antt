@@ -1,10 +1,17 @@
-use Rattle.std.proofs.Common.{◌≡◌, ◌+◌, rules, refl, sym, subst, ap, ◌∙◌, map}
+use Rattle.std.proofs.Common.{◌≡◌, ◌+◌, ◌<◌, ◌≤◌, arith, rules, refl, sym, subst, ap, ◌∙◌, map}
 use Rattle.std.specs.Prelude.{max, nat_lt}
 use Rattle.std.specs.List.{filter}
 use Rattle.base.specs.Surveys.{dead_block}
 use Rattle.base.specs.declared.number.Dead.{Dead}
 use Rattle.file_systems.specs.Writes.{newest_group}
 use Rattle.file_systems.proofs.Releases.{retained, map_filter}
+use Rattle.std.specs.Arc.{arc_value}
+use Rattle.std.specs.FinSet.{difference}
+use Rattle.base.specs.Map.{Map, blocks}
+use Rattle.world.specs.Deadlists.{Lists}
+use Rattle.world.proofs.Shuffled.{lists_shuffled}
+use Rattle.file_systems.specs.Dead.{snaps_in, newest_blocks, IsAbove, HasGained}
+use Rattle.file_systems.proofs.Accounts.{dead_changed}
 use Rattle.tree.specs.Asking.{AllowsChange}
 use Rattle.tree.specs.Change.{IsChange}
 use Rattle.tree.specs.ChangeParts.{change_done}
@@ -20,15 +27,51 @@ returns-clause-ok c =
     let kept : c.retain.new.self.items ≡ filter (λ (d : Dead). nat_lt c.newest_group-newest.result.0 d.birth.0) done.released.items = retained _ (λ (d : Dead). nat_lt c.newest_group-newest.result.0 d.birth.0) _ (λ x b g y k. search rules) _ _ c.retain.ensures.filtered in
     let asked : AllowsChange c.self.inside.live c.args.updates.now c.args.group.0 c.max-young.result.0 c.args.allocator.now =
     subst (λ f. AllowsChange f.1.live c.args.updates.now c.args.group.0 c.max-young.result.0 c.args.allocator.now) (sym c.self.view_is)
-    (subst (λ y. AllowsChange c.args.self.now.1.live c.args.updates.now c.args.group.0 y c.args.allocator.now) (sym young) c.requires) in
-    let put : IsChange c.self.inside.live (changes_of c.args.updates.now) c.args.group.0 c.max-young.result.0 c.args.allocator.now (change_done c.self.inside.live c.put.new.self done) =
+    (subst (λ y. AllowsChange c.args.self.now.1.live c.args.updates.now c.args.group.0 y c.args.allocator.now) (sym young) c.requires.asks) in
+    let put : IsChange c.self.inside.live (changes_of c.args.updates.now) c.args.group.0 c.max-young.result.0 c.args.allocator.now (change_done c.self.inside.live c.put.new.live done) =
     c.in_ok-changed.ensures.ok.changed c.max-young.result.0 c.args.allocator.now asked c.in_ok-draft.ensures.ok in
     record {
-      change = change_done c.self.inside.live c.put.new.self done;
-      is = subst (λ y. IsChange c.args.self.now.1.live (changes_of c.args.updates.now) c.args.group.0 y c.args.allocator.now (change_done c.self.inside.live c.put.new.self done)) young
-          (subst (λ f. IsChange f.1.live (changes_of c.args.updates.now) c.args.group.0 c.max-young.result.0 c.args.allocator.now (change_done c.self.inside.live c.put.new.self done)) c.self.view_is put);
+      change = change_done c.self.inside.live c.put.new.live done;
+      is = subst (λ y. IsChange c.args.self.now.1.live (changes_of c.args.updates.now) c.args.group.0 y c.args.allocator.now (change_done c.self.inside.live c.put.new.live done)) young
+          (subst (λ f. IsChange f.1.live (changes_of c.args.updates.now) c.args.group.0 c.max-young.result.0 c.args.allocator.now (change_done c.self.inside.live c.put.new.live done)) c.self.view_is put);
       new_is = refl;
       released = ap (map dead_block) (kept ∙ ap (λ n. filter (λ (d : Dead). nat_lt n d.birth.0) done.released.items) c.newest_group-newest.ensures) ∙ map_filter dead_block (λ b. nat_lt newest b.birth) done.released.items;
       taken = refl;
       made = refl;
+    }
+
+-- where memory was refused, the dead list's entries may stand in another order
+pub invariant_of-self : goal.invariant_of-self
+invariant_of-self c =
+    let below = newest_blocks (snaps_in c.self.inside.snapshots) in
+    record {
+      named = c.self.invariant.named;
+      accounted = c.self.invariant.accounted;
+      dead = subst (λ (m : Map). Lists (map dead_block (arc_value c.put.new.dead).entries) (difference below (blocks m))) (sym c.in_err-changed.ensures.err)
+          (lists_shuffled dead_block _ _ _ c.in_err-changed.ensures.dead_err c.self.invariant.dead);
+    }
+
+-- what the newest snapshot has of what was let go is on the dead list
+pub invariant_of-self-2 : goal.invariant_of-self-2
+invariant_of-self-2 c =
+    let snaps = snaps_in c.self.inside.snapshots in
+    let newest = newest_group c.args.self.now.1.snaps in
+    let young : c.max-young.result.0 ≡ max c.args.synced.0 (newest + 1) = search rules in
+    let done = c.in_ok-changed.changed in
+    let asked : AllowsChange c.self.inside.live c.args.updates.now c.args.group.0 c.max-young.result.0 c.args.allocator.now =
+    subst (λ f. AllowsChange f.1.live c.args.updates.now c.args.group.0 c.max-young.result.0 c.args.allocator.now) (sym c.self.view_is)
+    (subst (λ y. AllowsChange c.args.self.now.1.live c.args.updates.now c.args.group.0 y c.args.allocator.now) (sym young) c.requires.asks) in
+    let put : IsChange c.self.inside.live (changes_of c.args.updates.now) c.args.group.0 c.max-young.result.0 c.args.allocator.now (change_done c.self.inside.live c.put.new.live done) =
+    c.in_ok-changed.ensures.ok.changed c.max-young.result.0 c.args.allocator.now asked c.in_ok-draft.ensures.ok in
+    let here : newest ≡ newest_group snaps = ap (λ f. newest_group f.1.snaps) (sym c.self.view_is) in
+    let above : IsAbove c.self.inside.live snaps = subst (λ f. IsAbove f.1.live f.1.snaps) (sym c.self.view_is) c.requires.above in
+    let late : newest_group snaps < c.max-young.result.0 = omega arith in
+    let early : c.max-young.result.0 ≤ c.args.group.0 = asked.young in
+    let gained : HasGained (arc_value c.self.inside.dead).entries (arc_value c.put.new.dead).entries c.in_ok-draft.draft.released.items (newest_group snaps) =
+    subst (HasGained (arc_value c.self.inside.dead).entries (arc_value c.put.new.dead).entries c.in_ok-draft.draft.released.items) (c.newest_group-newest.ensures ∙ here) c.in_ok-changed.ensures.dead in
+    record {
+      named = c.self.invariant.named;
+      accounted = c.self.invariant.accounted;
+      dead = dead_changed c.self.inside.live c.put.new.live (changes_of c.args.updates.now) c.args.group.0 c.max-young.result.0 c.args.allocator.now (change_done c.self.inside.live c.put.new.live done)
+          put c.in_ok-draft.ensures.unique snaps above late early _ _ c.in_ok-draft.draft.released.items gained (ap (map dead_block) c.in_ok-changed.ensures.ok.released) refl c.self.invariant.dead;
     }

@@ -9,12 +9,11 @@ use Rattle.base.specs.Map.{Map}
 use Rattle.model.specs.World.{Snap}
 use Rattle.base.specs.declared.refusal.Refusal.{Refusal}
 use Rattle.base.specs.declared.refusal.Refusal.TheVariants.{NoDataset, NoSpace, NoMemory}
-use Rattle.tree.specs.Asking.{AllowsChange}
 use Rattle.tree.proofs.Options.{not_some}
 use Rattle.tree.specs.declared.change.Changed.{Changed}
 use Rattle.file_systems.specs.Places.{IsAt, IsGapFor}
 use Rattle.file_systems.specs.Rows.{Row, live_of, snaps_at}
-use Rattle.file_systems.specs.Writes.{young_after}
+use Rattle.file_systems.specs.Dead.{AllowsLive}
 use Rattle.file_systems.proofs.Rows.{row_of, get_gap, is_there, live_is, row_sorted, row_live, row_alone, snaps_are}
 use Rattle.file_systems.proofs.Counts.{set_counted_same}
 use Rattle.file_systems.proofs.list.FileSystems.apply_live.Goals as goal
@@ -47,8 +46,8 @@ apply-requires c =
     let is = row_of arc_value c.self.inside.rows.items c.in-Ok.place c.index_mut-row.result.now c.index_mut-row.ensures.value in
     let live = ap (λ m. live_of m c.args.name.now) (sym c.self.view_is) ∙ live_is _ c.self.invariant.sorted c.args.name.now c.in-Ok.place at (arc_value c.index_mut-row.result.now) is in
     let snaps = ap (λ m. snaps_at m c.args.name.now) (sym c.self.view_is) ∙ snaps_are _ c.self.invariant.sorted c.args.name.now c.in-Ok.place at (arc_value c.index_mut-row.result.now) is in
-    subst (λ (m : Map). AllowsChange m c.args.updates.now c.args.group.0 (young_after (arc_value c.index_mut-row.result.now).1.snaps c.args.synced.0) c.args.allocator.now) live
-    (subst (λ (t : List Snap). AllowsChange (live_of c.args.self.now c.args.name.now) c.args.updates.now c.args.group.0 (young_after t c.args.synced.0) c.args.allocator.now) snaps c.requires)
+    subst (λ (m : Map). AllowsLive m (arc_value c.index_mut-row.result.now).1.snaps c.args.updates.now c.args.group.0 c.args.synced.0 c.args.allocator.now) live
+    (subst (λ (t : List Snap). AllowsLive (live_of c.args.self.now c.args.name.now) t c.args.updates.now c.args.group.0 c.args.synced.0 c.args.allocator.now) snaps c.requires)
 
 pub invariant_of-self : goal.invariant_of-self
 invariant_of-self c =

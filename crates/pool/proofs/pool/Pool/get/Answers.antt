@@ -1,8 +1,7 @@
 use Rattle.std.proofs.Common.{ap, ◌∙◌, sym}
 use Rattle.std.specs.FinMap.{get}
 use Rattle.file_systems.specs.Rows.{Row}
-use Rattle.steps.specs.Steady.{snap_in}
-use Rattle.pool.specs.Named.{live_value}
+use Rattle.pool.specs.Named.{live_value, value_in}
 use Rattle.pool.specs.Pools.{state_of}
 use Rattle.pool.proofs.Names.{mapped, unmapped}
 use Rattle.pool.proofs.Steps.{get_absent_live, get_absent_snapshot, get_absent_bookmark, get_of_live, get_of_snapshot}
@@ -19,15 +18,15 @@ returns-in-None c =
     get_absent_live c.args.self.now (state_of c.self.inside) c.self.inside.allocator c.self.view_is c.self.invariant c.args.target.now c.args.property c.in-FileSystem.name c.in-FileSystem.is
     (unmapped (λ f. (c.in-FileSystem.name, f)) _ c.in-None.ensures)
 
-pub returns-in-Some-snapshot_named : goal.returns-in-Some-snapshot_named
-returns-in-Some-snapshot_named c =
+pub returns-in-Some-value_of_snapshot : goal.returns-in-Some-value_of_snapshot
+returns-in-Some-value_of_snapshot c =
     get_of_snapshot c.args.self.now (state_of c.self.inside) c.self.inside.allocator c.self.view_is c.self.invariant c.args.target.now c.in-Snapshot.name c.in-Snapshot.is
-    c.in-Some-snapshot_named.snapshot.now (ap (snap_in c.self.inside.present.file_systems) (sym c.member.ensures) ∙ sym c.in-Some-snapshot_named.ensures) c.args.property c.value_of_snapshot.result c.value_of_snapshot.ensures
+    c.args.property c.in-Some-value_of_snapshot.value (c.in-Some-value_of_snapshot.ensures ∙ ap (λ m. value_in c.self.inside.present.file_systems m c.args.property) c.member.ensures)
 
-pub returns-in-None-snapshot_named : goal.returns-in-None-snapshot_named
-returns-in-None-snapshot_named c =
+pub returns-in-None-value_of_snapshot : goal.returns-in-None-value_of_snapshot
+returns-in-None-value_of_snapshot c =
     get_absent_snapshot c.args.self.now (state_of c.self.inside) c.self.inside.allocator c.self.view_is c.self.invariant c.args.target.now c.args.property c.in-Snapshot.name c.in-Snapshot.is
-    (ap (snap_in c.self.inside.present.file_systems) (sym c.member.ensures) ∙ sym c.in-None-snapshot_named.ensures)
+    (c.in-None-value_of_snapshot.ensures ∙ ap (λ m. value_in c.self.inside.present.file_systems m c.args.property) c.member.ensures)
 
 pub returns-in-Bookmark : goal.returns-in-Bookmark
 returns-in-Bookmark c =

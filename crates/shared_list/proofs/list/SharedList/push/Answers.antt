@@ -1,7 +1,0 @@
-use Rattle.shared_list.proofs.list.SharedList.push.Goals as goal
-
-pub returns-clause-ok : goal.returns-clause-ok
-returns-clause-ok g c = cc (c.self.view_is, c.in_ok-add.ensures.ok, c.in_ok-item.ensures.ok)
-
-pub returns-in_default-clause-err : goal.returns-in_default-clause-err
-returns-in_default-clause-err g c = cc c.self.view_is

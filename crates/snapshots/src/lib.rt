@@ -1,0 +1,10 @@
+//! Snapshots, as a file system keeps them.
+#![tactic(auto)]
+
+mod by_name;
+mod kept;
+mod snapshot;
+
+pub use by_name::ByName;
+pub use kept::Kept;
+pub use snapshot::Snapshot;
