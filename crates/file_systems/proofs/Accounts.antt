@@ -1,7 +1,7 @@
 -- The dead lists of a file system's snapshots, and what they say was written.
 use Rattle.std.proofs.Common.{◌≡◌, ◌≤◌, ◌<◌, ◌+◌, ◌-◌, ℕ, Bool, true, false, cond, List, [], ◌∷◌, ◌++◌, map, length, Option, Some, None, is_some, true≢false, refl, sym, ap, subst, ◌∙◌, arith, leb, inl, inr, ⊎_elim}
 use Rattle.std.proofs.lemmas.List.{length-map, map-append}
-use Rattle.std.specs.Prelude.{filter, if◌then◌else◌, Result, Ok, Err, IfOk, OnOk, OnErr}
+use Rattle.std.specs.Prelude.{filter, if◌then◌else◌, IfOk}
 use Rattle.std.specs.Cmp.Lexicographic.{same_text}
 use Rattle.std.specs.List.{find, last_or, slice_get}
 use Rattle.std.specs.Borrow.{Bor}
@@ -146,14 +146,17 @@ newest_blocks_are ks p is = ap blocks_kept (is ∙ last_is ks) ∙ by ks
 pub count_is : (m : Map) → IsUnique m → set.len (blocks m) ≡ finmap.len m
 count_is m u = len-blocks m u.one
 
--- by the count of what stands before
-pub written_by : (live : Map) (below : BlockSet) (ds : List Dead) (n : ℕ) → IsUnique live → Lists (map dead_block ds) (difference below (blocks live)) → n ≡ set.len below
-    → (size_without (blocks live) below + n ≡ finmap.len live + length ds) × (size_without (blocks live) below ≤ finmap.len live)
-written_by live below ds n unique own is =
+-- by the counts of the map, of its dead list and of what stands before, which is the last of these snapshots
+pub written_counted : (live : Map) (ks : List Kept) (p : Option Kept) (ds : List Dead) (n nodes long : ℕ) → IsUnique live → nodes ≡ finmap.len live
+    → Lists (map dead_block ds) (difference (newest_blocks (snaps_in ks)) (blocks live)) → p ≡ slice_get ks (length ks - 1) → n ≡ set.len (blocks_kept p) → long ≡ length ds
+    → (size_without (blocks live) (newest_blocks (snaps_in ks)) + n ≡ nodes + long) × (size_without (blocks live) (newest_blocks (snaps_in ks)) ≤ nodes)
+written_counted live ks p ds n nodes long unique all own is before many =
+    let below = newest_blocks (snaps_in ks) in
     let count = count_is live unique in
     let sum = written_is (blocks live) below (map dead_block ds) own in
     let few = written_few (blocks live) below in
-    let long = length-map ds dead_block in
+    let listed = length-map ds dead_block in
+    let newest : n ≡ set.len below = before ∙ ap set.len (newest_blocks_are ks p is) in
     (omega arith, omega arith)
 
 -- ---- a change of the live map
@@ -184,66 +187,3 @@ none_gained es rs newest none = record {
     no_length : (l : List Dead) → length l ≡ 0 → l ≡ []
     no_length [] e = refl
     no_length (x ∷ l) e = absurd (omega arith)
-
--- ---- an index
-
-find_more : (p : Kept → Bool) (ks : List Kept) (k : Kept) → find p (ks ++ k ∷ []) ≡ option_or (find p ks) (cond (p k) (Some k) None)
-find_more p [] k = refl
-find_more p (x ∷ ks) k = by (p x) (find_more p ks k)
-  where
-    by : (b : Bool) → find p (ks ++ k ∷ []) ≡ option_or (find p ks) (cond (p k) (Some k) None)
-        → cond b (Some x) (find p (ks ++ k ∷ [])) ≡ option_or (cond b (Some x) (find p ks)) (cond (p k) (Some k) None)
-    by true rest = refl
-    by false rest = rest
-
--- a snapshot whose name is found is found by no name before that one
-pub index_stays : (b ks : List Kept) (k : Kept) → ((q : List ℕ) → find (λ x. same_name x.snapshot.name q) b ≡ find (λ x. same_name x.snapshot.name q) ks)
-    → is_some (find (λ x. same_name x.snapshot.name k.snapshot.name) b) ≡ true
-    → (q : List ℕ) → find (λ x. same_name x.snapshot.name q) b ≡ find (λ x. same_name x.snapshot.name q) (ks ++ k ∷ [])
-index_stays b ks k own there q = own q ∙ sym (find_more (λ x. same_name x.snapshot.name q) ks k ∙ by (same_name k.snapshot.name q) refl)
-  where
-    keep : (o : Option Kept) → is_some o ≡ true → option_or o (Some k) ≡ o
-    keep None h = absurd (true≢false (sym h))
-    keep (Some x) h = refl
-
-    drop : (o : Option Kept) → option_or o None ≡ o
-    drop None = refl
-    drop (Some x) = refl
-
-    by : (t : Bool) → same_name k.snapshot.name q ≡ t → option_or (find (λ x. same_name x.snapshot.name q) ks) (cond t (Some k) None) ≡ find (λ x. same_name x.snapshot.name q) ks
-    by true e =
-        let same : k.snapshot.name ≡ q = same_text k.snapshot.name q (sym e) in
-        keep (find (λ x. same_name x.snapshot.name q) ks) (ap is_some (sym (own q)) ∙ ap (λ n. is_some (find (λ x. same_name x.snapshot.name n) b)) (sym same) ∙ there)
-    by false e = drop (find (λ x. same_name x.snapshot.name q) ks)
-
--- one that wasn't is found by its name
-pub index_grows : (b c ks : List Kept) (k : Kept) → ((q : List ℕ) → find (λ x. same_name x.snapshot.name q) b ≡ find (λ x. same_name x.snapshot.name q) ks)
-    → find (λ x. same_name x.snapshot.name k.snapshot.name) b ≡ None
-    → ((q : List ℕ) → find (λ x. same_name x.snapshot.name q) c ≡ (if same_name k.snapshot.name q then Some k else find (λ x. same_name x.snapshot.name q) b))
-    → (q : List ℕ) → find (λ x. same_name x.snapshot.name q) c ≡ find (λ x. same_name x.snapshot.name q) (ks ++ k ∷ [])
-index_grows b c ks k own none more q = more q ∙ by (same_name k.snapshot.name q) refl ∙ sym (find_more (λ x. same_name x.snapshot.name q) ks k)
-  where
-    drop : (o : Option Kept) → o ≡ option_or o None
-    drop None = refl
-    drop (Some x) = refl
-
-    by : (t : Bool) → same_name k.snapshot.name q ≡ t
-        → cond t (Some k) (find (λ x. same_name x.snapshot.name q) b) ≡ option_or (find (λ x. same_name x.snapshot.name q) ks) (cond t (Some k) None)
-    by true e =
-        let same : k.snapshot.name ≡ q = same_text k.snapshot.name q (sym e) in
-        ap (λ o. option_or o (Some k)) (sym (sym (own q) ∙ ap (λ n. find (λ x. same_name x.snapshot.name n) b) (sym same) ∙ none))
-    by false e = own q ∙ drop (find (λ x. same_name x.snapshot.name q) ks)
-
--- a look-up that gives something, and one that gives nothing
-pub some_found : (r : Option (Bor Kept)) (f : Option Kept) → option_copied r ≡ f → is_some r ≡ true → is_some f ≡ true
-some_found None f is h = absurd (true≢false (sym h))
-some_found (Some k) f is h = ap is_some (sym is)
-
-pub none_found : (r : Option (Bor Kept)) (f : Option Kept) → option_copied r ≡ f → is_some r ≡ false → f ≡ None
-none_found None f is h = sym is
-none_found (Some k) f is h = absurd (true≢false h)
-
--- what holds on success holds where it isn't refused
-pub not_err : {T E P : Type 0} (r : Result T E) → OnOk r P → is_err r ≡ false → P
-not_err (Ok v) p h = p
-not_err (Err e) p h = absurd (true≢false h)

@@ -1,6 +1,5 @@
 -- The dead lists of a file system's datasets.
 use Rattle.std.specs.Prelude.{◌≡◌, ◌≤◌, ◌<◌, ◌+◌, ◌++◌, ℕ, List, [], ◌∷◌, Option, None, Some, map, filter, if◌then◌else◌}
-use Rattle.std.specs.List.{find}
 use Rattle.std.specs.FinSet.{empty, difference}
 use Rattle.std.specs.Arc.{arc_value}
 use Rattle.std.specs.List.Sorted.{IsPermutation}
@@ -56,17 +55,11 @@ abbrev pub AreAccounted : BlockSet → List Kept → Type 0
 AreAccounted bs [] = Unit {0}
 AreAccounted bs (k ∷ ks) = IsAccounted bs k × AreAccounted (blocks k.snapshot.map) ks
 
--- an index, where there is one, finds by each name what a walk over the snapshots finds first (profile)
-abbrev pub IsIndex : Option (List Kept) → List Kept → Type 0
-IsIndex None ks = Unit {0}
-IsIndex (Some index) ks = (name : List ℕ) → find (λ k. same_name k.snapshot.name name) index ≡ find (λ k. same_name k.snapshot.name name) ks
-
--- What a file system keeps: an index of its snapshots, the dead lists of its snapshots, and that of its live map, each block once (On-Disk Specification,
--- chapter 4: ds_deadlist_obj)
+-- What a file system keeps: the dead lists of its snapshots, and that of its live map, each block once (On-Disk Specification, chapter 4:
+-- ds_deadlist_obj)
 pub record IsKeeping (f : Inside) : Type 0 where
-  pub named : IsIndex f.by_name f.snapshots
-  pub accounted : AreAccounted empty f.snapshots
-  pub dead : Lists (map dead_block (arc_value f.dead).entries) (difference (newest_blocks (snaps_in f.snapshots)) (blocks f.live))
+  pub accounted : AreAccounted empty (arc_value f.snapshots)
+  pub dead : Lists (map dead_block (arc_value f.dead).entries) (difference (newest_blocks (snaps_in (arc_value f.snapshots))) (blocks f.live))
 
 -- These snapshots stand below a live map: the newest has no block that was born after its group, and has each block of the live map
 -- that was born by then (On-Disk Specification, chapter 4: ds_prev_snap_txg)

@@ -12,7 +12,7 @@ ghost use Rattle.model.specs.Sums.{size_without};
 ghost use Rattle.tree.specs.Asking.{IsNoSpaceOrNoMemory};
 ghost use Rattle.tree.specs.Change.{HasRoom, LacksRoom, CountsDropped};
 ghost use Rattle.tree.specs.Updates.{changes_of};
-ghost use Rattle.file_systems.specs.Dead.{snaps_in, newest_blocks, blocks_kept, written_from, IsIndex, AllowsLive};
+ghost use Rattle.file_systems.specs.Dead.{snaps_in, newest_blocks, blocks_kept, written_from, AllowsLive};
 ghost use Rattle.snapshots.specs.declared.kept.Kept.{Kept};
 ghost use Rattle.file_systems.specs.Rows.{with_snap};
 ghost use Rattle.file_systems.specs.Writes.{newest_group, young_after, IsWritten};
@@ -24,7 +24,7 @@ use base::refusal::Refusal;
 use deadlist::deadlist::Deadlist;
 use name::{Component, DsName};
 use shared_list::SharedList;
-use snapshots::{ByName, Kept, Snapshot};
+use snapshots::{Kept, Line, Snapshot};
 use std::alloc::Global;
 use std::cmp::Ordering;
 use std::marker::Model;
@@ -35,16 +35,12 @@ use zalloc::Allocator;
 /// A file system: its name, its live dataset, and its snapshots in order of their creation groups (On-Disk Specification, chapter
 /// 4). Contracts see the pair of its name and of what a world has under that name. Copies share the name, the tree, the dead lists and
 /// the snapshots.
-///
-/// Its snapshots are found by name in an index over them. Where memory for the index is refused, the snapshot is taken all the same, and
-/// from then on this file system has none: its snapshots are then found by a walk.
 #[derive(Drop)]
 pub struct FileSystem {
     name: Arc<DsName>,
     live: Tree,
     dead: Arc<Deadlist>,
-    snapshots: SharedList<Kept>,
-    by_name: Option<ByName>,
+    snapshots: Arc<Line>,
 }
 
 impl Model for FileSystem {
@@ -55,9 +51,10 @@ impl Model for FileSystem {
 
     ghost coded = { row_code };
 
+    ghost use Rattle.std.specs.Arc.{arc_value};
     ghost use Rattle.file_systems.specs.Dead.{snaps_in, IsKeeping};
 
-    ghost view = { λ f. (f.name.value, record empty_file_system { live = f.live; snaps = snaps_in f.snapshots }) };
+    ghost view = { λ f. (f.name.value, record empty_file_system { live = f.live; snaps = snaps_in (arc_value f.snapshots) }) };
 
     ghost invariant = { IsKeeping };
 }
@@ -71,12 +68,12 @@ impl FileSystem {
     {
         let name = shared_name(alloc, name)?;
         let dead = Arc::new(alloc, Deadlist::new(alloc))?;
+        let snapshots = Arc::new(alloc, Line::new(alloc))?;
         Ok(FileSystem {
             name,
             live: Tree::new(),
             dead,
-            snapshots: SharedList::new(alloc),
-            by_name: Some(ByName::new(alloc)),
+            snapshots,
         })
     }
 
@@ -98,7 +95,7 @@ impl FileSystem {
     pub fn snapshots(&self) -> &SharedList<Kept>
         ensures { snaps_in result.now ≡ self.now.1.snaps }
     {
-        &self.snapshots
+        self.snapshots.list()
     }
 
     /// The snapshot of this name within the file system, or none. It costs the logarithm of the number of its snapshots, or, where it has
@@ -136,9 +133,8 @@ impl FileSystem {
         self.kept_named(component).map(|kept| kept.written)
     }
 
-    /// An equal file system, by one more owner of its name, of its tree, of its dead list and of each 64 of its snapshots: no block is
-    /// visited.
-    /// NoMemory where there is none for that. It costs a 64th of the number of its snapshots.
+    /// An equal file system, by one more owner of its name, of its tree, of its dead list and of its snapshots. NoMemory where there is
+    /// none for that. Constant time.
     pub fn copy(&self) -> Result<FileSystem, Refusal>
         ensures ok { IfOk result (λ f. f ≡ self.now) }
         ensures err { IfErr result (λ e. e ≡ Refusal.NoMemory) }
@@ -146,14 +142,12 @@ impl FileSystem {
         let name = Arc::try_clone(&self.name)?;
         let live = self.live.copy()?;
         let dead = Arc::try_clone(&self.dead)?;
-        let snapshots = self.snapshots.copy()?;
-        let by_name = copy_of_index(&self.by_name)?;
+        let snapshots = Arc::try_clone(&self.snapshots)?;
         Ok(FileSystem {
             name,
             live,
             dead,
             snapshots,
-            by_name,
         })
     }
 
@@ -169,10 +163,7 @@ impl FileSystem {
         ensures snapshot { option_map (λ k. k.snapshot) (option_copied result) ≡ find (λ t. same_name t.name component.now) self.now.1.snaps }
         ensures written { option_map (λ k. k.written) (option_copied result) ≡ written_from empty self.now.1.snaps component.now }
     {
-        match &self.by_name {
-            Some(index) => index.get(component),
-            None => walk(&self.snapshots, component),
-        }
+        self.snapshots.get(component)
     }
 
     // A snapshot of its live map after its others.
@@ -191,16 +182,12 @@ impl FileSystem {
         let snapshot = Snapshot::new(copy_of(name)?, self.live.copy()?, guid, group);
         let dead = Arc::try_clone(&self.dead)?;
         let fresh = Arc::new(alloc, Deadlist::new(alloc))?;
-        let kept = Arc::new(
-            alloc,
-            Kept {
-                snapshot,
-                dead,
-                written,
-            },
-        )?;
-        self.snapshots.push_shared(Arc::try_clone(&kept)?)?;
-        index(&mut self.by_name, kept);
+        let kept = Kept {
+            snapshot,
+            dead,
+            written,
+        };
+        push(&mut self.snapshots, alloc, kept)?;
         self.dead = fresh;
         Ok(())
     }
@@ -237,6 +224,22 @@ impl FileSystem {
     }
 }
 
+// Puts a snapshot behind others: where they are, if they have no other owner, and else behind a copy of them, which comes to their
+// place.
+fn push(line: &mut Arc<Line>, alloc: Global, kept: Kept) -> Result<(), Refusal>
+    ensures ok { OnOk result (arc_value line.new ≡ arc_value line.old ++ kept ∷ []) }
+    ensures err { OnErr result (arc_value line.new ≡ arc_value line.old) }
+    ensures only { IfErr result (λ e. e ≡ Refusal.NoMemory) }
+{
+    if let Some(line) = Arc::get_mut(line) {
+        return line.push(alloc, kept);
+    }
+    let mut longer = line.copy()?;
+    longer.push(alloc, kept)?;
+    *line = Arc::new(alloc, longer)?;
+    Ok(())
+}
+
 // How many blocks a snapshot has, and none where there is no snapshot.
 fn count_of(kept: Option<&Kept>) -> u32
     ensures { result ≡ len (blocks_kept (option_copied kept.entry)) }
@@ -261,40 +264,4 @@ fn copy_of(name: &Component) -> Result<Component, Refusal>
     ensures err { IfErr result (λ e. e ≡ Refusal.NoMemory) }
 {
     Ok(name.clone()?)
-}
-
-// An equal index, by one more owner of each of its chunks.
-fn copy_of_index(by_name: &Option<ByName>) -> Result<Option<ByName>, Refusal>
-    ensures ok { IfOk result (λ b. b ≡ by_name.now) }
-    ensures err { IfErr result (λ e. e ≡ Refusal.NoMemory) }
-{
-    match by_name {
-        Some(index) => Ok(Some(index.copy()?)),
-        None => Ok(None),
-    }
-}
-
-// The first of these snapshots that has this name. It costs their number.
-fn walk<'a>(snapshots: &'a SharedList<Kept>, component: &[u8]) -> Option<&'a Kept>
-    ensures { option_copied result ≡ find (λ k. same_name k.snapshot.name component.now) snapshots.now }
-{
-    snapshots
-        .iter()
-        .find(|kept| kept.snapshot.name().as_bytes() == component)
-}
-
-// Puts a snapshot that comes behind the others into their index. Where one of its name is there that stays; where memory is refused
-// there is no index any more.
-fn index(by_name: &mut Option<ByName>, kept: Arc<Kept>)
-    ensures { (ks : List Kept) → IsIndex by_name.old ks → IsIndex by_name.new (ks ++ arc_value kept ∷ []) }
-{
-    let Some(index) = by_name else {
-        return;
-    };
-    if index.get(kept.snapshot.name().as_bytes()).is_some() {
-        return;
-    }
-    if index.insert(kept).is_err() {
-        *by_name = None;
-    }
 }

@@ -178,7 +178,7 @@ impl FileSystems {
     /// A snapshot of the live map of this file system after its others, with this name within it, this guid and this creation group
     /// (zfs-snapshot(8)). NoMemory where there is none for it, or there are as many snapshots as a usize counts; then all are as
     /// they were. Where others share the file system, a copy of it takes its place. It costs the logarithm of the number of file
-    /// systems, and a 64th of the number of its snapshots.
+    /// systems and that of the number of its snapshots; and where others share its snapshots, a 32nd of their number.
     pub fn take_snapshot(
         &mut self,
         alloc: Global,

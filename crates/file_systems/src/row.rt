@@ -98,7 +98,8 @@ pub fn apply(
 }
 
 /// Puts a snapshot of a row's live map after its others, as `FileSystem::take` does: in the row, if it has no other owner, and else in
-/// a copy of it, which comes to its place. It costs a 64th of the number of the row's snapshots.
+/// a copy of it, which comes to its place. It costs the logarithm of the number of the row's snapshots; and where others share these, a
+/// 32nd of their number.
 pub fn take(
     row: &mut Arc<FileSystem>,
     alloc: Global,

@@ -4,6 +4,8 @@
 #[cfg(test)]
 mod dead_blocks;
 #[cfg(test)]
+mod lines;
+#[cfg(test)]
 mod lists;
 #[cfg(test)]
 mod names;

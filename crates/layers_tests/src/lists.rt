@@ -25,6 +25,14 @@ fn has(list: &SharedList<u32>, plain: &[u32]) -> bool {
     has_both(list, plain, &[])
 }
 
+/// Whether an owner has that number, or there is neither.
+fn is_number(item: &Option<Arc<u32>>, n: Option<u32>) -> bool {
+    match item {
+        Some(item) => n == Some(**item),
+        None => n.is_none(),
+    }
+}
+
 /// A shared list, and its elements in a plain one.
 #[derive(Drop)]
 struct Pair {
@@ -82,6 +90,38 @@ impl Pair {
         Ok(())
     }
 
+    /// Puts a number in the place of the element with that index, if there is one.
+    fn set(&mut self, alloc: Global, at: usize, n: u32) -> Result<(), AllocError> {
+        if at < self.list.len() && at < self.plain.len() {
+            self.list.set_shared(at, Arc::new(alloc, n)?)?;
+            self.plain[at] = n;
+        }
+        Ok(())
+    }
+
+    /// Takes out the last element of each, and tells whether they are equal.
+    fn pop(&mut self) -> Result<bool, AllocError> {
+        let last = self.list.pop_shared()?;
+        let plain = self.plain.pop();
+        Ok(is_number(&last, plain))
+    }
+
+    /// Takes out so many elements from the end.
+    fn pop_run(&mut self, count: u32) -> Result<(), AllocError> {
+        for _ in 0..count {
+            if !self.pop()? {
+                return Err(AllocError);
+            }
+        }
+        Ok(())
+    }
+
+    /// Whether both part at that number, where they rise.
+    fn is_parted(&self, n: u32) -> bool {
+        let shared = self.list.partition_point(|x| *x < n);
+        shared == self.plain.as_slice().partition_point(|x| *x < n)
+    }
+
     /// Takes out the elements from that index on, if the list is long enough.
     fn split_off(&mut self, alloc: Global, at: usize) -> Result<Pair, AllocError> {
         if at > self.list.len() || at > self.plain.len() {
@@ -124,7 +164,7 @@ fn next(seed: u64) -> u64 {
 fn step(alloc: Global, pair: &mut Pair, kept: &mut Pair, seed: u64) -> Result<(), AllocError> {
     let at = (seed >> 33) as usize % pair.list.len().saturating_add(1);
     let count = (seed >> 52) as u32 % 70;
-    match (seed >> 20) % 9 {
+    match (seed >> 20) % 11 {
         0 => pair.turn(alloc, at),
         1 => pair.append(kept),
         2 => {
@@ -141,6 +181,8 @@ fn step(alloc: Global, pair: &mut Pair, kept: &mut Pair, seed: u64) -> Result<()
         }
         5 => pair.remove_run(at, count),
         6 => pair.remove(at),
+        7 => pair.pop_run(count),
+        8 => pair.set(alloc, at, count),
         _ => pair.push_run((seed >> 40) as u32, count),
     }
 }
@@ -176,13 +218,15 @@ fn agrees_with_a_plain_list(rt: HostRuntime) {
     }
 }
 
-/// Whether a copy without the element with that index, and one turned there, agree.
+/// Whether a copy without the element with that index, one turned there, and one with another there, agree.
 fn is_changed(alloc: Global, pair: &Pair, at: usize) -> Result<bool, AllocError> {
     let mut shorter = pair.copy(alloc)?;
     shorter.remove(at)?;
     let mut turned = pair.copy(alloc)?;
     turned.turn(alloc, at)?;
-    Ok(shorter.agrees() && turned.agrees())
+    let mut other = pair.copy(alloc)?;
+    other.set(alloc, at, 7)?;
+    Ok(shorter.agrees() && turned.agrees() && other.agrees())
 }
 
 /// Whether copies of a list of that length that change at each place agree, and the list stays as it was.
@@ -226,6 +270,51 @@ fn a_copy_stays_beside_pushes(rt: HostRuntime) {
     for len in [0u32, 1, 62, 63, 64, 65, 127, 128] {
         assert!(rt;
             is_pushed_beside_a_copy(rt.alloc(), len) == Ok(true),
+            "{len} elements"
+        );
+    }
+}
+
+/// Whether a list of that length is emptied from its end, beside a copy that stays, and begins anew.
+fn is_emptied(alloc: Global, len: u32) -> Result<bool, AllocError> {
+    let mut pair = Pair::new(alloc);
+    pair.push_run(0, len)?;
+    let copy = pair.copy(alloc)?;
+    for _ in 0..len {
+        if !pair.pop()? || !pair.agrees() {
+            return Ok(false);
+        }
+    }
+    let is_empty = pair.list.len() == 0 && pair.pop()?;
+    pair.push_run(5, 2)?;
+    Ok(is_empty && pair.agrees() && copy.agrees())
+}
+
+#[test]
+fn pops_come_from_the_end(rt: HostRuntime) {
+    for len in [0u32, 1, 63, 64, 65, 130] {
+        assert!(rt; is_emptied(rt.alloc(), len) == Ok(true), "{len} elements");
+    }
+}
+
+/// Whether rising numbers, some of which are removed, so that chunks aren't full, part at each number.
+fn is_parted_everywhere(alloc: Global, len: u32) -> Result<bool, AllocError> {
+    let mut pair = Pair::new(alloc);
+    pair.push_run(1, len)?;
+    pair.remove_run((len / 3) as usize, len / 5)?;
+    for n in 0..len.saturating_add(3) {
+        if !pair.is_parted(n) {
+            return Ok(false);
+        }
+    }
+    Ok(true)
+}
+
+#[test]
+fn partition_points_are_those_of_a_plain_list(rt: HostRuntime) {
+    for len in [0u32, 1, 2, 64, 65, 130, 400] {
+        assert!(rt;
+            is_parted_everywhere(rt.alloc(), len) == Ok(true),
             "{len} elements"
         );
     }
@@ -327,6 +416,68 @@ fn is_split_and_appended(list: &mut SharedList<u32>, numbers: &[u32; COUNT]) -> 
         && has(&rest, &[])
 }
 
+fn made(alloc: Global, n: u32) -> Option<Arc<u32>> {
+    match Arc::new(alloc, n) {
+        Ok(item) => Some(item),
+        Err(_) => Arc::new(alloc, n).ok(),
+    }
+}
+
+/// Puts 1000 in the place of the element with that index.
+fn is_set(alloc: Global, list: &mut SharedList<u32>, at: usize, before: &[u32]) -> bool {
+    let (Some(item), Some(again)) = (made(alloc, 1000), made(alloc, 1000)) else {
+        return false;
+    };
+    if at >= list.len() {
+        return false;
+    }
+    match list.set_shared(at, item) {
+        Ok(()) => true,
+        Err(_) => has(list, before) && list.set_shared(at, again).is_ok(),
+    }
+}
+
+/// Sets two elements of a copy, in a chunk that the list has too and then in the copy's own.
+fn are_set(alloc: Global, list: &SharedList<u32>, numbers: &[u32; COUNT]) -> bool {
+    let Some(mut copy) = copied(list, numbers) else {
+        return false;
+    };
+    let mut once = *numbers;
+    once[70] = 1000;
+    let mut twice = once;
+    twice[71] = 1000;
+    is_set(alloc, &mut copy, 70, numbers)
+        && is_set(alloc, &mut copy, 71, &once)
+        && has(&copy, &twice)
+        && has(list, numbers)
+}
+
+fn is_popped(list: &mut SharedList<u32>, before: &[u32]) -> bool {
+    let last = before.last().copied();
+    match list.pop_shared() {
+        Ok(item) => is_number(&item, last),
+        Err(_) => {
+            let is_same = has(list, before);
+            match list.pop_shared() {
+                Ok(item) => is_same && is_number(&item, last),
+                Err(_) => false,
+            }
+        }
+    }
+}
+
+/// Takes out three elements of a copy, so that its last chunk goes.
+fn are_popped(list: &SharedList<u32>, numbers: &[u32; COUNT]) -> bool {
+    let Some(mut copy) = copied(list, numbers) else {
+        return false;
+    };
+    is_popped(&mut copy, numbers)
+        && is_popped(&mut copy, &numbers[..129])
+        && is_popped(&mut copy, &numbers[..128])
+        && has(&copy, &numbers[..127])
+        && has(list, numbers)
+}
+
 #[test]
 fn refused_memory_changes_nothing(rt: HostRuntime) {
     let mut numbers = [0u32; COUNT];
@@ -336,5 +487,7 @@ fn refused_memory_changes_nothing(rt: HostRuntime) {
     let mut list = SharedList::new(rt.alloc());
     assert!(rt; are_pushed(&mut list, &numbers));
     assert!(rt; are_removed(&list, &numbers));
+    assert!(rt; are_set(rt.alloc(), &list, &numbers));
+    assert!(rt; are_popped(&list, &numbers));
     assert!(rt; is_split_and_appended(&mut list, &numbers));
 }

@@ -16,24 +16,29 @@ fn letter(n: u16) -> u8 {
 }
 
 /// Three letters, which rise with the number.
-fn letters(n: u16) -> [u8; 3] {
+pub fn letters(n: u16) -> [u8; 3] {
     [letter(n / 100), letter(n / 10), letter(n)]
 }
 
-/// A snapshot of that name, whose guid is its number.
-fn kept_of(alloc: Global, n: u16) -> Result<Arc<Kept>, Refusal> {
+/// A snapshot of that name with that guid, and which has so many blocks of its own.
+pub fn kept(alloc: Global, n: u16, guid: u64, written: u32) -> Result<Kept, Refusal> {
     let name = Component::read(alloc, &letters(n))?;
-    let snapshot = Snapshot::new(name, Tree::new(), Guid(u64::from(n)), Group(1));
+    let snapshot = Snapshot::new(name, Tree::new(), Guid(guid), Group(1));
     let dead = Arc::new(alloc, Deadlist::new(alloc))?;
-    let written = 0;
-    Ok(Arc::new(
-        alloc,
-        Kept {
-            snapshot,
-            dead,
-            written,
-        },
-    )?)
+    Ok(Kept {
+        snapshot,
+        dead,
+        written,
+    })
+}
+
+/// A snapshot of that name, whose guid is its number, and which has so many blocks of its own.
+fn kept_with(alloc: Global, n: u16, written: u32) -> Result<Arc<Kept>, Refusal> {
+    Ok(Arc::new(alloc, kept(alloc, n, u64::from(n), written)?)?)
+}
+
+fn kept_of(alloc: Global, n: u16) -> Result<Arc<Kept>, Refusal> {
+    kept_with(alloc, n, 0)
 }
 
 /// Puts a snapshot in, if there is none of its name.
@@ -42,6 +47,24 @@ fn put(names: &mut ByName, kept: Arc<Kept>) -> Result<bool, Refusal> {
         return Ok(false);
     }
     names.insert(kept)?;
+    Ok(true)
+}
+
+/// Puts a snapshot in the place of the one of its name, if there is one.
+fn replace(names: &mut ByName, kept: Arc<Kept>) -> Result<bool, Refusal> {
+    if names.get(kept.snapshot.name().as_bytes()).is_none() {
+        return Ok(false);
+    }
+    names.set(kept)?;
+    Ok(true)
+}
+
+/// Takes a snapshot out, if it is there.
+fn take_out(names: &mut ByName, name: &[u8]) -> Result<bool, Refusal> {
+    if names.get(name).is_none() {
+        return Ok(false);
+    }
+    names.remove(name)?;
     Ok(true)
 }
 
@@ -109,6 +132,59 @@ fn names_come_in_each_order(rt: HostRuntime) {
     }
 }
 
+/// Takes out a third of the names, and replaces a third, in the order of the factor.
+fn is_thinned(
+    alloc: Global,
+    names: &mut ByName,
+    plain: &mut [bool; 400],
+    factor: u32,
+) -> Result<bool, Refusal> {
+    for k in 0..COUNT {
+        let n = nth(k, factor);
+        let is_done = match n % 3 {
+            0 => take_out(names, &letters(n))?,
+            1 => replace(names, kept_with(alloc, n, 1)?)?,
+            _ => true,
+        };
+        if let Some(mark) = plain.get_mut(n as usize) {
+            *mark = n % 3 != 0;
+        }
+        if !is_done || !agrees(names, plain) {
+            return Ok(false);
+        }
+    }
+    Ok(true)
+}
+
+fn is_written(names: &ByName, n: u16) -> bool {
+    match names.get(&letters(n)) {
+        Some(kept) => kept.written == u32::from(n % 3 == 1),
+        None => n % 3 == 0,
+    }
+}
+
+/// Whether all names are there, then a third is taken out and a third replaced, and a copy has what it had.
+fn is_right_without_some(alloc: Global, factor: u32) -> Result<bool, Refusal> {
+    let mut names = ByName::new(alloc);
+    let mut plain = [false; 400];
+    let filled = is_filled(alloc, &mut names, &mut plain, 7, (0, COUNT))?;
+    let copy = names.copy()?;
+    let copy_plain = plain;
+    let thinned = is_thinned(alloc, &mut names, &mut plain, factor)?;
+    let written = (0..COUNT).all(|n| is_written(&names, n));
+    Ok(filled && thinned && written && agrees(&copy, &copy_plain))
+}
+
+#[test]
+fn names_go_in_each_order(rt: HostRuntime) {
+    for factor in [1u32, 399, 149] {
+        assert!(rt;
+            is_right_without_some(rt.alloc(), factor) == Ok(true),
+            "by {factor}"
+        );
+    }
+}
+
 fn made(alloc: Global, n: u16) -> Option<Arc<Kept>> {
     match kept_of(alloc, n) {
         Ok(kept) => Some(kept),
@@ -157,7 +233,50 @@ fn are_put(alloc: Global, names: &mut ByName, plain: &mut [bool; 400], range: (u
     agrees(names, plain)
 }
 
-/// Puts in names enough that chunks become two, then more beside a copy.
+/// Replaces a snapshot; what is refused leaves all as it was, and is done when it is asked again.
+fn is_replaced(alloc: Global, names: &mut ByName, plain: &[bool; 400], n: u16) -> bool {
+    let Some(kept) = made(alloc, n) else {
+        return false;
+    };
+    let Ok(owner) = Arc::try_clone(&kept) else {
+        return false;
+    };
+    match replace(names, owner) {
+        Ok(is_there) => is_there,
+        Err(refusal) => {
+            refusal == Refusal::NoMemory && agrees(names, plain) && replace(names, kept) == Ok(true)
+        }
+    }
+}
+
+/// Takes a snapshot out; what is refused leaves all as it was, and is done when it is asked again.
+fn is_taken(names: &mut ByName, plain: &[bool; 400], n: u16) -> bool {
+    let name = letters(n);
+    match take_out(names, &name) {
+        Ok(is_there) => is_there,
+        Err(refusal) => {
+            refusal == Refusal::NoMemory
+                && agrees(names, plain)
+                && take_out(names, &name) == Ok(true)
+        }
+    }
+}
+
+/// Replaces and takes out every other of the first names that came.
+fn are_taken(alloc: Global, names: &mut ByName, plain: &mut [bool; 400]) -> bool {
+    for k in 0..40u16 {
+        let n = nth(k.wrapping_mul(2), 7);
+        if !is_replaced(alloc, names, plain, n) || !is_taken(names, plain, n) {
+            return false;
+        }
+        if let Some(mark) = plain.get_mut(n as usize) {
+            *mark = false;
+        }
+    }
+    agrees(names, plain)
+}
+
+/// Puts in names enough that chunks become two, then more beside a copy, and takes some out.
 fn refuses_well(alloc: Global) -> bool {
     let mut names = ByName::new(alloc);
     let mut plain = [false; 400];
@@ -168,7 +287,9 @@ fn refuses_well(alloc: Global) -> bool {
     let Some(half) = copied(&names, &plain) else {
         return false;
     };
-    are_put(alloc, &mut names, &mut plain, (150, 200)) && agrees(&half, &half_plain)
+    are_put(alloc, &mut names, &mut plain, (150, 200))
+        && are_taken(alloc, &mut names, &mut plain)
+        && agrees(&half, &half_plain)
 }
 
 #[test]

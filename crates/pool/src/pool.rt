@@ -132,9 +132,9 @@ impl Pool {
     }
 
     /// Makes all growths of a request, and its reply. The state stays as it is until `commit`. A name costs the logarithm of the
-    /// number of file systems, and a snapshot's the number of its file system's snapshots. What changes file systems is made on a
-    /// copy of them, which costs a count for each: beside it a write or a punch costs the path to its leaf, to free an object costs
-    /// its nodes, and a snapshot costs its names and a 64th of the snapshots of its file system, but no block. A read costs the path,
+    /// number of file systems, and a snapshot's also that of the number of its file system's snapshots. What changes file systems is
+    /// made on a copy of them, which costs a count for each: beside it a write or a punch costs the path to its leaf, to free an object
+    /// costs its nodes, and a snapshot costs its names and a 32nd of the snapshots of its file system, but no block. A read costs the path,
     /// and takes no memory. A list costs the names. Nothing else grows.
     pub fn prepare(&mut self, alloc: Global, request: &Request) -> (Reply, Ready)
         ensures same { self.new ≡ self.old }
@@ -367,7 +367,8 @@ impl Pool {
 
     /// One step: the request is done, or refused with the state as it was. A write, a punch and a freed object change the tree at
     /// once, and cost the path to the leaf or the object's nodes. A snapshot of one name without its descendants is taken at once,
-    /// and costs the number of snapshots of its file system. Every other request costs what `prepare` and `commit` do.
+    /// and costs the logarithm of the number of its file system's snapshots; and the first since a sync a 32nd of their number. Every
+    /// other request costs what `prepare` and `commit` do.
     pub fn apply(&mut self, alloc: Global, request: &Request) -> Reply
         ensures step { Step self.old.state request.now result self.new.state }
         ensures numbered { IsNumbered self.new.state }

@@ -1,6 +1,6 @@
 -- The elements of chunks around one of them.
 use Rattle.std.proofs.Common.{◌≡◌, ℕ, zero, suc, ◌+◌, ◌-◌, ◌<◌, ◌≤◌, List, [], ◌∷◌, ◌++◌, length, take, drop, remove, get_or, set, slice_get, Some, refl, ap, sym, ◌∙◌, arith, append_assoc, add-one}
-use Rattle.std.proofs.lemmas.List.{take-map, drop-map, map-append, take_rest, length-map, set_split, drop_more, take-append-drop, take-append-le, drop-append-le, drop_all, drop_at, append-nil, length-append, length-take-le, length-drop, get_or_default}
+use Rattle.std.proofs.lemmas.List.{take-map, drop-map, map-append, take_rest, length-map, set_split, drop_more, take-append-drop, take-append-le, drop-append-le, drop_all, drop_at, append-nil, length-append, length-take-le, length-drop, get_or_default, map-set, take_at, set-append_left, set-append_right}
 use Rattle.std.specs.Prelude.{insert}
 use Rattle.std.proofs.lemmas.Option.{get_or_from_slice_get}
 use Rattle.std.proofs.lemmas.List.Concat.{flat_map-append}
@@ -189,3 +189,61 @@ module _ {X : Type 0} (s low high : List X) (n i : ℕ) (y : X) (front : low ≡
 
   pub put_high : (new : List X) → n ≤ i → new ≡ insert high (i - n) y → low ++ new ≡ insert s i y
   put_high new h put = ap (λ v. low ++ v) put ∙ sym (insert-append_right low high n i y low_long h) ∙ ap (λ v. insert v i y) both
+
+-- another element in the middle part of a list
+pub set_between : {X : Type 0} (all low mid high : List X) (i : ℕ) (y : X) → all ≡ low ++ (mid ++ high) → i < length mid → set all (length low + i) y ≡ low ++ (set mid i y ++ high)
+set_between all low mid high i y e h =
+    let beyond : length low ≤ length low + i = omega arith in
+    let rest : length low + i - length low ≡ i = omega arith in
+    rw e (set-append_right low (mid ++ high) (length low) (length low + i) y refl beyond ∙ ap (λ j. low ++ set (mid ++ high) j y) rest ∙ ap (λ ys. low ++ ys) (set-append_left mid high i y h))
+
+-- another element in a chunk
+pub set_within : {X : Type 0} (xs : List (Arc (List X) Global)) (k i : ℕ) (a b : Arc (List X) Global) (y : X) → k < length xs → a ≡ get_or xs k a → i < length a.value → b.value ≡ set a.value i y → elements (set xs k b) ≡ set (elements xs) (length (elements (take k xs)) + i) y
+set_within xs k i a b y h read within put =
+    replaced xs k b h
+    ∙ ap (λ v. elements (take k xs) ++ (v ++ elements (drop (suc k) xs))) put
+    ∙ sym (set_between (elements xs) (elements (take k xs)) a.value (elements (drop (suc k) xs)) i y (whole xs k a h read) within)
+
+-- a chunk without one of its elements
+pub gone_within : {X : Type 0} (xs : List (Arc (List X) Global)) (k i : ℕ) (a b : Arc (List X) Global) → k < length xs → a ≡ get_or xs k a → i < length a.value → b.value ≡ remove a.value i → elements (set xs k b) ≡ remove (elements xs) (length (elements (take k xs)) + i)
+gone_within xs k i a b h read within rest =
+    replaced xs k b h
+    ∙ ap (λ v. elements (take k xs) ++ (v ++ elements (drop (suc k) xs))) rest
+    ∙ sym (gone (elements xs) (elements (take k xs)) a.value (elements (drop (suc k) xs)) (length (elements (take k xs)) + i) i (whole xs k a h read) refl within)
+
+-- without a chunk of one
+pub gone_whole : {X : Type 0} (xs : List (Arc (List X) Global)) (k i : ℕ) (a : Arc (List X) Global) → k < length xs → a ≡ get_or xs k a → i < length a.value → length a.value ≡ 1 → elements (remove xs k) ≡ remove (elements xs) (length (elements (take k xs)) + i)
+gone_whole xs k i a h read within one =
+    joined (take k xs) (drop (suc k) xs)
+    ∙ ap (λ v. elements (take k xs) ++ (v ++ elements (drop (suc k) xs))) (sym (gone_one a.value i one within))
+    ∙ sym (gone (elements xs) (elements (take k xs)) a.value (elements (drop (suc k) xs)) (length (elements (take k xs)) + i) i (whole xs k a h read) refl within)
+
+-- the element at a place
+pub got_within : {X : Type 0} (xs : List (Arc (List X) Global)) (k i : ℕ) (a : Arc (List X) Global) (y : X) → k < length xs → a ≡ get_or xs k a → i < length a.value → slice_get a.value i ≡ Some y → slice_get (elements xs) (length (elements (take k xs)) + i) ≡ Some y
+got_within xs k i a y h read within is =
+    sym (got (elements xs) (elements (take k xs)) a.value (elements (drop (suc k) xs)) (length (elements (take k xs)) + i) i y (whole xs k a h read) refl within is)
+
+-- what items own, by index
+pub set_values : {X : Type 0} (xs : List (Arc X Global)) (i : ℕ) (x : Arc X Global) → values (set xs i x) ≡ set (values xs) i x.value
+set_values xs i x = map-set (λ a. a.value) xs i x
+
+pub removed_values : {X : Type 0} (xs : List (Arc X Global)) (i : ℕ) → values (remove xs i) ≡ remove (values xs) i
+removed_values xs i = simp (map-append, take-map, drop-map)
+
+pub got_value : {X : Type 0} (xs : List (Arc X Global)) (i : ℕ) (a : Arc X Global) → i < length xs → a ≡ get_or xs i a → slice_get (values xs) i ≡ Some a.value
+got_value [] i a h e = absurd (omega arith)
+got_value (x ∷ xs) zero a h e = ap (λ (b : Arc _ Global). Some b.value) (sym e)
+got_value (x ∷ xs) (suc i) a h e = got_value xs i a (omega arith) e
+
+-- the elements before a chunk
+pub taken_between : {X : Type 0} (xs : List (Arc (List X) Global)) (k i : ℕ) → i ≡ length (elements (take k xs)) → take i (elements xs) ≡ elements (take k xs)
+taken_between xs k i e =
+    let parts : elements xs ≡ elements (take k xs) ++ elements (drop k xs) = ap elements (sym (take-append-drop k xs)) ∙ joined (take k xs) (drop k xs) in
+    rw parts (take_at (elements (take k xs)) (elements (drop k xs)) i (sym e))
+
+-- a list is what the removal of its last element leaves, and that
+pub popped : {X : Type 0} (all : List X) (i : ℕ) (y : X) → length all ≡ i + 1 → slice_get all i ≡ Some y → all ≡ remove all i ++ y ∷ []
+popped [] i y n e = absurd (omega arith)
+popped (x ∷ []) zero y n e = let same : x ≡ y = cc in ap (λ z. z ∷ []) same
+popped (x ∷ (z ∷ zs)) zero y n e = absurd (omega arith)
+popped (x ∷ xs) (suc i) y n e = ap (λ ys. x ∷ ys) (popped xs i y (omega arith) e)

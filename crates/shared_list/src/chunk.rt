@@ -1,5 +1,5 @@
 //! Chunks of a list, which change only where they have one owner.
-ghost use Rattle.std.specs.Prelude.{◌≡◌, ◌+◌, ◌-◌, ◌<◌, ◌≤◌, ◌++◌, ◌∷◌, [], length, take, drop, insert, remove, slice_get, IfOk, OnOk, OnErr};
+ghost use Rattle.std.specs.Prelude.{◌≡◌, ◌+◌, ◌-◌, ◌<◌, ◌≤◌, ◌++◌, ◌∷◌, [], length, take, drop, insert, remove, slice_get, slice_set, IfOk, OnOk, OnErr};
 ghost use Rattle.shared_list.specs.Elements.{values};
 
 use std::alloc::{AllocError, Global};
@@ -96,6 +96,45 @@ impl<T: Drop> Chunk<T> {
         Ok(Arc::new(alloc, Chunk { items })?)
     }
 
+    // Takes out the element with that index.
+    fn take(&mut self, at: usize) -> Arc<T>
+        requires at { at < length self.old }
+        requires more { 1 < length self.old }
+        ensures rest { self.new ≡ remove self.old at }
+        ensures item { slice_get self.old at ≡ Some result.value }
+    {
+        self.items.remove(at)
+    }
+
+    /// Its elements with that one in the place of the one with that index.
+    #[tactic(auto, using(crate::proofs::Chunks::mapped))]
+    pub(crate) fn with_other(&self, at: usize, item: Arc<T>) -> Result<Arc<Chunk<T>>, AllocError>
+        requires { at < length self.now }
+        ensures { IfOk result (λ c. c.value ≡ slice_set self.now at item.value) }
+    {
+        let alloc = *self.items.allocator();
+        let mut items = Vec::with_capacity(alloc, self.items.len())?;
+        share(&mut items, &self.items)?;
+        items[at] = item;
+        Ok(Arc::new(alloc, Chunk { items })?)
+    }
+
+    // Puts that one in the place of the element with that index.
+    fn replace(&mut self, at: usize, item: Arc<T>)
+        requires { at < length self.old }
+        ensures { self.new ≡ slice_set self.old at item.value }
+    {
+        self.items[at] = item;
+    }
+
+    /// One more owner of the element with that index.
+    pub(crate) fn owner(&self, at: usize) -> Result<Arc<T>, AllocError>
+        requires { at < length self.now }
+        ensures { IfOk result (λ a. slice_get self.now at ≡ Some a.value) }
+    {
+        Ok(Arc::try_clone(&self.items[at])?)
+    }
+
     /// Its elements before that index, and the others.
     #[tactic(auto, using(crate::proofs::Chunks::mapped))]
     pub(crate) fn split(&self, index: usize) -> Result<(Arc<Chunk<T>>, Arc<Chunk<T>>), AllocError>
@@ -187,4 +226,42 @@ pub(crate) fn put_in<T: Drop>(
     let whole = place.with(at, item)?;
     *place = whole;
     Ok(())
+}
+
+/// Puts an element into a chunk, in the place of the one with that index: where the chunk is, if it has no other owner, and else in a
+/// chunk made anew, which comes to its place.
+pub(crate) fn set_in<T: Drop>(
+    place: &mut Arc<Chunk<T>>,
+    at: usize,
+    item: Arc<T>,
+) -> Result<(), AllocError>
+    requires { at < length place.old.value }
+    ensures ok { OnOk result (place.new.value ≡ slice_set place.old.value at item.value) }
+    ensures err { OnErr result (place.new.value ≡ place.old.value) }
+{
+    if let Some(chunk) = Arc::get_mut(place) {
+        chunk.replace(at, item);
+        return Ok(());
+    }
+    let whole = place.with_other(at, item)?;
+    *place = whole;
+    Ok(())
+}
+
+/// Takes the element with that index out of a chunk that has more: where the chunk is, if it has no other owner, and else a chunk made
+/// anew comes to its place.
+pub(crate) fn take_from<T: Drop>(place: &mut Arc<Chunk<T>>, at: usize) -> Result<Arc<T>, AllocError>
+    requires at { at < length place.old.value }
+    requires more { 1 < length place.old.value }
+    ensures ok { OnOk result (place.new.value ≡ remove place.old.value at) }
+    ensures item { IfOk result (λ a. slice_get place.old.value at ≡ Some a.value) }
+    ensures err { OnErr result (place.new.value ≡ place.old.value) }
+{
+    if let Some(chunk) = Arc::get_mut(place) {
+        return Ok(chunk.take(at));
+    }
+    let item = place.owner(at)?;
+    let rest = place.without(at)?;
+    *place = rest;
+    Ok(item)
 }

@@ -1,9 +1,9 @@
 //! Edits of the chunks themselves, for what keeps elements in an order of its own and finds their places by it.
-ghost use Rattle.std.specs.Prelude.{◌≡◌, ◌+◌, ◌++◌, ◌∷◌, [], length, take, insert, IfOk, OnOk, OnErr};
+ghost use Rattle.std.specs.Prelude.{◌≡◌, ◌+◌, ◌++◌, ◌∷◌, [], length, take, insert, remove, slice_get, slice_set, IfOk, OnOk, OnErr};
 ghost use Rattle.shared_list.specs.Elements.{elements};
-ghost use Rattle.shared_list.specs.Places.{IsPlace};
+ghost use Rattle.shared_list.specs.Places.{IsPlace, IsItem};
 
-use crate::chunk::{CHUNK, Chunk, put_in};
+use crate::chunk::{CHUNK, Chunk, put_in, set_in, take_from};
 use std::alloc::{AllocError, Global};
 use std::sync::Arc;
 
@@ -60,4 +60,76 @@ pub fn insert_item<T: Drop>(
     chunks.insert(k + 1, high)?;
     chunks[k] = low;
     Ok(())
+}
+
+/// Puts an element at that place of that chunk, instead of what stands there. It is done in place where the chunk has no other owner,
+/// else the chunk is made anew. AllocError where memory is refused; then the elements are as they were.
+pub fn set_item<T: Drop>(
+    chunks: &mut Vec<Arc<Chunk<T>>>,
+    k: usize,
+    at: usize,
+    item: Arc<T>,
+) -> Result<(), AllocError>
+    requires { IsItem chunks.old.items k at }
+    ensures ok { OnOk result (elements chunks.new.items ≡ slice_set (elements chunks.old.items) (length (elements (take k chunks.old.items)) + at) item.value) }
+    ensures err { OnErr result (elements chunks.new.items ≡ elements chunks.old.items) }
+{
+    set_in(&mut chunks[k], at, item)?;
+    Ok(())
+}
+
+/// Takes out the element at that place of that chunk, as `remove_item` does, but leaves two neighbours that fit in one chunk as they
+/// are. Constant time in the last chunk, where that has no other owner.
+pub(crate) fn take_item<T: Drop>(
+    chunks: &mut Vec<Arc<Chunk<T>>>,
+    k: usize,
+    at: usize,
+) -> Result<Arc<T>, AllocError>
+    requires { IsItem chunks.old.items k at }
+    ensures ok { OnOk result (elements chunks.new.items ≡ remove (elements chunks.old.items) (length (elements (take k chunks.old.items)) + at)) }
+    ensures item { IfOk result (λ a. slice_get (elements chunks.old.items) (length (elements (take k chunks.old.items)) + at) ≡ Some a.value) }
+    ensures err { OnErr result (elements chunks.new.items ≡ elements chunks.old.items) }
+{
+    if chunks[k].len() > 1 {
+        let item = take_from(&mut chunks[k], at)?;
+        return Ok(item);
+    }
+    let item = chunks[k].owner(at)?;
+    let _gone = chunks.remove(k);
+    Ok(item)
+}
+
+/// Takes out the element at that place of that chunk, and gives it. It costs at most three chunks, and that chunk is changed in place
+/// where it has no other owner; one that is emptied goes, and neighbours that fit in one chunk become one, unless memory for it is
+/// refused, which is no error. AllocError where memory is refused for the removal; then the elements are as they were.
+pub fn remove_item<T: Drop>(
+    chunks: &mut Vec<Arc<Chunk<T>>>,
+    k: usize,
+    at: usize,
+) -> Result<Arc<T>, AllocError>
+    requires { IsItem chunks.old.items k at }
+    ensures ok { OnOk result (elements chunks.new.items ≡ remove (elements chunks.old.items) (length (elements (take k chunks.old.items)) + at)) }
+    ensures item { IfOk result (λ a. slice_get (elements chunks.old.items) (length (elements (take k chunks.old.items)) + at) ≡ Some a.value) }
+    ensures err { OnErr result (elements chunks.new.items ≡ elements chunks.old.items) }
+{
+    let item = take_item(chunks, k, at)?;
+    join(chunks, k.saturating_add(1));
+    join(chunks, k);
+    Ok(item)
+}
+
+/// Makes one chunk of that one and the one before it, where they fit in one and there is memory for it.
+pub(crate) fn join<T: Drop>(chunks: &mut Vec<Arc<Chunk<T>>>, k: usize)
+    ensures { elements chunks.new.items ≡ elements chunks.old.items }
+{
+    if k == 0 || k >= chunks.len() {
+        return;
+    }
+    if chunks[k - 1].len() + chunks[k].len() > CHUNK {
+        return;
+    }
+    if let Ok(whole) = chunks[k - 1].joined(&chunks[k]) {
+        chunks[k - 1] = whole;
+        let _joined = chunks.remove(k);
+    }
 }

@@ -8,6 +8,7 @@ mod chunk;
 pub mod edits;
 mod iter;
 mod list;
+pub mod place;
 
 pub use chunk::Chunk;
 pub use iter::Iter;

@@ -1,12 +1,16 @@
 //! The list, and how its chunks change.
-ghost use Rattle.std.specs.Prelude.{◌≡◌, suc, ◌+◌, ◌-◌, ◌<◌, ◌≤◌, ◌++◌, ◌∷◌, [], length, take, drop, remove, slice_get, IfOk, OnOk, OnErr};
-ghost use Rattle.std.specs.Option.{option_copied};
+ghost use Rattle.std.specs.Prelude.{◌≡◌, ◌-◌, ◌<◌, ◌≤◌, ◌++◌, ◌∷◌, ◌↔◌, [], None, true, false, Bool, length, take, drop, remove, slice_get, slice_set, IfOk, OnOk, OnErr};
+ghost use Rattle.std.specs.Arc.{arc_value};
+ghost use Rattle.std.specs.Fn.{ComputesKey};
+ghost use Rattle.std.specs.List.Sorted.{IsPartitionedBy, IsPartitionPoint};
+ghost use Rattle.std.specs.Option.{option_copied, option_map, option_to_list};
 ghost use Rattle.shared_list.specs.Elements.{elements};
 ghost use Rattle.shared_list.specs.Left.{left};
 
-use crate::chunk::{CHUNK, Chunk};
-use crate::edits::{copied, push_item};
+use crate::chunk::Chunk;
+use crate::edits::{copied, join, push_item, remove_item, set_item, take_item};
 use crate::iter::Iter;
+use crate::place::{Place, index_of, item_at, last_place, partition_point, place_of};
 use std::alloc::{AllocError, Global};
 use std::marker::Model;
 use std::sync::Arc;
@@ -14,11 +18,10 @@ use std::sync::Arc;
 /// Elements in order. Contracts see the plain list of their values.
 ///
 /// They stand in chunks of 1 to 64 elements (profile), which copies share. No element is ever cloned: a copy takes one more owner of
-/// each chunk, and a change makes at most three chunks anew, each by one more owner of each of its elements, but for a push into a last
-/// chunk that no copy has, which is changed where it is. A push fills the last
-/// chunk before it begins another; `remove` and `append` make one chunk of two neighbours that fit in one, unless memory for it is
-/// refused, which is no error; `split_off` can leave a chunk that isn't full on each side of the cut. So how many chunks there are no
-/// clause says.
+/// each chunk, and a change makes at most three chunks anew, each by one more owner of each of its elements. A chunk that no copy has
+/// is changed where it is by `push`, `pop_shared`, `set_shared` and `remove`. A push fills the last chunk before it begins another;
+/// `remove` and `append` make one chunk of two neighbours that fit in one, unless memory for it is refused, which is no error;
+/// `split_off` can leave a chunk that isn't full on each side of the cut. So how many chunks there are no clause says.
 ///
 /// Each element takes memory of its own, and a pointer in each chunk that has it. A call that is refused memory answers AllocError,
 /// and changes no list.
@@ -59,15 +62,14 @@ impl<T: Drop> SharedList<T> {
 
     /// The element with that index, counted from 0, or None where the list ends before it. It costs a walk over the chunks before
     /// it: to go through a list, take `iter`.
-    #[tactic(auto, using(crate::proofs::Chunks::got))]
     pub fn get(&self, index: usize) -> Option<&T>
         ensures { option_copied result ≡ slice_get self.now index }
     {
         if index >= self.len {
             return None;
         }
-        let Place { k: _, chunk, at } = place_of(&self.chunks, index);
-        Some(chunk.get(at))
+        let place = place_of(&self.chunks, index);
+        Some(item_at(&self.chunks, place))
     }
 
     /// The last element, or None where there is none. Constant time.
@@ -77,6 +79,19 @@ impl<T: Drop> SharedList<T> {
     {
         let chunk: &Chunk<T> = self.chunks.last()?;
         Some(chunk.get(chunk.len() - 1))
+    }
+
+    /// The index of the first element that doesn't pass a test, where those that pass come first; the length, where all pass. It costs
+    /// the logarithm of the number of elements, and a walk over the chunks before that one.
+    pub fn partition_point<P: Fn(&T) -> bool>(&self, test: P) -> usize
+        requires { P.IsAlwaysCallable test }
+        ensures bound { result ≤ length self.now }
+        ensures partitioned { (p : T → Bool) → ComputesKey P.FnMut p test → IsPartitionedBy p self.now → IsPartitionPoint (λ y. p y ≡ true) (λ y. p y ≡ false) self.now result }
+    {
+        match partition_point(&self.chunks, test) {
+            Some(place) => index_of(&self.chunks, place, self.len),
+            None => self.len,
+        }
     }
 
     /// The elements, first to last. Constant time, and constant time for each element.
@@ -122,18 +137,45 @@ impl<T: Drop> SharedList<T> {
         Ok(())
     }
 
-    /// Removes the element with that index, which is below the length. It costs the number of chunks, and makes at most three
-    /// anew. AllocError where memory is refused; then the list is as it was.
+    /// Removes the element with that index, which is below the length. It costs the number of chunks, and makes at most three anew, or
+    /// none where the chunk has no other owner and no neighbour that fits in one with it. AllocError where memory is refused; then the
+    /// list is as it was.
     pub fn remove(&mut self, index: usize) -> Result<(), AllocError>
         requires { index < length self.old }
         ensures ok { OnOk result (self.new ≡ remove self.old index) }
         ensures err { OnErr result (self.new ≡ self.old) }
     {
-        let k = take_out(&mut self.chunks, index)?;
-        join(&mut self.chunks, k.saturating_add(1));
-        join(&mut self.chunks, k);
+        let Place { k, at } = place_of(&self.chunks, index);
+        let _gone = remove_item(&mut self.chunks, k, at)?;
         self.len -= 1;
         Ok(())
+    }
+
+    /// Takes out the last element, and gives it, or None where there is none. Constant time, where the last chunk has no other owner;
+    /// else it makes the last chunk anew. AllocError where memory is refused; then the list is as it was.
+    pub fn pop_shared(&mut self) -> Result<Option<Arc<T>>, AllocError>
+        ensures ok { IfOk result (λ o. self.old ≡ self.new ++ option_to_list (option_map arc_value o)) }
+        ensures none { IfOk result (λ o. (o ≡ None) ↔ (self.old ≡ [])) }
+        ensures err { OnErr result (self.new ≡ self.old) }
+    {
+        let Some(place) = last_place(&self.chunks) else {
+            return Ok(None);
+        };
+        let item = take_item(&mut self.chunks, place.k, place.at)?;
+        self.len -= 1;
+        Ok(Some(item))
+    }
+
+    /// Puts an element that has other owners in the place of the one with that index, which is below the length. It costs a walk over
+    /// the chunks before it, and is done in place where the chunk has no other owner; else the chunk is made anew. AllocError where
+    /// memory is refused; then the list is as it was.
+    pub fn set_shared(&mut self, index: usize, item: Arc<T>) -> Result<(), AllocError>
+        requires { index < length self.old }
+        ensures ok { OnOk result (self.new ≡ slice_set self.old index item.value) }
+        ensures err { OnErr result (self.new ≡ self.old) }
+    {
+        let Place { k, at } = place_of(&self.chunks, index);
+        set_item(&mut self.chunks, k, at, item)
     }
 
     /// Keeps the elements before that index, which is at most the length, and gives the others. It costs the number of chunks, and
@@ -172,66 +214,6 @@ impl<T: Drop> SharedList<T> {
     }
 }
 
-/// Where an element stands: the index of its chunk, the chunk, and the element's index there.
-struct Place<'a, T> {
-    k: usize,
-    chunk: &'a Chunk<T>,
-    at: usize,
-}
-
-/// Where the element with that index stands.
-#[tactic(auto, using(crate::proofs::Chunks::whole))]
-fn place_of<'a, T: Drop>(chunks: &'a [Arc<Chunk<T>>], index: usize) -> Place<'a, T>
-    requires { index < length (elements chunks.now) }
-    ensures chunk { result.k < length chunks.now }
-    ensures whole { elements chunks.now ≡ elements (take result.k chunks.now) ++ (result.chunk.now ++ elements (drop (suc result.k) chunks.now)) }
-    ensures at { index ≡ length (elements (take result.k chunks.now)) + result.at }
-    ensures within { result.at < length result.chunk.now }
-{
-    let mut at = index;
-    for k in 0..chunks.len() {
-        let chunk: &Chunk<T> = &chunks[k];
-        let len = chunk.len();
-        if at < len {
-            return Place { k, chunk, at };
-        }
-        at -= len;
-    }
-    unreachable!()
-}
-
-/// Removes the element with that index, and gives the index of the chunk that it stood in.
-fn take_out<T: Drop>(chunks: &mut Vec<Arc<Chunk<T>>>, index: usize) -> Result<usize, AllocError>
-    requires { index < length (elements chunks.old.items) }
-    ensures ok { OnOk result (elements chunks.new.items ≡ remove (elements chunks.old.items) index) }
-    ensures err { OnErr result (elements chunks.new.items ≡ elements chunks.old.items) }
-{
-    let Place { k, chunk, at } = place_of(chunks, index);
-    if chunk.len() == 1 {
-        let _gone = chunks.remove(k);
-    } else {
-        let rest = chunk.without(at)?;
-        chunks[k] = rest;
-    }
-    Ok(k)
-}
-
-/// Makes one chunk of that one and the one before it, where they fit in one and there is memory for it.
-fn join<T: Drop>(chunks: &mut Vec<Arc<Chunk<T>>>, k: usize)
-    ensures { elements chunks.new.items ≡ elements chunks.old.items }
-{
-    if k == 0 || k >= chunks.len() {
-        return;
-    }
-    if chunks[k - 1].len() + chunks[k].len() > CHUNK {
-        return;
-    }
-    if let Ok(whole) = chunks[k - 1].joined(&chunks[k]) {
-        chunks[k - 1] = whole;
-        let _joined = chunks.remove(k);
-    }
-}
-
 /// Keeps the elements before that index, and gives the chunks of the others.
 fn cut_off<T: Drop>(
     chunks: &mut Vec<Arc<Chunk<T>>>,
@@ -242,12 +224,12 @@ fn cut_off<T: Drop>(
     ensures rest { IfOk result (λ v. elements v.items ≡ drop index (elements chunks.old.items)) }
     ensures err { OnErr result (elements chunks.new.items ≡ elements chunks.old.items) }
 {
-    let Place { k, chunk, at } = place_of(chunks, index);
+    let Place { k, at } = place_of(chunks, index);
     if at == 0 {
         let rest = chunks.split_off(k)?;
         return Ok(rest);
     }
-    let (low, high) = chunk.split(at)?;
+    let (low, high) = chunks[k].split(at)?;
     let mut rest = chunks.split_off(k)?;
     rest[0] = high;
     chunks.push_reserved(low);

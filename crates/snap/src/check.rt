@@ -59,8 +59,8 @@ fn any_too_long(all: &[Named]) -> bool
     all.iter().any(|name| is_too_long(name))
 }
 
-// Whether a snapshot of this name is there. It costs the logarithm of the number of file systems, and the number of snapshots of
-// this one.
+// Whether a snapshot of this name is there. It costs the logarithm of the number of file systems, and that of the number of snapshots
+// of this one.
 fn is_taken(table: &Table, name: &Named) -> bool
     ensures { result ≡ is_some (snap_named (world_of table.now) name.now) }
 {
@@ -112,7 +112,7 @@ fn has_no_room(table: &Table, next: u64, count: usize) -> bool
 /// Refuses snapshots of all these names, whose file systems are there: BadName where a whole name is over 255 bytes, else Exists
 /// where there is a snapshot of such a name or a file system stands twice, else TooMany where there is no room for them. NoMemory
 /// may come before TooMany, and before Exists where a file system stands twice (zfs-snapshot(8); numbers are profile). It costs the
-/// number n of names times its logarithm and that of the number of file systems, and the number of snapshots of the n file systems.
+/// number n of names times its logarithm, that of the number of file systems and that of the number of a file system's snapshots.
 pub fn check(alloc: Global, table: &Table, all: &[Named], next: u64) -> Result<(), Refusal>
     ensures can { OnOk result (first_of (naming_row (world_of table.now) next all.now) ≡ None) }
     ensures only { IfErr result (λ e. (first_of (naming_row (world_of table.now) next all.now) ≡ Some e) ⊎ (e ≡ Refusal.NoMemory)) }
@@ -130,7 +130,7 @@ pub fn check(alloc: Global, table: &Table, all: &[Named], next: u64) -> Result<(
 }
 
 /// Why a snapshot of this name alone is refused, if it is: NoDataset where its file system isn't there, else as `check` says. It takes
-/// no memory. It costs the logarithm of the number of file systems, and the number of snapshots of this one.
+/// no memory. It costs the logarithm of the number of file systems, and that of the number of snapshots of this one.
 pub fn refusal_of_one(table: &Table, name: &SnapName, next: u64) -> Option<Refusal>
     ensures { result ≡ refusal_of table.now next (name.now ∷ []) false }
 {

@@ -42,7 +42,8 @@ pub struct Taken {
 /// or a file system stands twice, else TooMany where the pool would have over 65,536 snapshots, the group is the last one or the
 /// counter has no guids left. NoMemory, where there is none for the names or the snapshots, may come before all of these but
 /// NoDataset (zfs-snapshot(8); numbers are profile). With n snapshots it costs the number of file systems, with `recursive` once for
-/// each name, n times its logarithm and that of n, and the number of snapshots that the n file systems had.
+/// each name, n times its logarithm and those of the numbers of file systems and of a file system's snapshots, and, for each file
+/// system whose snapshots another table shares, a 32nd of their number.
 pub fn snapshot(
     alloc: Global,
     table: &Table,
@@ -71,7 +72,8 @@ pub fn snapshot(
 
 /// Takes a snapshot of this name in this table, of the group that was open, which is closed. Refused as `snapshot` of this name alone
 /// without `recursive`, but NoMemory comes after all that refuses it; then, as at each refusal, the table is as it was (zfs-snapshot(8);
-/// numbers are profile). It costs the logarithm of the number of file systems, and the number of snapshots of this one.
+/// numbers are profile). It costs the logarithm of the number of file systems, and that of the number of snapshots of this one; and
+/// where another table shares these, a 32nd of their number.
 pub fn snapshot_one(
     alloc: Global,
     table: &mut Table,

@@ -47,7 +47,7 @@ fn take_all(alloc: Global, table: &Table, all: &[Named], guids: Guids) -> Result
 
 /// A table with a snapshot of each of these names, of the group that was open, which is closed; without a name an equal table. This
 /// table stays as it is. NoMemory where there is none for it. It costs the number of file systems, and for each name the logarithm of
-/// that and a 64th of the snapshots that its file system had.
+/// that and a 32nd of the snapshots that its file system had.
 pub fn take(alloc: Global, table: &Table, all: &[Named], guids: Guids) -> Result<Table, Refusal>
     requires takable { AreTakable table.now.file_systems all.now }
     requires room { nat_lt 0 (length all.now) ≡ true → has_no_room_for (world_of table.now) guids.next (length all.now) ≡ false }
@@ -61,8 +61,8 @@ pub fn take(alloc: Global, table: &Table, all: &[Named], guids: Guids) -> Result
 }
 
 /// Takes a snapshot of this name alone in this table, of the group that was open, which is closed. NoMemory where there is none for
-/// it, and then the table is as it was. It costs the logarithm of the number of file systems; and where another table shares this
-/// one, a 64th of the number of its snapshots.
+/// it, and then the table is as it was. It costs the logarithm of the number of file systems; and where another table shares the
+/// snapshots of this one, a 32nd of their number.
 pub fn take_one(
     alloc: Global,
     table: &mut Table,

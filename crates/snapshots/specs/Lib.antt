@@ -1,3 +1,3 @@
 pub mod Order
-pub mod Search
+pub mod Index
 pub mod Snaps

@@ -1,5 +1,5 @@
 -- Kept snapshots in the byte order of their names (profile).
-use Rattle.std.specs.Prelude.{ℕ, Bool, true, false, ◌&&◌, List, [], ◌∷◌}
+use Rattle.std.specs.Prelude.{ℕ, Bool, true, ◌&&◌, List, [], ◌∷◌}
 use Rattle.std.specs.List.{list_all}
 use Rattle.std.specs.Ordering.{is_lt}
 use Rattle.name.specs.Names.{name_cmp, same_name}
@@ -17,9 +17,3 @@ is_named name k = same_name k.snapshot.name name
 abbrev pub names_rise : List Kept → Bool
 names_rise [] = true
 names_rise (k ∷ ks) = list_all (λ j. is_below j.snapshot.name k) ks && names_rise ks
-
--- there is a last element, which passes
-abbrev pub ends : {A : Type 0} → (A → Bool) → List A → Bool
-ends p [] = false
-ends p (x ∷ []) = p x
-ends p (x ∷ (y ∷ ys)) = ends p (y ∷ ys)

@@ -1,20 +1,19 @@
 //! Kept snapshots by name.
-ghost use Rattle.std.specs.Prelude.{◌≡◌, ◌+◌, ◌<◌, ◌≤◌, [], None, IsTrue, if◌then◌else◌, ℕ, List, length, take, IfOk, IfErr, OnOk, OnErr, slice_index_or, slice_get};
+ghost use Rattle.std.specs.Prelude.{◌≡◌, [], None, true, false, IsTrue, IsSome, IfSome, if◌then◌else◌, ℕ, List, IfOk, IfErr, OnOk, OnErr};
 ghost use Rattle.std.specs.List.{find};
+ghost use Rattle.std.specs.List.Sorted.{IsPartitionPoint};
 ghost use Rattle.std.specs.Option.{option_copied};
-ghost use Rattle.std.specs.Global.{Global};
-ghost use Rattle.std.specs.declared.sync.Arc.{Arc};
-ghost use Rattle.shared_list.specs.Elements.{values, elements};
+ghost use Rattle.shared_list.specs.Elements.{elements};
+ghost use Rattle.shared_list.specs.Places.{IsItem, place_index};
 ghost use Rattle.base.specs.declared.refusal.Refusal.{Refusal};
 ghost use Rattle.name.specs.Names.{same_name};
-ghost use Rattle.snapshots.specs.declared.kept.Kept.{Kept};
-ghost use Rattle.snapshots.specs.Order.{is_below, is_named, names_rise, ends};
-ghost use Rattle.snapshots.specs.Search.{IsCut, EndsBelow, EndsNotBelow, Below, NotBelow, IsPlaceFor};
+ghost use Rattle.snapshots.specs.Order.{is_below, is_named, names_rise};
 
 use crate::kept::Kept;
 use base::refusal::Refusal;
 use shared_list::Chunk;
-use shared_list::edits::{copied, insert_item, push_item};
+use shared_list::edits::{copied, insert_item, push_item, remove_item, set_item};
+use shared_list::place::{Place, item_at, partition_point};
 use std::alloc::Global;
 use std::marker::Model;
 use std::sync::Arc;
@@ -68,8 +67,8 @@ impl ByName {
     pub fn get(&self, name: &[u8]) -> Option<&Kept>
         ensures { option_copied result ≡ find (λ k. same_name k.snapshot.name name.now) self.now }
     {
-        let place = place_of(&self.chunks, name);
-        let kept = at_place(&self.chunks, place)?;
+        let place = place_of(&self.chunks, name)?;
+        let kept = item_at(&self.chunks, place);
         if has_name(kept, name) {
             return Some(kept);
         }
@@ -85,21 +84,44 @@ impl ByName {
         ensures err { OnErr result (self.new ≡ self.old) }
         ensures only { IfErr result (λ e. e ≡ Refusal.NoMemory) }
     {
-        let Place { k, at } = place_of(&self.chunks, kept.snapshot.name().as_bytes());
-        if k < self.chunks.len() {
-            insert_item(&mut self.chunks, k, at, kept)?;
+        let Some(place) = place_of(&self.chunks, kept.snapshot.name().as_bytes()) else {
+            push_item(&mut self.chunks, kept)?;
             return Ok(());
-        }
-        push_item(&mut self.chunks, kept)?;
+        };
+        insert_item(&mut self.chunks, place.k, place.at, kept)?;
         Ok(())
     }
-}
 
-/// A place in a chunk, or behind the last chunk.
-#[derive(Clone, Copy)]
-struct Place {
-    k: usize,
-    at: usize,
+    /// Puts a snapshot in the place of the one of its name, which is there, by the owner that is given. It costs the logarithm of their
+    /// number, and is done in place where the chunk has no other owner; else the chunk is made anew. NoMemory where memory is refused;
+    /// then all is as it was.
+    pub fn set(&mut self, kept: Arc<Kept>) -> Result<(), Refusal>
+        requires { IsSome (find (λ k. same_name k.snapshot.name kept.value.snapshot.name) self.old) }
+        ensures ok { OnOk result ((name : List ℕ) → find (λ k. same_name k.snapshot.name name) self.new ≡ (if same_name kept.value.snapshot.name name then Some kept.value else find (λ k. same_name k.snapshot.name name) self.old)) }
+        ensures err { OnErr result (self.new ≡ self.old) }
+        ensures only { IfErr result (λ e. e ≡ Refusal.NoMemory) }
+    {
+        let Some(place) = place_of(&self.chunks, kept.snapshot.name().as_bytes()) else {
+            unreachable!()
+        };
+        set_item(&mut self.chunks, place.k, place.at, kept)?;
+        Ok(())
+    }
+
+    /// Takes out the snapshot of that name, which is there. It costs the logarithm of their number and at most three chunks, and moves
+    /// the pointers to the chunks behind one that goes. NoMemory where memory is refused; then all is as it was.
+    pub fn remove(&mut self, name: &[u8]) -> Result<(), Refusal>
+        requires { IsSome (find (λ k. same_name k.snapshot.name name.now) self.old) }
+        ensures ok { OnOk result ((other : List ℕ) → find (λ k. same_name k.snapshot.name other) self.new ≡ (if same_name name.now other then None else find (λ k. same_name k.snapshot.name other) self.old)) }
+        ensures err { OnErr result (self.new ≡ self.old) }
+        ensures only { IfErr result (λ e. e ≡ Refusal.NoMemory) }
+    {
+        let Some(place) = place_of(&self.chunks, name) else {
+            unreachable!()
+        };
+        let _gone = remove_item(&mut self.chunks, place.k, place.at)?;
+        Ok(())
+    }
 }
 
 fn is_below_name(kept: &Kept, name: &[u8]) -> bool
@@ -114,73 +136,11 @@ fn has_name(kept: &Kept, name: &[u8]) -> bool
     kept.snapshot.name().as_bytes() == name
 }
 
-/// Whether the last of a chunk has a name below that one.
-fn ends_below(chunk: &Chunk<Kept>, name: &[u8]) -> bool
-    ensures value { result ≡ ends (is_below name.now) chunk.now }
-    ensures some { 0 < length chunk.now }
-{
-    is_below_name(chunk.last(), name)
-}
-
-/// The first chunk that doesn't end below the name, if there is one.
-fn chunk_of(chunks: &[Arc<Chunk<Kept>>], name: &[u8]) -> usize
-    ensures { IsCut (EndsBelow name.now) (EndsNotBelow name.now) chunks.now result result }
-{
-    let mut low = 0;
-    let mut high = chunks.len();
-    while low < high {
-        let mid = low + (high - low) / 2;
-        if ends_below(&chunks[mid], name) {
-            low = mid + 1;
-        } else {
-            high = mid;
-        }
-    }
-    low
-}
-
-/// The first of these whose name isn't below that one, if there is one.
-fn item_of(items: &[Arc<Kept>], name: &[u8]) -> usize
-    ensures { IsCut (Below name.now) (NotBelow name.now) items.now result result }
-{
-    let mut low = 0;
-    let mut high = items.len();
-    while low < high {
-        let mid = low + (high - low) / 2;
-        if is_below_name(&items[mid], name) {
-            low = mid + 1;
-        } else {
-            high = mid;
-        }
-    }
-    low
-}
-
-/// Where the snapshot of that name stands, or else where it would. It costs the logarithm of their number.
-fn place_of(chunks: &[Arc<Chunk<Kept>>], name: &[u8]) -> Place
+/// Where the first snapshot stands whose name isn't below that one, or None where all are. It costs the logarithm of their number.
+fn place_of(chunks: &[Arc<Chunk<Kept>>], name: &[u8]) -> Option<Place>
     requires { IsTrue (names_rise (elements chunks.now)) }
-    ensures place { IsPlaceFor name.now (elements chunks.now) (length (elements (take result.k chunks.now)) + result.at) }
-    ensures inside { result.k < length chunks.now → (c : Arc (List Kept) Global) → result.at < length (slice_index_or chunks.now result.k c).value }
-    ensures behind { length chunks.now ≤ result.k → (result.k ≡ length chunks.now) × (result.at ≡ 0) }
+    ensures place { IfSome result (λ c. IsItem chunks.now c.k c.at) }
+    ensures point { IsPartitionPoint (λ k. is_below name.now k ≡ true) (λ k. is_below name.now k ≡ false) (elements chunks.now) (place_index chunks.now result) }
 {
-    let k = chunk_of(chunks, name);
-    if k >= chunks.len() {
-        return Place { k, at: 0 };
-    }
-    let chunk: &Chunk<Kept> = &chunks[k];
-    let at = item_of(chunk.items(), name);
-    Place { k, at }
-}
-
-/// The snapshot at a place, or None behind the last.
-fn at_place(chunks: &[Arc<Chunk<Kept>>], place: Place) -> Option<&Kept>
-    requires inside { place.k < length chunks.now → (c : Arc (List Kept) Global) → place.at < length (slice_index_or chunks.now place.k c).value }
-    requires behind { length chunks.now ≤ place.k → (place.k ≡ length chunks.now) × (place.at ≡ 0) }
-    ensures { option_copied result ≡ slice_get (elements chunks.now) (length (elements (take place.k chunks.now)) + place.at) }
-{
-    if place.k >= chunks.len() {
-        return None;
-    }
-    let chunk: &Chunk<Kept> = &chunks[place.k];
-    Some(&chunk.items()[place.at])
+    partition_point(chunks, |kept: &Kept| is_below_name(kept, name))
 }

@@ -3,8 +3,10 @@
 
 mod by_name;
 mod kept;
+mod line;
 mod snapshot;
 
 pub use by_name::ByName;
 pub use kept::Kept;
+pub use line::Line;
 pub use snapshot::Snapshot;

@@ -36,24 +36,7 @@ pub fn owners_below<C: Level + Drop>(node: &Inner<C>) -> Result<[Option<Arc<C>>;
     Ok(kids)
 }
 
-/// Another node of the same part, with one more owner of each part directly below. NoMemory where there is none for that.
-fn copy_of<C: Level + Drop>(alloc: Global, node: &Inner<C>) -> Result<Arc<Inner<C>>, Refusal>
-    ensures ok { IfOk result (λ copy. inner_part C.part copy.value ≡ inner_part C.part node.now) }
-    ensures err { OnErr result (result ≡ Err Refusal.NoMemory) }
-{
-    let none = [
-        None, None, None, None, None, None, None, None, None, None, None, None, None, None, None,
-        None,
-    ];
-    let mut copy = Arc::new(alloc, Inner::new(node.block, node.birth, none))?;
-    let Some(new) = Arc::get_mut(&mut copy) else {
-        return Err(Refusal::NoMemory);
-    };
-    keep_below(node, &mut new.kids)?;
-    Ok(copy)
-}
-
-/// Has an owner of a node own it alone: where there are others, it comes to own a copy. At `Err` it owns what it did.
+/// Has an owner of a node own it alone, where it can: where there are others, it comes to own a copy. At `Err` it owns what it did.
 pub fn own<C: Level + Drop>(owner: &mut Arc<Inner<C>>, alloc: Global) -> Result<(), Refusal>
     ensures same { inner_part C.part owner.new.value ≡ inner_part C.part owner.old.value }
     ensures err { OnErr result (result ≡ Err Refusal.NoMemory) }
@@ -61,6 +44,14 @@ pub fn own<C: Level + Drop>(owner: &mut Arc<Inner<C>>, alloc: Global) -> Result<
     if let Some(_node) = Arc::get_mut(owner) {
         return Ok(());
     }
-    *owner = copy_of(alloc, owner)?;
+    let none = [
+        None, None, None, None, None, None, None, None, None, None, None, None, None, None, None,
+        None,
+    ];
+    let mut copy = Arc::new(alloc, Inner::new(owner.block, owner.birth, none))?;
+    if let Some(new) = Arc::get_mut(&mut copy) {
+        keep_below(owner, &mut new.kids)?;
+        *owner = copy;
+    }
     Ok(())
 }

@@ -1,6 +1,6 @@
 use Rattle.std.proofs.Common.{◌≡◌, ◌+◌, ◌-◌, ◌<◌, length, get_or, arith, rules}
 use Rattle.std.proofs.lemmas.Result.{err_from_is_err_and}
-use Rattle.shared_list.proofs.Chunks.{added_one, kept, read_same}
+use Rattle.shared_list.proofs.Chunks.{added_one, ended, kept, read_same}
 use Rattle.shared_list.proofs.edits.push_item.Goals as goal
 
 pub returns-then-len-lt-CHUNK-clause-ok : goal.returns-then-len-lt-CHUNK-clause-ok
@@ -25,3 +25,6 @@ returns-in_err-put_in-clause-err g c =
     let read : a ≡ get_or xs k a = search rules in
     let refused = err_from_is_err_and c.from_residual.result c.from_residual.ensures.1 in
     rw refused.1 (kept xs k a c.put_in.new.place within read c.in_err-put_in.ensures.err)
+
+pub returns-clause-ok : goal.returns-clause-ok
+returns-clause-ok g c = cc (ended c.args.chunks.now.items c.in_ok-fresh.fresh, c.in_ok-fresh.ensures, c.in_ok-push.ensures.items)

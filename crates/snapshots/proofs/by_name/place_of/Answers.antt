@@ -1,15 +1,12 @@
-use Rattle.std.proofs.Common.{◌<◌, ◌∙◌, length, arith}
-use Rattle.snapshots.proofs.Cuts.{inside_any, placed, placed_end}
+use Rattle.std.proofs.Common.{rules}
+use Rattle.std.proofs.lemmas.Fn.{always_returns_same}
+use Rattle.snapshots.specs.Order.{is_below}
+use Rattle.shared_list.specs.Elements.{elements}
+use Rattle.snapshots.proofs.Names.{parted}
 use Rattle.snapshots.proofs.by_name.place_of.Goals as goal
 
-pub returns-then-k-chunks-clause-place : goal.returns-then-k-chunks-clause-place
-returns-then-k-chunks-clause-place c = placed_end c.args.name.now c.args.chunks.now c.chunk_of-k.result c.requires c.if-k-chunks.true c.chunk_of-k.ensures
-
-pub returns-clause-place : goal.returns-clause-place
-returns-clause-place c =
-    let within : c.chunk_of-k.result < length c.args.chunks.now = omega arith in
-    placed c.args.name.now c.args.chunks.now c.chunk_of-k.result c.item_of-at.result c.index-chunks-k.result c.items.result.now c.requires within c.index-chunks-k.is (c.items.ensures ∙ c.deref-chunk.ensures) c.chunk_of-k.ensures c.item_of-at.ensures
-
-pub returns-clause-inside : goal.returns-clause-inside
-returns-clause-inside c = λ within d.
-    inside_any c.args.name.now c.args.chunks.now c.chunk_of-k.result c.item_of-at.result c.index-chunks-k.result c.items.result.now c.requires within c.index-chunks-k.is (c.items.ensures ∙ c.deref-chunk.ensures) c.chunk_of-k.ensures c.item_of-at.ensures d
+pub returns-clause-point : goal.returns-clause-point
+returns-clause-point c =
+    let q = c.args.name.now in
+    let computes = always_returns_same _ _ _ (λ a r f' k. search rules) in
+    c.partition_point.ensures.partitioned (is_below q) computes (parted q (elements c.args.chunks.now) c.requires)

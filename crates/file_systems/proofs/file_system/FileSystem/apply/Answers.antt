@@ -43,9 +43,8 @@ returns-clause-ok c =
 -- where memory was refused, the dead list's entries may stand in another order
 pub invariant_of-self : goal.invariant_of-self
 invariant_of-self c =
-    let below = newest_blocks (snaps_in c.self.inside.snapshots) in
+    let below = newest_blocks (snaps_in (arc_value c.self.inside.snapshots)) in
     record {
-      named = c.self.invariant.named;
       accounted = c.self.invariant.accounted;
       dead = subst (λ (m : Map). Lists (map dead_block (arc_value c.put.new.dead).entries) (difference below (blocks m))) (sym c.in_err-changed.ensures.err)
           (lists_shuffled dead_block _ _ _ c.in_err-changed.ensures.dead_err c.self.invariant.dead);
@@ -54,7 +53,7 @@ invariant_of-self c =
 -- what the newest snapshot has of what was let go is on the dead list
 pub invariant_of-self-2 : goal.invariant_of-self-2
 invariant_of-self-2 c =
-    let snaps = snaps_in c.self.inside.snapshots in
+    let snaps = snaps_in (arc_value c.self.inside.snapshots) in
     let newest = newest_group c.args.self.now.1.snaps in
     let young : c.max-young.result.0 ≡ max c.args.synced.0 (newest + 1) = search rules in
     let done = c.in_ok-changed.changed in
@@ -70,7 +69,6 @@ invariant_of-self-2 c =
     let gained : HasGained (arc_value c.self.inside.dead).entries (arc_value c.put.new.dead).entries c.in_ok-draft.draft.released.items (newest_group snaps) =
     subst (HasGained (arc_value c.self.inside.dead).entries (arc_value c.put.new.dead).entries c.in_ok-draft.draft.released.items) (c.newest_group-newest.ensures ∙ here) c.in_ok-changed.ensures.dead in
     record {
-      named = c.self.invariant.named;
       accounted = c.self.invariant.accounted;
       dead = dead_changed c.self.inside.live c.put.new.live (changes_of c.args.updates.now) c.args.group.0 c.max-young.result.0 c.args.allocator.now (change_done c.self.inside.live c.put.new.live done)
           put c.in_ok-draft.ensures.unique snaps above late early _ _ c.in_ok-draft.draft.released.items gained (ap (map dead_block) c.in_ok-changed.ensures.ok.released) refl c.self.invariant.dead;

@@ -1,0 +1,10 @@
+-- The index of kept snapshots by name (profile).
+use Rattle.std.specs.Prelude.{◌≡◌, ℕ, List, Option, None, Some}
+use Rattle.std.specs.List.{find}
+use Rattle.name.specs.Names.{same_name}
+use Rattle.snapshots.specs.declared.kept.Kept.{Kept}
+
+-- an index, where there is one, finds by each name what a walk over the snapshots finds first (profile)
+abbrev pub IsIndex : Option (List Kept) → List Kept → Type 0
+IsIndex None ks = Unit {0}
+IsIndex (Some index) ks = (name : List ℕ) → find (λ k. same_name k.snapshot.name name) index ≡ find (λ k. same_name k.snapshot.name name) ks
