@@ -83,9 +83,11 @@ fn failures_behind_a_writer(rt: &impl Abort, alloc: Global) -> u64 {
 #[test]
 fn failures_are_told_by_who_holds_them(rt: HostRuntime) {
     let alloc = rt.alloc();
-    assert!(rt; failures_behind_a_borrow() == 1);
-    assert!(rt; failures_behind_a_reader(&rt, alloc) == 1);
-    assert!(rt; failures_behind_a_writer(&rt, alloc) == 1);
+    assert!(rt;
+        failures_behind_a_borrow() == 1
+            && failures_behind_a_reader(&rt, alloc) == 1
+            && failures_behind_a_writer(&rt, alloc) == 1
+    );
 }
 
 // At its end; it knows how often it was asked.
@@ -151,8 +153,5 @@ fn lengths_and_failures(mut reader: Counted<&[u8]>) -> (usize, usize, u64) {
 
 #[test]
 fn bytes_through_a_counted_reader(rt: HostRuntime) {
-    let (filled, read, failures) = lengths_and_failures(Counted::new(b"abc".as_slice()));
-    assert!(rt; filled == 3);
-    assert!(rt; read == 2);
-    assert!(rt; failures == 0);
+    assert!(rt; lengths_and_failures(Counted::new(b"abc".as_slice())) == (3, 2, 0));
 }

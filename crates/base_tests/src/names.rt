@@ -4,65 +4,75 @@ use name::{Component, DsName, MarkName, Member, SnapName, Tag, Target};
 use std::alloc::Global;
 use std::process::Abort;
 
+fn is_read<T: Drop>(name: Result<T, Refusal>) -> bool {
+    name.is_ok()
+}
+
+fn held<T>(rt: &impl Abort, name: Result<T, Refusal>) -> T {
+    name.expect(rt, "a name")
+}
+
 fn is_name(alloc: Global, bytes: &[u8]) -> bool {
-    DsName::read(alloc, bytes).is_ok()
+    is_read(DsName::read(alloc, bytes))
 }
 
 fn is_target(alloc: Global, bytes: &[u8]) -> bool {
-    Target::read(alloc, bytes).is_ok()
+    is_read(Target::read(alloc, bytes))
 }
 
 fn is_snapshot(alloc: Global, bytes: &[u8]) -> bool {
-    SnapName::read(alloc, bytes).is_ok()
+    is_read(SnapName::read(alloc, bytes))
 }
 
 fn is_bookmark(alloc: Global, bytes: &[u8]) -> bool {
-    MarkName::read(alloc, bytes).is_ok()
+    is_read(MarkName::read(alloc, bytes))
 }
 
 fn is_component(alloc: Global, bytes: &[u8]) -> bool {
-    Component::read(alloc, bytes).is_ok()
+    is_read(Component::read(alloc, bytes))
 }
 
 fn is_tag(alloc: Global, bytes: &[u8]) -> bool {
-    Tag::read(alloc, bytes).is_ok()
+    is_read(Tag::read(alloc, bytes))
 }
 
 fn name(rt: &impl Abort, alloc: Global, bytes: &[u8]) -> DsName {
-    DsName::read(alloc, bytes).expect(rt, "a name")
+    held(rt, DsName::read(alloc, bytes))
 }
 
 fn target(rt: &impl Abort, alloc: Global, bytes: &[u8]) -> Target {
-    Target::read(alloc, bytes).expect(rt, "a name")
+    held(rt, Target::read(alloc, bytes))
 }
 
 fn snapshot(rt: &impl Abort, alloc: Global, bytes: &[u8]) -> SnapName {
-    SnapName::read(alloc, bytes).expect(rt, "a name")
+    held(rt, SnapName::read(alloc, bytes))
 }
 
 fn bookmark(rt: &impl Abort, alloc: Global, bytes: &[u8]) -> MarkName {
-    MarkName::read(alloc, bytes).expect(rt, "a name")
+    held(rt, MarkName::read(alloc, bytes))
 }
 
 fn component(rt: &impl Abort, alloc: Global, bytes: &[u8]) -> Component {
-    Component::read(alloc, bytes).expect(rt, "a component")
+    held(rt, Component::read(alloc, bytes))
 }
 
 fn tag(rt: &impl Abort, alloc: Global, bytes: &[u8]) -> Tag {
-    Tag::read(alloc, bytes).expect(rt, "a tag")
+    held(rt, Tag::read(alloc, bytes))
+}
+
+// Asserts that each is a name of a file system, or none is.
+fn assert_names(rt: &impl Abort, alloc: Global, names: &str, are: bool) {
+    for name in names.split(',') {
+        assert!(rt; is_name(alloc, name.as_bytes()) == are, "{name}");
+    }
 }
 
 #[test]
 fn names_of_file_systems(rt: HostRuntime) {
     let alloc = rt.alloc();
-    for good in ["p", "p/a", "q/a", "p/a-x_y.z:0/B", "p/...", "p/.a"] {
-        assert!(rt; is_name(alloc, good.as_bytes()), "{good}");
-    }
-    for bad in ["", "p/", "/p", "p//a", "p/.", "p/..", "p/a b", "p@s", "p#b"] {
-        assert!(rt; !is_name(alloc, bad.as_bytes()), "{bad}");
-    }
-    assert!(rt; is_name(alloc, [b'p'; 255].as_slice()));
-    assert!(rt; !is_name(alloc, [b'p'; 256].as_slice()));
+    assert_names(&rt, alloc, "p,p/a,q/a,p/a-x_y.z:0/B,p/...,p/.a", true);
+    assert_names(&rt, alloc, ",p/,/p,p//a,p/.,p/..,p/a b,p@s,p#b", false);
+    assert!(rt; is_name(alloc, &[b'p'; 255]) && !is_name(alloc, &[b'p'; 256]));
 }
 
 fn is_written(rt: &impl Abort, alloc: Global, bytes: &[u8]) -> bool {
@@ -76,9 +86,11 @@ fn are_same_names(rt: &impl Abort, alloc: Global, one: &[u8], other: &[u8]) -> b
 #[test]
 fn one_name_and_another(rt: HostRuntime) {
     let alloc = rt.alloc();
-    assert!(rt; are_same_names(&rt, alloc, b"p/a", b"p/a"));
-    assert!(rt; !are_same_names(&rt, alloc, b"p/a", b"p"));
-    assert!(rt; is_written(&rt, alloc, b"p/a"));
+    assert!(rt;
+        are_same_names(&rt, alloc, b"p/a", b"p/a")
+            && !are_same_names(&rt, alloc, b"p/a", b"p")
+            && is_written(&rt, alloc, b"p/a")
+    );
 }
 
 fn are_same_targets(rt: &impl Abort, alloc: Global, one: &[u8], other: &[u8]) -> bool {
@@ -88,8 +100,10 @@ fn are_same_targets(rt: &impl Abort, alloc: Global, one: &[u8], other: &[u8]) ->
 #[test]
 fn one_target_and_another(rt: HostRuntime) {
     let alloc = rt.alloc();
-    assert!(rt; are_same_targets(&rt, alloc, b"p/a@s", b"p/a@s"));
-    assert!(rt; !are_same_targets(&rt, alloc, b"p/a@s", b"p/a#s"));
+    assert!(rt;
+        are_same_targets(&rt, alloc, b"p/a@s", b"p/a@s")
+            && !are_same_targets(&rt, alloc, b"p/a@s", b"p/a#s")
+    );
 }
 
 fn has_parts(member: &Member, file_system: &[u8], component: &[u8]) -> bool {
@@ -120,13 +134,15 @@ fn have_same_members(rt: &impl Abort, alloc: Global, one: &[u8], other: &[u8]) -
 #[test]
 fn parts_of_names(rt: HostRuntime) {
     let alloc = rt.alloc();
-    assert!(rt; is_snapshot_of(&rt, alloc, b"p/a@s", (b"p/a", b"s")));
-    assert!(rt; is_bookmark_of(&rt, alloc, b"p/a#b", (b"p/a", b"b")));
-    assert!(rt; are_same_snapshots(&rt, alloc, b"p/a@s", b"p/a@s"));
-    assert!(rt; !are_same_snapshots(&rt, alloc, b"p/a@s", b"p/a@t"));
-    assert!(rt; are_same_bookmarks(&rt, alloc, b"p/a#b", b"p/a#b"));
-    assert!(rt; have_same_members(&rt, alloc, b"p/a@s", b"p/a#s"));
-    assert!(rt; !have_same_members(&rt, alloc, b"p/a@s", b"p/b#s"));
+    assert!(rt;
+        is_snapshot_of(&rt, alloc, b"p/a@s", (b"p/a", b"s"))
+            && is_bookmark_of(&rt, alloc, b"p/a#b", (b"p/a", b"b"))
+            && are_same_snapshots(&rt, alloc, b"p/a@s", b"p/a@s")
+            && !are_same_snapshots(&rt, alloc, b"p/a@s", b"p/a@t")
+            && are_same_bookmarks(&rt, alloc, b"p/a#b", b"p/a#b")
+            && have_same_members(&rt, alloc, b"p/a@s", b"p/a#s")
+            && !have_same_members(&rt, alloc, b"p/a@s", b"p/b#s")
+    );
 }
 
 fn is_tag_written(rt: &impl Abort, alloc: Global, bytes: &[u8]) -> bool {
@@ -148,18 +164,19 @@ fn are_same_components(rt: &impl Abort, alloc: Global, one: &[u8], other: &[u8])
 #[test]
 fn components_and_tags(rt: HostRuntime) {
     let alloc = rt.alloc();
-    assert!(rt; is_tag_written(&rt, alloc, b"x"));
-    assert!(rt; is_component_written(&rt, alloc, b"x"));
-    assert!(rt; are_same_tags(&rt, alloc, b"x", b"x"));
-    assert!(rt; are_same_components(&rt, alloc, b"x", b"x"));
-    assert!(rt; !is_component(alloc, b".."));
-    assert!(rt; !is_component(alloc, b"a/b"));
+    assert!(rt;
+        is_tag_written(&rt, alloc, b"x")
+            && is_component_written(&rt, alloc, b"x")
+            && are_same_tags(&rt, alloc, b"x", b"x")
+            && are_same_components(&rt, alloc, b"x", b"x")
+    );
+    assert!(rt; !is_component(alloc, b"..") && !is_component(alloc, b"a/b"));
 }
 
 #[test]
 fn names_of_no_kind(rt: HostRuntime) {
     let alloc = rt.alloc();
-    for bad in ["p@", "@s", "p@s/t", "p@s@t", "p#b@s", "p/@s", "p@.."] {
+    for bad in "p@,@s,p@s/t,p@s@t,p#b@s,p/@s,p@..".split(',') {
         assert!(rt; !is_target(alloc, bad.as_bytes()), "{bad}");
     }
 }
@@ -167,11 +184,8 @@ fn names_of_no_kind(rt: HostRuntime) {
 #[test]
 fn names_of_other_kinds(rt: HostRuntime) {
     let alloc = rt.alloc();
-    assert!(rt; is_snapshot(alloc, b"p/a@s"));
-    assert!(rt; !is_snapshot(alloc, b"p/a#b"));
-    assert!(rt; is_bookmark(alloc, b"p/a#b"));
-    assert!(rt; is_tag(alloc, b".."));
-    assert!(rt; !is_tag(alloc, b""));
+    assert!(rt; is_snapshot(alloc, b"p/a@s") && !is_snapshot(alloc, b"p/a#b"));
+    assert!(rt; is_bookmark(alloc, b"p/a#b") && is_tag(alloc, b"..") && !is_tag(alloc, b""));
 }
 
 // What a reader answered: whether its bytes, or that there is no memory.
@@ -214,12 +228,16 @@ fn target_is_copied(alloc: Global, bytes: &[u8]) -> Result<bool, Refusal> {
 #[test]
 fn refused_memory_is_no_memory(rt: HostRuntime) {
     let alloc = rt.alloc();
-    assert!(rt; is_or_is_refused(name_is_read(alloc, b"p/a")));
-    assert!(rt; is_or_is_refused(component_is_read(alloc, b"s")));
-    assert!(rt; is_or_is_refused(tag_is_read(alloc, b"t")));
-    assert!(rt; is_or_is_refused(snapshot_is_read(alloc, b"p/a@s")));
-    assert!(rt; is_or_is_refused(bookmark_is_read(alloc, b"p/a#s")));
-    assert!(rt; is_or_is_refused(target_is_copied(alloc, b"p/a")));
-    assert!(rt; is_or_is_refused(target_is_copied(alloc, b"p/a@s")));
-    assert!(rt; is_or_is_refused(target_is_copied(alloc, b"p/a#b")));
+    assert!(rt;
+        is_or_is_refused(name_is_read(alloc, b"p/a"))
+            && is_or_is_refused(component_is_read(alloc, b"s"))
+            && is_or_is_refused(tag_is_read(alloc, b"t"))
+            && is_or_is_refused(snapshot_is_read(alloc, b"p/a@s"))
+    );
+    assert!(rt;
+        is_or_is_refused(bookmark_is_read(alloc, b"p/a#s"))
+            && is_or_is_refused(target_is_copied(alloc, b"p/a"))
+            && is_or_is_refused(target_is_copied(alloc, b"p/a@s"))
+            && is_or_is_refused(target_is_copied(alloc, b"p/a#b"))
+    );
 }

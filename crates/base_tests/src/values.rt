@@ -9,74 +9,76 @@ use std::alloc::{AllocError, Global};
 use std::process::Abort;
 use toll::Toll;
 
-// Whether the refusal has this number and name, and is displayed as both.
-fn is_printed(rt: &impl Abort, alloc: Global, refusal: Refusal, number: u8, name: &str) -> bool {
+// Whether the refusal has this number, and is displayed as this row, which ends with its name.
+fn is_printed(rt: &impl Abort, alloc: Global, refusal: Refusal, number: u8, row: &str) -> bool {
     let shown = format!(in alloc; "{}", refusal).expect(rt, "memory for a text");
-    let wanted = format!(in alloc; "{} {}", number, name).expect(rt, "memory for a text");
-    refusal.number() == number && refusal.name() == name && shown.as_str() == wanted.as_str()
+    let is_shown = shown.as_str() == row;
+    drop(shown);
+    is_shown && refusal.number() == number && is_named(refusal, row)
 }
 
-fn are_printed(rt: &impl Abort, alloc: Global, cases: &[(Refusal, u8, &str)]) {
-    for (refusal, number, name) in cases {
-        assert!(rt; is_printed(rt, alloc, *refusal, *number, name), "{name}");
+fn is_named(refusal: Refusal, row: &str) -> bool {
+    match row.split_once(' ') {
+        Some((_, name)) => refusal.name() == name,
+        None => false,
     }
 }
 
-#[test]
-fn the_first_refusals_as_printed(rt: HostRuntime) {
-    let cases = [
-        (Refusal::BadName, 1, "BadName"),
-        (Refusal::NoDataset, 2, "NoDataset"),
-        (Refusal::Exists, 3, "Exists"),
-        (Refusal::NoParent, 4, "NoParent"),
-        (Refusal::BadKey, 5, "BadKey"),
-        (Refusal::ReadOnly, 6, "ReadOnly"),
-        (Refusal::NotSnapshot, 7, "NotSnapshot"),
-        (Refusal::Busy, 8, "Busy"),
-        (Refusal::HasClones, 9, "HasClones"),
-        (Refusal::HasChildren, 10, "HasChildren"),
-    ];
-    are_printed(&rt, rt.alloc(), &cases);
+// Asserts that the refusals are printed as these rows, with numbers from 1 on. It answers how many there are.
+fn count_printed(rt: &impl Abort, alloc: Global, refusals: &[Refusal], rows: &str) -> u8 {
+    let mut count = 0u8;
+    for (refusal, row) in refusals.iter().zip(rows.split(',')) {
+        count = count.saturating_add(1);
+        assert!(rt; is_printed(rt, alloc, *refusal, count, row), "{row}");
+    }
+    count
 }
 
 #[test]
-fn the_next_refusals_as_printed(rt: HostRuntime) {
-    let cases = [
-        (Refusal::NotNewest, 11, "NotNewest"),
-        (Refusal::NotClone, 12, "NotClone"),
-        (Refusal::NameClash, 13, "NameClash"),
-        (Refusal::TagExists, 14, "TagExists"),
-        (Refusal::NoTag, 15, "NoTag"),
-        (Refusal::Deferred, 16, "Deferred"),
-        (Refusal::NotAncestor, 17, "NotAncestor"),
-        (Refusal::Quota, 18, "Quota"),
-        (Refusal::RefQuota, 19, "RefQuota"),
-        (Refusal::NoSpace, 20, "NoSpace"),
+fn refusals_as_printed(rt: HostRuntime) {
+    let refusals = [
+        Refusal::BadName,
+        Refusal::NoDataset,
+        Refusal::Exists,
+        Refusal::NoParent,
+        Refusal::BadKey,
+        Refusal::ReadOnly,
+        Refusal::NotSnapshot,
+        Refusal::Busy,
+        Refusal::HasClones,
+        Refusal::HasChildren,
+        Refusal::NotNewest,
+        Refusal::NotClone,
+        Refusal::NameClash,
+        Refusal::TagExists,
+        Refusal::NoTag,
+        Refusal::Deferred,
+        Refusal::NotAncestor,
+        Refusal::Quota,
+        Refusal::RefQuota,
+        Refusal::NoSpace,
+        Refusal::TooMany,
+        Refusal::BadStream,
+        Refusal::WrongSource,
+        Refusal::Modified,
+        Refusal::NoMemory,
+        Refusal::NoView,
+        Refusal::IsRoot,
+        Refusal::BadLine,
+        Refusal::SessionFull,
+        Refusal::TooManySeats,
     ];
-    are_printed(&rt, rt.alloc(), &cases);
-}
-
-#[test]
-fn the_last_refusals_as_printed(rt: HostRuntime) {
-    let cases = [
-        (Refusal::TooMany, 21, "TooMany"),
-        (Refusal::BadStream, 22, "BadStream"),
-        (Refusal::WrongSource, 23, "WrongSource"),
-        (Refusal::Modified, 24, "Modified"),
-        (Refusal::NoMemory, 25, "NoMemory"),
-        (Refusal::NoView, 26, "NoView"),
-        (Refusal::IsRoot, 27, "IsRoot"),
-        (Refusal::BadLine, 28, "BadLine"),
-        (Refusal::SessionFull, 29, "SessionFull"),
-        (Refusal::TooManySeats, 30, "TooManySeats"),
-    ];
-    are_printed(&rt, rt.alloc(), &cases);
+    let rows = "1 BadName,2 NoDataset,3 Exists,4 NoParent,5 BadKey,6 ReadOnly,\
+        7 NotSnapshot,8 Busy,9 HasClones,10 HasChildren,11 NotNewest,12 NotClone,\
+        13 NameClash,14 TagExists,15 NoTag,16 Deferred,17 NotAncestor,18 Quota,\
+        19 RefQuota,20 NoSpace,21 TooMany,22 BadStream,23 WrongSource,24 Modified,\
+        25 NoMemory,26 NoView,27 IsRoot,28 BadLine,29 SessionFull,30 TooManySeats";
+    assert!(rt; count_printed(&rt, rt.alloc(), &refusals, rows) == 30);
 }
 
 #[test]
 fn refusals_alike(rt: HostRuntime) {
-    assert!(rt; Refusal::Busy.same(Refusal::Busy));
-    assert!(rt; !Refusal::Busy.same(Refusal::Quota));
+    assert!(rt; Refusal::Busy.same(Refusal::Busy) && !Refusal::Busy.same(Refusal::Quota));
     assert!(rt; Refusal::from(AllocError) == Refusal::NoMemory);
 }
 
@@ -108,10 +110,8 @@ fn limit_of(count: u64) -> Option<u64> {
 
 #[test]
 fn limits(rt: HostRuntime) {
-    assert!(rt; limit_of(0) == None);
-    assert!(rt; limit_of(1) == Some(1));
-    assert!(rt; limit_of(1 << 40) == Some(1 << 40));
-    assert!(rt; limit_of((1 << 40) + 1) == None);
+    assert!(rt; limit_of(0).is_none() && limit_of(1) == Some(1));
+    assert!(rt; limit_of(1 << 40) == Some(1 << 40) && limit_of((1 << 40) + 1).is_none());
 }
 
 fn nodes_after_one() -> u64 {
@@ -128,8 +128,7 @@ fn segments_after_one() -> u64 {
 
 #[test]
 fn meters_and_laws(rt: HostRuntime) {
-    assert!(rt; nodes_after_one() == 1);
-    assert!(rt; segments_after_one() == 1);
+    assert!(rt; nodes_after_one() == 1 && segments_after_one() == 1);
     order_laws();
     rewrite_laws();
 }
@@ -154,10 +153,8 @@ fn are_equal(rt: &impl Abort, alloc: Global, one: &[u8], other: &[u8]) -> bool {
 fn bytes_of_their_own(rt: HostRuntime) {
     let alloc = rt.alloc();
     assert!(rt; are_held(&rt, alloc, b"ab"));
-    assert!(rt; are_alike(&rt, alloc, b"ab", b"ab"));
-    assert!(rt; !are_alike(&rt, alloc, b"ab", b"ac"));
-    assert!(rt; are_equal(&rt, alloc, b"ab", b"ab"));
-    assert!(rt; !are_equal(&rt, alloc, b"ab", b"a"));
+    assert!(rt; are_alike(&rt, alloc, b"ab", b"ab") && !are_alike(&rt, alloc, b"ab", b"ac"));
+    assert!(rt; are_equal(&rt, alloc, b"ab", b"ab") && !are_equal(&rt, alloc, b"ab", b"a"));
 }
 
 fn block_of(alloc: Global, byte: u8) -> Result<Data, Refusal> {
@@ -166,16 +163,17 @@ fn block_of(alloc: Global, byte: u8) -> Result<Data, Refusal> {
 
 // Whether a block filled with the byte has just those bytes, and is the same as one filled with the other exactly where they are.
 fn is_block_of(rt: &impl Abort, alloc: Global, byte: u8, other: u8) -> bool {
-    let one = block_of(alloc, byte).expect(rt, "memory for a block");
-    let held = *one.as_array() == [byte; 512];
-    let another = block_of(alloc, other).expect(rt, "memory for a block");
-    held && one.same(&another) == (byte == other)
+    let one = block(rt, alloc, byte);
+    *one.as_array() == [byte; 512] && one.same(&block(rt, alloc, other)) == (byte == other)
+}
+
+fn block(rt: &impl Abort, alloc: Global, byte: u8) -> Data {
+    block_of(alloc, byte).expect(rt, "memory for a block")
 }
 
 #[test]
 fn data_of_their_own(rt: HostRuntime) {
-    assert!(rt; is_block_of(&rt, rt.alloc(), 7, 7));
-    assert!(rt; is_block_of(&rt, rt.alloc(), 7, 8));
+    assert!(rt; is_block_of(&rt, rt.alloc(), 7, 7) && is_block_of(&rt, rt.alloc(), 7, 8));
 }
 
 fn block_made(alloc: Global) -> Result<(), Refusal> {

@@ -1,5 +1,5 @@
 -- What a table keeps: at first, once a file system is made, once a snapshot is taken, and once the group is closed.
-use Rattle.std.proofs.Common.{◌≡◌, ◌<◌, ◌++◌, ◌∷◌, [], ℕ, Bool, true, false, Option, Some, None, Result, Ok, Err, refl, sym, ap, subst, ◌∙◌, ⊎_elim, if◌then◌else◌, arith}
+use Rattle.std.proofs.Common.{◌≡◌, ◌<◌, ◌≤◌, ◌++◌, ◌∷◌, [], ℕ, Bool, true, false, Option, Some, None, Result, Ok, Err, refl, sym, ap, subst, ◌∙◌, inl, inr, ⊎_elim, if◌then◌else◌, map, arith}
 use Rattle.std.specs.Prelude.{IsTrue, OnOk, OnErr, is_some, nat_le, not}
 use Rattle.std.specs.Option.{option_map_or}
 use Rattle.std.specs.FinMap as finmap
@@ -8,28 +8,33 @@ use Rattle.std.proofs.lemmas.Bool.Decides.{nat_tests}
 use Rattle.base.specs.declared.refusal.Refusal.{Refusal}
 use Rattle.base.specs.declared.refusal.Refusal.TheVariants.{Exists, NoParent, TooMany}
 use Rattle.name.specs.Names.{name_cmp, root_name}
-use Rattle.model.specs.World.{FileSystem, Snap, Live, empty_file_system}
+use Rattle.model.specs.World.{FileSystem, Snap, Live, empty_file_system, map_of}
 use Rattle.model.specs.State.{fresh_world, fresh_state}
 use Rattle.model.specs.Hierarchy.{has_parent, file_system_limit}
 use Rattle.model.specs.requests.Create.{create_refusal}
 use Rattle.file_systems.specs.Rows.{live_of, plain_snap, with_snap}
-use Rattle.world.specs.Shapes.{Name, nothing_before}
-use Rattle.world.specs.Worlds.{FileSystems, AreFileSystems}
+use Rattle.world.specs.Shapes.{Name, before_live, nothing_before}
+use Rattle.world.specs.Worlds.{FileSystems, snap_shape, AreFileSystems, AreMapsFrom, InNow, maps_of_both}
 use Rattle.world.specs.Tables.{Datasets, world_of, CanSnap}
 use Rattle.world.proofs.Maps.{no_value}
-use Rattle.world.proofs.Bridge.{no_block, live_row, live_there}
-use Rattle.world.proofs.Put.{put_cases}
+use Rattle.world.proofs.Bridge.{no_block, start, live_row, live_there}
+use Rattle.world.proofs.Drawn.{cells_from, drawn}
+use Rattle.world.proofs.Put.{put_cases, put_maps}
 use Rattle.world.proofs.Creations.{make_systems}
 use Rattle.world.proofs.StateSteps.{begun}
 use Rattle.world.proofs.Slices.{fresh_keeps}
-use Rattle.world.proofs.Groups.{raise_systems}
-use Rattle.world.proofs.Snapshots.{take_systems}
+use Rattle.world.proofs.Groups.{raise_systems, same_maps}
+use Rattle.world.proofs.Snapshots.{take_systems, taken_from}
 use Rattle.world.proofs.Dead.{row_base}
-use Rattle.datasets.specs.Table.{HaveNoOrigin}
+use Rattle.datasets.specs.Table.{HaveNoOrigin, AreNumbersOne, IsTable}
 
 none_from : {A : Type 0} (x : Option A) → is_some x ≡ false → x ≡ None
 none_from None h = refl
 none_from (Some a) h = cc
+
+-- where each map was there before, a number names one block again
+pub numbers_from : (t u : Datasets) → AreFileSystems t.file_systems t.group → AreMapsFrom t.file_systems u.file_systems → AreNumbersOne t → AreNumbersOne u
+numbers_from t u good from = cells_from (map_of (world_of t)) (map_of (world_of u)) (drawn (world_of t) (world_of u) t.group good.lines from)
 
 -- what it takes to make a file system
 pub record CanAdd (ss : FileSystems) (name : Name) : Type 0 where
@@ -56,23 +61,41 @@ plain_put ss plain name f is q g at = ⊎_elim
     (λ other. plain q g other.1)
     (put_cases ss name f q g at)
 
--- the root alone, whichever group is open
-pub first_systems : (g : ℕ) → 0 < g → AreFileSystems (insert finmap.empty root_name empty_file_system) g
-unfolding fresh_state fresh_world
-first_systems g low = raise_systems (insert finmap.empty root_name empty_file_system) 1 g (fresh_keeps 0 0).now.systems (omega arith)
+-- the same file systems in a later group
+pub later_table : (t : Datasets) (h : ℕ) → t.group ≤ h → IsTable t → IsTable (record t { group = h })
+later_table t h up sound = record {
+  systems = raise_systems t.file_systems t.group h sound.systems up;
+  numbers = numbers_from t (record t { group = h }) sound.systems (same_maps t.file_systems) sound.numbers;
+  plain = sound.plain;
+}
 
-pub first_plain : HaveNoOrigin (insert finmap.empty root_name empty_file_system)
-first_plain = plain_put finmap.empty (λ name f at. absurd (no_value f (sym (get-empty name_cmp name) ∙ at))) root_name empty_file_system refl
+first : IsTable (record { file_systems = insert finmap.empty root_name empty_file_system; group = 1 })
+unfolding fresh_state fresh_world
+first =
+    let fresh = fresh_keeps 0 0 in
+    record {
+      systems = fresh.now.systems;
+      numbers = cells_from (maps_of_both (fresh_state 0 0).now (fresh_state 0 0).last) (map_of (fresh_state 0 0).now) (λ d. inr (InNow d, refl)) fresh.pair.cells;
+      plain = plain_put finmap.empty (λ name f at. absurd (no_value f (sym (get-empty name_cmp name) ∙ at))) root_name empty_file_system refl;
+    }
+
+-- the root alone, whichever group is open
+pub first_table : (g : ℕ) → 1 ≤ g → IsTable (record { file_systems = insert finmap.empty root_name empty_file_system; group = g })
+first_table g up = later_table (record { file_systems = insert finmap.empty root_name empty_file_system; group = 1 }) g up first
 
 -- an empty file system more, which nothing refuses
-module _ (ss : FileSystems) (g : ℕ) (good : AreFileSystems ss g) (name : Name) (can : create_refusal ss name ≡ None) where
-  pub created_systems : AreFileSystems (insert ss name empty_file_system) g
-  created_systems =
-      let c = can_add ss name can in
-      make_systems ss g good name c.absent c.parent c.room finmap.empty None nothing_before refl (begun ss g good) (λ b h. absurd (no_block b h))
+pub created_table : (t : Datasets) → IsTable t → (name : Name) → create_refusal t.file_systems name ≡ None → IsTable (record t { file_systems = insert t.file_systems name empty_file_system })
+created_table t sound name can =
+    let c = can_add t.file_systems name can in
+    record {
+      systems = make_systems t.file_systems t.group sound.systems name c.absent c.parent c.room finmap.empty None nothing_before refl (begun t.file_systems t.group sound.systems) (λ b h. absurd (no_block b h));
+      numbers = numbers_from t (record t { file_systems = insert t.file_systems name empty_file_system }) sound.systems
+          (put_maps t.file_systems name empty_file_system (λ m h. ⊎_elim (λ e. inl e) (λ k. absurd k) h)) sound.numbers;
+      plain = plain_put t.file_systems sound.plain name empty_file_system refl;
+    }
 
 -- a snapshot of a live map
-module _ (t : Datasets) (good : AreFileSystems t.file_systems t.group) (plain : HaveNoOrigin t.file_systems) (name component : Name) (guid group : ℕ)
+module _ (t : Datasets) (sound : IsTable t) (name component : Name) (guid group : ℕ)
     (can : CanSnap t name (plain_snap component (live_of t.file_systems name) guid group)) where
   abbrev s : Snap
   s = plain_snap component (live_of t.file_systems name) guid group
@@ -80,26 +103,28 @@ module _ (t : Datasets) (good : AreFileSystems t.file_systems t.group) (plain : 
   abbrev longer : FileSystem
   longer = record can.system { snaps = can.system.snaps ++ plain_snap component (live_of t.file_systems name) guid group ∷ [] }
 
-  abbrev after : FileSystems
-  after = option_map_or (λ f. insert t.file_systems name (with_snap f component guid group)) (get t.file_systems name) t.file_systems
-
-  after_is : after ≡ insert t.file_systems name longer
+  after_is : option_map_or (λ f. insert t.file_systems name (with_snap f component guid group)) (get t.file_systems name) t.file_systems ≡ insert t.file_systems name longer
   after_is =
       ap (λ x. option_map_or (λ f. insert t.file_systems name (with_snap f component guid group)) x t.file_systems) can.there
       ∙ ap (λ m. insert t.file_systems name (record can.system { snaps = can.system.snaps ++ plain_snap component m guid group ∷ [] })) (sym can.map_is)
 
-  longer_systems : AreFileSystems (insert t.file_systems name longer) t.group
-  longer_systems =
-      let base = row_base (world_of t) t.group good.lines (Live name) (live_row t.file_systems t.group good.lines name can.system can.there)
-      (live_there t.file_systems t.group good.lines name can.system can.there) in
-      let above = can.above in
-      take_systems t.file_systems t.group good name can.system can.there s can.map_is can.fresh can.new_name can.closed (omega arith) can.opens
+  above : (before_live (start t.file_systems t.group sound.systems.lines name can.system can.there) (map snap_shape can.system.snaps)).base < group
+  above =
+      let base = row_base (world_of t) t.group sound.systems.lines (Live name) (live_row t.file_systems t.group sound.systems.lines name can.system can.there)
+      (live_there t.file_systems t.group sound.systems.lines name can.system can.there) in
+      let l = can.above in
+      omega arith
 
-  longer_plain : HaveNoOrigin (insert t.file_systems name longer)
-  longer_plain = plain_put t.file_systems plain name longer (plain name can.system can.there)
+  longer_table : IsTable (record t { file_systems = insert t.file_systems name longer })
+  longer_table = record {
+    systems = take_systems t.file_systems t.group sound.systems name can.system can.there s can.map_is can.fresh can.new_name can.closed above can.opens;
+    numbers = numbers_from t (record t { file_systems = insert t.file_systems name longer }) sound.systems
+        (taken_from t.file_systems t.group sound.systems name can.system can.there s can.map_is can.fresh can.new_name can.closed above can.opens) sound.numbers;
+    plain = plain_put t.file_systems sound.plain name longer (sound.plain name can.system can.there);
+  }
 
-  pub snapped_facts : {T E : Type 0} (r : Result T E) (new : FileSystems)
+  pub snapped_table : {T E : Type 0} (r : Result T E) (new : FileSystems)
       → OnOk r (new ≡ option_map_or (λ f. insert t.file_systems name (with_snap f component guid group)) (get t.file_systems name) t.file_systems)
-      → OnErr r (new ≡ t.file_systems) → AreFileSystems new t.group × HaveNoOrigin new
-  snapped_facts (Ok v) new ok err = (subst (λ ss. AreFileSystems ss t.group) (sym (ok ∙ after_is)) longer_systems, subst HaveNoOrigin (sym (ok ∙ after_is)) longer_plain)
-  snapped_facts (Err e) new ok err = (subst (λ ss. AreFileSystems ss t.group) (sym err) good, subst HaveNoOrigin (sym err) plain)
+      → OnErr r (new ≡ t.file_systems) → IsTable (record t { file_systems = new })
+  snapped_table (Ok v) new ok err = subst (λ ss. IsTable (record t { file_systems = ss })) (sym (ok ∙ after_is)) longer_table
+  snapped_table (Err e) new ok err = subst (λ ss. IsTable (record t { file_systems = ss })) (sym err) sound

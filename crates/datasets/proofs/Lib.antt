@@ -2,3 +2,5 @@ pub mod Parents
 pub mod Kept
 pub mod Written
 pub mod Above
+pub mod Removed
+pub mod RolledBack

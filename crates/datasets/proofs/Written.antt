@@ -1,22 +1,21 @@
 -- A write to a live map: what it asks of the tree, and what it leaves.
-use Rattle.std.proofs.Common.{◌≡◌, ◌<◌, ◌≤◌, ◌+◌, ◌⊎◌, ◌↔◌, ℕ, List, [], Option, Some, None, Result, Ok, Err, refl, sym, ap, subst, ◌∙◌, inl, inr, ⊎_elim, arith}
-use Rattle.std.specs.Prelude.{IfOk, IfSome, OnOk, OnErr, max, nat_lt, slice_get, is_some}
+use Rattle.std.proofs.Common.{◌≡◌, ◌<◌, ◌≤◌, ◌+◌, ◌⊎◌, ◌↔◌, ℕ, true, List, [], Option, Some, None, Result, Ok, Err, refl, sym, ap, subst, ◌∙◌, inl, inr, ⊎_elim, arith}
+use Rattle.std.specs.Prelude.{IfOk, IfSome, OnOk, OnErr, max, nat_lt, slice_get}
 use Rattle.std.specs.List.{filter, last_or}
 use Rattle.std.specs.Option.{option_map, option_map_or, option_and_then, option_or}
 use Rattle.std.specs.FinMap as finmap
 use Rattle.std.specs.FinMap.{get, insert, get-empty}
-use Rattle.std.proofs.lemmas.Bool.Decides.{leb_tells}
 use Rattle.base.specs.declared.number.Key.{Key}
 use Rattle.base.specs.declared.refusal.Refusal.{Refusal}
 use Rattle.base.specs.declared.refusal.Refusal.TheVariants.{NoDataset}
 use Rattle.base.specs.Key.{key_cmp}
 use Rattle.base.specs.Map.{Map, Cell, Block, block_of, blocks}
 use Rattle.base.specs.Rewrite.{Changes, rewrite, is_touched}
-use Rattle.base.specs.Surveys.{IsIn, IsMadeKey}
+use Rattle.base.specs.Surveys.{IsIn}
 use Rattle.batch.specs.declared.update.Update.{Update}
 use Rattle.zalloc.specs.declared.BlockState.{BlockState}
 use Rattle.zalloc.specs.declared.BlockState.TheVariants.{Free, Allocated}
-use Rattle.model.specs.World.{FileSystem, Snap, SnapId, Live, id_of, newest_or_origin, previous_of, map_of, union_of}
+use Rattle.model.specs.World.{FileSystem, Snap, SnapId, Dataset, Live, id_of, newest_or_origin, previous_of, map_of, union_of}
 use Rattle.tree.specs.Asking.{AllowsChange}
 use Rattle.tree.specs.Change.{Shown, IsChange}
 use Rattle.tree.specs.declared.change.Changed.{Changed}
@@ -25,20 +24,20 @@ use Rattle.file_systems.specs.Writes.{newest_group, young_after, IsWritten}
 use Rattle.world.specs.Sets.{Has}
 use Rattle.world.specs.Blocks.{block_order as o}
 use Rattle.world.specs.Shapes.{Name}
-use Rattle.world.specs.Numbering.{ChangesKeys}
 use Rattle.world.specs.Worlds.{FileSystems, AreFileSystems}
 use Rattle.world.specs.Dead.{base_of}
 use Rattle.world.specs.Tables.{Datasets, world_of}
-use Rattle.world.proofs.Maps.{same_value, no_value}
+use Rattle.world.proofs.Maps.{no_value}
 use Rattle.world.proofs.SetCounts.{Has-cases}
-use Rattle.world.proofs.Cells.{in_blocks, from_new_blocks}
+use Rattle.world.proofs.Cells.{in_blocks, from_blocks, from_new_blocks}
 use Rattle.world.proofs.Rewrites.{rewrite_is_change}
-use Rattle.world.proofs.Presence.{same_presence}
-use Rattle.world.proofs.Bridge.{in_world}
+use Rattle.world.proofs.Bridge.{in_world, from_world}
 use Rattle.world.proofs.Dead.{in_line}
 use Rattle.world.proofs.StateSteps.{begun}
+use Rattle.world.proofs.FreshNumbers.{fresh_apart, cells_after}
+use Rattle.world.proofs.LiveMaps.{live_alone, live_new, live_rest}
 use Rattle.world.proofs.TableWrites.{live_systems}
-use Rattle.datasets.specs.Table.{HaveNoOrigin}
+use Rattle.datasets.specs.Table.{IsTable}
 use Rattle.datasets.specs.Writes.{young_of, AllowsWrite, HasWritten}
 use Rattle.datasets.proofs.Kept.{plain_put}
 
@@ -54,7 +53,7 @@ newest_alone : (x : Option Snap) (y : Option SnapId) → y ≡ None → option_m
 newest_alone None y e = ap (λ z. option_map_or (λ (i : SnapId). i.group) z 0) e
 newest_alone (Some t) y e = refl
 
-module _ (t : Datasets) (good : AreFileSystems t.file_systems t.group) (plain : HaveNoOrigin t.file_systems) (name : Name) where
+module _ (t : Datasets) (sound : IsTable t) (name : Name) where
   abbrev ss : FileSystems
   ss = t.file_systems
 
@@ -67,7 +66,7 @@ module _ (t : Datasets) (good : AreFileSystems t.file_systems t.group) (plain : 
           → option_map_or (λ (i : SnapId). i.group) (option_and_then (λ (f : FileSystem). newest_or_origin f f.snaps) x) 0
           ≡ option_map_or (λ (u : Snap). u.group) (last_or None (option_map_or (λ (f : FileSystem). f.snaps) x [])) 0
       at None e = refl
-      at (Some f) e = newest_alone (last_or None f.snaps) f.origin (plain name f e)
+      at (Some f) e = newest_alone (last_or None f.snaps) f.origin (sound.plain name f e)
 
   -- so the same blocks are young
   pub young_is : (synced : ℕ) → young_of t name synced ≡ young_after (snaps_at t.file_systems name) synced
@@ -79,7 +78,7 @@ module _ (t : Datasets) (good : AreFileSystems t.file_systems t.group) (plain : 
 
   -- a block of the live map is the world's
   inside : (b : Block) → Has (blocks (live_of t.file_systems name)) b → Has (union_of (world_of t)) b
-  inside b h = in_world (world_of t) t.group good.lines (Live name) b (subst (λ m. Has (blocks m) b) (sym live_is) h)
+  inside b h = in_world (world_of t) t.group sound.systems.lines (Live name) b (subst (λ m. Has (blocks m) b) (sym live_is) h)
 
   -- ---- what it asks of the tree
 
@@ -89,17 +88,17 @@ module _ (t : Datasets) (good : AreFileSystems t.file_systems t.group) (plain : 
       where
         at : (x : Option FileSystem) → get t.file_systems name ≡ x → base_of (world_of t) (Live name) < t.group
         at None e =
-            let l = begun t.file_systems t.group good in
+            let l = begun t.file_systems t.group sound.systems in
             let b : newest_group (snaps_at t.file_systems name) ≡ 0 = ap (λ x. option_map_or (λ (u : Snap). u.group) (last_or None (option_map_or (λ (f : FileSystem). f.snaps) x [])) 0) e in
             let i = base_is in omega arith
-        at (Some f) e = (in_line (world_of t) t.group good.lines refl (Live name) (f, e)).falls
+        at (Some f) e = (in_line (world_of t) t.group sound.systems.lines refl (Live name) (f, e)).falls
 
     born : (k : Key) (x : Cell) → get (live_of t.file_systems name) k ≡ Some x → x.birth ≤ t.group
     born k x h = at (get t.file_systems name) refl
       where
         at : (y : Option FileSystem) → get t.file_systems name ≡ y → x.birth ≤ t.group
         at None e = absurd (no_value x (sym (get-empty key_cmp k) ∙ ap (λ y. get (option_map_or (λ (f : FileSystem). f.live) y finmap.empty) k) (sym e) ∙ h))
-        at (Some f) e = (in_line (world_of t) t.group good.lines refl (Live name) (f, e)).open_group (block_of x)
+        at (Some f) e = (in_line (world_of t) t.group sound.systems.lines refl (Live name) (f, e)).open_group (block_of x)
             (subst (λ m. Has (blocks m) (block_of x)) (sym live_is) (in_blocks (live_of t.file_systems name) k x h))
 
     pub asks : (since : ℕ) → since ≤ t.group → AllowsChange (live_of t.file_systems name) us t.group (young_after (snaps_at t.file_systems name) since) states
@@ -112,66 +111,62 @@ module _ (t : Datasets) (good : AreFileSystems t.file_systems t.group) (plain : 
 
     -- ---- what it leaves
 
-    module _ (c : Changes) (young : ℕ) (v : Shown) (is : IsChange (live_of t.file_systems name) c t.group young states v) where
+    module _ (c : Changes) (young : ℕ) (own_late : base_of (world_of t) (Live name) < young) (v : Shown) (is : IsChange (live_of t.file_systems name) c t.group young states v)
+        (f : FileSystem) (at : get t.file_systems name ≡ Some f) where
       abbrev m : Map
       m = live_of t.file_systems name
 
-      abbrev new : Map
-      new = rewrite m c t.group is.number
+      abbrev maps : Dataset → Map
+      maps = map_of (world_of t)
 
-      change : ChangesKeys (live_of t.file_systems name) (rewrite (live_of t.file_systems name) c t.group is.number) (is_touched (live_of t.file_systems name) c) t.group is.number
-      change = rewrite_is_change m c t.group is.number
+      at_name : live_of t.file_systems name ≡ f.live
+      at_name = ap (λ y. option_map_or (λ (x : FileSystem). x.live) y finmap.empty) at
 
-      -- a block that has the number of one of the live map's is that one
-      same_block : (a b : Block) → Has (blocks (live_of t.file_systems name)) a → Has (union_of (world_of t)) b → b.number ≡ a.number → Has (blocks (live_of t.file_systems name)) b
-      same_block a b h u e = subst (λ x. Has (blocks m) x) (allows.unique a b (inside a h) u (sym e)) h
-
-      -- a number that is taken is no dataset's, or was the live map's
-      of_taken : (n : ℕ) (b : Block) → IsIn v.taken n → Has (union_of (world_of t)) b → b.number ≡ n → Has (blocks (live_of t.file_systems name)) b
-      of_taken n b i u e = ⊎_elim
-          (λ free. absurd (not_both (sym free ∙ ap (slice_get states) (sym e) ∙ allows.allocated b u)))
-          (λ r. let z = (is.released r.0).0 r.1 in
-          same_block r.0 b (subst (λ x. Has (blocks m) x) z.is (in_blocks m z.key z.cell z.there)) u (e ∙ sym r.3))
+      held : (n : ℕ) (d : Dataset) (j : Key) (x : Cell) → IsIn v.taken n → get (map_of (world_of t) d) j ≡ Some x → x.number ≡ n → (b : Block) × IsIn v.released b × (young ≤ b.birth) × (b.number ≡ n)
+      held n d j x i h is_n = ⊎_elim
+          (λ free. absurd (not_both (sym free ∙ ap (slice_get states) (sym is_n)
+          ∙ allows.allocated (block_of x) (in_world (world_of t) t.group sound.systems.lines d (block_of x) (in_blocks (map_of (world_of t) d) j x h)))))
+          (λ r. r)
           (is.taken_free n i)
 
-      -- a made key's number is no dataset's, or was the live map's
-      of_made : (k : Key) (b : Block) → IsMadeKey (live_of t.file_systems name) c k → Has (union_of (world_of t)) b → b.number ≡ is.number k → Has (blocks (live_of t.file_systems name)) b
-      of_made k b made u e = at (get m k) refl
-        where
-          not_kept : ((x : Cell) → get m k ≡ Some x → young ≤ x.birth → ⊥) → Has (blocks m) b
-          not_kept none = of_taken (is.number k) b (is.fresh k made (λ x. none x.cell x.there x.born)) u e
+      alone : (d : Dataset) (j : Key) (x : Cell) → get (map_of (world_of t) d) j ≡ Some x → get (live_of t.file_systems name) j ≡ Some x → young ≤ x.birth → d ≡ Live name
+      alone d j x h l born = live_alone (world_of t) sound.systems name f at d (block_of x) (in_blocks (map_of (world_of t) d) j x h)
+          (subst (λ y. Has (blocks y) (block_of x)) at_name (in_blocks m j x l)) (let i = own_late in omega arith)
 
-          at : (y : Option Cell) → get m k ≡ y → Has (blocks m) b
-          at None h = not_kept (λ x g l. no_value x (sym h ∙ g))
-          at (Some x) h = ⊎_elim
-              (λ l. same_block (block_of x) b (in_blocks m k x h) u (e ∙ is.kept k x made h l.1))
-              (λ l. not_kept (λ y g i. let s = ap (λ (z : Cell). z.birth) (same_value y x (sym g ∙ h)) in let j = l.1 in omega arith))
-              (leb_tells young x.birth)
+      -- a block of the world that has a made key's number is the live map's
+      of_made : (k : Key) (y : Cell) (b : Block) → is_touched (live_of t.file_systems name) c k ≡ true → get (rewrite (live_of t.file_systems name) c t.group is.number) k ≡ Some y
+          → Has (union_of (world_of t)) b → b.number ≡ is.number k → Has (blocks f.live) b
+      of_made k y b touched there u e =
+          let d = from_world (world_of t) t.group sound.systems.lines b u in
+          let x = from_blocks (maps d.0) b d.1 in
+          let r = fresh_apart maps (Live name) sound.numbers m live_is c t.group young states v is held alone d.0 x.0 k x.1 y x.2 touched there (ap (λ (z : Block). z.number) x.3 ∙ e) in
+          subst (λ z. Has (blocks z) b) (live_is ∙ at_name) (subst (λ z. Has (blocks (maps z)) b) r.0 d.1)
 
       -- each block of the new map was the live map's, or is born now and no dataset's
-      pub new_or_old : (b : Block) → Has (blocks v.new) b → Has (blocks (live_of t.file_systems name)) b ⊎ ((b.birth ≡ t.group) × ¬ (Has (union_of (world_of t)) b))
+      new_or_old : (b : Block) → Has (blocks v.new) b → Has (blocks f.live) b ⊎ ((b.birth ≡ t.group) × ¬ (Has (union_of (world_of t)) b))
       new_or_old b h = ⊎_elim
-          (λ w. inl (subst (λ x. Has (blocks m) x) w.3 (in_blocks m w.0 w.1 w.2)))
+          (λ w. inl (subst (λ x. Has (blocks x) b) at_name (subst (λ x. Has (blocks m) x) w.3 (in_blocks m w.0 w.1 w.2))))
           (λ w. ⊎_elim
-          (λ u. inl (of_made w.0 b (w.3, same_presence m c 0 t.group (λ _. 0) is.number w.0 ∙ ap is_some w.2) u w.5))
+          (λ u. inl (of_made w.0 w.1 b w.3 w.2 u w.5))
           (λ u. inr (w.6, u))
           (Has-cases o (union_of (world_of t)) b))
-          (from_new_blocks m new (is_touched m c) t.group is.number change b (subst (λ x. Has (blocks x) b) is.new_is h))
+          (from_new_blocks m (rewrite m c t.group is.number) (is_touched m c) t.group is.number (rewrite_is_change m c t.group is.number) b (subst (λ x. Has (blocks x) b) is.new_is h))
 
-      module _ (f : FileSystem) (at : get t.file_systems name ≡ Some f) where
-        at_name : live_of t.file_systems name ≡ f.live
-        at_name = ap (λ y. option_map_or (λ (x : FileSystem). x.live) y finmap.empty) at
+      abbrev systems : AreFileSystems (insert t.file_systems name (record f { live = v.new })) t.group
+      systems = live_systems (world_of t) sound.systems name f at v.new new_or_old
 
-        put_is : with_live t.file_systems name v.new ≡ insert t.file_systems name (record f { live = v.new })
-        put_is = ap (λ y. option_map_or (λ (x : FileSystem). insert t.file_systems name (record x { live = v.new })) y t.file_systems) at
+      put_table : IsTable (record t { file_systems = insert t.file_systems name (record f { live = v.new }) })
+      put_table = record {
+        systems = systems;
+        numbers = cells_after maps (Live name) sound.numbers m live_is c t.group young states v is held alone
+            (map_of (world_of (record t { file_systems = insert t.file_systems name (record f { live = v.new }) })))
+            (live_new (world_of t) sound.systems name f at v.new systems.lines ∙ is.new_is) (live_rest (world_of t) sound.systems name f at v.new systems.lines);
+        plain = plain_put t.file_systems sound.plain name (record f { live = v.new }) (sound.plain name f at);
+      }
 
-        pub written_systems : AreFileSystems (with_live t.file_systems name v.new) t.group
-        written_systems = subst (λ x. AreFileSystems x t.group) (sym put_is)
-            (live_systems (world_of t) good name f at v.new
-            (λ b h. ⊎_elim (λ k. inl (subst (λ x. Has (blocks x) b) at_name k)) inr (new_or_old b h)))
-
-        pub written_plain : HaveNoOrigin (with_live t.file_systems name v.new)
-        written_plain = subst HaveNoOrigin (sym put_is) (plain_put t.file_systems plain name (record f { live = v.new }) (plain name f at))
+      pub written_table : IsTable (record t { file_systems = with_live t.file_systems name v.new })
+      written_table = subst (λ ss. IsTable (record t { file_systems = ss }))
+          (sym (ap (λ y. option_map_or (λ (x : FileSystem). insert t.file_systems name (record x { live = v.new })) y t.file_systems) at)) put_table
 
 -- one of two values stands under a name
 there_or_not : (ss : FileSystems) (name : Name) → ((f : FileSystem) × (get ss name ≡ Some f)) ⊎ (get ss name ≡ None)
@@ -185,7 +180,7 @@ done_not_refused : {T : Type 0} (done : T) → ◌≡◌ {A = Result T Refusal} 
 done_not_refused done e = cc
 
 -- a file systems' write, as a table's
-module _ (t : Datasets) (good : AreFileSystems t.file_systems t.group) (plain : HaveNoOrigin t.file_systems) (name : Name)
+module _ (t : Datasets) (sound : IsTable t) (name : Name)
     (us : List Update) (synced : ℕ) (states : List BlockState) (allows : AllowsWrite t us synced states) (c : Changes) (new : FileSystems) (since : ℕ) where
   abbrev IsDone : Changed → Type 0
   IsDone = IsWritten (live_of t.file_systems name) (live_of new name) (snaps_at t.file_systems name) c t.group since states
@@ -203,26 +198,24 @@ module _ (t : Datasets) (good : AreFileSystems t.file_systems t.group) (plain : 
             → IfOk x (HasWritten t (record { file_systems = new; group = t.group }) name c since states)
         at (Ok done) w is = record {
           change = w.change;
-          is = subst (λ y. IsChange (live_of t.file_systems name) c t.group y states w.change) (sym (young_is t good plain name since)) w.is;
+          is = subst (λ y. IsChange (live_of t.file_systems name) c t.group y states w.change) (sym (young_is t sound name since)) w.is;
           to_is = λ i. record t { file_systems = to_is w.change w.new_is is i };
-          released = w.released ∙ ap (λ n. filter (λ (b : Block). nat_lt n b.birth) w.change.released) (sym (base_is t good plain name));
+          released = w.released ∙ ap (λ n. filter (λ (b : Block). nat_lt n b.birth) w.change.released) (sym (base_is t sound name));
           taken = w.taken;
           made = w.made;
         }
         at (Err e) w is = tt
 
-    pub kept_facts : OnErr r (new ≡ t.file_systems) → ((r ≡ Err NoDataset) ↔ (get t.file_systems name ≡ None)) → AreFileSystems new t.group × HaveNoOrigin new
-    kept_facts err no_dataset = at r ok others err no_dataset
+    pub kept_table : OnErr r (new ≡ t.file_systems) → ((r ≡ Err NoDataset) ↔ (get t.file_systems name ≡ None)) → IsTable (record t { file_systems = new })
+    kept_table err no_dataset = at r ok others err no_dataset
       where
         at : (x : Result Changed Refusal) → IfOk x IsDone → OnOk x (new ≡ with_live t.file_systems name (live_of new name)) → OnErr x (new ≡ t.file_systems)
-            → ((x ≡ Err NoDataset) ↔ (get t.file_systems name ≡ None)) → AreFileSystems new t.group × HaveNoOrigin new
+            → ((x ≡ Err NoDataset) ↔ (get t.file_systems name ≡ None)) → IsTable (record t { file_systems = new })
         at (Ok done) w is same none = ⊎_elim
             (λ there.
-            let e = to_is w.change w.new_is is in
-            let young = young_after (snaps_at t.file_systems name) since in (
-              subst (λ ss. AreFileSystems ss t.group) (sym e) (written_systems t good plain name us synced states allows c young w.change w.is there.0 there.1),
-              subst HaveNoOrigin (sym e) (written_plain t good plain name us synced states allows c young w.change w.is there.0 there.1),
-            ))
+            let late = base_is t sound name in
+            subst (λ ss. IsTable (record t { file_systems = ss })) (sym (to_is w.change w.new_is is))
+            (written_table t sound name us synced states allows c (young_after (snaps_at t.file_systems name) since) (omega arith) w.change w.is there.0 there.1))
             (λ gone. absurd (done_not_refused done (none.1 gone)))
             (there_or_not t.file_systems name)
-        at (Err e) w is same none = (subst (λ ss. AreFileSystems ss t.group) (sym same) good, subst HaveNoOrigin (sym same) plain)
+        at (Err e) w is same none = subst (λ ss. IsTable (record t { file_systems = ss })) (sym same) sound

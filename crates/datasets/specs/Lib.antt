@@ -1,3 +1,4 @@
 pub mod Table
 pub mod Writes
 pub mod Snapshots
+pub mod Rollbacks

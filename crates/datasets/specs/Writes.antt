@@ -14,7 +14,6 @@ use Rattle.tree.specs.Change.{Shown, IsChange}
 use Rattle.tree.specs.ChangeParts.{made_pair}
 use Rattle.file_systems.specs.Rows.{live_of, with_live}
 use Rattle.world.specs.Sets.{Has}
-use Rattle.world.specs.Reach.{AreNumbersUnique}
 use Rattle.world.specs.Dead.{base_of}
 use Rattle.world.specs.Tables.{Datasets, world_of}
 
@@ -24,12 +23,11 @@ abbrev pub young_of : Datasets → List ℕ → ℕ → ℕ
 young_of t name synced = max synced (base_of (world_of t) (Live name) + 1)
 
 -- These updates of a live map can be made, where the last sync left this group open and the numbers have these states: they are a
--- batch, that group isn't past the open one, each number of a dataset's block is Allocated, and is that block's alone (profile)
+-- batch, that group isn't past the open one, and each number of a dataset's block is Allocated (profile)
 pub record AllowsWrite (t : Datasets) (us : List Update) (synced : ℕ) (states : List BlockState) : Type 0 where
   pub batch : IsBatch us
   pub not_after : synced ≤ t.group
   pub allocated : (b : Block) → Has (union_of (world_of t)) b → slice_get states b.number ≡ Some Allocated
-  pub unique : AreNumbersUnique (union_of (world_of t))
 
 -- These changes of a live map are in force: it is rewritten, and of what it drops those blocks are released that were born after
 -- what stands before it, which has all others (On-Disk Specification, chapter 4: ds_deadlist_obj)

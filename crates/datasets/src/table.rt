@@ -1,20 +1,25 @@
 //! The datasets of a pool.
-ghost use Rattle.std.specs.Prelude.{◌≡◌, ◌⊎◌, ◌↔◌, ◌≤◌, ◌+◌, ◌<◌, ◌^◌, Some, None, IfSome, IfOk, IfErr, OnOk, OnErr, map};
+ghost use Rattle.std.specs.Prelude.{◌≡◌, ◌⊎◌, ◌↔◌, ◌≤◌, ◌+◌, ◌<◌, ◌^◌, Some, None, IfSome, IfOk, IfErr, OnOk, OnErr, map, length};
 ghost use Rattle.std.specs.Arc.{arc_value};
 ghost use Rattle.std.specs.Option.{option_map, option_copied};
 ghost use Rattle.std.specs.FinMap as finmap;
 ghost use Rattle.std.specs.FinMap.{get, insert, entries, len};
 ghost use Rattle.base.specs.declared.refusal.Refusal.{Refusal};
 ghost use Rattle.name.specs.Names.{root_name};
-ghost use Rattle.model.specs.World.{empty_file_system};
+ghost use Rattle.base.specs.Surveys.{dead_block};
+ghost use Rattle.model.specs.World.{empty_file_system, id_of, snap_named};
 ghost use Rattle.model.specs.Hierarchy.{has_parent};
 ghost use Rattle.model.specs.requests.Create.{create_refusal};
 ghost use Rattle.tree.specs.Asking.{IsNoSpaceOrNoMemory};
 ghost use Rattle.tree.specs.Change.{HasRoom, LacksRoom, CountsDropped};
 ghost use Rattle.tree.specs.Updates.{changes_of};
 ghost use Rattle.world.specs.Worlds.{AreFileSystems};
-ghost use Rattle.world.specs.Tables.{with_system, CanSnap};
-ghost use Rattle.file_systems.specs.Rows.{live_of, snap_count, plain_snap};
+ghost use Rattle.world.specs.Deadlists.{Lists};
+ghost use Rattle.world.specs.Tables.{world_of, with_system, without_snap, lost_between, CanSnap};
+ghost use Rattle.file_systems.specs.Losses.{newest_map};
+ghost use Rattle.file_systems.specs.Rows.{live_of, snaps_at, with_live, snap_count, plain_snap};
+ghost use Rattle.datasets.specs.Rollbacks.{Loses};
+ghost use Rattle.datasets.specs.Table.{AreNumbersOne};
 ghost use Rattle.datasets.specs.Writes.{young_of, AllowsWrite, HasWritten};
 ghost use Rattle.datasets.specs.Snapshots.{with_snap_at};
 
@@ -22,8 +27,9 @@ use crate::parent::parent_of;
 use base::meter::{Meter, SegMeter};
 use base::number::{Group, Guid};
 use base::refusal::Refusal;
-use file_systems::{FileSystem, FileSystems};
-use name::{Component, DsName};
+use deadlist::deadlist::Deadlist;
+use file_systems::{FileSystem, FileSystems, Lost};
+use name::{Component, DsName, Member};
 use std::alloc::Global;
 use std::marker::Model;
 use std::sync::Arc;
@@ -51,7 +57,7 @@ impl Model for Table {
 
     ghost view = { λ t. record { file_systems = t.systems; group = t.group.0 } };
 
-    ghost invariant = { IsTable };
+    ghost invariant = { λ t. IsTable (record { file_systems = t.systems; group = t.group.0 }) };
 }
 
 impl Table {
@@ -85,6 +91,7 @@ impl Table {
     pub fn len(&self) -> usize
         ensures len { result ≡ len self.now.file_systems }
         ensures good { AreFileSystems self.now.file_systems self.now.group }
+        ensures numbers { AreNumbersOne self.now }
     {
         self.systems.len()
     }
@@ -231,6 +238,65 @@ impl Table {
             .take_snapshot(alloc, name, component, guid, open)?;
         self.group = Group(open.0 + 1);
         Ok(())
+    }
+
+    /// Takes a snapshot out (zfs-destroy(8)): what comes after it keeps its blocks, and the answer lists the blocks that no dataset has
+    /// any more, each once; nobody has walked them. NoDataset exactly where there is no snapshot of this name; else NoMemory where
+    /// there is none for it. At `Err` the table is as it was. It costs the logarithms of the numbers of file systems and of snapshots,
+    /// the segments of two dead lists, and a 32nd of the number of snapshots of its file system.
+    pub fn destroy_snapshot(
+        &mut self,
+        alloc: Global,
+        name: &Member,
+        segments: &mut SegMeter,
+    ) -> Result<Deadlist, Refusal>
+        ensures ok { IfSome (snap_named (world_of self.old) name.now) (λ t. OnOk result (self.new ≡ without_snap self.old (id_of t))) }
+        ensures lost { IfOk result (λ d. Lists (map dead_block d.entries) (lost_between self.old self.new)) }
+        ensures no_dataset { (result ≡ Err Refusal.NoDataset) ↔ (snap_named (world_of self.old) name.now ≡ None) }
+        ensures err { OnErr result (self.new ≡ self.old) }
+        ensures only { IfErr result (λ e. (e ≡ Refusal.NoDataset) ⊎ (e ≡ Refusal.NoMemory)) }
+    {
+        let Some(group) = self.group_of(name) else {
+            return Err(Refusal::NoDataset);
+        };
+        self.systems
+            .splice(alloc, &name.file_system, group, segments)
+    }
+
+    /// Makes the map of its newest snapshot the live map of this file system (zfs-rollback(8)), by one more owner of its tree, and answers
+    /// what no dataset has any more: of the blocks of the tree that was live those that were born after the snapshot. Nobody has walked
+    /// them. NoDataset exactly where there is no file system of this name or it has no snapshot; else NoMemory where there is none for
+    /// it. At `Err` the table is as it was. It costs the logarithm of the number of file systems.
+    pub fn rollback(&mut self, alloc: Global, name: &DsName) -> Result<Lost, Refusal>
+        ensures ok { OnOk result (self.new ≡ record self.old { file_systems = with_live self.old.file_systems name.now (newest_map (live_of self.old.file_systems name.now) (snaps_at self.old.file_systems name.now)) }) }
+        ensures lost { IfOk result (Loses self.old self.new) }
+        ensures no_dataset { (result ≡ Err Refusal.NoDataset) ↔ (length (snaps_at self.old.file_systems name.now) ≡ 0) }
+        ensures err { OnErr result (self.new ≡ self.old) }
+        ensures only { IfErr result (λ e. (e ≡ Refusal.NoDataset) ⊎ (e ≡ Refusal.NoMemory)) }
+    {
+        if self.snapshots_of(name) == 0 {
+            return Err(Refusal::NoDataset);
+        }
+        self.systems.rollback(alloc, name)
+    }
+
+    // How many snapshots the file system of this name has, and none where it isn't there.
+    fn snapshots_of(&self, name: &DsName) -> usize
+        ensures { result ≡ length (snaps_at self.now.file_systems name.now) }
+    {
+        match self.find(name) {
+            Some(file_system) => file_system.snapshots().len(),
+            None => 0,
+        }
+    }
+
+    // The creation group of the snapshot of this name, or none.
+    fn group_of(&self, name: &Member) -> Option<Group>
+        ensures { option_map (λ g. g.0) result ≡ option_map (λ t. t.group) (snap_named (world_of self.now) name.now) }
+    {
+        let file_system = self.systems.find(&name.file_system)?;
+        let snapshot = file_system.snapshot_named(name.component.as_bytes())?;
+        Some(snapshot.group())
     }
 
     // A table with one empty file system more, which nothing refuses.

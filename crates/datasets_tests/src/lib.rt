@@ -4,6 +4,8 @@
 #[cfg(test)]
 mod lists;
 #[cfg(test)]
+mod removals;
+#[cfg(test)]
 mod tables;
 #[cfg(test)]
 mod takings;

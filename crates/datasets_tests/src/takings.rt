@@ -149,7 +149,7 @@ fn refused_memory_takes_nothing(rt: HostRuntime) {
 }
 
 /// Why a snapshot of this name alone is refused, with this number of its counter, by a pool with id 7; if it isn't, it is taken.
-fn refused_one(
+pub fn refused_one(
     rt: &impl Abort,
     alloc: Global,
     table: &mut Table,

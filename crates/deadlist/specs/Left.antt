@@ -1,5 +1,5 @@
 -- What an iterator over a dead list has left.
-use Rattle.std.specs.Prelude.{ℕ, ◌+◌, List, [], ◌++◌, Option, None, Some, length}
+use Rattle.std.specs.Prelude.{ℕ, ◌+◌, List, [], ◌++◌, Option, None, Some, length, min}
 use Rattle.std.specs.Borrow.{Bor}
 use Rattle.base.specs.declared.number.Dead.{Dead}
 use Rattle.deadlist.specs.declared.iter.Iter.{Iter}
@@ -19,6 +19,10 @@ one_behind (Some b) = 1
 -- what is left of the segment under way
 abbrev pub left_here : Iter → List Dead
 left_here s = s.now.now ++ (chunk_entries s.chunks.now ++ s.tail.now)
+
+-- how many slices of it haven't been begun
+abbrev pub unread : Iter → ℕ
+unread s = length s.chunks.now + min 1 (length s.tail.now)
 
 -- what lies beyond it
 abbrev pub left_beyond : Iter → List Dead

@@ -1,5 +1,5 @@
 //! The dead list of a dataset.
-ghost use Rattle.std.specs.Prelude.{◌≡◌, ◌+◌, ◌^◌, ◌≤◌, ◌<◌, ◌++◌, ◌∷◌, ◌⊎◌, [], length, filter, OnOk, OnErr, IfOk, IfErr, IsOk, nat_le, nat_lt, ◌==◌, if◌then◌else◌, true, false};
+ghost use Rattle.std.specs.Prelude.{◌≡◌, ◌+◌, ◌^◌, ◌≤◌, ◌<◌, ◌++◌, ◌∷◌, ◌⊎◌, [], length, filter, drop, OnOk, OnErr, IfOk, IfErr, IsOk, nat_le, nat_lt, ◌==◌, if◌then◌else◌, true, false};
 ghost use Rattle.std.specs.List.{list_any};
 ghost use Rattle.std.specs.List.Sorted.{IsPermutation, IsStrictlyIncreasing};
 ghost use Rattle.base.specs.Counting.{counted};
@@ -253,6 +253,17 @@ impl Deadlist {
     {
         reach(meter, self.segments());
         Iter::new(&self.parts, self.fresh.as_slice())
+    }
+
+    /// The entries of `iter` without that many of the first. It costs a step for each segment and each full chunk that it passes. The
+    /// meter counts all segments at once.
+    pub fn iter_from(&self, first: u64, meter: &mut SegMeter) -> Iter<'_>
+        ensures entries { left result ≡ drop first self.now.entries }
+        ensures meter { meter.new ≡ counted meter.old (length self.now.cuts + 1) }
+    {
+        let mut entries = self.iter(meter);
+        entries.pass(first);
+        entries
     }
 
     /// How many entries it has. Constant time.

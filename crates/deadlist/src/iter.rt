@@ -1,8 +1,8 @@
 //! The entries of a dead list, one after the other.
-ghost use Rattle.std.specs.Prelude.{◌≡◌, ◌+◌, ◌<◌, ◌++◌, ◌∷◌, [], Option, None, Some, IsTrue, MatchOption, false};
+ghost use Rattle.std.specs.Prelude.{◌≡◌, ◌+◌, ◌<◌, ◌++◌, ◌∷◌, [], drop, Option, None, Some, IsTrue, MatchOption, false};
 ghost use Rattle.base.specs.declared.number.Dead.{Dead};
 ghost use Rattle.deadlist.specs.Segments.{entries_of};
-ghost use Rattle.deadlist.specs.Left.{left, left_here, left_beyond, unopened};
+ghost use Rattle.deadlist.specs.Left.{left, left_here, left_beyond, unopened, unread};
 
 use crate::parts::{Parts, Segment};
 use crate::pile::Pile;
@@ -34,6 +34,66 @@ impl<'a> Iter<'a> {
         }
     }
 
+    /// Passes over that many entries, or over all that are left where they are fewer. It costs a step for each segment and each chunk
+    /// of entries that it passes.
+    pub(crate) fn pass(&mut self, count: u64)
+        ensures { left self.new ≡ drop count (left self.old) }
+    {
+        let mut count = count;
+        loop {
+            count = self.pass_here(count);
+            if count == 0 {
+                return;
+            }
+            if !self.open_next() {
+                return;
+            }
+        }
+    }
+
+    // Passes over that many entries of the segment under way, and says how many it lacked.
+    fn pass_here(&mut self, count: u64) -> u64
+        ensures left { drop result (left self.new) ≡ drop count (left self.old) }
+        ensures here { 0 < result → left_here self.new ≡ [] }
+        ensures unopened { unopened self.new ≡ unopened self.old }
+    {
+        let mut count = count;
+        loop {
+            let here = self.now;
+            if let Some(rest) = here.get(count as usize..) {
+                self.now = rest;
+                return 0;
+            }
+            count -= here.len() as u64;
+            self.now = &[];
+            if !self.open_chunk() {
+                return count;
+            }
+        }
+    }
+
+    // Goes on to the next chunk of the segment under way, and says whether there was one.
+    fn open_chunk(&mut self) -> bool
+        requires { self.old.now.now ≡ [] }
+        ensures here { left_here self.new ≡ left_here self.old }
+        ensures beyond { left_beyond self.new ≡ left_beyond self.old }
+        ensures unopened { unopened self.new ≡ unopened self.old }
+        ensures fewer { IsTrue result → unread self.new < unread self.old }
+        ensures none { result ≡ false → left_here self.new ≡ [] }
+    {
+        if let [chunk, rest @ ..] = self.chunks {
+            self.now = chunk.as_slice();
+            self.chunks = rest;
+            return true;
+        }
+        if self.tail.is_empty() {
+            return false;
+        }
+        self.now = self.tail;
+        self.tail = &[];
+        true
+    }
+
     // The next entry of the segment under way.
     fn next_here(&mut self) -> Option<Dead>
         ensures here { MatchOption result ((left_here self.old ≡ []) × (left_here self.new ≡ []))
@@ -46,14 +106,8 @@ impl<'a> Iter<'a> {
                 self.now = rest;
                 return Some(*first);
             }
-            if let [chunk, rest @ ..] = self.chunks {
-                self.now = chunk.as_slice();
-                self.chunks = rest;
-            } else if self.tail.is_empty() {
+            if !self.open_chunk() {
                 return None;
-            } else {
-                self.now = self.tail;
-                self.tail = &[];
             }
         }
     }

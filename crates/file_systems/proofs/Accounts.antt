@@ -1,20 +1,16 @@
 -- The dead lists of a file system's snapshots, and what they say was written.
-use Rattle.std.proofs.Common.{◌≡◌, ◌≤◌, ◌<◌, ◌+◌, ◌-◌, ℕ, Bool, true, false, cond, List, [], ◌∷◌, ◌++◌, map, length, Option, Some, None, is_some, true≢false, refl, sym, ap, subst, ◌∙◌, arith, leb, inl, inr, ⊎_elim}
+use Rattle.std.proofs.Common.{◌≡◌, ◌≤◌, ◌<◌, ◌+◌, ◌-◌, ℕ, Bool, true, false, cond, List, [], ◌∷◌, ◌++◌, map, length, Option, Some, None, refl, sym, ap, subst, ◌∙◌, arith, leb}
 use Rattle.std.proofs.lemmas.List.{length-map, map-append}
-use Rattle.std.specs.Prelude.{filter, if◌then◌else◌, IfOk}
-use Rattle.std.specs.Cmp.Lexicographic.{same_text}
+use Rattle.std.specs.Prelude.{filter}
 use Rattle.std.specs.List.{find, last_or, slice_get}
-use Rattle.std.specs.Borrow.{Bor}
-use Rattle.std.specs.Result.{is_err}
-use Rattle.std.specs.Option.{option_map, option_map_or, option_or, option_copied}
+use Rattle.std.specs.Option.{option_map, option_map_or}
 use Rattle.std.specs.FinSet.{empty, difference, from_list}
 use Rattle.std.specs.FinSet as set
 use Rattle.std.specs.FinMap as finmap
 use Rattle.std.specs.Arc.{arc_value}
-use Rattle.std.specs.List.Sorted.{IsPermutation}
 use Rattle.std.proofs.lemmas.List.Sorted.{IsPermutation-refl}
 use Rattle.std.proofs.lemmas.List.{append-nil}
-use Rattle.base.specs.Map.{Map, Block, BlockSet, blocks, block_cmp}
+use Rattle.base.specs.Map.{Map, BlockSet, blocks}
 use Rattle.base.specs.Surveys.{dead_block}
 use Rattle.base.specs.Rewrite.{Changes}
 use Rattle.base.specs.declared.number.Dead.{Dead}
@@ -26,10 +22,9 @@ use Rattle.model.specs.World.{Snap}
 use Rattle.model.specs.Sums.{size_without}
 use Rattle.snapshots.specs.declared.kept.Kept.{Kept}
 use Rattle.tree.specs.Change.{Shown, IsChange}
-use Rattle.world.specs.Sets.{Has}
 use Rattle.world.specs.Blocks.{block_order as o}
 use Rattle.world.specs.Deadlists.{Lists, entries_upto}
-use Rattle.world.proofs.SetCounts.{same_members, from_difference, in_difference, no-empty}
+use Rattle.world.proofs.SetCounts.{same_members, from_difference, no-empty}
 use Rattle.world.proofs.BlockCounts.{len-blocks}
 use Rattle.world.proofs.DeadChanges.{dead_after}
 use Rattle.world.proofs.Shuffled.{lists_shuffled, written_is, written_few}
@@ -146,17 +141,15 @@ newest_blocks_are ks p is = ap blocks_kept (is ∙ last_is ks) ∙ by ks
 pub count_is : (m : Map) → IsUnique m → set.len (blocks m) ≡ finmap.len m
 count_is m u = len-blocks m u.one
 
--- by the counts of the map, of its dead list and of what stands before, which is the last of these snapshots
-pub written_counted : (live : Map) (ks : List Kept) (p : Option Kept) (ds : List Dead) (n nodes long : ℕ) → IsUnique live → nodes ≡ finmap.len live
-    → Lists (map dead_block ds) (difference (newest_blocks (snaps_in ks)) (blocks live)) → p ≡ slice_get ks (length ks - 1) → n ≡ set.len (blocks_kept p) → long ≡ length ds
-    → (size_without (blocks live) (newest_blocks (snaps_in ks)) + n ≡ nodes + long) × (size_without (blocks live) (newest_blocks (snaps_in ks)) ≤ nodes)
-written_counted live ks p ds n nodes long unique all own is before many =
-    let below = newest_blocks (snaps_in ks) in
+-- by the counts of the map, of its dead list and of what stands before
+pub written_counted : (live : Map) (below : BlockSet) (ds : List Dead) (n nodes long : ℕ) → IsUnique live → nodes ≡ finmap.len live
+    → Lists (map dead_block ds) (difference below (blocks live)) → n ≡ set.len below → long ≡ length ds
+    → (size_without (blocks live) below + n ≡ nodes + long) × (size_without (blocks live) below ≤ nodes)
+written_counted live below ds n nodes long unique all own before many =
     let count = count_is live unique in
     let sum = written_is (blocks live) below (map dead_block ds) own in
     let few = written_few (blocks live) below in
     let listed = length-map ds dead_block in
-    let newest : n ≡ set.len below = before ∙ ap set.len (newest_blocks_are ks p is) in
     (omega arith, omega arith)
 
 -- ---- a change of the live map

@@ -45,3 +45,18 @@ pub set_counted_same : (es : List Row) (i : ℕ) (r e : Row) (count : ℕ) → I
 set_counted_same es i r e count sorted after lt is long counts =
     let more = set_counted es i r e 0 count sorted after lt is (omega arith) counts in
     omega arith
+
+-- another row at a place takes away as many as it has fewer than the one there
+set_fewer : (es : List Row) (i : ℕ) (r d : Row) (less : ℕ) → i < length es → length r.1.snaps + less ≡ length (get_or es i d).1.snaps → length (snaps_in (set es i r)) + less ≡ length (snaps_in es)
+set_fewer [] i r d less lt is = absurd (omega arith)
+set_fewer (e ∷ es) zero r d less lt is = omega (arith, length-append r.1.snaps (snaps_in es), length-append e.1.snaps (snaps_in es))
+set_fewer (e ∷ es) (suc i) r d less lt is =
+    let rest = set_fewer es i r d less (omega arith) is in
+    omega (arith, length-append e.1.snaps (snaps_in (set es i r)), length-append e.1.snaps (snaps_in es))
+
+-- another row at a place, with so many fewer snapshots than the one there, is counted
+pub set_counted_fewer : (es : List Row) (i : ℕ) (r e : Row) (less count : ℕ) → IsTrue (is_sorted name_cmp es) → IsTrue (is_sorted name_cmp (set es i r)) → i < length es → e ≡ get_or es i e → length r.1.snaps + less ≡ length e.1.snaps → count ≡ snap_count (from_sorted {R = name_cmp} es) → snap_count (from_sorted {R = name_cmp} (set es i r)) + less ≡ count
+set_counted_fewer es i r e less count sorted after lt is shorter counts =
+    ap (λ n. n + less) (counted (set es i r) after)
+    ∙ set_fewer es i r e less lt (shorter ∙ ap (λ (x : Row). length x.1.snaps) is)
+    ∙ sym (counts ∙ counted es sorted)

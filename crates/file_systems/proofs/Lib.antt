@@ -4,3 +4,7 @@ pub mod Counts
 pub mod Newest
 pub mod Releases
 pub mod Accounts
+pub mod Splices
+pub mod Stacks
+pub mod Removed
+pub mod Losses

@@ -1,6 +1,6 @@
 -- Rows in byte order as a map of file systems.
 use Rattle.std.proofs.Common.{◌≡◌, ℕ, ◌<◌, Bool, true, false, cond, T, List, [], ◌∷◌, length, get_or, set, map, Option, Some, None, is_some, refl, sym, ap, subst, ◌∙◌, arith, true≢false}
-use Rattle.std.specs.Prelude.{IsSome, IsTrue}
+use Rattle.std.specs.Prelude.{IsSome, IfSome, IsTrue}
 use Rattle.std.specs.Bool.{passes}
 use Rattle.std.specs.Option.{option_map, option_map_or}
 use Rattle.std.specs.Ordering.{is_eq, ordering_index}
@@ -20,13 +20,14 @@ use Rattle.base.specs.Map.{Map}
 use Rattle.model.specs.World.{FileSystem, empty_file_system}
 use Rattle.file_systems.specs.Rows.{Row, FileSystems, live_of, snaps_at, with_live, with_snap}
 use Rattle.file_systems.specs.Places.{IsAt, IsGapFor}
+use Rattle.file_systems.specs.Splices.{without_group, without_snap_of}
 use Rattle.file_systems.proofs.Sorted.{comparisons_rise, find_at, put_at, find_gap, put_gap}
 
 -- only equal names tie
-same_name : IsAntisymmetric name_cmp
+pub same_name : IsAntisymmetric name_cmp
 same_name = slice_cmp-IsAntisymmetric nat_cmp-IsAntisymmetric
 
-true_from : (b : Bool) → T b → b ≡ true
+pub true_from : (b : Bool) → T b → b ≡ true
 true_from true h = refl
 true_from false h = absurd h
 
@@ -166,6 +167,16 @@ module _ (es : List Row) (sorted : IsTrue (is_sorted name_cmp es)) (q : List ℕ
   taken_is name guid group r others =
       placed_is (with_snap e.1 name guid group) r others
       ∙ sym (ap (λ o. option_map_or (λ f. finmap.insert (from_sorted {R = name_cmp} es) q (with_snap f name guid group)) o (from_sorted {R = name_cmp} es)) got)
+
+  -- without a snapshot, as the map tells it
+  pub spliced_is : (group : ℕ) (r : Row) → r ≡ (e.0, without_group e.1 group) → from_sorted {R = name_cmp} (set es i r) ≡ without_snap_of (from_sorted {R = name_cmp} es) q group
+  spliced_is group r others =
+      placed_is (without_group e.1 group) r others
+      ∙ sym (ap (λ o. option_map_or (λ f. finmap.insert (from_sorted {R = name_cmp} es) q (without_group f group)) o (from_sorted {R = name_cmp} es)) got)
+
+  -- it keeps the rule that its file system keeps
+  pub rule_here : (P : FileSystem → Type 0) → IfSome (get (from_sorted {R = name_cmp} es) q) P → P e.1
+  rule_here P h = subst (λ o. IfSome o P) got h
 
   module _ (live : Map) where
     abbrev changed : List Row

@@ -12,16 +12,16 @@ use Rattle.std.specs.List.Sorted.{IsNonDecreasingBy}
 use Rattle.std.specs.FinMap.{find, put, is_sorted}
 use Rattle.std.specs.FinMap.Entries.{below_all, by_order}
 
-less_from : (r : Ordering) → T (is_lt r) → r ≡ Less
+pub less_from : (r : Ordering) → T (is_lt r) → r ≡ Less
 less_from Less h = refl
 less_from Equal h = absurd h
 less_from Greater h = absurd h
 
-T_left : (a b : Bool) → T (a && b) → T a
+pub T_left : (a b : Bool) → T (a && b) → T a
 T_left true b h = tt
 T_left false b h = absurd h
 
-T_right : (a b : Bool) → T (a && b) → T b
+pub T_right : (a b : Bool) → T (a && b) → T b
 T_right true b h = h
 T_right false b h = absurd h
 

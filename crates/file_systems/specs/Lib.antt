@@ -3,3 +3,5 @@ pub mod Places
 pub mod Writes
 pub mod Dead
 pub mod Sorted
+pub mod Splices
+pub mod Losses

@@ -1,23 +1,30 @@
 //! One file system, with its snapshots.
-ghost use Rattle.std.specs.Prelude.{◌≡◌, ◌≤◌, ◌++◌, ◌∷◌, [], List, IfOk, IfErr, OnOk, OnErr};
+ghost use Rattle.std.specs.Prelude.{◌≡◌, ◌≤◌, ◌<◌, ◌+◌, ◌==◌, ◌++◌, ◌∷◌, [], Some, IsSome, List, IfOk, IfErr, OnOk, OnErr, length, map, remove, slice_get, slice_set};
 ghost use Rattle.std.specs.Option.{option_map, option_copied};
 ghost use Rattle.std.specs.Arc.{arc_value};
-ghost use Rattle.std.specs.FinSet.{empty, len};
+ghost use Rattle.std.specs.FinSet.{empty};
 ghost use Rattle.std.specs.List.{find};
 ghost use Rattle.name.specs.Names.{name_cmp, same_name};
 ghost use Rattle.base.specs.declared.refusal.Refusal.{Refusal};
 ghost use Rattle.base.specs.Map.{blocks};
+ghost use Rattle.base.specs.Surveys.{dead_block};
 ghost use Rattle.model.specs.World.{empty_file_system};
 ghost use Rattle.model.specs.Sums.{size_without};
 ghost use Rattle.tree.specs.Asking.{IsNoSpaceOrNoMemory};
 ghost use Rattle.tree.specs.Change.{HasRoom, LacksRoom, CountsDropped};
 ghost use Rattle.tree.specs.Updates.{changes_of};
-ghost use Rattle.file_systems.specs.Dead.{snaps_in, newest_blocks, blocks_kept, written_from, AllowsLive};
-ghost use Rattle.snapshots.specs.declared.kept.Kept.{Kept};
+ghost use Rattle.file_systems.specs.Dead.{snaps_in, newest_blocks, written_from, AllowsLive, IsAbove};
+ghost use Rattle.file_systems.specs.Losses.{newest_map, IsLost};
+ghost use Rattle.snapshots.specs.Index.{AreNamesOnce};
+ghost use Rattle.world.specs.Deadlists.{Lists};
 ghost use Rattle.file_systems.specs.Rows.{with_snap};
+ghost use Rattle.file_systems.specs.Splices.{lost_from, without_group, AreAbove};
 ghost use Rattle.file_systems.specs.Writes.{newest_group, young_after, IsWritten};
 
 use crate::dead::put;
+use crate::lost::Lost;
+use crate::splice::{joined, joined_next, place_of};
+use crate::written::{group_of, written_over};
 use base::meter::{Meter, SegMeter};
 use base::number::{Group, Guid};
 use base::refusal::Refusal;
@@ -110,10 +117,7 @@ impl FileSystem {
     pub fn newest_group(&self) -> Group
         ensures { result.0 ≡ newest_group self.now.1.snaps }
     {
-        match self.snapshots.last() {
-            Some(kept) => kept.snapshot.group(),
-            None => Group(0),
-        }
+        group_of(self.snapshots.last())
     }
 
     /// How many blocks its live dataset has that its newest snapshot hasn't, and all of them where it has none (zfsprops(7): written).
@@ -121,8 +125,7 @@ impl FileSystem {
     pub fn written(&self) -> u32
         ensures { result ≡ size_without (blocks self.now.1.live) (newest_blocks self.now.1.snaps) }
     {
-        let newest = count_of(self.snapshots.last());
-        (u64::from(self.live.node_count()) + self.dead.len() - u64::from(newest)) as u32
+        written_over(self.snapshots.last(), &self.live, &self.dead)
     }
 
     /// How many blocks the snapshot of this name has that the one before it hasn't, or all of them where it is the oldest (zfsprops(7):
@@ -192,6 +195,70 @@ impl FileSystem {
         Ok(())
     }
 
+    // Takes out the snapshot of this group, which is there. Its dead list becomes a part of that of what comes after it; the blocks that
+    // neither what stands before it nor what comes after it has are lost: the answer, which nobody has to walk. It costs the logarithm
+    // of the number of snapshots, the chunks of them, and the segments of both dead lists.
+    pub(crate) fn splice(
+        &mut self,
+        alloc: Global,
+        group: Group,
+        segments: &mut SegMeter,
+    ) -> Result<Deadlist, Refusal>
+        requires there { IsSome (find (λ t. t.group == group.0) self.old.1.snaps) }
+        requires above { AreAbove self.old.1 }
+        ensures ok { OnOk result (self.new ≡ (self.old.0, without_group self.old.1 group.0)) }
+        ensures lost { IfOk result (λ d. Lists (map dead_block d.entries) (lost_from empty self.old.1.snaps self.old.1.live group.0)) }
+        ensures err { OnErr result (self.new ≡ self.old) }
+        ensures only { IfErr result (λ e. e ≡ Refusal.NoMemory) }
+    {
+        let kept = self.snapshots.list();
+        let (place, count) = (place_of(kept, group), kept.len());
+        if place + 1 < count {
+            let (next, lost) = joined_next(kept, alloc, place, segments)?;
+            splice_in(&mut self.snapshots, alloc, place, next)?;
+            return Ok(lost);
+        }
+        let (dead, lost) = joined(kept, place, &self.dead, segments)?;
+        let dead = Arc::new(alloc, dead)?;
+        remove_from(&mut self.snapshots, alloc, place)?;
+        self.dead = dead;
+        Ok(lost)
+    }
+
+    // What is lost where the live map goes.
+    pub(crate) fn lost(&self) -> Result<Lost, Refusal>
+        requires { IsAbove self.now.1.live self.now.1.snaps }
+        ensures ok { IfOk result (IsLost self.now.1.live self.now.1.snaps) }
+        ensures err { IfErr result (λ e. e ≡ Refusal.NoMemory) }
+    {
+        let tree = self.live.copy()?;
+        Ok(Lost {
+            tree,
+            after: self.newest_group(),
+            count: self.written(),
+        })
+    }
+
+    // The live map becomes that of the newest snapshot, which shares its tree.
+    pub(crate) fn rollback(&mut self, alloc: Global) -> Result<Lost, Refusal>
+        requires there { 0 < length self.old.1.snaps }
+        requires above { IsAbove self.old.1.live self.old.1.snaps }
+        ensures ok { OnOk result (self.new ≡ (self.old.0, record self.old.1 { live = newest_map self.old.1.live self.old.1.snaps })) }
+        ensures lost { IfOk result (IsLost self.old.1.live self.old.1.snaps) }
+        ensures err { OnErr result (self.new ≡ self.old) }
+        ensures only { IfErr result (λ e. e ≡ Refusal.NoMemory) }
+    {
+        let lost = self.lost()?;
+        let Some(newest) = self.snapshots.last() else {
+            unreachable!()
+        };
+        let live = newest.snapshot.tree().copy()?;
+        let dead = Arc::new(alloc, Deadlist::new(alloc))?;
+        self.live = live;
+        self.dead = dead;
+        Ok(lost)
+    }
+
     // Puts a batch of changes of the live tree in force at once, where the last sync left group `synced` open. It takes no number,
     // and of the blocks that the tree drops it releases those that no snapshot has; the others go onto the dead list.
     pub(crate) fn apply(
@@ -240,14 +307,40 @@ fn push(line: &mut Arc<Line>, alloc: Global, kept: Kept) -> Result<(), Refusal>
     Ok(())
 }
 
-// How many blocks a snapshot has, and none where there is no snapshot.
-fn count_of(kept: Option<&Kept>) -> u32
-    ensures { result ≡ len (blocks_kept (option_copied kept.entry)) }
+// Takes out the snapshot at that place: where they are, if they have no other owner, and else from a copy of them, which comes to their
+// place.
+fn remove_from(line: &mut Arc<Line>, alloc: Global, place: usize) -> Result<(), Refusal>
+    requires there { place < length (arc_value line.old) }
+    requires once { AreNamesOnce (arc_value line.old) }
+    ensures ok { OnOk result (arc_value line.new ≡ remove (arc_value line.old) place) }
+    ensures err { OnErr result (arc_value line.new ≡ arc_value line.old) }
+    ensures only { IfErr result (λ e. e ≡ Refusal.NoMemory) }
 {
-    match kept {
-        Some(kept) => kept.snapshot.tree().node_count(),
-        None => 0,
+    if let Some(line) = Arc::get_mut(line) {
+        return line.remove(place);
     }
+    let mut shorter = line.copy()?;
+    shorter.remove(place)?;
+    *line = Arc::new(alloc, shorter)?;
+    Ok(())
+}
+
+// Takes out the snapshot at that place, and puts this one in place of the one after it, which has its name: where they are, if they have
+// no other owner, and else in a copy of them, which comes to their place.
+fn splice_in(line: &mut Arc<Line>, alloc: Global, place: usize, next: Kept) -> Result<(), Refusal>
+    requires next { option_map (λ k. k.snapshot.name) (slice_get (arc_value line.old) (place + 1)) ≡ Some next.snapshot.name }
+    requires once { AreNamesOnce (arc_value line.old) }
+    ensures ok { OnOk result (arc_value line.new ≡ slice_set (remove (arc_value line.old) place) place next) }
+    ensures err { OnErr result (arc_value line.new ≡ arc_value line.old) }
+    ensures only { IfErr result (λ e. e ≡ Refusal.NoMemory) }
+{
+    if let Some(line) = Arc::get_mut(line) {
+        return line.splice(alloc, place, next);
+    }
+    let mut shorter = line.copy()?;
+    shorter.splice(alloc, place, next)?;
+    *line = Arc::new(alloc, shorter)?;
+    Ok(())
 }
 
 // A copy of a name, which others can own too.

@@ -1,24 +1,32 @@
 //! The file systems of a pool, by name.
-ghost use Rattle.std.specs.Prelude.{◌≡◌, ◌⊎◌, ◌↔◌, ◌≤◌, Some, None, IsSome, IfSome, IfOk, IfErr, OnOk, OnErr, map};
+ghost use Rattle.std.specs.Prelude.{◌≡◌, ◌==◌, ◌<◌, [], length, ◌⊎◌, ◌↔◌, ◌≤◌, Some, None, IsSome, IfSome, IfOk, IfErr, OnOk, OnErr, map};
 ghost use Rattle.std.specs.Arc.{arc_value};
 ghost use Rattle.std.specs.Option.{option_map, option_map_or, option_copied};
 ghost use Rattle.std.specs.FinMap as finmap;
 ghost use Rattle.std.specs.FinMap.{get, insert, entries, len};
+ghost use Rattle.std.specs.FinSet.{empty};
+ghost use Rattle.std.specs.List.{find};
+ghost use Rattle.base.specs.Surveys.{dead_block};
 ghost use Rattle.base.specs.declared.refusal.Refusal.{Refusal};
 ghost use Rattle.model.specs.World.{empty_file_system};
-ghost use Rattle.file_systems.specs.Dead.{AllowsLive};
+ghost use Rattle.file_systems.specs.Dead.{AllowsLive, IsAbove};
+ghost use Rattle.file_systems.specs.Losses.{newest_map, IsLost};
 ghost use Rattle.file_systems.specs.Rows.{live_of, snaps_at, with_live, with_snap, snap_count};
+ghost use Rattle.file_systems.specs.Splices.{lost_from, without_snap_of, AreAbove};
 ghost use Rattle.file_systems.specs.Writes.{young_after, IsWritten};
+ghost use Rattle.world.specs.Deadlists.{Lists};
 ghost use Rattle.tree.specs.Asking.{IsNoSpaceOrNoMemory};
 ghost use Rattle.tree.specs.Change.{HasRoom, LacksRoom, CountsDropped};
 ghost use Rattle.tree.specs.Updates.{changes_of};
 
 use crate::file_system::FileSystem;
+use crate::lost::Lost;
 use crate::place::{gap, place};
-use crate::row::{apply, shared, take, with_added};
+use crate::row::{apply, rollback, shared, splice, take, with_added};
 use base::meter::{Meter, SegMeter};
 use base::number::{Group, Guid};
 use base::refusal::Refusal;
+use deadlist::deadlist::Deadlist;
 use name::{Component, DsName};
 use std::alloc::Global;
 use std::marker::Model;
@@ -201,5 +209,69 @@ impl FileSystems {
         take(&mut self.rows[place], alloc, component, guid, group)?;
         self.snapshot_count = count;
         Ok(())
+    }
+
+    /// Takes the snapshot of this group, which is there, out of this file system (zfs-destroy(8)), and answers the blocks that are lost with
+    /// it, which neither what stands before it has nor what comes after it: nobody has to walk them. NoMemory where there is none for it;
+    /// then all are as they were. Where others share the file system, a copy of it takes its place. It costs the logarithm of the number of
+    /// file systems and that of the number of its snapshots, a 32nd of their number, and the segments of two dead lists.
+    pub fn splice(
+        &mut self,
+        alloc: Global,
+        name: &DsName,
+        group: Group,
+        segments: &mut SegMeter,
+    ) -> Result<Deadlist, Refusal>
+        requires there { IsSome (find (λ t. t.group == group.0) (snaps_at self.old name.now)) }
+        requires above { IfSome (get self.old name.now) AreAbove }
+        ensures ok { OnOk result (self.new ≡ without_snap_of self.old name.now group.0) }
+        ensures lost { IfOk result (λ d. Lists (map dead_block d.entries) (lost_from empty (snaps_at self.old name.now) (live_of self.old name.now) group.0)) }
+        ensures err { OnErr result (self.new ≡ self.old) }
+        ensures only { IfErr result (λ e. e ≡ Refusal.NoMemory) }
+    {
+        let Ok(place) = place(&self.rows, name.as_bytes()) else {
+            unreachable!()
+        };
+        let lost = splice(&mut self.rows[place], alloc, group, segments)?;
+        self.snapshot_count -= 1;
+        Ok(lost)
+    }
+
+    /// Makes the map of its newest snapshot, which is there, the live map of this file system, by one more owner of its tree
+    /// (zfs-rollback(8)), and answers what is lost with the one before: its blocks that the snapshot hasn't. NoMemory where there is none for
+    /// it; then all are as they were. Where others share the file system, a copy of it takes its place. It costs the logarithm of the number of
+    /// file systems.
+    pub fn rollback(&mut self, alloc: Global, name: &DsName) -> Result<Lost, Refusal>
+        requires there { 0 < length (snaps_at self.old name.now) }
+        requires above { IsAbove (live_of self.old name.now) (snaps_at self.old name.now) }
+        ensures ok { OnOk result (self.new ≡ with_live self.old name.now (newest_map (live_of self.old name.now) (snaps_at self.old name.now))) }
+        ensures lost { IfOk result (IsLost (live_of self.old name.now) (snaps_at self.old name.now)) }
+        ensures err { OnErr result (self.new ≡ self.old) }
+        ensures only { IfErr result (λ e. e ≡ Refusal.NoMemory) }
+    {
+        let Ok(place) = place(&self.rows, name.as_bytes()) else {
+            unreachable!()
+        };
+        let lost = rollback(&mut self.rows[place], alloc)?;
+        Ok(lost)
+    }
+
+    /// Takes out this file system, which is there and has no snapshot (zfs-destroy(8)), and answers what is lost with it: the blocks of its
+    /// live tree. NoMemory where there is none for one more owner of that; then all are as they were. It costs the number of file systems.
+    pub fn remove(&mut self, name: &DsName) -> Result<Lost, Refusal>
+        requires there { IsSome (get self.old name.now) }
+        requires bare { snaps_at self.old name.now ≡ [] }
+        requires above { IsAbove (live_of self.old name.now) (snaps_at self.old name.now) }
+        ensures ok { OnOk result (self.new ≡ finmap.remove self.old name.now) }
+        ensures lost { IfOk result (IsLost (live_of self.old name.now) []) }
+        ensures err { OnErr result (self.new ≡ self.old) }
+        ensures only { IfErr result (λ e. e ≡ Refusal.NoMemory) }
+    {
+        let Ok(place) = place(&self.rows, name.as_bytes()) else {
+            unreachable!()
+        };
+        let lost = self.rows[place].lost()?;
+        let _gone = self.rows.remove(place);
+        Ok(lost)
     }
 }

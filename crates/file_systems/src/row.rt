@@ -1,19 +1,26 @@
 //! The rows of a list of file systems, each of which other lists may own too.
-ghost use Rattle.std.specs.Prelude.{◌≡◌, ◌+◌, ◌≤◌, ◌++◌, IfOk, IfErr, OnOk, OnErr, map, length, vec_len, vec_capacity};
+ghost use Rattle.std.specs.Prelude.{◌≡◌, ◌+◌, ◌<◌, ◌≤◌, ◌++◌, ◌==◌, IsSome, IfOk, IfErr, OnOk, OnErr, map, length, vec_len, vec_capacity};
 ghost use Rattle.std.specs.Arc.{arc_value};
-ghost use Rattle.std.specs.List.{insert};
+ghost use Rattle.std.specs.FinSet.{empty};
+ghost use Rattle.std.specs.List.{find, insert};
+ghost use Rattle.base.specs.Surveys.{dead_block};
 ghost use Rattle.base.specs.declared.refusal.Refusal.{Refusal};
 ghost use Rattle.tree.specs.Asking.{IsNoSpaceOrNoMemory};
 ghost use Rattle.tree.specs.Change.{HasRoom, LacksRoom, CountsDropped};
 ghost use Rattle.tree.specs.Updates.{changes_of};
-ghost use Rattle.file_systems.specs.Dead.{AllowsLive};
+ghost use Rattle.file_systems.specs.Dead.{AllowsLive, IsAbove};
+ghost use Rattle.file_systems.specs.Losses.{newest_map, IsLost};
 ghost use Rattle.file_systems.specs.Rows.{with_snap};
+ghost use Rattle.file_systems.specs.Splices.{lost_from, without_group, AreAbove};
+ghost use Rattle.world.specs.Deadlists.{Lists};
 ghost use Rattle.file_systems.specs.Writes.{young_after, IsWritten};
 
 use crate::file_system::FileSystem;
+use crate::lost::Lost;
 use base::meter::{Meter, SegMeter};
 use base::number::{Group, Guid};
 use base::refusal::Refusal;
+use deadlist::deadlist::Deadlist;
 use name::Component;
 use std::alloc::Global;
 use std::sync::Arc;
@@ -118,4 +125,47 @@ pub fn take(
     file_system.take(alloc, name, guid, group)?;
     *row = Arc::new(alloc, file_system)?;
     Ok(())
+}
+
+/// Takes the snapshot of this group out of a row, as `FileSystem::splice` does: in the row, if it has no other owner, and else in a copy of
+/// it, which comes to its place.
+pub fn splice(
+    row: &mut Arc<FileSystem>,
+    alloc: Global,
+    group: Group,
+    segments: &mut SegMeter,
+) -> Result<Deadlist, Refusal>
+    requires there { IsSome (find (λ t. t.group == group.0) (arc_value row.old).1.snaps) }
+    requires above { AreAbove (arc_value row.old).1 }
+    ensures ok { OnOk result (arc_value row.new ≡ ((arc_value row.old).0, without_group (arc_value row.old).1 group.0)) }
+    ensures lost { IfOk result (λ d. Lists (map dead_block d.entries) (lost_from empty (arc_value row.old).1.snaps (arc_value row.old).1.live group.0)) }
+    ensures err { OnErr result (arc_value row.new ≡ arc_value row.old) }
+    ensures only { IfErr result (λ e. e ≡ Refusal.NoMemory) }
+{
+    if let Some(file_system) = Arc::get_mut(row) {
+        return file_system.splice(alloc, group, segments);
+    }
+    let mut file_system = row.copy()?;
+    let lost = file_system.splice(alloc, group, segments)?;
+    *row = Arc::new(alloc, file_system)?;
+    Ok(lost)
+}
+
+/// Makes the map of its newest snapshot a row's live map, as `FileSystem::rollback` does: in the row, if it has no other owner, and else in
+/// a copy of it, which comes to its place.
+pub fn rollback(row: &mut Arc<FileSystem>, alloc: Global) -> Result<Lost, Refusal>
+    requires there { 0 < length (arc_value row.old).1.snaps }
+    requires above { IsAbove (arc_value row.old).1.live (arc_value row.old).1.snaps }
+    ensures ok { OnOk result (arc_value row.new ≡ ((arc_value row.old).0, record (arc_value row.old).1 { live = newest_map (arc_value row.old).1.live (arc_value row.old).1.snaps })) }
+    ensures lost { IfOk result (IsLost (arc_value row.old).1.live (arc_value row.old).1.snaps) }
+    ensures err { OnErr result (arc_value row.new ≡ arc_value row.old) }
+    ensures only { IfErr result (λ e. e ≡ Refusal.NoMemory) }
+{
+    if let Some(file_system) = Arc::get_mut(row) {
+        return file_system.rollback(alloc);
+    }
+    let mut file_system = row.copy()?;
+    let lost = file_system.rollback(alloc)?;
+    *row = Arc::new(alloc, file_system)?;
+    Ok(lost)
 }

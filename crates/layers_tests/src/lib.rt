@@ -1,15 +1,11 @@
-//! Tests of `zalloc`, `deadlist`, `shared_list` and `snapshots` from outside.
+//! Tests of `zalloc`, `deadlist` and `destroyer` from outside.
 #![tactic(auto)]
 
 #[cfg(test)]
 mod dead_blocks;
 #[cfg(test)]
-mod lines;
-#[cfg(test)]
-mod lists;
-#[cfg(test)]
-mod names;
-#[cfg(test)]
 mod numbers;
 #[cfg(test)]
 mod refused_lists;
+#[cfg(test)]
+mod slices;

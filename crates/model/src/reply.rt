@@ -5,7 +5,7 @@ use crate::names::Names;
 use base::refusal::Refusal;
 
 /// The value of a property.
-#[derive(Clone, Copy, Debug)]
+#[derive(Clone, Copy, PartialEq, Eq, Debug)]
 pub enum Value {
     /// In bytes.
     Size(u64),
@@ -13,20 +13,6 @@ pub enum Value {
     Number(u64),
     /// What was asked about has no such property.
     NotApplicable,
-}
-
-impl Value {
-    /// Whether the other is the same value.
-    pub fn same(&self, other: &Value) -> bool
-        ensures { IsTrue result ↔ (self.now ≡ other.now) }
-    {
-        match (self, other) {
-            (Value::Size(a), Value::Size(b)) => *a == *b,
-            (Value::Number(a), Value::Number(b)) => *a == *b,
-            (Value::NotApplicable, Value::NotApplicable) => true,
-            _ => false,
-        }
-    }
 }
 
 /// The answer to one request.
@@ -55,7 +41,7 @@ impl Reply {
             (Reply::Done, Reply::Done) => true,
             (Reply::Refused(a), Reply::Refused(b)) => a.same(*b),
             (Reply::Data(a), Reply::Data(b)) => are_same_data(a, b),
-            (Reply::Value(a), Reply::Value(b)) => a.same(b),
+            (Reply::Value(a), Reply::Value(b)) => *a == *b,
             (Reply::Group(a), Reply::Group(b)) => *a == *b,
             (Reply::Names(a), Reply::Names(b)) => a.same(b),
             _ => false,

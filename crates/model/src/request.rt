@@ -18,21 +18,6 @@ pub enum Property {
     CreateTxg,
 }
 
-impl Property {
-    /// Whether the other is the same property.
-    pub fn same(&self, other: &Property) -> bool
-        ensures { IsTrue result ↔ (self.now ≡ other.now) }
-    {
-        match (self, other) {
-            (Property::Referenced, Property::Referenced) => true,
-            (Property::Written, Property::Written) => true,
-            (Property::Guid, Property::Guid) => true,
-            (Property::CreateTxg, Property::CreateTxg) => true,
-            _ => false,
-        }
-    }
-}
-
 /// What `PoolGet` may ask of a pool (zpoolprops(7); `Waiting` and `Group` are profile).
 #[derive(Clone, Copy, PartialEq, Eq, Debug)]
 pub enum PoolProperty {
@@ -48,23 +33,6 @@ pub enum PoolProperty {
     Waiting,
     /// The open group, a number.
     Group,
-}
-
-impl PoolProperty {
-    /// Whether the other is the same property.
-    pub fn same(&self, other: &PoolProperty) -> bool
-        ensures { IsTrue result ↔ (self.now ≡ other.now) }
-    {
-        match (self, other) {
-            (PoolProperty::Size, PoolProperty::Size) => true,
-            (PoolProperty::Allocated, PoolProperty::Allocated) => true,
-            (PoolProperty::Free, PoolProperty::Free) => true,
-            (PoolProperty::Freeing, PoolProperty::Freeing) => true,
-            (PoolProperty::Waiting, PoolProperty::Waiting) => true,
-            (PoolProperty::Group, PoolProperty::Group) => true,
-            _ => false,
-        }
-    }
 }
 
 /// One request to a pool.
@@ -204,8 +172,8 @@ impl Request {
                     target: u,
                     property: q,
                 },
-            ) => t.same(u) && p.same(q),
-            (Request::PoolGet { property: p }, Request::PoolGet { property: q }) => p.same(q),
+            ) => t.same(u) && *p == *q,
+            (Request::PoolGet { property: p }, Request::PoolGet { property: q }) => *p == *q,
             (Request::List, Request::List) => true,
             (Request::Sync, Request::Sync) => true,
             _ => false,

@@ -67,9 +67,11 @@ fn leaves(rt: &impl Abort, alloc: Global, request: Request) -> bool {
 #[test]
 fn prepared_and_left(rt: HostRuntime) {
     let alloc = rt.alloc();
-    assert!(rt; leaves(&rt, alloc, write_of(&rt, alloc)));
-    assert!(rt; leaves(&rt, alloc, Request::Sync));
-    assert!(rt; leaves(&rt, alloc, creation_of(&rt, alloc)));
+    assert!(rt;
+        leaves(&rt, alloc, write_of(&rt, alloc))
+            && leaves(&rt, alloc, Request::Sync)
+            && leaves(&rt, alloc, creation_of(&rt, alloc))
+    );
 }
 
 /// Whether these are the replies to a write, a sync and a look at what is allocated.
@@ -98,8 +100,9 @@ fn a_list_of_requests(rt: HostRuntime) {
     assert!(rt; is_run(&rt, rt.alloc()));
 }
 
-fn is_refused(made: Result<Pool, Refusal>, why: Refusal) -> bool {
-    match made {
+/// Whether no pool with this id and so many blocks is made, for this reason.
+fn is_refused(alloc: Global, id: u32, blocks: u32, why: Refusal) -> bool {
+    match Pool::create(alloc, id, blocks) {
         Ok(_) => false,
         Err(refusal) => refusal.same(why),
     }
@@ -108,9 +111,11 @@ fn is_refused(made: Result<Pool, Refusal>, why: Refusal) -> bool {
 #[test]
 fn what_no_pool_is_made_of(rt: HostRuntime) {
     let alloc = rt.alloc();
-    assert!(rt; is_refused(Pool::create(alloc, 0, 0), Refusal::BadName));
-    assert!(rt; is_refused(Pool::create(alloc, 1, 0), Refusal::TooMany));
-    assert!(rt; is_refused(Pool::create(alloc, 1, 4194305), Refusal::TooMany));
+    assert!(rt;
+        is_refused(alloc, 0, 0, Refusal::BadName)
+            && is_refused(alloc, 1, 0, Refusal::TooMany)
+            && is_refused(alloc, 1, 4194305, Refusal::TooMany)
+    );
 }
 
 /// Whether a reply is of a step that was done, or that was refused memory.
@@ -141,18 +146,23 @@ fn is_tried_in_turn(alloc: Global, pool: &mut Pool, write: Request, creation: Re
     written & created & synced & listed & (used | unused)
 }
 
+/// Whether a pool of twelve blocks is tried, or refused memory itself.
+fn is_tried_or_refused(alloc: Global, write: Request, creation: Request) -> bool {
+    match Pool::create(alloc, 1, 12) {
+        Ok(mut pool) => is_tried_in_turn(alloc, &mut pool, write, creation),
+        Err(refusal) => {
+            drop(write);
+            drop(creation);
+            refusal.same(Refusal::NoMemory)
+        }
+    }
+}
+
 /// Run it with each allocation refused in turn: a refused step leaves the pool with what it had.
 #[test]
 fn refused_memory_changes_nothing(rt: HostRuntime) {
     let alloc = rt.alloc();
     let write = write_of(&rt, alloc);
     let creation = creation_of(&rt, alloc);
-    match Pool::create(alloc, 1, 12) {
-        Ok(mut pool) => assert!(rt; is_tried_in_turn(alloc, &mut pool, write, creation)),
-        Err(refusal) => {
-            drop(write);
-            drop(creation);
-            assert!(rt; refusal.same(Refusal::NoMemory));
-        }
-    }
+    assert!(rt; is_tried_or_refused(alloc, write, creation));
 }

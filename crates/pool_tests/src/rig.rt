@@ -44,27 +44,45 @@ impl Caller for Asked {
     }
 }
 
+/// The line of a row and its reply; None of a row that is empty.
+fn row_of<'a>(rt: &impl Abort, row: &'a str) -> Option<(&'a str, &'a str)> {
+    let row = row.trim();
+    if row.is_empty() {
+        return None;
+    }
+    Some(row.split_once(" => ").expect(rt, "a line and its reply"))
+}
+
 /// The lines of these rows as a script.
-fn script_of(alloc: Global, rows: &[(&str, &str)]) -> Result<Vec<u8>, AllocError> {
+fn script_of(rt: &impl Abort, alloc: Global, rows: &str) -> Result<Vec<u8>, AllocError> {
     let mut script = Vec::new(alloc);
-    for (line, _) in rows {
-        script.extend_from_slice(line.as_bytes())?;
-        script.push(b'\n')?;
+    for row in rows.lines() {
+        if let Some((line, _)) = row_of(rt, row) {
+            script.extend_from_slice(line.as_bytes())?;
+            script.push(b'\n')?;
+        }
     }
     Ok(script)
 }
 
 /// Their replies as they are printed. `61..` stands for a block that begins so and goes on with zeros.
-fn replies_of(alloc: Global, rows: &[(&str, &str)]) -> Result<Vec<u8>, AllocError> {
+fn replies_of(rt: &impl Abort, alloc: Global, rows: &str) -> Result<Vec<u8>, AllocError> {
     let mut replies = Vec::new(alloc);
-    for (_, reply) in rows {
-        match reply.strip_suffix("..") {
-            Some(digits) => push_block(&mut replies, digits.as_bytes())?,
-            None => replies.extend_from_slice(reply.as_bytes())?,
+    for row in rows.lines() {
+        if let Some((_, reply)) = row_of(rt, row) {
+            push_reply(&mut replies, reply)?;
         }
-        replies.push(b'\n')?;
     }
     Ok(replies)
+}
+
+fn push_reply(replies: &mut Vec<u8>, reply: &str) -> Result<(), AllocError> {
+    match reply.strip_suffix("..") {
+        Some(digits) => push_block(replies, digits.as_bytes())?,
+        None => replies.extend_from_slice(reply.as_bytes())?,
+    }
+    replies.push(b'\n')?;
+    Ok(())
 }
 
 /// The 1,024 digits of a block that begins with these.
@@ -109,16 +127,27 @@ fn lines_alike(wanted: &[u8], found: &[u8]) -> usize {
     lines
 }
 
-/// Asserts that a fresh pool of so many blocks, with id 1, gives each line its reply, in both ways.
-pub fn assert_rows(rt: &impl Abort, alloc: Global, blocks: u32, rows: &[(&str, &str)]) {
-    let script = script_of(alloc, rows).expect(rt, "memory for a script");
-    let wanted = replies_of(alloc, rows).expect(rt, "memory for replies");
-    for way in [Way::AtOnce, Way::InTwo] {
-        let found = printed(rt, alloc, blocks, way, script.as_slice());
-        let alike = lines_alike(wanted.as_slice(), found.as_slice());
-        assert!(rt;
-            found.as_slice() == wanted.as_slice(),
-            "after {alike} replies"
-        );
-    }
+/// Asserts that a pool answers a script so, in one way.
+fn assert_printed(
+    rt: &impl Abort,
+    alloc: Global,
+    blocks: u32,
+    way: Way,
+    script: &[u8],
+    wanted: &[u8],
+) {
+    let found = printed(rt, alloc, blocks, way, script);
+    let alike = lines_alike(wanted, found.as_slice());
+    let same = found.as_slice() == wanted;
+    drop(found);
+    assert!(rt; same, "after {alike} replies");
+}
+
+/// Asserts that a fresh pool of so many blocks, with id 1, gives each line its reply, in both ways. A row is a line, ` => ` and its
+/// reply.
+pub fn assert_rows(rt: &impl Abort, alloc: Global, blocks: u32, rows: &str) {
+    let script = script_of(rt, alloc, rows).expect(rt, "memory for a script");
+    let wanted = replies_of(rt, alloc, rows).expect(rt, "memory for replies");
+    assert_printed(rt, alloc, blocks, Way::AtOnce, &script, &wanted);
+    assert_printed(rt, alloc, blocks, Way::InTwo, &script, &wanted);
 }

@@ -49,10 +49,12 @@ fn is_the_write(rt: &impl Abort, alloc: Global, name: &[u8], block: u32, byte: u
 #[test]
 fn writes_compared(rt: HostRuntime) {
     let alloc = rt.alloc();
-    assert!(rt; is_the_write(&rt, alloc, b"p", 1, 7));
-    assert!(rt; !is_the_write(&rt, alloc, b"p/a", 1, 7));
-    assert!(rt; !is_the_write(&rt, alloc, b"p", 2, 7));
-    assert!(rt; !is_the_write(&rt, alloc, b"p", 1, 8));
+    assert!(rt;
+        is_the_write(&rt, alloc, b"p", 1, 7)
+            && !is_the_write(&rt, alloc, b"p/a", 1, 7)
+            && !is_the_write(&rt, alloc, b"p", 2, 7)
+            && !is_the_write(&rt, alloc, b"p", 1, 8)
+    );
 }
 
 fn creation(rt: &impl Abort, alloc: Global, bytes: &[u8]) -> Request {
@@ -75,6 +77,11 @@ fn are_same_snap_names(rt: &impl Abort, alloc: Global, one: &[u8], other: &[u8])
     snap_names(rt, alloc, one).same(&snap_names(rt, alloc, other))
 }
 
+// Whether a list is the same as one without a name.
+fn is_none(alloc: Global, names: SnapNames) -> bool {
+    SnapNames::from(Vec::new(alloc)).same(&names)
+}
+
 // Whether a list of this one name lends it, as its two parts.
 fn is_lent(rt: &impl Abort, alloc: Global, file_system: &[u8], component: &[u8]) -> bool {
     match snap_names(rt, alloc, b"p/a@s").as_slice() {
@@ -89,12 +96,16 @@ fn is_lent(rt: &impl Abort, alloc: Global, file_system: &[u8], component: &[u8])
 #[test]
 fn names_of_snapshots_compared(rt: HostRuntime) {
     let alloc = rt.alloc();
-    assert!(rt; are_same_snap_names(&rt, alloc, b"p@s", b"p@s"));
-    assert!(rt; !are_same_snap_names(&rt, alloc, b"p@s", b"p@t"));
-    assert!(rt; !are_same_snap_names(&rt, alloc, b"p@s", b"p/a@s"));
-    assert!(rt; !SnapNames::from(Vec::new(alloc)).same(&snap_names(&rt, alloc, b"p@s")));
-    assert!(rt; SnapNames::from(Vec::new(alloc)).same(&SnapNames::from(Vec::new(alloc))));
-    assert!(rt; is_lent(&rt, alloc, b"p/a", b"s"));
+    assert!(rt;
+        are_same_snap_names(&rt, alloc, b"p@s", b"p@s")
+            && !are_same_snap_names(&rt, alloc, b"p@s", b"p@t")
+            && !are_same_snap_names(&rt, alloc, b"p@s", b"p/a@s")
+            && is_lent(&rt, alloc, b"p/a", b"s")
+    );
+    assert!(rt;
+        !is_none(alloc, snap_names(&rt, alloc, b"p@s"))
+            && is_none(alloc, SnapNames::from(Vec::new(alloc)))
+    );
 }
 
 // Whether a request for a snapshot is the one for `p@s` with its descendants.
@@ -109,9 +120,11 @@ fn is_the_snapshot(rt: &impl Abort, alloc: Global, name: &[u8], recursive: bool)
 #[test]
 fn snapshots_compared(rt: HostRuntime) {
     let alloc = rt.alloc();
-    assert!(rt; is_the_snapshot(&rt, alloc, b"p@s", true));
-    assert!(rt; !is_the_snapshot(&rt, alloc, b"p@s", false));
-    assert!(rt; !is_the_snapshot(&rt, alloc, b"p@t", true));
+    assert!(rt;
+        is_the_snapshot(&rt, alloc, b"p@s", true)
+            && !is_the_snapshot(&rt, alloc, b"p@s", false)
+            && !is_the_snapshot(&rt, alloc, b"p@t", true)
+    );
 }
 
 fn is_the_read(rt: &impl Abort, alloc: Global, one: Request) -> bool {
@@ -121,26 +134,26 @@ fn is_the_read(rt: &impl Abort, alloc: Global, one: Request) -> bool {
 #[test]
 fn requests_compared(rt: HostRuntime) {
     let alloc = rt.alloc();
-    assert!(rt; is_the_read(&rt, alloc, read(&rt, alloc, b"p", 1)));
-    assert!(rt; !is_the_read(&rt, alloc, write(&rt, alloc, b"p", 1, 7)));
-    assert!(rt; are_same_creations(&rt, alloc, b"p/a", b"p/a"));
-    assert!(rt; !are_same_creations(&rt, alloc, b"p/a", b"p/b"));
-    assert!(rt; are_same(Request::List, Request::List));
-    assert!(rt; !are_same(Request::List, Request::Sync));
+    assert!(rt;
+        is_the_read(&rt, alloc, read(&rt, alloc, b"p", 1))
+            && !is_the_read(&rt, alloc, write(&rt, alloc, b"p", 1, 7))
+            && are_same_creations(&rt, alloc, b"p/a", b"p/a")
+            && !are_same_creations(&rt, alloc, b"p/a", b"p/b")
+            && are_same(Request::List, Request::List)
+            && !are_same(Request::List, Request::Sync)
+    );
 }
 
 #[test]
 fn properties_and_values_compared(rt: HostRuntime) {
-    assert!(rt; Property::Referenced.same(&Property::Referenced));
-    assert!(rt; Property::Written.same(&Property::Written));
-    assert!(rt; !Property::Written.same(&Property::Referenced));
-    assert!(rt; Property::Guid.same(&Property::Guid));
-    assert!(rt; Property::CreateTxg.same(&Property::CreateTxg));
-    assert!(rt; !Property::Guid.same(&Property::CreateTxg));
-    assert!(rt; PoolProperty::Free.same(&PoolProperty::Free));
-    assert!(rt; !PoolProperty::Free.same(&PoolProperty::Freeing));
-    assert!(rt; Value::Size(3).same(&Value::Size(3)));
-    assert!(rt; !Value::Size(3).same(&Value::Number(3)));
+    assert!(rt;
+        Property::Referenced == Property::Referenced
+            && Property::Written != Property::Referenced
+            && Property::Guid != Property::CreateTxg
+            && PoolProperty::Free != PoolProperty::Freeing
+            && Value::Size(3) == Value::Size(3)
+            && Value::Size(3) != Value::Number(3)
+    );
     run_laws();
 }
 
@@ -163,9 +176,11 @@ fn is_listed(rt: &impl Abort, alloc: Global, name: &[u8]) -> bool {
 #[test]
 fn names_compared(rt: HostRuntime) {
     let alloc = rt.alloc();
-    assert!(rt; are_same_names(&rt, alloc, b"p", b"p"));
-    assert!(rt; !are_same_names(&rt, alloc, b"p", b"p/a"));
-    assert!(rt; is_listed(&rt, alloc, b"p/a"));
+    assert!(rt;
+        are_same_names(&rt, alloc, b"p", b"p")
+            && !are_same_names(&rt, alloc, b"p", b"p/a")
+            && is_listed(&rt, alloc, b"p/a")
+    );
 }
 
 fn kept(rt: &impl Abort, alloc: Global, reply: Reply) -> KeptReply {
@@ -180,7 +195,10 @@ fn entry(rt: &impl Abort, alloc: Global, seat: u32, group: u64) -> Entry {
     }
 }
 
-fn are_same_entries(one: Entry, other: Entry) -> bool {
+// Whether an entry is that of seat 1 and group 2.
+fn is_the_entry(rt: &impl Abort, alloc: Global, seat: u32, group: u64) -> bool {
+    let one = entry(rt, alloc, 1, 2);
+    let other = entry(rt, alloc, seat, group);
     let same = one.same(&other);
     drop(one);
     drop(other);
@@ -197,11 +215,13 @@ fn are_same_replies(one: Reply, other: Reply) -> bool {
 #[test]
 fn entries_compared(rt: HostRuntime) {
     let alloc = rt.alloc();
-    assert!(rt; are_same_entries(entry(&rt, alloc, 1, 2), entry(&rt, alloc, 1, 2)));
-    assert!(rt; !are_same_entries(entry(&rt, alloc, 1, 2), entry(&rt, alloc, 2, 2)));
-    assert!(rt; !are_same_entries(entry(&rt, alloc, 1, 2), entry(&rt, alloc, 1, 3)));
-    assert!(rt; are_same_replies(Reply::Data(Some([7; 512])), Reply::Data(Some([7; 512]))));
-    assert!(rt; !are_same_replies(Reply::Data(None), Reply::Done));
+    assert!(rt;
+        is_the_entry(&rt, alloc, 1, 2)
+            && !is_the_entry(&rt, alloc, 2, 2)
+            && !is_the_entry(&rt, alloc, 1, 3)
+            && are_same_replies(Reply::Data(Some([7; 512])), Reply::Data(Some([7; 512])))
+            && !are_same_replies(Reply::Data(None), Reply::Done)
+    );
 }
 
 // Whether a kept group is lent as that group, and is that reply and no other.
@@ -211,7 +231,9 @@ fn is_kept_group(rt: &impl Abort, alloc: Global, group: u64) -> bool {
         Some(Reply::Group(lent)) => *lent == group,
         _ => false,
     };
-    lent && reply.is(&Reply::Group(group)) && !reply.is(&Reply::Done)
+    lent && reply.is(&Reply::Group(group))
+        && !reply.is(&Reply::Done)
+        && !reply.same(&KeptReply::done())
 }
 
 // Whether Done is kept without another reply, as a word or put in as one.
@@ -225,17 +247,23 @@ fn is_kept_done(reply: KeptReply) -> bool {
 #[test]
 fn kept_replies(rt: HostRuntime) {
     let alloc = rt.alloc();
-    assert!(rt; is_kept_group(&rt, alloc, 2));
-    assert!(rt; is_kept_done(KeptReply::done()));
-    assert!(rt; is_kept_done(kept(&rt, alloc, Reply::Done)));
-    assert!(rt; !kept(&rt, alloc, Reply::Group(2)).same(&KeptReply::done()));
+    assert!(rt;
+        is_kept_group(&rt, alloc, 2)
+            && is_kept_done(KeptReply::done())
+            && is_kept_done(kept(&rt, alloc, Reply::Done))
+    );
+}
+
+// Whether a group is kept, or refused memory.
+fn is_kept_or_refused(alloc: Global) -> bool {
+    match KeptReply::new(alloc, Reply::Group(2)) {
+        Ok(reply) => reply.is(&Reply::Group(2)),
+        Err(why) => why == Refusal::NoMemory,
+    }
 }
 
 // Run with each allocation refused in turn.
 #[test]
 fn refused_kept_replies_are_no_memory(rt: HostRuntime) {
-    match KeptReply::new(rt.alloc(), Reply::Group(2)) {
-        Ok(reply) => assert!(rt; reply.is(&Reply::Group(2))),
-        Err(why) => assert!(rt; why == Refusal::NoMemory),
-    }
+    assert!(rt; is_kept_or_refused(rt.alloc()));
 }

@@ -26,7 +26,7 @@ right_so : (a b : Bool) → (a && b) ≡ true → b ≡ true
 right_so true b h = h
 right_so false b h = absurd (true≢false (sym h))
 
-from_not : (b : Bool) → (b ≡ true → ⊥) → b ≡ false
+pub from_not : (b : Bool) → (b ≡ true → ⊥) → b ≡ false
 from_not true f = absurd (f refl)
 from_not false f = refl
 
@@ -135,7 +135,7 @@ found_none q (x ∷ ks) (suc i) b e =
     ap (λ t. cond t (Some x) (find (is_named q) ks)) (below_differs x.snapshot.name q first) ∙ found_none q ks i others e
 
 -- a snapshot that isn't found
-miss : (b : Bool) (x : Kept) (o : Option Kept) → cond b (Some x) o ≡ None → (b ≡ false) × (o ≡ None)
+pub miss : (b : Bool) (x : Kept) (o : Option Kept) → cond b (Some x) o ≡ None → (b ≡ false) × (o ≡ None)
 miss true x o h = cc
 miss false x o h = (refl, h)
 
@@ -164,7 +164,7 @@ put_rises (x ∷ low) high y r b a n =
     both_so (list_all (λ j. is_below j.snapshot.name x) (low ++ y ∷ high)) (names_rise (low ++ y ∷ high)) (all_with (λ j. is_below j.snapshot.name x) low high y later first) (put_rises low high y rest others a both.1)
 
 -- it is found by its name, and the others by theirs
-swapped : (a b : Bool) (x y : Kept) (o : Option Kept) → (a ≡ true → b ≡ true → ⊥) → cond a (Some x) (cond b (Some y) o) ≡ cond b (Some y) (cond a (Some x) o)
+pub swapped : (a b : Bool) (x y : Kept) (o : Option Kept) → (a ≡ true → b ≡ true → ⊥) → cond a (Some x) (cond b (Some y) o) ≡ cond b (Some y) (cond a (Some x) o)
 swapped true true x y o h = absurd (h refl refl)
 swapped true false x y o h = refl
 swapped false b x y o h = refl
@@ -238,9 +238,9 @@ all_some p [] i k e h = absurd (nothing i e)
 all_some p (x ∷ ks) zero k e h = let same : x ≡ k = cc in ap p (sym same) ∙ left_so (p x) (list_all p ks) h
 all_some p (x ∷ ks) (suc i) k e h = all_some p ks i k e (right_so (p x) (list_all p ks) h)
 
-once : (b : Bool) (x y : Kept) (o : Option Kept) → cond b (Some y) o ≡ cond b (Some y) (cond b (Some x) o)
-once true x y o = refl
-once false x y o = refl
+pub once_more : (b : Bool) (x y : Kept) (o : Option Kept) → cond b (Some y) o ≡ cond b (Some y) (cond b (Some x) o)
+once_more true x y o = refl
+once_more false x y o = refl
 
 -- two that stand in order don't have one name
 not_both : (x k : Kept) (n : List ℕ) → is_below k.snapshot.name x ≡ true → is_named n x ≡ true → is_named n k ≡ true → ⊥
@@ -255,7 +255,7 @@ set_found [] i k y r e s n = absurd (nothing i e)
     nothing i e = cc
 set_found (x ∷ ks) zero k y r e s n =
     let same : x.snapshot.name ≡ y.snapshot.name = cc in
-    once (is_named n y) x y (find (is_named n) ks) ∙ ap (λ m. cond (is_named n y) (Some y) (cond (same_name m n) (Some x) (find (is_named n) ks))) (sym same)
+    once_more (is_named n y) x y (find (is_named n) ks) ∙ ap (λ m. cond (is_named n y) (Some y) (cond (same_name m n) (Some x) (find (is_named n) ks))) (sym same)
 set_found (x ∷ ks) (suc i) k y r e s n =
     let later = left_so (list_all (λ j. is_below j.snapshot.name x) ks) (names_rise ks) r in
     let rest = right_so (list_all (λ j. is_below j.snapshot.name x) ks) (names_rise ks) r in
@@ -278,11 +278,11 @@ removed_rises (x ∷ ks) (suc i) r =
     let rest = right_so (list_all (λ j. is_below j.snapshot.name x) ks) (names_rise ks) r in
     both_so (list_all (λ j. is_below j.snapshot.name x) (remove ks i)) (names_rise (remove ks i)) (all_removed (λ j. is_below j.snapshot.name x) ks i later) (removed_rises ks i rest)
 
-dropped_one : (b : Bool) (x : Kept) (o : Option Kept) → (b ≡ true → o ≡ None) → o ≡ cond b None (cond b (Some x) o)
+pub dropped_one : (b : Bool) (x : Kept) (o : Option Kept) → (b ≡ true → o ≡ None) → o ≡ cond b None (cond b (Some x) o)
 dropped_one true x o h = h refl
 dropped_one false x o h = refl
 
-passed : (a b : Bool) (x : Kept) (o : Option Kept) → (a ≡ true → b ≡ true → ⊥) → cond a (Some x) (cond b None o) ≡ cond b None (cond a (Some x) o)
+pub passed : (a b : Bool) (x : Kept) (o : Option Kept) → (a ≡ true → b ≡ true → ⊥) → cond a (Some x) (cond b None o) ≡ cond b None (cond a (Some x) o)
 passed true true x o h = absurd (h refl refl)
 passed true false x o h = refl
 passed false b x o h = refl

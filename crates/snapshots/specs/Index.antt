@@ -1,5 +1,5 @@
 -- The index of kept snapshots by name (profile).
-use Rattle.std.specs.Prelude.{◌≡◌, ℕ, List, Option, None, Some}
+use Rattle.std.specs.Prelude.{◌≡◌, ℕ, List, [], ◌∷◌, Option, None, Some}
 use Rattle.std.specs.List.{find}
 use Rattle.name.specs.Names.{same_name}
 use Rattle.snapshots.specs.declared.kept.Kept.{Kept}
@@ -8,3 +8,8 @@ use Rattle.snapshots.specs.declared.kept.Kept.{Kept}
 abbrev pub IsIndex : Option (List Kept) → List Kept → Type 0
 IsIndex None ks = Unit {0}
 IsIndex (Some index) ks = (name : List ℕ) → find (λ k. same_name k.snapshot.name name) index ≡ find (λ k. same_name k.snapshot.name name) ks
+
+-- each name is one snapshot's (zfs-snapshot(8))
+abbrev pub AreNamesOnce : List Kept → Type 0
+AreNamesOnce [] = Unit {0}
+AreNamesOnce (k ∷ ks) = (find (λ j. same_name j.snapshot.name k.snapshot.name) ks ≡ None) × AreNamesOnce ks

@@ -1,16 +1,17 @@
 //! The snapshots of one file system.
-ghost use Rattle.std.specs.Prelude.{◌≡◌, ◌-◌, ◌++◌, ◌∷◌, [], List, length, IfOk, IfErr, OnOk, OnErr, slice_get};
-ghost use Rattle.std.specs.Option.{option_copied};
+ghost use Rattle.std.specs.Prelude.{◌≡◌, ◌-◌, ◌+◌, ◌<◌, ◌++◌, ◌∷◌, [], ℕ, Some, List, length, remove, IfOk, IfErr, IfSome, IsSome, OnOk, OnErr, slice_get, slice_set};
+ghost use Rattle.std.specs.Option.{option_copied, option_map};
 ghost use Rattle.std.specs.Arc.{arc_value};
 ghost use Rattle.std.specs.List.{find};
 ghost use Rattle.base.specs.declared.refusal.Refusal.{Refusal};
 ghost use Rattle.name.specs.Names.{same_name};
 ghost use Rattle.snapshots.specs.declared.kept.Kept.{Kept};
-ghost use Rattle.snapshots.specs.Index.{IsIndex};
+ghost use Rattle.snapshots.specs.Index.{IsIndex, AreNamesOnce};
 
 use crate::by_name::ByName;
 use crate::kept::Kept;
 use base::refusal::Refusal;
+use name::Component;
 use shared_list::SharedList;
 use std::alloc::Global;
 use std::marker::Model;
@@ -102,6 +103,55 @@ impl Line {
         index(&mut self.by_name, kept);
         Ok(())
     }
+
+    /// Takes out the snapshot at that place, counted from 0, where each name is one snapshot's. It costs the number of chunks, which is
+    /// a 32nd of that of the snapshots or less, the length of its name, and at most three chunks of the list and of the index. NoMemory
+    /// where there is none for it; then all are as they were.
+    pub fn remove(&mut self, place: usize) -> Result<(), Refusal>
+        requires there { place < length self.old }
+        requires once { AreNamesOnce self.old }
+        ensures ok { OnOk result (self.new ≡ remove self.old place) }
+        ensures err { OnErr result (self.new ≡ self.old) }
+        ensures only { IfErr result (λ e. e ≡ Refusal.NoMemory) }
+    {
+        let name = name_at(&self.kept, place)?;
+        self.kept.remove(place)?;
+        forget(&mut self.by_name, name.as_bytes());
+        Ok(())
+    }
+
+    /// Takes out the snapshot at that place, counted from 0, where each name is one snapshot's, and puts this one in place of the one
+    /// after it, which has its name. It costs the number of chunks, which is a 32nd of that of the snapshots or less, and at most three
+    /// chunks of the list and of the index. NoMemory where there is none for it; then all are as they were.
+    pub fn splice(&mut self, alloc: Global, place: usize, next: Kept) -> Result<(), Refusal>
+        requires next { option_map (λ k. k.snapshot.name) (slice_get self.old (place + 1)) ≡ Some next.snapshot.name }
+        requires once { AreNamesOnce self.old }
+        ensures ok { OnOk result (self.new ≡ slice_set (remove self.old place) place next) }
+        ensures err { OnErr result (self.new ≡ self.old) }
+        ensures only { IfErr result (λ e. e ≡ Refusal.NoMemory) }
+    {
+        let name = name_at(&self.kept, place)?;
+        let next = Arc::new(alloc, next)?;
+        let mut kept = self.kept.copy()?;
+        kept.remove(place)?;
+        kept.set_shared(place, Arc::try_clone(&next)?)?;
+        forget(&mut self.by_name, name.as_bytes());
+        replace(&mut self.by_name, next);
+        self.kept = kept;
+        Ok(())
+    }
+}
+
+// The name of the snapshot at that place, which is there. It costs a walk over the chunks before it, and the length of the name.
+fn name_at(kept: &SharedList<Kept>, place: usize) -> Result<Component, Refusal>
+    requires { place < length kept.now }
+    ensures ok { IfOk result (λ n. option_map (λ k. k.snapshot.name) (slice_get kept.now place) ≡ Some n) }
+    ensures err { IfErr result (λ e. e ≡ Refusal.NoMemory) }
+{
+    let Some(kept) = kept.get(place) else {
+        unreachable!()
+    };
+    Ok(kept.snapshot.name().clone()?)
 }
 
 // An equal index, by one more owner of each of its chunks.
@@ -135,6 +185,32 @@ fn index(by_name: &mut Option<ByName>, kept: Arc<Kept>)
         return;
     }
     if index.insert(kept).is_err() {
+        *by_name = None;
+    }
+}
+
+// Takes the snapshot of this name, which is there, out of the index. Where memory is refused there is no index any more.
+fn forget(by_name: &mut Option<ByName>, name: &[u8])
+    requires { IfSome by_name.old (λ index. IsSome (find (λ k. same_name k.snapshot.name name.now) index)) }
+    ensures { (ks : List Kept) (place : ℕ) → option_map (λ k. k.snapshot.name) (slice_get ks place) ≡ Some name.now → AreNamesOnce ks → IsIndex by_name.old ks → IsIndex by_name.new (remove ks place) }
+{
+    let Some(index) = by_name else {
+        return;
+    };
+    if index.remove(name).is_err() {
+        *by_name = None;
+    }
+}
+
+// Puts a snapshot into the index in place of the one of its name, which is there. Where memory is refused there is no index any more.
+fn replace(by_name: &mut Option<ByName>, kept: Arc<Kept>)
+    requires { IfSome by_name.old (λ index. IsSome (find (λ k. same_name k.snapshot.name (arc_value kept).snapshot.name) index)) }
+    ensures { (ks : List Kept) (place : ℕ) → option_map (λ k. k.snapshot.name) (slice_get ks place) ≡ Some (arc_value kept).snapshot.name → AreNamesOnce ks → IsIndex by_name.old ks → IsIndex by_name.new (slice_set ks place (arc_value kept)) }
+{
+    let Some(index) = by_name else {
+        return;
+    };
+    if index.set(kept).is_err() {
         *by_name = None;
     }
 }

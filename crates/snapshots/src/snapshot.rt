@@ -1,8 +1,10 @@
 //! One snapshot of a file system.
-ghost use Rattle.std.specs.Prelude.{◌≡◌};
+ghost use Rattle.std.specs.Prelude.{◌≡◌, IfOk, IfErr};
+ghost use Rattle.base.specs.declared.refusal.Refusal.{Refusal};
 ghost use Rattle.snapshots.specs.Snaps.{plain_snap};
 
 use base::number::{Group, Guid};
+use base::refusal::Refusal;
 use name::Component;
 use std::marker::Model;
 use tree::Tree;
@@ -40,6 +42,20 @@ impl Snapshot {
             guid,
             group,
         }
+    }
+
+    /// An equal snapshot, by a name of its own and one more owner of its tree. NoMemory where there is none for that. It costs the
+    /// length of the name.
+    pub fn copy(&self) -> Result<Snapshot, Refusal>
+        ensures ok { IfOk result (λ s. s ≡ self.now) }
+        ensures err { IfErr result (λ e. e ≡ Refusal.NoMemory) }
+    {
+        Ok(Snapshot {
+            name: self.name.clone()?,
+            tree: self.tree.copy()?,
+            guid: self.guid,
+            group: self.group,
+        })
     }
 
     /// Its name within its file system. Constant time.

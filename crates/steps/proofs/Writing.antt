@@ -78,8 +78,6 @@ module _ (s : State) (steady : IsSteady s) (numbers : List BlockState) (known : 
         let k = reached b h in
         (states_of s numbers known).each b.number (steady.good.pair.reached.small b (in_union_left o (reach_of s.now) (reach_of s.last) b k))
         ∙ ap Some (state_at-now (reach_of s.now) (reach_of s.last) b k);
-    unique = λ a b h g n. steady.good.pair.reached.unique a b
-        (in_union_left o (reach_of s.now) (reach_of s.last) a (reached a h)) (in_union_left o (reach_of s.now) (reach_of s.last) b (reached b g)) n;
   }
 
 -- ---- a write in force

@@ -7,4 +7,5 @@ pub mod Drafted
 pub mod Staying
 pub mod Committed
 pub mod Branches
+pub mod BranchBlocks
 pub mod Putting

@@ -1,9 +1,10 @@
 -- What stands at and below one key of a map.
-use Rattle.std.specs.Prelude.{ℕ, ◌+◌, ◌*◌, ◌-◌, ◌&&◌, cond, nat_lt, is_some, Option, Some, None}
+use Rattle.std.specs.Prelude.{ℕ, ◌+◌, ◌*◌, ◌-◌, ◌&&◌, cond, nat_lt, is_some, Option, Some, None, List, []}
 use Rattle.std.specs.FinMap.{get, retain_keys}
 use Rattle.base.specs.declared.number.Key.{Key}
 use Rattle.base.specs.Key.{is_at_or_below}
-use Rattle.base.specs.Map.{Map}
+use Rattle.base.specs.Map.{Map, Block}
+use Rattle.node.specs.Walk.{blocks_of}
 
 -- a key, and the map of the keys at and below it (On-Disk Specification, chapter 3: the blocks below an indirect block)
 pub record Branch : Type 0 where
@@ -21,3 +22,12 @@ child_key k i = record { level = k.level - 1; index = 16 * k.index + i }
 -- what stands at a place directly below, if the map has that key; below a leaf is nothing (profile)
 abbrev pub child_of : Branch → ℕ → Option Branch
 child_of b i = cond (nat_lt 0 b.key.level && is_some (get b.map (child_key b.key i))) (Some (record { key = child_key b.key i; map = map_below b.map (child_key b.key i) })) None
+
+-- its blocks, in the order of its keys (On-Disk Specification, chapter 2)
+unfoldable pub branch_blocks : Branch → List Block
+branch_blocks b = blocks_of b.map
+
+-- those of what stands at a place (profile)
+abbrev pub place_blocks : Option Branch → List Block
+place_blocks None = []
+place_blocks (Some b) = branch_blocks b

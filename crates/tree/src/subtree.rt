@@ -1,5 +1,6 @@
 //! Parts of a tree at and below one key.
-ghost use Rattle.std.specs.Prelude.{◌≡◌, ℕ, ◌+◌, ◌*◌, ◌-◌, ◌<◌, ◌≤◌, Option, Some, None, suc, IsSome, IfOk, IfErr, OnErr, IfSome, IfNone, slice_index_or, slice_set};
+ghost use Rattle.std.specs.Prelude.{◌≡◌, ℕ, ◌+◌, ◌*◌, ◌-◌, ◌<◌, ◌≤◌, ◌∷◌, Option, Some, None, suc, IsSome, IfOk, IfErr, OnErr, IfSome, IfNone, slice_index_or, slice_set, length};
+ghost use Rattle.std.specs.List.{flat_map};
 ghost use Rattle.std.specs.Option.{option_map};
 ghost use Rattle.std.specs.FinMap as finmap;
 ghost use Rattle.std.specs.FinMap.{get};
@@ -9,7 +10,7 @@ ghost use Rattle.base.specs.Map.{block_of};
 ghost use Rattle.base.specs.Surveys.{dead_block};
 ghost use Rattle.base.specs.declared.number.Key.{Key};
 ghost use Rattle.base.specs.declared.refusal.Refusal.{Refusal};
-ghost use Rattle.tree.specs.Branch.{child_of, child_key};
+ghost use Rattle.tree.specs.Branch.{child_of, child_key, branch_blocks, place_blocks};
 ghost use Rattle.tree.specs.BranchParts.{branch_at, node_part, node_level, AreBelow, IsSoundBranch};
 ghost use Rattle.node.specs.Kid.{IsSound};
 ghost use Rattle.node.specs.Node.{leaf_part, inner_part, shared_part};
@@ -200,10 +201,27 @@ impl Node {
         }
     }
 
+    /// The same node, by one more owner.
+    fn copy(&self) -> Result<Node, Refusal>
+        ensures part { IfOk result (λ n. node_part n ≡ node_part self.now) }
+        ensures level { IfOk result (λ n. node_level n ≡ node_level self.now) }
+        ensures err { OnErr result (result ≡ Err Refusal.NoMemory) }
+    {
+        match self {
+            Node::Leaf(node) => Ok(Node::Leaf(Arc::try_clone(node)?)),
+            Node::First(node) => Ok(Node::First(Arc::try_clone(node)?)),
+            Node::Second(node) => Ok(Node::Second(Arc::try_clone(node)?)),
+            Node::Third(node) => Ok(Node::Third(Arc::try_clone(node)?)),
+            Node::Fourth(node) => Ok(Node::Fourth(Arc::try_clone(node)?)),
+            Node::Root(node) => Ok(Node::Root(Arc::try_clone(node)?)),
+        }
+    }
+
     /// The subtrees directly below, each at its place. The node comes back where one more owner of a part was refused memory.
     fn below(self, key: Key) -> Result<[Option<Subtree>; 16], Node>
         requires sound { IsSoundBranch key self }
         ensures ok { IfOk result (AreBelow key (node_part self)) }
+        ensures sixteen { IfOk result (λ below. length below ≡ 16) }
         ensures part { IfErr result (λ n. node_part n ≡ node_part self) }
         ensures level { IfErr result (λ n. node_level n ≡ node_level self) }
     {
@@ -239,6 +257,16 @@ impl Tree {
 }
 
 impl Subtree {
+    /// The same subtree again, by one more owner of its top: no block is visited. NoMemory where there is none for that.
+    pub fn copy(&self) -> Result<Subtree, Refusal>
+        ensures ok { IfOk result (λ s. s ≡ self.now) }
+        ensures err { OnErr result (result ≡ Err Refusal.NoMemory) }
+    {
+        let key = self.key;
+        let node = self.node.copy()?;
+        Ok(Subtree { key, node })
+    }
+
     /// Takes the top off, if it was born after a group (On-Disk Specification, chapter 2: no block is younger than the one that
     /// points to it): its block, and each at its place the subtrees directly below. None where the top is no younger, and then
     /// nothing below it is. Where nobody else owns the top, its own owners of what is below go over; else each gets one more, and
@@ -251,6 +279,7 @@ impl Subtree {
         ensures block { IfOk result (λ peeled. IfSome peeled (λ p. option_map block_of (get self.map self.key) ≡ Some (dead_block p.0))) }
         ensures young { IfOk result (λ peeled. IfSome peeled (λ p. cut.0 < p.0.birth.0)) }
         ensures below { IfOk result (λ peeled. IfSome peeled (λ p. (i : ℕ) → i < 16 → slice_index_or p.1 i None ≡ child_of self i)) }
+        ensures all { IfOk result (λ peeled. IfSome peeled (λ p. branch_blocks self ≡ dead_block p.0 ∷ flat_map place_blocks p.1)) }
         ensures old { IfOk result (λ peeled. IfNone peeled ((k : Key) → IfSome (get self.map k) (λ c. c.birth ≤ cut.0))) }
         ensures metered { meter.new ≡ counted meter.old 1 }
         ensures no_memory { IfErr result (λ e. e.0 ≡ Refusal.NoMemory) }

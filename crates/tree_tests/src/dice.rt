@@ -56,8 +56,7 @@ pub fn rig_of_batches(rt: &impl Abort, alloc: Global, dice: &mut Dice, groups: u
     for round in 0..groups {
         let group = Group(round.saturating_add(1));
         let updates = throw(rt, alloc, dice, &mut plain);
-        rig.apply(rt, alloc, &updates, group, group)
-            .expect(rt, "room for a batch");
+        rig.put(rt, alloc, &updates, group);
     }
     rig
 }
@@ -73,8 +72,7 @@ fn batches_beside_a_plain_list(rt: HostRuntime) {
         let group = Group(1 + round / 3);
         rig.way = WAYS[(round % 2) as usize];
         let updates = throw(&rt, alloc, &mut dice, &mut plain);
-        rig.apply(&rt, alloc, &updates, group, group)
-            .expect(&rt, "room for a batch");
+        rig.put(&rt, alloc, &updates, group);
         rig.assert_same(&rt, &plain);
     }
 }

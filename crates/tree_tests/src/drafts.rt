@@ -12,11 +12,16 @@ use std::process::Abort;
 use tree::Update;
 use zalloc::{Allocator, MOST_BLOCKS};
 
+/// Whether a batch of one update is idle.
+fn is_idle_one(update: Update, is_empty: bool) -> bool {
+    is_idle(&[update], is_empty)
+}
+
 #[test]
 fn idle_batches(rt: HostRuntime) {
     assert!(rt; is_idle(&[], true) && is_idle(&[], false));
-    assert!(rt; !is_idle(&[punch_at(0, 5)], true) && is_idle(&[punch_at(0, 5)], false));
-    assert!(rt; !is_idle(&[write_at(5, 7)], true) && !is_idle(&[write_at(5, 7)], false));
+    assert!(rt; is_idle_one(punch_at(0, 5), false) && !is_idle_one(punch_at(0, 5), true));
+    assert!(rt; !is_idle_one(write_at(5, 7), false) && !is_idle_one(write_at(5, 7), true));
 }
 
 /// Asserts that the updates are a batch.
@@ -91,9 +96,8 @@ fn first_draft(rt: &impl Abort, alloc: Global, numbers: u32) -> Result<Draft, Re
     )
 }
 
-/// Whether the draft of the first write makes so many blocks and lets none go.
-fn makes(rt: &impl Abort, alloc: Global, blocks: usize) -> bool {
-    let draft = first_draft(rt, alloc, 6).expect(rt, "a draft");
+/// Whether a draft makes so many blocks and lets none go.
+fn makes(draft: &Draft, blocks: usize) -> bool {
     draft.touched
         && draft.count as usize == blocks
         && draft.taken.len() == blocks
@@ -101,8 +105,18 @@ fn makes(rt: &impl Abort, alloc: Global, blocks: usize) -> bool {
         && draft.released.is_empty()
 }
 
+/// Whether the draft of the first write makes so many blocks, or is refused room where that is None.
+fn is_drafted(rt: &impl Abort, alloc: Global, numbers: u32, blocks: Option<usize>) -> bool
+    requires { numbers ≤ MOST_BLOCKS }
+{
+    match (first_draft(rt, alloc, numbers), blocks) {
+        (Ok(draft), Some(blocks)) => makes(&draft, blocks),
+        (Err(refusal), None) => refusal == Refusal::NoSpace,
+        _ => false,
+    }
+}
+
 #[test]
 fn draft_of_a_write(rt: HostRuntime) {
-    assert!(rt; makes(&rt, rt.alloc(), 6));
-    assert!(rt; first_draft(&rt, rt.alloc(), 5).err() == Some(Refusal::NoSpace));
+    assert!(rt; is_drafted(&rt, rt.alloc(), 6, Some(6)) && is_drafted(&rt, rt.alloc(), 5, None));
 }

@@ -8,8 +8,7 @@ use tree::Tree;
 /// A rig with a leaf written in one group.
 pub fn rig_with(rt: &impl Abort, alloc: Global, leaf: u32, byte: u8, group: Group) -> Rig {
     let mut rig = rig_of(rt, alloc, 20, Way::AtOnce);
-    rig.apply(rt, alloc, &[write_at(leaf, byte)], group, group)
-        .expect(rt, "room for a leaf");
+    rig.put_one(rt, alloc, write_at(leaf, byte), group);
     rig
 }
 
@@ -32,13 +31,19 @@ fn is_like_none(rt: &impl Abort, alloc: Global) -> bool {
     are_equal(rt, &one.tree, &Tree::new())
 }
 
+/// Whether two trees without a block are equal.
+fn are_none_equal(rt: &impl Abort) -> bool {
+    are_equal(rt, &Tree::new(), &Tree::new())
+}
+
 #[test]
 fn equal_trees(rt: HostRuntime) {
     let alloc = rt.alloc();
-    assert!(rt; is_like_leaf_3(&rt, alloc, 3, 1, Group(5)));
-    assert!(rt; !is_like_leaf_3(&rt, alloc, 3, 2, Group(5)));
-    assert!(rt; !is_like_leaf_3(&rt, alloc, 4, 1, Group(5)));
-    assert!(rt; !is_like_leaf_3(&rt, alloc, 3, 1, Group(6)));
-    assert!(rt; !is_like_none(&rt, alloc));
-    assert!(rt; are_equal(&rt, &Tree::new(), &Tree::new()));
+    assert!(rt;
+        is_like_leaf_3(&rt, alloc, 3, 1, Group(5)) && !is_like_leaf_3(&rt, alloc, 3, 2, Group(5))
+    );
+    assert!(rt;
+        !is_like_leaf_3(&rt, alloc, 4, 1, Group(5)) && !is_like_leaf_3(&rt, alloc, 3, 1, Group(6))
+    );
+    assert!(rt; !is_like_none(&rt, alloc) && are_none_equal(&rt));
 }

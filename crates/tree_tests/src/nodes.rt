@@ -2,7 +2,7 @@
 ghost use Rattle.std.specs.Prelude.{◌<◌, ◌≤◌, ◌^◌};
 
 use crate::ready::meter;
-use base::number::{BlockNo, Dead, Group};
+use base::number::{BlockNo, Group};
 use node::{Inner, Leaf, Level, Same, keep, owner_at, owner_count, owner_in, same_kid, span};
 use std::alloc::Global;
 use std::process::Abort;
@@ -23,22 +23,33 @@ fn node_with(rt: &impl Abort, alloc: Global, byte: u8) -> Inner<Leaf> {
     Inner::new(BlockNo(9), Group(6), kids)
 }
 
-/// The block of what stands so far below the node, if anything does, and how many nodes are reached.
-fn found(rt: &impl Abort, alloc: Global, depth: u32, at: u32) -> (Option<BlockNo>, u64)
+/// Whether this block stands so far below the node, or none where that is None, and so many nodes are reached.
+fn is_found(
+    rt: &impl Abort,
+    alloc: Global,
+    depth: u32,
+    at: u32,
+    block: Option<BlockNo>,
+    reached: u64,
+) -> bool
     requires shallow { depth ≤ 5 }
     requires covered { at < 16 ^ depth }
 {
     let mut meter = meter();
     let node = node_with(rt, alloc, 7);
-    let block = node.find(depth, at, &mut meter).map(|cell| cell.block);
-    (block, meter.count())
+    let found = match node.find(depth, at, &mut meter) {
+        Some(cell) => block == Some(cell.block),
+        None => block.is_none(),
+    };
+    drop(node);
+    found && meter.count() == reached
 }
 
 #[test]
 fn cells_below(rt: HostRuntime) {
-    assert!(rt; found(&rt, rt.alloc(), 0, 0) == (Some(BlockNo(9)), 1));
-    assert!(rt; found(&rt, rt.alloc(), 1, 3) == (Some(BlockNo(8)), 2));
-    assert!(rt; found(&rt, rt.alloc(), 1, 4) == (None, 1));
+    assert!(rt; is_found(&rt, rt.alloc(), 0, 0, Some(BlockNo(9)), 1));
+    assert!(rt; is_found(&rt, rt.alloc(), 1, 3, Some(BlockNo(8)), 2));
+    assert!(rt; is_found(&rt, rt.alloc(), 1, 4, None, 1));
 }
 
 /// Whether the bytes are a whole block of this one, or both are missing.
@@ -61,25 +72,33 @@ fn is_cell<N: Level>(node: &N, block: u32, birth: u64, byte: Option<u8>) -> bool
         && is_filled(cell.bytes, byte)
 }
 
-#[test]
-fn own_cells(rt: HostRuntime) {
-    assert!(rt; is_cell(&*leaf_with(&rt, rt.alloc(), 7), 8, 5, Some(7)));
-    assert!(rt; is_cell(&node_with(&rt, rt.alloc(), 7), 9, 6, None));
+fn is_leaf_cell(rt: &impl Abort, alloc: Global) -> bool {
+    is_cell(&*leaf_with(rt, alloc, 7), 8, 5, Some(7))
 }
 
-/// The blocks of a leaf born in group 5 that were born after a group.
-fn gathered(rt: &impl Abort, alloc: Global, cut: Group) -> Vec<Dead> {
+fn is_node_cell(rt: &impl Abort, alloc: Global) -> bool {
+    is_cell(&node_with(rt, alloc, 7), 9, 6, None)
+}
+
+#[test]
+fn own_cells(rt: HostRuntime) {
+    assert!(rt; is_leaf_cell(&rt, rt.alloc()) && is_node_cell(&rt, rt.alloc()));
+}
+
+/// How many blocks of a leaf born in group 5 were born after a group.
+fn gathered(rt: &impl Abort, alloc: Global, cut: Group) -> usize {
     let leaf = Leaf::new(BlockNo(8), Group(5), [7; 512]);
     let mut out = Vec::new(alloc);
     leaf.gather(cut, &mut out, &mut meter())
         .expect(rt, "memory for a block");
-    out
+    out.len()
 }
 
 #[test]
 fn leaf_is_gathered(rt: HostRuntime) {
-    assert!(rt; gathered(&rt, rt.alloc(), Group(4)).len() == 1);
-    assert!(rt; gathered(&rt, rt.alloc(), Group(5)).is_empty());
+    assert!(rt;
+        gathered(&rt, rt.alloc(), Group(4)) == 1 && gathered(&rt, rt.alloc(), Group(5)) == 0
+    );
 }
 
 /// Whether a place of the node has anything, as each look at it tells.
@@ -88,16 +107,18 @@ fn has_kid(rt: &impl Abort, alloc: Global, place: usize) -> bool
 {
     let node = Arc::new(alloc, node_with(rt, alloc, 7)).expect(rt, "memory for a node");
     let there = node.kid(place).is_some();
-    assert!(rt; node.owner(place).is_some() == there);
-    assert!(rt; owner_at(Some(&node), place).is_some() == there);
-    assert!(rt; node.place_count() == 16 && owner_count(Some(&node)) == 16);
+    let agree = node.owner(place).is_some() == there
+        && owner_at(Some(&node), place).is_some() == there
+        && node.place_count() == 16
+        && owner_count(Some(&node)) == 16;
+    drop(node);
+    assert!(rt; agree);
     there
 }
 
 #[test]
 fn places(rt: HostRuntime) {
-    assert!(rt; has_kid(&rt, rt.alloc(), 3));
-    assert!(rt; !has_kid(&rt, rt.alloc(), 2));
+    assert!(rt; has_kid(&rt, rt.alloc(), 3) && !has_kid(&rt, rt.alloc(), 2));
     assert!(rt; owner_count::<Leaf>(None) == 16);
 }
 
@@ -115,8 +136,12 @@ fn is_like(rt: &impl Abort, alloc: Global, byte: u8) -> bool {
 
 #[test]
 fn same_nodes(rt: HostRuntime) {
-    assert!(rt; is_kept_as(&rt, rt.alloc(), 7) && !is_kept_as(&rt, rt.alloc(), 8));
-    assert!(rt; is_like(&rt, rt.alloc(), 7) && !is_like(&rt, rt.alloc(), 8));
+    assert!(rt;
+        is_kept_as(&rt, rt.alloc(), 7)
+            && !is_kept_as(&rt, rt.alloc(), 8)
+            && is_like(&rt, rt.alloc(), 7)
+            && !is_like(&rt, rt.alloc(), 8)
+    );
 }
 
 #[test]

@@ -2,7 +2,7 @@
 ghost use Rattle.std.specs.Prelude.{◌≤◌};
 
 use crate::ready::meter;
-use crate::rig::{Rig, Way, assert_counts, rig_of};
+use crate::rig::{Rig, Way, assert_counts, filler, rig_of};
 use base::number::Group;
 use base::refusal::Refusal;
 use objset::{free_of, punch_of, read, write_of};
@@ -11,19 +11,23 @@ use std::process::Abort;
 use tree::{Tree, Update};
 use zalloc::MOST_BLOCKS;
 
-/// Whether a block of a tree without one reads so, with no node reached.
-fn is_read_of_none(object: u32, block: u32, want: Result<Option<&[u8; 512]>, Refusal>) -> bool {
+/// Whether a block of a tree without one reads as a hole, or is refused so, with no node reached.
+fn is_read_of_none(object: u32, block: u32, refusal: Option<Refusal>) -> bool {
     let mut meter = meter();
     let tree = Tree::new();
-    read(&tree, object, block, &mut meter) == want && meter.count() == 0
+    let is_read = match read(&tree, object, block, &mut meter) {
+        Ok(bytes) => bytes.is_none() && refusal.is_none(),
+        Err(why) => refusal == Some(why),
+    };
+    drop(tree);
+    is_read && meter.count() == 0
 }
 
 #[test]
 fn holes_within_the_limits(rt: HostRuntime) {
-    assert!(rt; is_read_of_none(0, 0, Ok(None)));
-    assert!(rt; is_read_of_none(255, 4095, Ok(None)));
-    assert!(rt; is_read_of_none(256, 0, Err(Refusal::BadKey)));
-    assert!(rt; is_read_of_none(0, 4096, Err(Refusal::BadKey)));
+    assert!(rt; is_read_of_none(0, 0, None) && is_read_of_none(255, 4095, None));
+    assert!(rt; is_read_of_none(256, 0, Some(Refusal::BadKey)));
+    assert!(rt; is_read_of_none(0, 4096, Some(Refusal::BadKey)));
 }
 
 /// Whether an update is refused for its numbers.
@@ -31,14 +35,19 @@ fn is_bad_key(update: Result<Update, Refusal>) -> bool {
     update.err() == Some(Refusal::BadKey)
 }
 
+fn is_bad_write(object: u32, block: u32) -> bool {
+    is_bad_key(write_of(object, block, &[0; 512]))
+}
+
+fn is_bad_punch(object: u32, block: u32) -> bool {
+    is_bad_key(punch_of(object, block))
+}
+
 #[test]
 fn updates_within_the_limits(rt: HostRuntime) {
-    assert!(rt; is_bad_key(write_of(256, 0, &[0; 512])));
-    assert!(rt; is_bad_key(write_of(0, 4096, &[0; 512])));
-    assert!(rt; is_bad_key(punch_of(256, 0)) && is_bad_key(punch_of(0, 4096)));
+    assert!(rt; is_bad_write(256, 0) && is_bad_write(0, 4096) && !is_bad_write(255, 4095));
+    assert!(rt; is_bad_punch(256, 0) && is_bad_punch(0, 4096) && !is_bad_punch(255, 4095));
     assert!(rt; is_bad_key(free_of(256)) && !is_bad_key(free_of(255)));
-    assert!(rt; !is_bad_key(write_of(255, 4095, &[0; 512])));
-    assert!(rt; !is_bad_key(punch_of(255, 4095)));
 }
 
 /// Asserts how many numbers an update of a tree without a block takes, put in force on a copy, in a pool of so many.
@@ -46,8 +55,10 @@ fn assert_takes(rt: &impl Abort, alloc: Global, numbers: u32, update: Update, ta
     requires { numbers ≤ MOST_BLOCKS }
 {
     let mut rig = rig_of(rt, alloc, numbers, Way::OnACopy);
-    assert_counts(rt, alloc, &mut rig, &[update], taken, taken, 0);
-    assert!(rt; rig.tree.node_count() as usize == taken);
+    assert_counts(rt, alloc, &mut rig, &[update], (taken, taken, 0));
+    let count = rig.tree.node_count();
+    drop(rig);
+    assert!(rt; count as usize == taken);
 }
 
 /// Why an update of a tree without a block is refused, if it is, put in force on a copy, in a pool of so many numbers.
@@ -55,7 +66,7 @@ fn refusal_of(rt: &impl Abort, alloc: Global, numbers: u32, update: Update) -> O
     requires { numbers ≤ MOST_BLOCKS }
 {
     let mut rig = rig_of(rt, alloc, numbers, Way::OnACopy);
-    rig.apply(rt, alloc, &[update], Group(1), Group(1)).err()
+    rig.try_put(rt, alloc, &[update], Group(1), Group(1))
 }
 
 fn last_write(rt: &impl Abort) -> Update {
@@ -83,10 +94,7 @@ fn free_of_an_empty_object(rt: HostRuntime) {
 /// The byte that a block is filled with, or 0 where it is a hole.
 fn byte_at(rt: &impl Abort, tree: &Tree, object: u32, block: u32) -> u8 {
     match read(tree, object, block, &mut meter()).expect(rt, "a block") {
-        Some(bytes) => {
-            assert!(rt; *bytes == [bytes[0]; 512]);
-            bytes[0]
-        }
+        Some(bytes) => filler(rt, bytes),
         None => 0,
     }
 }
@@ -100,9 +108,7 @@ fn has_bytes(rt: &impl Abort, tree: &Tree, bytes: [u8; 3]) -> bool {
 
 /// Puts the update of one block or one object in force.
 fn change(rt: &impl Abort, alloc: Global, rig: &mut Rig, update: Result<Update, Refusal>) {
-    let update = update.expect(rt, "a block");
-    rig.apply(rt, alloc, &[update], Group(1), Group(1))
-        .expect(rt, "room for a block");
+    rig.put_one(rt, alloc, update.expect(rt, "a block"), Group(1));
 }
 
 #[test]
@@ -112,9 +118,11 @@ fn blocks_of_two_objects(rt: HostRuntime) {
     change(&rt, alloc, &mut rig, write_of(1, 2, &[7; 512]));
     change(&rt, alloc, &mut rig, write_of(1, 3, &[8; 512]));
     change(&rt, alloc, &mut rig, write_of(2, 0, &[9; 512]));
-    assert!(rt; has_bytes(&rt, &rig.tree, [7, 8, 9]));
+    let are_written = has_bytes(&rt, &rig.tree, [7, 8, 9]);
     change(&rt, alloc, &mut rig, punch_of(1, 3));
-    assert!(rt; has_bytes(&rt, &rig.tree, [7, 0, 9]));
+    let is_punched = has_bytes(&rt, &rig.tree, [7, 0, 9]);
     change(&rt, alloc, &mut rig, free_of(1));
-    assert!(rt; has_bytes(&rt, &rig.tree, [0, 0, 9]));
+    let is_freed = has_bytes(&rt, &rig.tree, [0, 0, 9]);
+    drop(rig);
+    assert!(rt; are_written && is_punched && is_freed);
 }

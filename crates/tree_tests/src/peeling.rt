@@ -4,6 +4,7 @@ use crate::ready::meter;
 use crate::rig::{Rig, write_at};
 use base::meter::Meter;
 use base::number::{Dead, Group};
+use base::refusal::Refusal;
 use std::alloc::Global;
 use std::process::Abort;
 use tree::{Subtree, Tree};
@@ -16,18 +17,19 @@ fn peel_one(
     meter: &mut Meter,
     others: &mut Vec<Subtree>,
     out: &mut Vec<Dead>,
-) {
+) -> Result<(), Refusal> {
     let peeled = subtree.peel(cut, meter).ok().expect(rt, "memory to share");
     let Some(peeled) = peeled else {
-        return;
+        return Ok(());
     };
-    out.push(peeled.0).ok().expect(rt, "memory for a block");
-    let below = peeled.1;
-    for kid in below.into_iter().rev() {
-        if let Some(kid) = kid {
-            others.push(kid).ok().expect(rt, "memory for a subtree");
+    out.push(peeled.0)?;
+    let mut below = peeled.1;
+    for place in 0..16 {
+        if let Some(kid) = below[15 - place].take() {
+            others.push(kid)?;
         }
     }
+    Ok(())
 }
 
 /// The blocks that come off a subtree, as far as it is younger than a group, each before those below it.
@@ -37,20 +39,20 @@ fn peel_all(
     top: Option<Subtree>,
     cut: Group,
     meter: &mut Meter,
-) -> Vec<Dead> {
+) -> Result<Vec<Dead>, Refusal> {
     let mut out = Vec::new(alloc);
     let mut others = Vec::new(alloc);
     if let Some(top) = top {
-        others.push(top).ok().expect(rt, "memory for a subtree");
+        others.push(top)?;
     }
     for _ in 0..100000 {
         let Some(next) = others.pop() else {
             break;
         };
-        peel_one(rt, next, cut, meter, &mut others, &mut out);
+        peel_one(rt, next, cut, meter, &mut others, &mut out)?;
     }
     assert!(rt; others.is_empty());
-    out
+    Ok(out)
 }
 
 fn walk(rt: &impl Abort, alloc: Global, tree: &Tree, cut: Group) -> Vec<Dead> {
@@ -62,15 +64,33 @@ fn top_of(rt: &impl Abort, tree: &Tree) -> Option<Subtree> {
     tree.top().expect(rt, "memory to share")
 }
 
+/// Whether these blocks come off a subtree, in this order.
+fn is_peeled(
+    rt: &impl Abort,
+    alloc: Global,
+    top: Option<Subtree>,
+    cut: Group,
+    meter: &mut Meter,
+    wanted: Vec<Dead>,
+) -> bool {
+    match peel_all(rt, alloc, top, cut, meter) {
+        Ok(peeled) => peeled.as_slice() == wanted.as_slice(),
+        Err(_) => false,
+    }
+}
+
 /// What comes off is what a walk finds, in the same order. It costs a step for each node that is reached.
 fn assert_peels(rt: &impl Abort, alloc: Global, rig: &Rig, cut: Group) {
     let mut steps = meter();
-    let peeled = peel_all(rt, alloc, top_of(rt, &rig.tree), cut, &mut steps);
-    let walked = walk(rt, alloc, &rig.tree, cut);
-    assert!(rt; peeled.as_slice() == walked.as_slice());
-    if cut.0 == 0 {
-        assert_eq!(rt; steps.count(), u64::from(rig.tree.node_count()));
-    }
+    let same = is_peeled(
+        rt,
+        alloc,
+        top_of(rt, &rig.tree),
+        cut,
+        &mut steps,
+        walk(rt, alloc, &rig.tree, cut),
+    );
+    assert!(rt; same && (cut.0 > 0 || steps.count() == u64::from(rig.tree.node_count())));
 }
 
 #[test]
@@ -81,6 +101,7 @@ fn peels_what_is_younger(rt: HostRuntime) {
     for cut in 0..42u64 {
         assert_peels(&rt, alloc, &rig, Group(cut));
     }
+    drop(rig);
     assert!(rt; top_of(&rt, &Tree::new()).is_none());
 }
 
@@ -91,9 +112,8 @@ fn subtree_outlives_its_tree(rt: HostRuntime) {
     let mut rig = rig_of_batches(&rt, alloc, &mut dice, 10);
     let before = walk(&rt, alloc, &rig.tree, Group(0));
     let top = top_of(&rt, &rig.tree);
-    rig.apply(&rt, alloc, &[write_at(3, 1)], Group(11), Group(11))
-        .expect(&rt, "room for a leaf");
+    rig.put_one(&rt, alloc, write_at(3, 1), Group(11));
     rig.tree = Tree::new();
-    let peeled = peel_all(&rt, alloc, top, Group(0), &mut meter());
-    assert!(rt; peeled.as_slice() == before.as_slice());
+    drop(rig);
+    assert!(rt; is_peeled(&rt, alloc, top, Group(0), &mut meter(), before));
 }

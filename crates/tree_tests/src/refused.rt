@@ -1,6 +1,6 @@
 //! Memory that is refused. Each test passes whichever allocation is the one that fails.
 use crate::ready::meter;
-use crate::rig::{Rig, WAYS, Way, punch_at, write_at};
+use crate::rig::{Rig, Way, punch_at, write_at};
 use base::number::Group;
 use base::refusal::Refusal;
 use std::alloc::Global;
@@ -18,10 +18,17 @@ fn refused_or_done(
     blocks: u32,
 ) {
     let before = rig.tree.node_count();
-    let refusal = rig.apply(rt, alloc, &[update], group, group).err();
-    assert!(rt; refusal.is_none() || refusal == Some(Refusal::NoMemory));
-    let want = if refusal.is_none() { blocks } else { before };
-    assert!(rt; rig.tree.node_count() == want && rig.allocator.counts().allocated == want);
+    let wanted = match rig.try_put(rt, alloc, &[update], group, group) {
+        None => blocks,
+        Some(refusal) => blocks_after(rt, refusal, before),
+    };
+    assert!(rt; rig.has_blocks(wanted));
+}
+
+/// The blocks after a refusal, which has to be for memory: those before it.
+fn blocks_after(rt: &impl Abort, refusal: Refusal, before: u32) -> u32 {
+    assert!(rt; refusal == Refusal::NoMemory);
+    before
 }
 
 /// Three batches in a rig's way, of which each is done or refused.
@@ -45,15 +52,15 @@ fn refused_in(rt: &impl Abort, alloc: Global, way: Way) {
 
 /// A walk of a tree of six blocks lists them all, or is refused.
 fn walked_or_refused(rt: &impl Abort, alloc: Global, rig: &Rig) {
-    match rig.tree.walk_after(alloc, Group(0), &mut meter()) {
-        Ok(blocks) => assert_eq!(rt; blocks.len(), 6),
-        Err(refusal) => assert_eq!(rt; refusal, Refusal::NoMemory),
-    }
+    let fine = match rig.tree.walk_after(alloc, Group(0), &mut meter()) {
+        Ok(blocks) => blocks.len() == 6,
+        Err(refusal) => refusal == Refusal::NoMemory,
+    };
+    assert!(rt; fine);
 }
 
 #[test]
 fn refused_memory_changes_nothing(rt: HostRuntime) {
-    for way in WAYS {
-        refused_in(&rt, rt.alloc(), way);
-    }
+    refused_in(&rt, rt.alloc(), Way::AtOnce);
+    refused_in(&rt, rt.alloc(), Way::OnACopy);
 }

@@ -4,7 +4,7 @@ ghost use Rattle.base.specs.Surveys.{AreDifferent};
 ghost use Rattle.tree.specs.Asking.{AllowsChange};
 ghost use Rattle.tree.specs.Taking.{AllFree};
 
-use crate::ready::{is_batch, is_ready, meter};
+use crate::ready::{extent, is_batch, is_ready, meter};
 use base::number::{BlockNo, Dead, Group, Key};
 use base::refusal::Refusal;
 use std::alloc::Global;
@@ -16,7 +16,7 @@ use zalloc::{Allocator, BlockState, MOST_BLOCKS};
 pub const PLACES: usize = 128;
 
 /// How batches are put in force.
-#[derive(Clone, Copy, PartialEq, Eq, Debug)]
+#[derive(Clone, Copy)]
 pub enum Way {
     /// Each at once.
     AtOnce,
@@ -38,9 +38,10 @@ pub struct Rig {
 pub fn rig_of(rt: &impl Abort, alloc: Global, numbers: u32, way: Way) -> Rig
     requires { numbers ≤ MOST_BLOCKS }
 {
+    let allocator = Allocator::new(alloc, numbers).expect(rt, "memory for an allocator");
     Rig {
         tree: Tree::new(),
-        allocator: Allocator::new(alloc, numbers).expect(rt, "memory for an allocator"),
+        allocator,
         way,
     }
 }
@@ -82,7 +83,7 @@ fn release(rt: &impl Abort, allocator: &mut Allocator, blocks: &[Dead], young: G
 fn release_one(rt: &impl Abort, allocator: &mut Allocator, number: BlockNo) {
     match allocator.state(number) {
         Some(BlockState::Allocated) => allocator.release(number, false),
-        other => panic!(rt; "{number:?} is let go and {other:?}"),
+        _ => panic!(rt; "a number is let go that isn't Allocated"),
     }
 }
 
@@ -94,7 +95,7 @@ fn assert_free(rt: &impl Abort, allocator: &Allocator, numbers: &[BlockNo])
     for number in numbers {
         match allocator.state(*number) {
             Some(BlockState::Free) => {}
-            other => panic!(rt; "{number:?} is to be taken and {other:?}"),
+            _ => panic!(rt; "a number is to be taken that isn't Free"),
         }
     }
 }
@@ -102,9 +103,21 @@ fn assert_free(rt: &impl Abort, allocator: &Allocator, numbers: &[BlockNo])
 /// Asserts that the new blocks stand at their keys, born in the group.
 fn assert_made(rt: &impl Abort, tree: &Tree, made: &[NewBlock], group: Group) {
     for new in made {
-        let cell = tree.read(new.key, &mut meter()).expect(rt, "a made key");
-        assert!(rt; cell.block == new.block && cell.birth == group);
+        assert!(rt; is_made(tree, *new, group));
     }
+}
+
+fn is_made(tree: &Tree, new: NewBlock, group: Group) -> bool {
+    match tree.read(new.key, &mut meter()) {
+        Some(cell) => cell.block == new.block && cell.birth == group,
+        None => false,
+    }
+}
+
+/// The byte that a block is filled with.
+pub fn filler(rt: &impl Abort, bytes: &[u8; 512]) -> u8 {
+    assert!(rt; *bytes == [bytes[0]; 512]);
+    bytes[0]
 }
 
 /// The byte that a leaf of a tree is filled with, or 0 where there is none.
@@ -113,12 +126,10 @@ pub fn byte_of(rt: &impl Abort, tree: &Tree, leaf: u32) -> u8 {
         level: 0,
         index: leaf,
     };
-    let Some(cell) = tree.read(key, &mut meter()) else {
-        return 0;
-    };
-    let bytes = cell.bytes.expect(rt, "a leaf has bytes");
-    assert!(rt; *bytes == [bytes[0]; 512]);
-    bytes[0]
+    match tree.read(key, &mut meter()) {
+        Some(cell) => filler(rt, cell.bytes.expect(rt, "a leaf has bytes")),
+        None => 0,
+    }
 }
 
 /// What a change of a copy has to leave: the tree's blocks, and the byte of the first leaf of each update.
@@ -137,10 +148,9 @@ impl Look {
 
 /// The first leaf that an update of a leaf or an object covers.
 fn first_leaf(update: &Update) -> u32 {
-    match update {
-        Update::Write { leaf, .. } => *leaf,
-        Update::Punch(key) if key.level == 3 => key.index.wrapping_mul(4096),
-        Update::Punch(key) => key.index,
+    match extent(update) {
+        Some((first, _)) => first,
+        None => 0,
     }
 }
 
@@ -167,6 +177,41 @@ fn look_at(
     let blocks = tree.walk_after(alloc, Group(0), &mut meter())?;
     Ok(Look { blocks, bytes })
 }
+
+/// Asserts that a tree is as it was looked at before.
+fn assert_stays(
+    rt: &impl Abort,
+    alloc: Global,
+    tree: &Tree,
+    updates: &[Update],
+    before: Look,
+) -> Result<(), Refusal> {
+    let after = look_at(rt, alloc, tree, updates)?;
+    let stays = before.is(&after);
+    drop(before);
+    drop(after);
+    assert!(rt; stays);
+    Ok(())
+}
+
+/// Drafts a batch of a tree, and puts it in force there.
+fn change(
+    alloc: Global,
+    tree: &mut Tree,
+    updates: &[Update],
+    group: Group,
+    young: Group,
+    allocator: &Allocator,
+) -> Result<Changed, Refusal>
+    requires { AllowsChange tree.old updates.now group.0 young.0 allocator.now }
+    ensures { IfOk result (λ done. AreDifferent (map (λ b. b.0) done.taken.items)) }
+{
+    let draft = tree.draft(alloc, updates, young, allocator, &mut meter())?;
+    tree.put(alloc, updates, group, draft)
+}
+
+/// How many numbers a batch took, and how many keys it made and released.
+pub type Counts = (usize, usize, usize);
 
 impl Rig {
     /// Asserts what a change asks of its caller.
@@ -201,40 +246,79 @@ impl Rig {
     {
         let before = look_at(rt, alloc, &self.tree, updates)?;
         let mut copy = self.tree.copy()?;
-        let allocator = &self.allocator;
-        let draft = copy.draft(alloc, updates, young, allocator, &mut meter())?;
-        let done = copy.put(alloc, updates, group, draft)?;
-        assert!(rt; before.is(&look_at(rt, alloc, &self.tree, updates)?));
+        let done = change(alloc, &mut copy, updates, group, young, &self.allocator)?;
+        assert_stays(rt, alloc, &self.tree, updates, before)?;
         self.tree = copy;
         Ok(done)
     }
 
-    /// Puts a batch in force in the rig's way, and answers what that did. The numbers that it takes have to be Free once the young
-    /// blocks that it drops are released.
-    pub fn apply(
+    /// Takes and releases the numbers that a batch in force tells. Those that it takes have to be Free once the young blocks that it
+    /// drops are released.
+    fn settle(&mut self, rt: &impl Abort, released: &[Dead], taken: &[BlockNo], young: Group)
+        requires { AreDifferent (map (λ b. b.0) taken.now) }
+    {
+        release(rt, &mut self.allocator, released, young, true);
+        assert_free(rt, &self.allocator, taken);
+        take_all(&mut self.allocator, taken);
+        release(rt, &mut self.allocator, released, young, false);
+    }
+
+    /// Puts a batch in force in the rig's way, and answers what that did, as `settle` asks it.
+    fn apply(
         &mut self,
         rt: &impl Abort,
         alloc: Global,
         updates: &[Update],
         group: Group,
         young: Group,
-    ) -> Result<Changed, Refusal> {
+    ) -> Result<Counts, Refusal> {
         self.assert_asked(rt, alloc, updates, group, young)?;
-        let allocator = &self.allocator;
         let done = match self.way {
-            Way::AtOnce => {
-                let tree = &mut self.tree;
-                let draft = tree.draft(alloc, updates, young, allocator, &mut meter())?;
-                tree.put(alloc, updates, group, draft)?
-            }
+            Way::AtOnce => change(
+                alloc,
+                &mut self.tree,
+                updates,
+                group,
+                young,
+                &self.allocator,
+            )?,
             Way::OnACopy => self.change_copy(rt, alloc, updates, group, young)?,
         };
-        release(rt, &mut self.allocator, &done.released, young, true);
-        assert_free(rt, &self.allocator, &done.taken);
-        take_all(&mut self.allocator, &done.taken);
-        release(rt, &mut self.allocator, &done.released, young, false);
+        self.settle(rt, &done.released, &done.taken, young);
         assert_made(rt, &self.tree, &done.made, group);
-        Ok(done)
+        Ok((done.taken.len(), done.made.len(), done.released.len()))
+    }
+
+    /// Puts a batch in force, all of whose group is young, where there is room and memory.
+    pub fn put(
+        &mut self,
+        rt: &impl Abort,
+        alloc: Global,
+        updates: &[Update],
+        group: Group,
+    ) -> Counts {
+        self.apply(rt, alloc, updates, group, group)
+            .expect(rt, "room for a batch")
+    }
+
+    /// Puts a batch of one update in force, where there is room and memory.
+    pub fn put_one(&mut self, rt: &impl Abort, alloc: Global, update: Update, group: Group) {
+        self.put(rt, alloc, &[update], group);
+    }
+
+    /// Puts a batch in force, or answers why it is refused.
+    pub fn try_put(
+        &mut self,
+        rt: &impl Abort,
+        alloc: Global,
+        updates: &[Update],
+        group: Group,
+        young: Group,
+    ) -> Option<Refusal> {
+        match self.apply(rt, alloc, updates, group, young) {
+            Ok(_) => None,
+            Err(refusal) => Some(refusal),
+        }
     }
 
     /// The byte that a leaf is filled with, or 0 where there is none.
@@ -242,15 +326,18 @@ impl Rig {
         byte_of(rt, &self.tree, leaf)
     }
 
+    /// Whether the tree has so many blocks, and the allocator as many numbers for them.
+    pub fn has_blocks(&self, blocks: u32) -> bool {
+        self.tree.node_count() == blocks && self.allocator.counts().allocated == blocks
+    }
+
     /// Asserts that the leaves of the places have the bytes of a plain list, that the tree has the keys above the present ones
     /// and no other, and that the allocator has one number for each key.
     pub fn assert_same(&self, rt: &impl Abort, plain: &[u8; 128]) {
         for place in 0..PLACES {
-            assert_eq!(rt; self.byte(rt, leaf_of(place)), plain[place], "at {place}");
+            assert!(rt; self.byte(rt, leaf_of(place)) == plain[place], "at {place}");
         }
-        let blocks = keys_above(plain);
-        assert_eq!(rt; self.tree.node_count(), blocks);
-        assert_eq!(rt; self.allocator.counts().allocated, blocks);
+        assert!(rt; self.has_blocks(keys_above(plain)));
     }
 }
 
@@ -260,15 +347,10 @@ pub fn assert_counts(
     alloc: Global,
     rig: &mut Rig,
     updates: &[Update],
-    taken: usize,
-    made: usize,
-    released: usize,
+    wanted: Counts,
 ) {
-    let done = rig
-        .apply(rt, alloc, updates, Group(1), Group(1))
-        .expect(rt, "room for a batch");
-    let counts = (done.taken.len(), done.made.len(), done.released.len());
-    assert!(rt; counts == (taken, made, released), "{counts:?}");
+    let counts = rig.put(rt, alloc, updates, Group(1));
+    assert!(rt; counts == wanted);
 }
 
 /// How many keys of a level are at or above the present leaves of a plain list.

@@ -4,7 +4,7 @@ use Rattle.world.specs.Sets.{Has, IsSubset}
 use Rattle.world.specs.Blocks.{BlockSet, after, upto, block_order as o}
 use Rattle.world.specs.Lineage.{Rows, IsUnion}
 use Rattle.world.specs.Shapes.{Name, Dataset, Shape, Shapes, nothing_before, lineages, IsGood}
-use Rattle.world.specs.Chains.{no_systems, FreshIsGood, WriteDead, WriteLoses, IsRemoval, RemovalsLose}
+use Rattle.world.specs.Chains.{no_systems, FreshIsGood, WriteLoses, IsRemoval, RemovalsLose}
 use Rattle.world.proofs.SetCounts.{no-empty, same_members, Has-cases, in_difference, from_difference, in_union_left, in_union_right, from_union}
 use Rattle.world.proofs.Maps.{no_value}
 use Rattle.world.proofs.Lineage.{in_upto, from_upto, in_after, from_after}
@@ -29,19 +29,6 @@ empty_good m g none =
 pub fresh_is_good : FreshIsGood
 fresh_is_good m name g pos here others =
     make_keeps no_systems m g name empty None nothing_before (empty_good no_systems g (λ name. refl)) (record { absent = refl; here = here; others = others }) refl pos (λ b h. h)
-
-pub write_dead : WriteDead
-write_dead below old new base born kept each = same_members o _ _
-    (λ b h.
-    let k = from_difference o below new b h in
-    ⊎_elim
-    (λ x. in_union_right o (difference below old) (upto base (difference old new)) b (in_upto base (difference old new) b (in_difference o old new b x k.1) (born b k.0)))
-    (λ x. in_union_left o (difference below old) (upto base (difference old new)) b (in_difference o below old b k.0 x))
-    (Has-cases o old b))
-    (λ b h. ⊎_elim
-    (λ x. let k = from_difference o below old b x in in_difference o below new b k.0 (λ y. ⊎_elim k.1 (λ l. let m = born b k.0 in absurd (omega arith)) (each b y)))
-    (λ x. let k = from_upto base (difference old new) b x in let l = from_difference o old new b k.0 in in_difference o below new b (kept b l.0 k.1) l.1)
-    (from_union o (difference below old) (upto base (difference old new)) b h))
 
 pub write_loses : WriteLoses
 write_loses old new base = same_members o _ _

@@ -1,20 +1,19 @@
 -- A change that a tree has prepared, as a change of one live map of a world.
-use Rattle.std.proofs.Common.{◌≡◌, ℕ, ◌<◌, ◌≤◌, Bool, true, false, cond, List, [], ◌∷◌, Option, Some, None, refl, sym, ap, subst, ◌∙◌, true≢false, ◌⊎◌, ◌↔◌, inl, inr, ⊎_elim, arith}
+use Rattle.std.proofs.Common.{◌≡◌, ℕ, ◌<◌, ◌≤◌, Bool, true, false, cond, List, [], ◌∷◌, Some, refl, sym, ap, subst, ◌∙◌, true≢false, ◌⊎◌, inl, inr, ⊎_elim, arith}
 use Rattle.std.specs.Prelude.{is_some, nat_lt}
 use Rattle.std.specs.List.{filter}
 use Rattle.std.specs.FinMap.{get, insert}
-use Rattle.std.specs.FinSet.{union, difference}
+use Rattle.std.specs.FinSet.{union}
 use Rattle.std.proofs.lemmas.Bool.{ltb-true, lt-ltb}
-use Rattle.std.proofs.lemmas.Bool.Decides.{leb_tells}
 use Rattle.base.specs.declared.number.Key.{Key}
 use Rattle.base.specs.Map.{Map, Cell, Block, BlockSet, block_of, blocks, IsTree}
 use Rattle.base.specs.Rewrite.{Changes, rewrite, is_touched}
 use Rattle.base.specs.Surveys.{IsIn, AreDifferent, IsMadeKey}
-use Rattle.model.specs.World.{World, FileSystem, Live, union_of, reach_of}
+use Rattle.model.specs.World.{World, FileSystem, Dataset, Live, map_of, union_of, reach_of}
 use Rattle.world.specs.Sets.{Has}
-use Rattle.world.specs.Blocks.{block_order as o, after, upto}
+use Rattle.world.specs.Blocks.{block_order as o, after}
 use Rattle.world.specs.Shapes.{Name}
-use Rattle.world.specs.Worlds.{IsWorld, ArePaired, InNow}
+use Rattle.world.specs.Worlds.{AreFileSystems, IsWorld, ArePaired, Place, InNow, InLast, maps_of_both}
 use Rattle.world.specs.Numbering.{ChangesKeys}
 use Rattle.world.specs.Writes.{IsReusable, IsChosen}
 use Rattle.world.specs.Plans.{AreTakable, IsSettling}
@@ -22,16 +21,17 @@ use Rattle.zalloc.specs.declared.BlockState.{BlockState}
 use Rattle.tree.specs.Change.{Shown, IsChange, IsKept, IsReleased}
 use Rattle.world.specs.Dead.{base_of}
 use Rattle.world.proofs.SetCounts.{in_union_left, in_union_right, from_union, in_difference, from_difference, Has-cases}
-use Rattle.world.proofs.Maps.{same_value, no_value, some_of}
-use Rattle.world.proofs.Lineage.{in_after, from_after, in_upto, from_upto}
+use Rattle.world.proofs.Maps.{same_value, some_of}
+use Rattle.world.proofs.Lineage.{in_after, from_after}
 use Rattle.world.proofs.Cells.{in_blocks, from_blocks, from_new_blocks}
 use Rattle.world.proofs.Rewrites.{rewrite_is_change}
 use Rattle.world.proofs.Presence.{same_presence}
 use Rattle.world.proofs.Bridge.{map_of_live, in_world}
-use Rattle.world.proofs.Dead.{in_line}
 use Rattle.world.proofs.Finding.{in_filter, from_filter}
 use Rattle.world.proofs.Kept.{reach_is}
 use Rattle.world.proofs.Put.{put_here}
+use Rattle.world.proofs.FreshNumbers.{made_key, kept_or_fresh, fresh_once, cells_after}
+use Rattle.world.proofs.LiveMaps.{live_alone, live_new, live_rest}
 use Rattle.world.proofs.Writes.{write_world, write_pairs, write_loses, union_after}
 
 filter_different : {A : Type 0} (p : A → Bool) (xs : List A) → AreDifferent xs → AreDifferent (filter p xs)
@@ -41,6 +41,9 @@ filter_different p (y ∷ ys) d = by_test (p y) (filter_different p ys d.1)
     by_test : (b : Bool) → AreDifferent (filter p ys) → AreDifferent (cond b (y ∷ filter p ys) (filter p ys))
     by_test true ih = ((λ h. d.0 (from_filter p ys y h).0), ih)
     by_test false ih = ih
+
+reached : (w : World) (good : AreFileSystems w.file_systems w.group) (d : Dataset) (b : Block) → Has (blocks (map_of w d)) b → Has (reach_of w) b
+reached w good d b h = subst (λ x. Has x b) (sym (reach_is w)) (in_union_left o (union_of w) w.freeing b (in_world w w.group good.lines d b h))
 
 module _ (size : ℕ) (w last : World) (good : IsWorld size w) (synced : IsWorld size last) (pair : ArePaired size w last) (name : Name) (s : FileSystem)
     (at : get w.file_systems name ≡ Some s) (ch : Changes) (young : ℕ) (late : last.group ≤ young) (own_late : base_of w (Live name) < young)
@@ -58,11 +61,8 @@ module _ (size : ℕ) (w last : World) (good : IsWorld size w) (synced : IsWorld
   abbrev U : BlockSet
   U = union (reach_of w) (reach_of last)
 
-  pub change : ChangesKeys s.live (rewrite s.live ch w.group is.number) (is_touched s.live ch) w.group is.number
+  change : ChangesKeys s.live (rewrite s.live ch w.group is.number) (is_touched s.live ch) w.group is.number
   change = rewrite_is_change s.live ch w.group is.number
-
-  base_low : base_of w (Live name) < w.group
-  base_low = (in_line w w.group good.systems.lines refl (Live name) (s, at)).falls
 
   in_now : (k : Key) (x : Cell) → get s.live k ≡ Some x → Has (reach_of w) (block_of x)
   in_now k x h = subst (λ y. Has y (block_of x)) (sym (reach_is w)) (in_union_left o (union_of w) w.freeing (block_of x)
@@ -76,8 +76,11 @@ module _ (size : ℕ) (w last : World) (good : IsWorld size w) (synced : IsWorld
       let e = map_of_live w name s at in
       (pair.cells (InNow (Live name)) (InNow (Live name)) j k a b (ap (λ x. get x j) e ∙ h) (ap (λ x. get x k) e ∙ i) n).0
 
-  made_key : (k : Key) (x : Cell) → is_touched s.live ch k ≡ true → get (rewrite s.live ch w.group is.number) k ≡ Some x → IsMadeKey s.live ch k
-  made_key k x t h = (t, same_presence s.live ch 0 w.group (λ _. 0) is.number k ∙ ap is_some h)
+  made : (k : Key) (x : Cell) → is_touched s.live ch k ≡ true → get (rewrite s.live ch w.group is.number) k ≡ Some x → IsMadeKey s.live ch k
+  made = made_key s.live ch w.group young is.number
+
+  keeps_or_takes : (k : Key) → ((x : Cell) × (get s.live k ≡ Some x) × (young ≤ x.birth)) ⊎ (IsKept s.live ch young k → ⊥)
+  keeps_or_takes = kept_or_fresh s.live ch w.group young is.number
 
   cell_made : (k : Key) → IsMadeKey s.live ch k → (x : Cell) × (get (rewrite s.live ch w.group is.number) k ≡ Some x) × (x.number ≡ is.number k) × (x.birth ≡ w.group)
   cell_made k u =
@@ -89,20 +92,21 @@ module _ (size : ℕ) (w last : World) (good : IsWorld size w) (synced : IsWorld
   not_last : (b : Block) → young ≤ b.birth → Has (reach_of last) b → ⊥
   not_last b l h = let k = pair.reached.since.older b h in let i = late in absurd (omega arith)
 
-  kept_or_fresh : (k : Key) → IsMadeKey s.live ch k → ((x : Cell) × (get s.live k ≡ Some x) × (young ≤ x.birth)) ⊎ (IsKept s.live ch young k → ⊥)
-  kept_or_fresh k u = by_cell (get s.live k) refl
-    where
-      not_there : get s.live k ≡ None → IsKept s.live ch young k → ⊥
-      not_there e x = no_value x.cell (sym e ∙ x.there)
+  -- ---- numbers
 
-      not_young : (x : Cell) → get s.live k ≡ Some x → x.birth < young → IsKept s.live ch young k → ⊥
-      not_young x e l z =
-          let b : z.cell.birth ≡ x.birth = ap (λ (y : Cell). y.birth) (same_value z.cell x (sym z.there ∙ e)) in
-          let h = z.born in absurd (omega arith)
+  map_is : map_of w (Live name) ≡ s.live
+  map_is = map_of_live w name s at
 
-      by_cell : (y : Option Cell) → get s.live k ≡ y → ((x : Cell) × (get s.live k ≡ Some x) × (young ≤ x.birth)) ⊎ (IsKept s.live ch young k → ⊥)
-      by_cell None e = inr (not_there e)
-      by_cell (Some x) e = ⊎_elim (λ t. inl (x, e, t.1)) (λ t. inr (not_young x e t.1)) (leb_tells young x.birth)
+  in_place : (e : Place) (j : Key) (x : Cell) → get (maps_of_both w last e) j ≡ Some x → Has (union (reach_of w) (reach_of last)) (block_of x)
+  in_place (InNow d) j x h = in_union_left o (reach_of w) (reach_of last) (block_of x) (reached w good.systems d (block_of x) (in_blocks (map_of w d) j x h))
+  in_place (InLast d) j x h = in_union_right o (reach_of w) (reach_of last) (block_of x) (reached last synced.systems d (block_of x) (in_blocks (map_of last d) j x h))
+
+  held : (n : ℕ) (e : Place) (j : Key) (x : Cell) → IsIn v.taken n → get (maps_of_both w last e) j ≡ Some x → x.number ≡ n → (b : Block) × IsIn v.released b × (young ≤ b.birth) × (b.number ≡ n)
+  held n e j x i h is_n = ⊎_elim (λ f. absurd (f.1 (block_of x) (in_place e j x h) is_n)) (λ z. z) (takable n i)
+
+  alone : (e : Place) (j : Key) (x : Cell) → get (maps_of_both w last e) j ≡ Some x → get s.live j ≡ Some x → young ≤ x.birth → e ≡ InNow (Live name)
+  alone (InNow d) j x h l born = ap InNow (live_alone w good.systems name s at d (block_of x) (in_blocks (map_of w d) j x h) (in_blocks s.live j x l) (let i = own_late in omega arith))
+  alone (InLast d) j x h l born = absurd (not_last (block_of x) born (reached last synced.systems d (block_of x) (in_blocks (map_of last d) j x h)))
 
   taken_from : (n : ℕ) (b : Block) → IsIn v.taken n → Has (union (reach_of w) (reach_of last)) b → b.number ≡ n → IsReleased s.live ch young b × (young ≤ b.birth)
   taken_from n b i u e = ⊎_elim
@@ -122,21 +126,21 @@ module _ (size : ℕ) (w last : World) (good : IsWorld size w) (synced : IsWorld
   young_own : (k : Key) (x : Cell) → get s.live k ≡ Some x → young ≤ x.birth → Has own (block_of x)
   young_own k x h l = in_after (base_of w (Live name)) (blocks s.live) (block_of x) (in_blocks s.live k x h) (let i = own_late in omega arith)
 
-  pub chosen : IsChosen s.live (rewrite s.live ch w.group is.number) (after (base_of w (Live name)) (blocks s.live)) (reach_of w) (reach_of last) size (is_touched s.live ch) is.number
+  chosen : IsChosen s.live (rewrite s.live ch w.group is.number) (after (base_of w (Live name)) (blocks s.live)) (reach_of w) (reach_of last) size (is_touched s.live ch) is.number
   chosen = record { small = small; allowed = allowed; once = once }
     where
       small : (q : Key) (x : Cell) → is_touched s.live ch q ≡ true → get new q ≡ Some x → is.number q < size
       small q x t h =
-          let u = made_key q x t h in
+          let u = made q x t h in
           ⊎_elim
           (λ y. let e = is.kept q y.0 u y.1 y.2 in let l = pair.reached.small (block_of y.0) (in_both q y.0 y.1) in omega arith)
           (λ n. taken_small (is.number q) (is.fresh q u n))
-          (kept_or_fresh q u)
+          (keeps_or_takes q)
 
       allowed : (q : Key) (x : Cell) (b : Block) → is_touched s.live ch q ≡ true → get new q ≡ Some x → Has (union (reach_of w) (reach_of last)) b → b.number ≡ is.number q
           → IsReusable s.live own (reach_of last) (is_touched s.live ch) b
       allowed q x b t h u e =
-          let z = made_key q x t h in
+          let z = made q x t h in
           ⊎_elim
           (λ y. let same : block_of y.0 ≡ b = pair.reached.unique (block_of y.0) b (in_both q y.0 y.1) u (sym (e ∙ is.kept q y.0 z y.1 y.2)) in
           record { alone = subst (λ i. Has own i) same (young_own q y.0 y.1 y.2); new = subst (λ i. Has (reach_of last) i → ⊥) same (not_last (block_of y.0) y.2); key = q; cell = y.0; there = y.1; is = same; leaves = t })
@@ -150,32 +154,13 @@ module _ (size : ℕ) (w last : World) (good : IsWorld size w) (synced : IsWorld
             is = r.0.is;
             leaves = r.0.touched;
           })
-          (kept_or_fresh q z)
-
-      apart : (j k : Key) (y : Cell) → IsMadeKey s.live ch j → IsMadeKey s.live ch k → get s.live j ≡ Some y → young ≤ y.birth
-          → (IsKept s.live ch young k → ⊥) → is.number j ≡ is.number k → ⊥
-      apart j k y mj mk g l n e =
-          let r = (taken_from (is.number k) (block_of y) (is.fresh k mk n) (in_both j y g) (sym (is.kept j y mj g l) ∙ e)).0 in
-          let same : j ≡ r.key = one j r.key y r.cell g r.there (ap (λ (z : Block). z.number) (sym r.is)) in
-          r.goes (subst (λ q. IsKept s.live ch young q) same (record { made = mj; cell = y; there = g; born = l }))
+          (keeps_or_takes q)
 
       once : (j k : Key) (a b : Cell) → is_touched s.live ch j ≡ true → is_touched s.live ch k ≡ true → get new j ≡ Some a → get new k ≡ Some b
           → is.number j ≡ is.number k → j ≡ k
-      once j k a b t u h g e =
-          let mj = made_key j a t h in
-          let mk = made_key k b u g in
-          ⊎_elim
-          (λ x. ⊎_elim
-          (λ z. one j k x.0 z.0 x.1 z.1 (sym (is.kept j x.0 mj x.1 x.2) ∙ e ∙ is.kept k z.0 mk z.1 z.2))
-          (λ n. absurd (apart j k x.0 mj mk x.1 x.2 n e))
-          (kept_or_fresh k mk))
-          (λ n. ⊎_elim
-          (λ z. absurd (apart k j z.0 mk mj z.1 z.2 n (sym e)))
-          (λ p. is.once j k mj mk n p e)
-          (kept_or_fresh k mk))
-          (kept_or_fresh j mj)
+      once = fresh_once (maps_of_both w last) (InNow (Live name)) pair.cells s.live map_is ch w.group young states v is held alone
 
-  pub tree' : IsTree size (rewrite s.live ch w.group is.number)
+  tree' : IsTree size (rewrite s.live ch w.group is.number)
   tree' = subst (IsTree size) is.new_is (is.tree size (subst (IsTree size) (map_of_live w name s at) (good.trees (Live name))) taken_small)
 
   abbrev pub planned : World
@@ -187,6 +172,21 @@ module _ (size : ℕ) (w last : World) (good : IsWorld size w) (synced : IsWorld
 
   pub plan_pairs : ArePaired size planned last
   plan_pairs = write_pairs size w last good synced pair name s at new (is_touched s.live ch) is.number change tree' chosen
+      (cells_after (maps_of_both w last) (InNow (Live name)) pair.cells s.live map_is ch w.group young states v is held alone (maps_of_both planned last)
+      (live_new w good.systems name s at new plan_world.systems.lines) rest)
+    where
+      rest : (e : Place) → ((¬ (e ≡ InNow (Live name))) × (maps_of_both planned last e ≡ maps_of_both w last e)) ⊎ (e ≡ InNow (Live name))
+      rest (InNow d) = ⊎_elim
+          (λ x. inl ((λ e. x.0 (same_now d (Live name) e)), x.1))
+          (λ x. inr (ap InNow x))
+          (live_rest w good.systems name s at new plan_world.systems.lines d)
+        where
+          same_now : (d e : Dataset) → InNow d ≡ InNow e → d ≡ e
+          same_now d e is = cc
+      rest (InLast d) = inl (apart d, refl)
+        where
+          apart : (d : Dataset) → InLast d ≡ InNow (Live name) → ⊥
+          apart d e = cc
 
   -- ---- what it releases
 
@@ -207,7 +207,7 @@ module _ (size : ℕ) (w last : World) (good : IsWorld size w) (synced : IsWorld
       by_made true e = ⊎_elim
           (λ z. inl ((t, e), subst (λ (y : Cell). young ≤ y.birth) (same_value z.0 x (sym z.1 ∙ h)) z.2))
           (λ n. inr n)
-          (kept_or_fresh k (t, e))
+          (keeps_or_takes k)
       by_made false e = inr (λ z. true≢false (sym z.made.1 ∙ e))
 
   -- the v.released blocks that the map alone had: they leave what is reached. The others go onto the deadlist
@@ -255,7 +255,7 @@ module _ (size : ℕ) (w last : World) (good : IsWorld size w) (synced : IsWorld
       by_new k = ⊎_elim
           (λ z. inl (block_of z.1, in_now z.0 z.1 z.2, ap (λ (y : Block). y.number) z.3, λ i. true≢false (sym (goes_at z.0 z.1 z.2 (leaves_own (block_of z.1) i).0).0 ∙ z.4)))
           (λ z.
-          let q = made_key z.0 z.1 z.3 z.2 in
+          let q = made z.0 z.1 z.3 z.2 in
           ⊎_elim
           (λ y. inl (
             block_of y.0,
@@ -264,7 +264,7 @@ module _ (size : ℕ) (w last : World) (good : IsWorld size w) (synced : IsWorld
             λ i. (goes_at z.0 y.0 y.1 (leaves_own (block_of y.0) i).0).1 (record { made = q; cell = y.0; there = y.1; born = y.2 }),
           ))
           (λ n. inr (subst (λ x. IsIn v.taken x) (sym z.5) (is.fresh z.0 q n)))
-          (kept_or_fresh z.0 q))
+          (keeps_or_takes z.0))
           (from_new_blocks s.live new (is_touched s.live ch) w.group is.number change b k)
 
   stays : (b : Block) → Has (reach_of w) b → (IsIn (filter leaves v.released) b → ⊥) → ((a : Block) × Has (reach_of planned) a × (a.number ≡ b.number)) × (Has (reach_of last) b → Has (reach_of planned) b)
@@ -302,41 +302,3 @@ module _ (size : ℕ) (w last : World) (good : IsWorld size w) (synced : IsWorld
     once = filter_different leaves v.released is.released_once;
     taken_once = is.taken_once;
   }
-
-  -- ---- what goes onto the deadlist
-
-  -- the v.released blocks that the one before has are the entries that the deadlist gains
-  pub plan_dead : (b : Block) → (IsIn v.released b × (b.birth ≤ base_of w (Live name))) ↔ Has (upto (base_of w (Live name)) (difference (blocks s.live) (blocks (rewrite s.live ch w.group is.number)))) b
-  plan_dead b = (
-    λ p. in_upto (base_of w (Live name)) (difference (blocks s.live) (blocks new)) b (in_difference o (blocks s.live) (blocks new) b (released_in b p.0) (λ k. still b p.0 p.1 k)) p.1,
-    λ h.
-        let l = from_upto (base_of w (Live name)) (difference (blocks s.live) (blocks new)) b h in
-        let d = from_difference o (blocks s.live) (blocks new) b l.0 in
-        let f = from_blocks s.live b d.0 in
-        (by_touch f.0 f.1 f.2 f.3 l.1 d.1 (is_touched s.live ch f.0) refl, l.1),
-  )
-    where
-      still : (b : Block) → IsIn v.released b → b.birth ≤ base_of w (Live name) → Has (blocks (rewrite s.live ch w.group is.number)) b → ⊥
-      still b i l k =
-          let r = (is.released b).0 i in
-          ⊎_elim
-          (λ z. let same = one r.key z.0 r.cell z.1 r.there z.2 (ap (λ (y : Block). y.number) (r.is ∙ sym z.3)) in true≢false (sym r.touched ∙ ap (is_touched s.live ch) same ∙ z.4))
-          (λ z. let e = z.6 in let f = base_low in absurd (omega arith))
-          (from_new_blocks s.live new (is_touched s.live ch) w.group is.number change b k)
-
-      by_touch : (k : Key) (x : Cell) → get s.live k ≡ Some x → block_of x ≡ b → b.birth ≤ base_of w (Live name) → ¬ (Has (blocks (rewrite s.live ch w.group is.number)) b)
-          → (t : Bool) → is_touched s.live ch k ≡ t → IsIn v.released b
-      by_touch k x g same l out false t = absurd (out (subst (λ y. Has (blocks new) y) same (in_blocks new k x (change.kept k t ∙ g))))
-      by_touch k x g same l out true t = (is.released b).1 (record {
-        key = k;
-        cell = x;
-        there = g;
-        is = same;
-        touched = t;
-        goes = λ z.
-            let e : z.cell.birth ≡ x.birth = ap (λ (y : Cell). y.birth) (same_value z.cell x (sym z.there ∙ g)) in
-            let f : x.birth ≡ b.birth = ap (λ (y : Block). y.birth) same in
-            let i = z.born in
-            let j = own_late in
-            absurd (omega arith);
-      })

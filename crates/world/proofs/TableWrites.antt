@@ -1,21 +1,19 @@
 -- A live map gives way to another, as a table sees it: of numbers it knows only that the new blocks are no dataset's.
-use Rattle.std.proofs.Common.{◌≡◌, Some, sym, ap, ◌∙◌, ◌⊎◌, inl, inr, ⊎_elim, map, arith}
+use Rattle.std.proofs.Common.{◌≡◌, Some, sym, ap, ◌∙◌, ◌⊎◌, inl, inr, ⊎_elim, map}
 use Rattle.std.specs.FinMap.{get, insert}
-use Rattle.std.specs.FinSet.{union, difference}
+use Rattle.std.specs.FinSet.{difference}
 use Rattle.base.specs.Map.{Map, Block, blocks}
 use Rattle.model.specs.World.{World, FileSystem, Dataset, Live, union_of}
 use Rattle.world.specs.Sets.{Has}
-use Rattle.world.specs.Blocks.{after, upto}
+use Rattle.world.specs.Blocks.{after}
 use Rattle.world.specs.Lineage.{Row, Puts}
 use Rattle.world.specs.Shapes.{Name, Before, before_live, row, Writes, lineages, IsGood}
 use Rattle.world.specs.Worlds.{FileSystems, snap_shape, shape_of, shapes, AreFileSystems}
-use Rattle.world.specs.Dead.{base_of, dead_of, IsThere}
-use Rattle.world.proofs.Lineage.{below_born}
+use Rattle.world.specs.Dead.{base_of}
 use Rattle.world.proofs.Changes.{write_keeps, puts}
-use Rattle.world.proofs.Chains.{write_dead}
 use Rattle.world.proofs.Bridge.{shape_at, start, starts, live_row, live_there, union_is}
 use Rattle.world.proofs.Put.{put_shape, put_shapes, put_tidy, put_hierarchy}
-use Rattle.world.proofs.Dead.{row_base, row_dead, there_row, dead_same}
+use Rattle.world.proofs.Dead.{row_base}
 
 module _ (w : World) (good : AreFileSystems w.file_systems w.group) (name : Name) (s : FileSystem) (at : get w.file_systems name ≡ Some s) (m : Map)
     (new : (b : Block) → Has (blocks m) b → Has (blocks s.live) b ⊎ ((b.birth ≡ w.group) × ¬ (Has (union_of w) b))) where
@@ -65,8 +63,9 @@ module _ (w : World) (good : AreFileSystems w.file_systems w.group) (name : Name
     tidy = put_tidy ss name t w.group good.tidy (let k = good.tidy name s at in record { names = k.names; bookmarks = k.bookmarks });
   }
 
-  step : Puts Dataset (lineages (shapes w.file_systems) w.group) (lineages (shapes (insert w.file_systems name (record s { live = m }))) w.group) (Live name) (row w.group (before_live q (map snap_shape s.snaps)) (blocks m))
-  step = puts (shapes ss) (shapes (insert ss name t)) w.group lines name (shape_of s) (shape_at ss name s at) (blocks m) writes.here writes.others q (starts ss w.group lines name s at) each
+  -- the live map alone has another row
+  pub live_step : Puts Dataset (lineages (shapes w.file_systems) w.group) (lineages (shapes (insert w.file_systems name (record s { live = m }))) w.group) (Live name) (row w.group (before_live q (map snap_shape s.snaps)) (blocks m))
+  live_step = puts (shapes ss) (shapes (insert ss name t)) w.group lines name (shape_of s) (shape_at ss name s at) (blocks m) writes.here writes.others q (starts ss w.group lines name s at) each
 
   -- what is lost
   pub live_loses : difference (union_of w) (union_of with_map) ≡ difference (after (base_of w (Live name)) (blocks s.live)) (blocks m)
@@ -74,19 +73,3 @@ module _ (w : World) (good : AreFileSystems w.file_systems w.group) (name : Name
       sym ((write_keeps (shapes ss) (shapes (insert ss name t)) w.group name (blocks m) q lines writes (starts ss w.group lines name s at) each).1
       (union_of w) (union_of with_map) (union_is w w.group lines) (union_is with_map w.group live_systems.lines))
       ∙ ap (λ g. difference (after g (blocks s.live)) (blocks m)) base_is
-
-  -- what the deadlist gains
-  pub live_dead : dead_of with_map (Live name) ≡ union (dead_of w (Live name)) (upto (base_of w (Live name)) (difference (blocks s.live) (blocks m)))
-  live_dead =
-      sym (row_dead with_map w.group live_systems.lines (Live name) (row w.group (before_live q (map snap_shape s.snaps)) (blocks m)) step.here)
-      ∙ write_dead qL.below (blocks s.live) (blocks m) qL.base
-      (λ b h. below_born (lineages (shapes ss) w.group) lines.facts (Live name) L b in_L h)
-      (λ b h l. (lines.facts.sound (Live name) L in_L).kept b h l)
-      (λ b h. ⊎_elim inl (λ x. inr (let f = (lines.facts.sound (Live name) L in_L).falls in let e = x.0 in omega arith)) (new b h))
-      ∙ (λ i. union (row_dead w w.group lines (Live name) L in_L i) (upto (base_is i) (difference (blocks s.live) (blocks m))))
-
-  -- no other deadlist changes
-  pub live_others : (d : Dataset) → IsThere w d → ¬ (d ≡ Live name) → dead_of with_map d ≡ dead_of w d
-  live_others d is_there ne =
-      let r = there_row w w.group lines d is_there in
-      dead_same w with_map w.group w.group lines live_systems.lines d r.0 r.1 (step.rest d r.0 ne r.1)

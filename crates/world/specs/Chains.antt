@@ -1,4 +1,4 @@
--- The first world, the deadlist after a write, and removals one after the other.
+-- The first world, what a write loses, and removals one after the other.
 use Rattle.std.specs.Prelude.{◌≡◌, ℕ, zero, suc, ◌<◌, ◌≤◌, ◌⊎◌, [], Some, None}
 use Rattle.std.specs.FinSet.{empty, difference, union}
 use Rattle.world.specs.Sets.{Has, IsSubset}
@@ -13,13 +13,6 @@ no_systems name = None
 -- one file system without blocks (On-Disk Specification, chapter 4)
 abbrev pub FreshIsGood : Type 0
 FreshIsGood = (m : Shapes) (name : Name) (g : ℕ) → 0 < g → m name ≡ Some (record { live = empty; snapshots = []; origin = None }) → ((other : Name) → ¬ (other ≡ name) → m other ≡ None) → IsGood m g
-
--- The deadlist after a write: it gains the dropped blocks that were born by the group before. `below` are the blocks of the one before, of group `base` (On-Disk Specification, chapter 4)
-abbrev pub WriteDead : Type 0
-WriteDead = (below old new : BlockSet) (base : ℕ) → ((b : Block) → Has below b → b.birth ≤ base)
-    → ((b : Block) → Has old b → b.birth ≤ base → Has below b)
-    → ((b : Block) → Has new b → Has old b ⊎ (base < b.birth))
-    → difference below new ≡ union (difference below old) (upto base (difference old new))
 
 -- what a write loses, and the rest of what it drops (On-Disk Specification, chapter 4)
 abbrev pub WriteLoses : Type 0

@@ -1,6 +1,6 @@
 -- A deadlist as a list of entries, each block once.
 use Rattle.base.specs.Surveys.{AreDifferent}
-use Rattle.std.specs.Prelude.{◌≡◌, ℕ, ◌⊎◌, List, [], ◌∷◌, ◌++◌, length, filter, Some, ltb, leb}
+use Rattle.std.specs.Prelude.{◌≡◌, ℕ, List, ◌++◌, length, filter, Some, ltb, leb}
 use Rattle.std.specs.FinSet.{union, len, from_list}
 use Rattle.world.specs.Sets.{AreDisjoint}
 use Rattle.world.specs.Blocks.{Block, BlockSet, after, upto}

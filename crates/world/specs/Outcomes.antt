@@ -1,9 +1,8 @@
 -- What further requests do to a world (the page of each subcommand), as the model will say it.
-use Rattle.std.specs.Prelude.{ℕ, ◌+◌, Bool, false, not, List, [], ◌∷◌, ◌++◌, Option, Some, nat_lt, nat_le}
+use Rattle.std.specs.Prelude.{ℕ, Bool, not, List, [], ◌∷◌, ◌++◌, Option, Some, nat_lt, nat_le}
 use Rattle.std.specs.List.{filter, list_any}
 use Rattle.std.specs.Option.{option_map, option_map_or, option_and_then}
 use Rattle.std.specs.FinMap.{entries, insert, retain_keys, from_entries}
-use Rattle.name.specs.declared.member.Member.{Member}
 use Rattle.name.specs.Names.{same_name}
 use Rattle.model.specs.World.{World, FileSystem, Snap, SnapId, id_of, same_id, empty_file_system, file_system_at, snap_at, map_of_snap}
 use Rattle.model.specs.Edits.{with_file_system, without_snaps, with_losses}

@@ -1,6 +1,6 @@
 -- Sums down a tree whose nodes stand in a list, as file systems do by their names.
 use Rattle.base.specs.Surveys.{IsIn}
-use Rattle.std.specs.Prelude.{◌≡◌, ℕ, zero, suc, ◌+◌, ◌≤◌, ◌⊎◌, Bool, true, cond, List, [], ◌∷◌, eqb}
+use Rattle.std.specs.Prelude.{◌≡◌, ℕ, zero, suc, ◌+◌, ◌≤◌, Bool, true, cond, List, [], ◌∷◌, eqb}
 
 -- the sum of a number of each element (profile)
 abbrev pub total : {A : Type 0} → (A → ℕ) → List A → ℕ

@@ -1,4 +1,4 @@
-use Rattle.std.proofs.Common.{◌≡◌, ◌++◌, ◌∷◌, [], ap, sym, subst, ◌∙◌, Some, None, List, Option}
+use Rattle.std.proofs.Common.{◌≡◌, ap, sym, subst, ◌∙◌, List, Option}
 use Rattle.std.specs.Option.{option_copied}
 use Rattle.std.specs.Arc.{arc_value}
 use Rattle.std.specs.List.{find}

@@ -1,12 +1,11 @@
 use Rattle.std.proofs.Common.{sym, subst}
 use Rattle.file_systems.specs.Rows.{live_of, plain_snap}
 use Rattle.world.specs.Tables.{Datasets, CanSnap}
-use Rattle.datasets.proofs.Kept.{snapped_facts}
+use Rattle.datasets.proofs.Kept.{snapped_table}
 use Rattle.datasets.proofs.table.Table.take_snapshot.Goals as goal
 
 pub invariant_of-self : goal.invariant_of-self
 invariant_of-self c =
     let can = subst (λ (t : Datasets). CanSnap t c.args.name.now (plain_snap c.args.component.now (live_of t.file_systems c.args.name.now) c.args.guid.0 c.args.group.0)) (sym c.self.view_is) c.requires in
-    let facts = snapped_facts _ c.self.invariant.systems c.self.invariant.plain c.args.name.now c.args.component.now c.args.guid.0 c.args.group.0 can
-    c.take_snapshot.result c.take_snapshot.new.self c.take_snapshot.ensures.ok c.take_snapshot.ensures.err in
-    record { systems = facts.0; plain = facts.1 }
+    snapped_table _ c.self.invariant c.args.name.now c.args.component.now c.args.guid.0 c.args.group.0 can
+    c.take_snapshot.result c.take_snapshot.new.self c.take_snapshot.ensures.ok c.take_snapshot.ensures.err

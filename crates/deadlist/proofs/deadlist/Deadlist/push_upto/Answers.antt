@@ -1,6 +1,5 @@
 use Rattle.std.proofs.Common.{arith}
 use Rattle.std.proofs.lemmas.Bool.{le-leb}
-use Rattle.base.specs.declared.number.Dead.{Dead}
 use Rattle.deadlist.specs.Entries.{is_upto}
 use Rattle.deadlist.proofs.Pushes.{one_to_come}
 use Rattle.deadlist.proofs.deadlist.Deadlist.push_upto.Goals as goal

@@ -1,7 +1,7 @@
-use Rattle.std.proofs.Common.{◌≡◌, List, ℕ, [], ◌∷◌, ◌++◌, map, rules, refl, sym, ap, subst, ◌∙◌}
+use Rattle.std.proofs.Common.{◌≡◌, [], ◌∷◌, ◌++◌, map, sym, ap, subst, ◌∙◌}
 use Rattle.std.specs.Arc.{arc_value}
 use Rattle.std.specs.FinSet.{difference}
-use Rattle.base.specs.Map.{Map, blocks}
+use Rattle.base.specs.Map.{blocks}
 use Rattle.base.specs.Surveys.{dead_block}
 use Rattle.deadlist.specs.Held.{Held}
 use Rattle.model.specs.World.{Snap, empty_file_system}

@@ -1,4 +1,4 @@
-use Rattle.std.proofs.Common.{◌≡◌, List, Option, ap, subst, ◌∙◌}
+use Rattle.std.proofs.Common.{List, Option, ap, subst, ◌∙◌}
 use Rattle.std.specs.List.{find}
 use Rattle.name.specs.Names.{same_name}
 use Rattle.snapshots.specs.declared.kept.Kept.{Kept}

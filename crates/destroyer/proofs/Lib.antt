@@ -1,0 +1,3 @@
+pub mod Peeling
+pub mod Pieces
+pub mod Together

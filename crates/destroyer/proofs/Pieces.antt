@@ -1,0 +1,83 @@
+-- Blocks of pieces as they are taken off.
+use Rattle.std.proofs.Common.{◌≡◌, ℕ, zero, suc, ◌+◌, ◌-◌, ◌<◌, ◌≤◌, List, [], ◌∷◌, ◌++◌, ◌⊎◌, length, take, drop, sym, ap, ◌∙◌, arith, append_assoc, append-nil}
+use Rattle.std.specs.List.{flat_map}
+use Rattle.std.proofs.lemmas.List.{reverse-append, map-append, take-append-drop, drop-drop, length-append, length-map}
+use Rattle.base.specs.declared.number.Dead.{Dead}
+use Rattle.base.specs.Map.{Block}
+use Rattle.base.specs.Surveys.{dead_block}
+use Rattle.destroyer.specs.declared.piece.Piece.{Piece}
+use Rattle.destroyer.specs.declared.piece.Piece.TheVariants.{Tree}
+use Rattle.base.specs.declared.number.Group.{Group}
+use Rattle.tree.specs.Branch.{Branch}
+use Rattle.destroyer.proofs.Peeling.{last_top}
+use Rattle.destroyer.specs.Members.{dead_blocks, piece_blocks, members, born_after, tops_after}
+
+-- one more piece
+pub last_piece : (ps : List Piece) (p : Piece) → members (ps ++ p ∷ []) ≡ piece_blocks p ++ members ps
+last_piece ps p = ap (flat_map piece_blocks) (reverse-append ps (p ∷ []))
+
+-- the entries of a dead list that are taken, and those that are left
+pub entries_off : (olds news entries later : List Dead) (more : List Block) → news ≡ olds ++ entries
+    → dead_blocks news ++ (dead_blocks later ++ more) ≡ dead_blocks olds ++ (dead_blocks (entries ++ later) ++ more)
+entries_off olds news entries later more is =
+    ap (λ xs. xs ++ (dead_blocks later ++ more)) (ap dead_blocks is ∙ map-append dead_block olds entries)
+    ∙ append_assoc (dead_blocks olds) (dead_blocks entries) (dead_blocks later ++ more)
+    ∙ ap (λ xs. dead_blocks olds ++ xs) (sym (append_assoc (dead_blocks entries) (dead_blocks later) more) ∙ ap (λ xs. xs ++ more) (sym (map-append dead_block entries later)))
+
+-- how far the pieces are from being enough: not at all, or one more than their number
+abbrev pub left_to : ℕ → ℕ → ℕ
+left_to zero n = 0
+left_to (suc k) n = suc n
+
+pub nearer : (a b m n : ℕ) → 0 < a → (b ≡ 0) ⊎ (suc n ≡ m) → left_to b n < left_to a m
+nearer zero b m n some h = absurd (omega arith)
+nearer (suc a) zero m n some h = omega arith
+nearer (suc a) (suc b) m n some h = omega arith
+
+-- as many as are wanted, where nothing is left
+pub enough : (taken : List Dead) (rest all : List Block) (wanted : ℕ) → dead_blocks taken ++ rest ≡ all → rest ≡ [] → wanted ≤ length all → wanted ≤ length taken
+enough taken rest all wanted is none few =
+    let whole : length (dead_blocks taken ++ rest) ≡ length all = ap length is in
+    let parts = length-append (dead_blocks taken) rest in
+    let zero_left : length rest ≡ 0 = ap length none in
+    let long = length-map taken dead_block in
+    omega arith
+
+-- one more entry
+pub one_more : (ds olds news later : List Dead) (d : Dead) (whole : List Dead) (count counter : ℕ) → counter < count → news ≡ olds ++ d ∷ [] → ds ≡ d ∷ later
+    → olds ++ take (count - counter) ds ≡ whole → news ++ take (count - (counter + 1)) later ≡ whole
+one_more ds olds news later d whole count counter lt put is e =
+    let next : suc (count - (counter + 1)) ≡ count - counter = omega arith in
+    ap (λ xs. xs ++ take (count - (counter + 1)) later) put
+    ∙ append_assoc olds (d ∷ []) (take (count - (counter + 1)) later)
+    ∙ ap (λ k. olds ++ take k (d ∷ later)) next
+    ∙ ap (λ xs. olds ++ take (count - counter) xs) (sym is)
+    ∙ e
+
+-- the entries from an index on, in two parts
+pub entries_left : (xs : List Dead) (first count : ℕ) → take count (drop first xs) ++ drop (first + count) xs ≡ drop first xs
+entries_left xs first count = ap (λ ys. take count (drop first xs) ++ ys) (sym (drop-drop count first xs)) ∙ take-append-drop count (drop first xs)
+
+-- what is left of a tree goes back
+pub tree_off : (cut : ℕ) (top : Branch) (olds news tops kept_old kept_new : List Block) → news ++ tops ≡ olds ++ (born_after cut top ++ []) → kept_new ≡ tops ++ kept_old
+    → news ++ kept_new ≡ olds ++ (born_after cut top ++ kept_old)
+tree_off cut top olds news tops kept_old kept_new e kept =
+    ap (λ xs. news ++ xs) kept
+    ∙ sym (append_assoc news tops kept_old)
+    ∙ ap (λ xs. xs ++ kept_old) (e ∙ ap (λ xs. olds ++ xs) (append-nil (born_after cut top)))
+    ∙ append_assoc olds (born_after cut top) kept_old
+
+-- a tree's tops go back one by one
+pub top_kept : (cut : Group) (done : List Branch) (top : Branch) (now new old : List Piece) → new ≡ now ++ Tree top cut ∷ [] → members now ≡ tops_after cut.0 done ++ members old
+    → members new ≡ tops_after cut.0 (done ++ top ∷ []) ++ members old
+top_kept cut done top now new old put e =
+    ap members put
+    ∙ last_piece now (Tree top cut)
+    ∙ ap (λ xs. born_after cut.0 top ++ xs) e
+    ∙ sym (append_assoc (born_after cut.0 top) (tops_after cut.0 done) (members old))
+    ∙ ap (λ xs. xs ++ members old) (sym (last_top cut.0 done top))
+
+-- one more is not none
+pub not_nil : {A : Type 0} (xs : List A) (x : A) → ¬ (xs ++ x ∷ [] ≡ [])
+not_nil [] x e = cc
+not_nil (y ∷ xs) x e = cc

@@ -1,0 +1,40 @@
+-- The blocks of what is to be freed.
+use Rattle.std.specs.Prelude.{ℕ, List, Option, map, drop, reverse}
+use Rattle.std.specs.List.{flat_map, filter_map}
+use Rattle.std.specs.FinSet.{from_list}
+use Rattle.base.specs.declared.number.Dead.{Dead}
+use Rattle.base.specs.Map.{Block, BlockSet}
+use Rattle.base.specs.Surveys.{dead_block}
+use Rattle.tree.specs.Branch.{Branch, branch_blocks}
+use Rattle.world.specs.Deadlists.{entries_after}
+use Rattle.destroyer.specs.declared.piece.Piece.{Piece}
+use Rattle.destroyer.specs.declared.piece.Piece.TheVariants.{Tree, Dead as DeadPiece}
+
+-- the blocks of entries (On-Disk Specification, chapter 4: dead lists)
+abbrev pub dead_blocks : List Dead → List Block
+dead_blocks = map dead_block
+
+-- the set of the blocks of entries (On-Disk Specification, chapter 4)
+abbrev pub dead_set : List Dead → BlockSet
+dead_set ds = from_list (dead_blocks ds)
+
+-- what stands at the places that have anything (profile)
+abbrev pub somes : {A : Type 0} → List (Option A) → List A
+somes = filter_map (λ o. o)
+
+-- the blocks of a branch that were born after a cut (On-Disk Specification, chapter 2: birth txg)
+abbrev pub born_after : ℕ → Branch → List Block
+born_after cut b = entries_after cut (branch_blocks b)
+
+-- those of several, the last one's first (profile)
+abbrev pub tops_after : ℕ → List Branch → List Block
+tops_after cut bs = flat_map (born_after cut) (reverse bs)
+
+-- the blocks of a piece: of a tree those born after its cut, of a dead list the entries that are left (zpool-features(7): async_destroy)
+abbrev pub piece_blocks : Piece → List Block
+piece_blocks (Tree top cut) = born_after cut.0 top
+piece_blocks (DeadPiece list first) = dead_blocks (drop first list.value.entries)
+
+-- those of several, the last one's first (profile)
+abbrev pub members : List Piece → List Block
+members ps = flat_map piece_blocks (reverse ps)

@@ -1,0 +1,158 @@
+//! What is to be freed.
+ghost use Rattle.std.specs.Prelude.{◌≡◌, length, min, IfOk, OnOk, OnErr};
+ghost use Rattle.std.specs.FinSet as set;
+ghost use Rattle.std.specs.FinSet.{union, difference};
+ghost use Rattle.base.specs.Map.{blocks};
+ghost use Rattle.base.specs.Surveys.{AreDifferent};
+ghost use Rattle.base.specs.declared.refusal.Refusal.{Refusal};
+ghost use Rattle.world.specs.Blocks.{after};
+ghost use Rattle.world.specs.Sets.{AreDisjoint, IsSubset};
+ghost use Rattle.destroyer.specs.Members.{dead_blocks, dead_set, members};
+
+use crate::piece::{Piece, take_blocks};
+use base::meter::{Meter, SegMeter};
+use base::number::{Dead, Group};
+use base::refusal::Refusal;
+use deadlist::deadlist::Deadlist;
+use shared_list::SharedList;
+use std::alloc::Global;
+use std::marker::Model;
+use std::sync::Arc;
+use tree::Tree;
+
+/// Blocks that are to be freed (zpoolprops(7): freeing), as whole pieces: trees, each with a group that its blocks were born after,
+/// and dead lists. Contracts see the set of the blocks.
+#[derive(Drop)]
+pub struct Freeing {
+    pieces: SharedList<Piece>,
+    len: u64,
+    alloc: Global,
+}
+
+impl Model for Freeing {
+    ghost use Rattle.std.specs.Prelude.{◌≡◌, length};
+    ghost use Rattle.std.specs.FinSet.{from_list};
+    ghost use Rattle.base.specs.Codes.{blocks_code};
+    ghost use Rattle.base.specs.Map.{BlockSet};
+    ghost use Rattle.base.specs.Surveys.{AreDifferent};
+    ghost use Rattle.destroyer.specs.Members.{members};
+
+    ghost Value = { BlockSet };
+
+    ghost coded = { blocks_code };
+
+    ghost view = { λ f. from_list (members f.pieces) };
+
+    ghost invariant = { λ f. AreDifferent (members f.pieces) × (f.len ≡ length (members f.pieces)) };
+}
+
+/// Some of the blocks, and what is left without them.
+#[derive(Drop)]
+pub struct Slice {
+    pub rest: Freeing,
+    pub taken: Vec<Dead>,
+}
+
+impl Freeing {
+    /// Nothing to be freed. Constant time; it takes no memory, and keeps the allocator.
+    pub fn new(alloc: Global) -> Freeing
+        ensures { result ≡ set.empty }
+    {
+        Freeing {
+            pieces: SharedList::new(alloc),
+            len: 0,
+            alloc,
+        }
+    }
+
+    /// How many blocks there are. Constant time.
+    pub fn len(&self) -> u64
+        ensures { result ≡ set.len self.now }
+    {
+        self.len
+    }
+
+    /// An equal one, which shares all pieces: it costs the chunks that have them, and visits no block. NoMemory where memory is refused.
+    pub fn copy(&self) -> Result<Freeing, Refusal>
+        ensures ok { IfOk result (λ f. f ≡ self.now) }
+        ensures err { OnErr result (result ≡ Err Refusal.NoMemory) }
+    {
+        let pieces = self.pieces.copy()?;
+        Ok(Freeing {
+            pieces,
+            len: self.len,
+            alloc: self.alloc,
+        })
+    }
+
+    /// Adds the blocks of a tree that were born after a group, and these are that many. No block is visited: it costs one piece, or the
+    /// last chunk of pieces where a copy has that too. NoMemory where memory is refused or there are then more blocks than a u64 counts,
+    /// and then nothing is changed.
+    pub fn add_tree(&mut self, tree: &Tree, cut: Group, count: u64) -> Result<(), Refusal>
+        requires count { count ≡ set.len (after cut.0 (blocks tree.now)) }
+        requires apart { AreDisjoint self.old (after cut.0 (blocks tree.now)) }
+        ensures ok { OnOk result (self.new ≡ union self.old (after cut.0 (blocks tree.now))) }
+        ensures unchanged { OnErr result (self.new ≡ self.old) }
+        ensures err { OnErr result (result ≡ Err Refusal.NoMemory) }
+    {
+        let _count = tree.node_count();
+        let Some(len) = self.len.checked_add(count) else {
+            return Err(Refusal::NoMemory);
+        };
+        let Some(top) = tree.top()? else {
+            return Ok(());
+        };
+        self.pieces.push(Piece::Tree { top, cut })?;
+        self.len = len;
+        Ok(())
+    }
+
+    /// Adds the blocks of a dead list's entries. No entry is visited: it costs one piece, or the last chunk of pieces where a copy has
+    /// that too. NoMemory where memory is refused or there are then more blocks than a u64 counts, and then nothing is changed.
+    pub fn add_dead(&mut self, list: Arc<Deadlist>) -> Result<(), Refusal>
+        requires once { AreDifferent (dead_blocks list.value.entries) }
+        requires apart { AreDisjoint self.old (dead_set list.value.entries) }
+        ensures ok { OnOk result (self.new ≡ union self.old (dead_set list.value.entries)) }
+        ensures unchanged { OnErr result (self.new ≡ self.old) }
+        ensures err { OnErr result (result ≡ Err Refusal.NoMemory) }
+    {
+        let Some(len) = self.len.checked_add(list.len()) else {
+            return Err(Refusal::NoMemory);
+        };
+        self.pieces.push(Piece::Dead { list, first: 0 })?;
+        self.len = len;
+        Ok(())
+    }
+
+    /// Takes that many of the blocks, or all where they are fewer, off the pieces that were added last, in the order of their trees and
+    /// lists, and gives them with the others. NoMemory where memory is refused.
+    ///
+    /// It costs the chunks that have pieces, of which it makes the last anew. Of a dead list it costs the entries that it takes, and a
+    /// step for each segment and each full chunk before them; the meter of segments counts all of the list. Of a tree it costs the nodes
+    /// that it visits, each with its sixteen places, and the other meter counts them. Over a run of slices, each of what the one before
+    /// has left, no node is visited twice: those of the blocks that are taken, and tops that are no younger than their cut, each of them a
+    /// tree's root or one of the at most sixteen below a block that is taken. So one slice alone may visit more than sixteen for a block
+    /// that it takes. A tree of which blocks are left goes back as at most 76 pieces.
+    pub fn slice(
+        &self,
+        n: u64,
+        meter: &mut Meter,
+        segments: &mut SegMeter,
+    ) -> Result<Slice, Refusal>
+        ensures once { IfOk result (λ s. AreDifferent (dead_blocks s.taken.items)) }
+        ensures within { IfOk result (λ s. IsSubset (dead_set s.taken.items) self.now) }
+        ensures count { IfOk result (λ s. length s.taken.items ≡ min n (set.len self.now)) }
+        ensures rest { IfOk result (λ s. s.rest ≡ difference self.now (dead_set s.taken.items)) }
+        ensures err { OnErr result (result ≡ Err Refusal.NoMemory) }
+    {
+        let wanted = n.min(self.len);
+        let mut pieces = self.pieces.copy()?;
+        let taken = take_blocks(&mut pieces, self.alloc, wanted, meter, segments)?;
+        let rest = Freeing {
+            pieces,
+            len: self.len - wanted,
+            alloc: self.alloc,
+        };
+        Ok(Slice { rest, taken })
+    }
+}

@@ -1,0 +1,139 @@
+//! Whole pieces of what is to be freed, and how blocks are taken from them.
+ghost use Rattle.std.specs.Prelude.{◌≡◌, ◌≤◌, ◌++◌, ◌⊎◌, [], length, take, drop, IfOk, OnOk, OnErr};
+ghost use Rattle.base.specs.declared.refusal.Refusal.{Refusal};
+ghost use Rattle.destroyer.specs.Members.{dead_blocks, piece_blocks, members, tops_after};
+
+use crate::tops::take_tops;
+use base::meter::{Meter, SegMeter};
+use base::number::{Dead, Group};
+use base::refusal::Refusal;
+use deadlist::deadlist::Deadlist;
+use shared_list::SharedList;
+use std::alloc::Global;
+use std::sync::Arc;
+use tree::Subtree;
+
+/// A piece of what is to be freed.
+#[derive(Drop)]
+pub(crate) enum Piece {
+    /// The blocks of a subtree that were born after a cut.
+    Tree { top: Subtree, cut: Group },
+
+    /// The blocks of the entries of a dead list, but for that many of the first.
+    Dead { list: Arc<Deadlist>, first: u64 },
+}
+
+/// Puts subtrees behind the pieces.
+fn keep_tops(pieces: &mut SharedList<Piece>, tops: Vec<Subtree>, cut: Group) -> Result<(), Refusal>
+    ensures blocks { OnOk result (members pieces.new ≡ tops_after cut.0 tops.items ++ members pieces.old) }
+    ensures none { tops.items ≡ [] → pieces.new ≡ pieces.old }
+    ensures err { OnErr result (result ≡ Err Refusal.NoMemory) }
+{
+    for top in tops {
+        pieces.push(Piece::Tree { top, cut })?;
+    }
+    Ok(())
+}
+
+/// Takes that many entries of a dead list from an index on.
+fn take_entries(
+    list: &Deadlist,
+    first: u64,
+    count: u64,
+    taken: &mut Vec<Dead>,
+    segments: &mut SegMeter,
+) -> Result<(), Refusal>
+    ensures entries { OnOk result (taken.new.items ≡ taken.old.items ++ take count (drop first list.now.entries)) }
+    ensures err { OnErr result (result ≡ Err Refusal.NoMemory) }
+{
+    let mut entries = list.iter_from(first, segments);
+    for _ in 0..count {
+        let Some(dead) = entries.next() else {
+            break;
+        };
+        taken.push(dead)?;
+    }
+    Ok(())
+}
+
+/// Takes entries of a dead list from an index on until that many blocks are taken, and puts it behind the pieces if any are left.
+fn take_dead(
+    pieces: &mut SharedList<Piece>,
+    list: &Arc<Deadlist>,
+    first: u64,
+    wanted: u64,
+    taken: &mut Vec<Dead>,
+    segments: &mut SegMeter,
+) -> Result<(), Refusal>
+    requires { length taken.old.items ≤ wanted }
+    ensures blocks { OnOk result
+        (dead_blocks taken.new.items ++ members pieces.new
+        ≡ dead_blocks taken.old.items ++ (dead_blocks (drop first list.now.value.entries) ++ members pieces.old)) }
+    ensures few { OnOk result (length taken.new.items ≤ wanted) }
+    ensures done { OnOk result ((length taken.new.items ≡ wanted) ⊎ (pieces.new ≡ pieces.old)) }
+    ensures err { OnErr result (result ≡ Err Refusal.NoMemory) }
+{
+    let left = list.len().saturating_sub(first);
+    let count = left.min(wanted - taken.len() as u64);
+    take_entries(list, first, count, taken, segments)?;
+    if count >= left {
+        return Ok(());
+    }
+    let list = Arc::try_clone(list)?;
+    let first = first + count;
+    pieces.push(Piece::Dead { list, first })?;
+    Ok(())
+}
+
+/// Takes blocks of a piece until that many are taken, and puts what is left of it behind the pieces.
+fn take_piece(
+    pieces: &mut SharedList<Piece>,
+    alloc: Global,
+    piece: &Piece,
+    wanted: u64,
+    taken: &mut Vec<Dead>,
+    meter: &mut Meter,
+    segments: &mut SegMeter,
+) -> Result<(), Refusal>
+    requires { length taken.old.items ≤ wanted }
+    ensures blocks { OnOk result
+        (dead_blocks taken.new.items ++ members pieces.new
+        ≡ dead_blocks taken.old.items ++ (piece_blocks piece.now ++ members pieces.old)) }
+    ensures few { OnOk result (length taken.new.items ≤ wanted) }
+    ensures done { OnOk result ((length taken.new.items ≡ wanted) ⊎ (pieces.new ≡ pieces.old)) }
+    ensures err { OnErr result (result ≡ Err Refusal.NoMemory) }
+{
+    match piece {
+        Piece::Tree { top, cut } => {
+            let mut tops = Vec::with_capacity(alloc, 1)?;
+            let top = top.copy()?;
+            tops.push_reserved(top);
+            take_tops(&mut tops, *cut, wanted, taken, meter)?;
+            keep_tops(pieces, tops, *cut)
+        }
+        Piece::Dead { list, first } => take_dead(pieces, list, *first, wanted, taken, segments),
+    }
+}
+
+/// Takes that many blocks off the pieces, the last piece first.
+pub(crate) fn take_blocks(
+    pieces: &mut SharedList<Piece>,
+    alloc: Global,
+    wanted: u64,
+    meter: &mut Meter,
+    segments: &mut SegMeter,
+) -> Result<Vec<Dead>, Refusal>
+    requires { wanted ≤ length (members pieces.old) }
+    ensures blocks { IfOk result (λ taken. dead_blocks taken.items ++ members pieces.new ≡ members pieces.old) }
+    ensures count { IfOk result (λ taken. length taken.items ≡ wanted) }
+    ensures err { OnErr result (result ≡ Err Refusal.NoMemory) }
+{
+    let mut taken = Vec::new(alloc);
+    while (taken.len() as u64) < wanted {
+        let Some(piece) = pieces.pop_shared()? else {
+            return Ok(taken);
+        };
+        take_piece(pieces, alloc, &piece, wanted, &mut taken, meter, segments)?;
+    }
+    Ok(taken)
+}

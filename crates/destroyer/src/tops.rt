@@ -1,0 +1,80 @@
+//! Subtrees whose tops are taken off one after another.
+ghost use Rattle.std.specs.Prelude.{◌≡◌, ◌+◌, ◌≤◌, ◌++◌, ◌⊎◌, [], length, reverse, OnOk, OnErr};
+ghost use Rattle.base.specs.Counting.{counted};
+ghost use Rattle.base.specs.declared.refusal.Refusal.{Refusal};
+ghost use Rattle.destroyer.specs.Members.{dead_blocks, born_after, tops_after, somes};
+
+use base::meter::Meter;
+use base::number::{Dead, Group};
+use base::refusal::Refusal;
+use tree::Subtree;
+
+/// Puts the subtrees at sixteen places onto the others, the last place first.
+fn put_on(tops: &mut Vec<Subtree>, below: [Option<Subtree>; 16]) -> Result<(), Refusal>
+    ensures stack { OnOk result (reverse tops.new.items ≡ somes below ++ reverse tops.old.items) }
+    ensures few { OnOk result (length tops.new.items ≤ length tops.old.items + 16) }
+    ensures err { OnErr result (result ≡ Err Refusal.NoMemory) }
+{
+    let mut below = below;
+    let mut place = 16;
+    while place > 0 {
+        place -= 1;
+        if let Some(top) = below[place].take() {
+            tops.push(top)?;
+        }
+    }
+    Ok(())
+}
+
+/// Takes one top off, if it was born after the cut, and puts the subtrees directly below on the others.
+fn peel_top(
+    top: Subtree,
+    cut: Group,
+    tops: &mut Vec<Subtree>,
+    taken: &mut Vec<Dead>,
+    meter: &mut Meter,
+) -> Result<(), Refusal>
+    ensures blocks { OnOk result
+        (dead_blocks taken.new.items ++ tops_after cut.0 tops.new.items
+        ≡ dead_blocks taken.old.items ++ (born_after cut.0 top ++ tops_after cut.0 tops.old.items)) }
+    ensures steps { OnOk result
+        (((length taken.new.items ≡ length taken.old.items + 1) × (length tops.new.items ≤ length tops.old.items + 16))
+        ⊎ ((length taken.new.items ≡ length taken.old.items) × (length tops.new.items ≡ length tops.old.items))) }
+    ensures err { OnErr result (result ≡ Err Refusal.NoMemory) }
+    ensures metered { meter.new ≡ counted meter.old 1 }
+{
+    match top.peel(cut, meter) {
+        Ok(Some(peeled)) => {
+            taken.push(peeled.0)?;
+            let below = peeled.1;
+            put_on(tops, below)
+        }
+        Ok(None) => Ok(()),
+        Err(_) => Err(Refusal::NoMemory),
+    }
+}
+
+/// Takes tops off until that many blocks are taken or no subtree is left.
+pub(crate) fn take_tops(
+    tops: &mut Vec<Subtree>,
+    cut: Group,
+    wanted: u64,
+    taken: &mut Vec<Dead>,
+    meter: &mut Meter,
+) -> Result<(), Refusal>
+    requires { length taken.old.items ≤ wanted }
+    ensures blocks { OnOk result
+        (dead_blocks taken.new.items ++ tops_after cut.0 tops.new.items
+        ≡ dead_blocks taken.old.items ++ tops_after cut.0 tops.old.items) }
+    ensures few { OnOk result (length taken.new.items ≤ wanted) }
+    ensures done { OnOk result ((length taken.new.items ≡ wanted) ⊎ (tops.new.items ≡ [])) }
+    ensures err { OnErr result (result ≡ Err Refusal.NoMemory) }
+{
+    while (taken.len() as u64) < wanted {
+        let Some(top) = tops.pop() else {
+            return Ok(());
+        };
+        peel_top(top, cut, tops, taken, meter)?;
+    }
+    Ok(())
+}

@@ -1,0 +1,14 @@
+use Rattle.std.proofs.Common.{ap, ◌∙◌}
+use Rattle.base.specs.Map.{blocks}
+use Rattle.world.specs.Blocks.{after}
+use Rattle.file_systems.specs.Rows.{Row}
+use Rattle.file_systems.proofs.Losses.{born_since}
+use Rattle.file_systems.proofs.file_system.FileSystem.lost.Goals as goal
+
+pub returns-clause-ok : goal.returns-clause-ok
+returns-clause-ok c = record {
+  tree_is = c.in_ok-tree.ensures.ok ∙ ap (λ (r : Row). r.1.live) c.self.view_is;
+  after_is = c.newest_group.ensures;
+  blocks_are = ap (λ n. after n (blocks c.args.self.now.1.live)) c.newest_group.ensures ∙ born_since c.args.self.now.1.live c.args.self.now.1.snaps c.requires;
+  counted = c.written.ensures;
+}

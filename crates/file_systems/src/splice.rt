@@ -1,0 +1,97 @@
+//! A snapshot that goes from those of a file system.
+ghost use Rattle.std.specs.Prelude.{◌≡◌, ◌+◌, ◌<◌, ◌≤◌, ◌==◌, Some, None, IsSome, IfOk, IfErr, length, take, nat_lt, slice_get};
+ghost use Rattle.std.specs.List.{find, last_or};
+ghost use Rattle.std.specs.Option.{option_copied, option_map};
+ghost use Rattle.base.specs.declared.refusal.Refusal.{Refusal};
+ghost use Rattle.world.specs.Worlds.{AreRising};
+ghost use Rattle.file_systems.specs.Dead.{snaps_in};
+ghost use Rattle.file_systems.specs.Splices.{AreJoined, CanJoin, IsNext};
+
+use crate::written::{group_of, written_over};
+use base::meter::SegMeter;
+use base::number::Group;
+use base::refusal::Refusal;
+use deadlist::deadlist::Deadlist;
+use shared_list::SharedList;
+use snapshots::Kept;
+use std::alloc::Global;
+use std::sync::Arc;
+
+fn is_before(kept: &Kept, group: Group) -> bool
+    ensures { result ≡ nat_lt kept.now.snapshot.group group.0 }
+{
+    kept.snapshot.group() < group
+}
+
+/// Where the snapshot of this group stands, which is there. It costs the logarithm of the number of snapshots, and a walk over their chunks.
+pub fn place_of(kept: &SharedList<Kept>, group: Group) -> usize
+    requires rising { AreRising 0 (snaps_in kept.now) }
+    requires there { IsSome (find (λ t. t.group == group.0) (snaps_in kept.now)) }
+    ensures within { result < length kept.now }
+    ensures is { option_map (λ k. k.snapshot.group) (slice_get kept.now result) ≡ Some group.0 }
+{
+    kept.partition_point(|kept: &Kept| is_before(kept, group))
+}
+
+/// The snapshot before that place, or None where the first stands there. It costs a walk over the chunks before it.
+fn before(kept: &SharedList<Kept>, place: usize) -> Option<&Kept>
+    requires { place ≤ length kept.now }
+    ensures { option_copied result ≡ last_or None (take place kept.now) }
+{
+    if place == 0 {
+        return None;
+    }
+    kept.get(place - 1)
+}
+
+/// The dead list of what comes after the snapshot at that place, once that is gone, and what is lost with it: from the dead list that it has
+/// now. It costs the segments of both lists. NoMemory where there is none for it.
+pub fn joined(
+    kept: &SharedList<Kept>,
+    place: usize,
+    next: &Deadlist,
+    segments: &mut SegMeter,
+) -> Result<(Deadlist, Deadlist), Refusal>
+    requires { place < length kept.now }
+    ensures ok { IfOk result (λ p. AreJoined kept.now place next.now.entries p.0.entries p.1.entries) }
+    ensures err { IfErr result (λ e. e ≡ Refusal.NoMemory) }
+{
+    let Some(gone) = kept.get(place) else {
+        unreachable!()
+    };
+    let mut own = next.copy(segments)?;
+    let lost = own.take_after(group_of(before(kept, place)), segments)?;
+    let mut all = gone.dead.copy(segments)?;
+    match all.append(own, segments) {
+        Ok(()) => Ok((all, lost)),
+        Err((refusal, _own)) => Err(refusal),
+    }
+}
+
+/// What is kept of the snapshot after the one at that place, once that is gone, and what is lost with it. It costs the segments of their
+/// dead lists, and the length of its name. NoMemory where there is none for it.
+pub fn joined_next(
+    kept: &SharedList<Kept>,
+    alloc: Global,
+    place: usize,
+    segments: &mut SegMeter,
+) -> Result<(Kept, Deadlist), Refusal>
+    requires { CanJoin kept.now place }
+    ensures ok { IfOk result (λ p. IsNext kept.now place p.0 p.1.entries) }
+    ensures err { IfErr result (λ e. e ≡ Refusal.NoMemory) }
+{
+    let _count = kept.len();
+    let Some(next) = kept.get(place + 1) else {
+        unreachable!()
+    };
+    let (dead, lost) = joined(kept, place, &next.dead, segments)?;
+    let snapshot = next.snapshot.copy()?;
+    let written = written_over(before(kept, place), snapshot.tree(), &dead);
+    let dead = Arc::new(alloc, dead)?;
+    let next = Kept {
+        snapshot,
+        dead,
+        written,
+    };
+    Ok((next, lost))
+}
