@@ -1,0 +1,74 @@
+//! A table from which datasets go.
+ghost use Rattle.std.specs.Prelude.{◌≡◌, ◌⊎◌, ◌↔◌, Some, None, IfSome, IfOk, IfErr, OnOk, length};
+ghost use Rattle.base.specs.declared.refusal.Refusal.{Refusal};
+ghost use Rattle.file_systems.specs.Losses.{newest_map};
+ghost use Rattle.file_systems.specs.Rows.{live_of, snaps_at, with_live};
+ghost use Rattle.model.specs.World.{id_of, snap_named, union_of};
+ghost use Rattle.world.specs.Sets.{AreDisjoint};
+ghost use Rattle.world.specs.Tables.{world_of, without_snap};
+ghost use Rattle.removals.specs.Edits.{HasLost};
+
+use base::meter::SegMeter;
+use base::refusal::Refusal;
+use datasets::Table;
+use destroyer::Freeing;
+use name::{DsName, Member};
+use std::alloc::Global;
+use std::sync::Arc;
+
+/// A table, and what is to be freed beside it.
+#[derive(Drop)]
+pub struct Edit {
+    pub to: Table,
+    pub freeing: Freeing,
+}
+
+impl Edit {
+    /// A copy of a table and of what is to be freed. NoMemory where there is none for it. It costs the number of file systems and the
+    /// chunks of pieces.
+    pub fn of(table: &Table, freeing: &Freeing) -> Result<Edit, Refusal>
+        ensures ok { IfOk result (λ e. (e.to ≡ table.now) × (e.freeing ≡ freeing.now)) }
+        ensures err { IfErr result (λ e. e ≡ Refusal.NoMemory) }
+    {
+        let to = table.copy()?;
+        let freeing = freeing.copy()?;
+        Ok(Edit { to, freeing })
+    }
+
+    /// Lets the snapshot of this name go (zfs-destroy(8)): the blocks that no dataset has any more are to be freed. NoDataset exactly
+    /// where there is none of that name; else NoMemory where there is none for it, and then the edit is of no use. It costs what
+    /// `Table::destroy_snapshot` does.
+    pub fn lose_snapshot(
+        &mut self,
+        alloc: Global,
+        name: &Member,
+        segments: &mut SegMeter,
+    ) -> Result<(), Refusal>
+        requires apart { AreDisjoint (union_of (world_of self.old.to)) self.old.freeing }
+        ensures ok { IfSome (snap_named (world_of self.old.to) name.now) (λ t. OnOk result (self.new.to ≡ without_snap self.old.to (id_of t))) }
+        ensures lost { OnOk result (HasLost self.old.to self.old.freeing self.new.to self.new.freeing) }
+        ensures no_dataset { (result ≡ Err Refusal.NoDataset) ↔ (snap_named (world_of self.old.to) name.now ≡ None) }
+        ensures only { IfErr result (λ e. (e ≡ Refusal.NoDataset) ⊎ (e ≡ Refusal.NoMemory)) }
+    {
+        let _count = self.to.len();
+        let lost = self.to.destroy_snapshot(alloc, name, segments)?;
+        let lost = Arc::new(alloc, lost)?;
+        self.freeing.add_dead(lost)
+    }
+
+    /// Makes the map of its newest snapshot the live map of this file system (zfs-rollback(8)): what it had beside is to be freed.
+    /// NoDataset exactly where there is no file system of this name or it has no snapshot; else NoMemory where there is none for it, and
+    /// then the edit is of no use. It costs the logarithm of the number of file systems.
+    pub fn lose_live(&mut self, alloc: Global, name: &DsName) -> Result<(), Refusal>
+        requires apart { AreDisjoint (union_of (world_of self.old.to)) self.old.freeing }
+        ensures ok { OnOk result (self.new.to ≡ record self.old.to { file_systems = with_live self.old.to.file_systems name.now (newest_map (live_of self.old.to.file_systems name.now) (snaps_at self.old.to.file_systems name.now)) }) }
+        ensures lost { OnOk result (HasLost self.old.to self.old.freeing self.new.to self.new.freeing) }
+        ensures no_dataset { (result ≡ Err Refusal.NoDataset) ↔ (length (snaps_at self.old.to.file_systems name.now) ≡ 0) }
+        ensures only { IfErr result (λ e. (e ≡ Refusal.NoDataset) ⊎ (e ≡ Refusal.NoMemory)) }
+    {
+        let _count = self.to.len();
+        let lost = self.to.rollback(alloc, name)?;
+        self.freeing
+            .add_tree(&lost.tree, lost.after, u64::from(lost.count))
+    }
+}

@@ -1,0 +1,9 @@
+//! What goes from the datasets of a pool, and what is to be freed then.
+//!
+//! A removal works on an edit: a copy of the table with a copy of what is to be freed, which nobody else sees until it is done
+//! (zfs-destroy(8), zfs-rollback(8); zpool-features(7): async_destroy).
+#![tactic(auto)]
+
+mod edit;
+
+pub use edit::Edit;

@@ -1,0 +1,5 @@
+//! Tests of `removals` from outside.
+#![tactic(auto)]
+
+#[cfg(test)]
+mod edits;
