@@ -4,3 +4,5 @@ pub mod Written
 pub mod Above
 pub mod Removed
 pub mod RolledBack
+pub mod SystemGone
+pub mod Children

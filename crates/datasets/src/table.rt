@@ -1,13 +1,14 @@
 //! The datasets of a pool.
-ghost use Rattle.std.specs.Prelude.{◌≡◌, ◌⊎◌, ◌↔◌, ◌≤◌, ◌+◌, ◌<◌, ◌^◌, Some, None, IfSome, IfOk, IfErr, OnOk, OnErr, map, length};
+ghost use Rattle.std.specs.Prelude.{◌≡◌, ◌⊎◌, ◌↔◌, ◌≤◌, ◌+◌, ◌<◌, ◌^◌, false, Some, None, IfSome, IfOk, IfErr, OnOk, OnErr, map, length, nat_lt};
+ghost use Rattle.std.specs.List.{list_any};
 ghost use Rattle.std.specs.Arc.{arc_value};
-ghost use Rattle.std.specs.Option.{option_map, option_copied};
+ghost use Rattle.std.specs.Option.{option_map, option_map_or, option_copied};
 ghost use Rattle.std.specs.FinMap as finmap;
 ghost use Rattle.std.specs.FinMap.{get, insert, entries, len};
 ghost use Rattle.base.specs.declared.refusal.Refusal.{Refusal};
-ghost use Rattle.name.specs.Names.{root_name};
+ghost use Rattle.name.specs.Names.{root_name, same_name, parent_of};
 ghost use Rattle.base.specs.Surveys.{dead_block};
-ghost use Rattle.model.specs.World.{empty_file_system, id_of, snap_named};
+ghost use Rattle.model.specs.World.{empty_file_system, id_of, snap_named, children_of};
 ghost use Rattle.model.specs.Hierarchy.{has_parent};
 ghost use Rattle.model.specs.requests.Create.{create_refusal};
 ghost use Rattle.tree.specs.Asking.{IsNoSpaceOrNoMemory};
@@ -15,9 +16,9 @@ ghost use Rattle.tree.specs.Change.{HasRoom, LacksRoom, CountsDropped};
 ghost use Rattle.tree.specs.Updates.{changes_of};
 ghost use Rattle.world.specs.Worlds.{AreFileSystems};
 ghost use Rattle.world.specs.Deadlists.{Lists};
-ghost use Rattle.world.specs.Tables.{world_of, with_system, without_snap, lost_between, CanSnap};
+ghost use Rattle.world.specs.Tables.{world_of, with_system, without_snap, without_system, lost_between, CanSnap, CanRemove};
 ghost use Rattle.file_systems.specs.Losses.{newest_map};
-ghost use Rattle.file_systems.specs.Rows.{live_of, snaps_at, with_live, snap_count, plain_snap};
+ghost use Rattle.file_systems.specs.Rows.{Row, live_of, snaps_at, with_live, snap_count, plain_snap};
 ghost use Rattle.datasets.specs.Rollbacks.{Loses};
 ghost use Rattle.datasets.specs.Table.{AreNumbersOne};
 ghost use Rattle.datasets.specs.Writes.{young_of, AllowsWrite, HasWritten};
@@ -280,6 +281,19 @@ impl Table {
         self.systems.rollback(alloc, name)
     }
 
+    /// Takes out this file system, which is there and has no snapshot, and is neither the root nor a parent (zfs-destroy(8)); and answers
+    /// what is lost with it: the blocks of its live tree. Nobody has walked them. NoMemory where there is none for one more owner of that
+    /// tree, and then the table is as it was. It costs the number of file systems.
+    pub fn remove(&mut self, name: &DsName) -> Result<Lost, Refusal>
+        requires there { CanRemove self.old name.now }
+        ensures ok { OnOk result (self.new ≡ without_system self.old name.now) }
+        ensures lost { IfOk result (Loses self.old self.new) }
+        ensures err { OnErr result (self.new ≡ self.old) }
+        ensures only { IfErr result (λ e. e ≡ Refusal.NoMemory) }
+    {
+        self.systems.remove(name)
+    }
+
     // How many snapshots the file system of this name has, and none where it isn't there.
     fn snapshots_of(&self, name: &DsName) -> usize
         ensures { result ≡ length (snaps_at self.now.file_systems name.now) }
@@ -312,6 +326,13 @@ impl Table {
         })
     }
 
+    /// Whether a file system has this one's name as its parent's (zfs(8)). It costs the number of file systems.
+    pub fn has_child(&self, name: &DsName) -> bool
+        ensures { result ≡ nat_lt 0 (length (children_of (world_of self.now) name.now)) }
+    {
+        any_child(self.file_systems(), name)
+    }
+
     // Whether the parent of a file system of this name is there.
     fn has_parent(&self, name: &[u8]) -> bool
         ensures { result ≡ has_parent self.now.file_systems name.now }
@@ -321,6 +342,25 @@ impl Table {
             None => false,
         }
     }
+}
+
+// Whether the name of this file system's parent is that one.
+fn is_child(file_system: &FileSystem, parent: &DsName) -> bool
+    ensures { result ≡ option_map_or (same_name parent.now) (parent_of file_system.now.0) false }
+{
+    let Some(name) = parent_of(file_system.name().as_bytes()) else {
+        return false;
+    };
+    name == parent.as_bytes()
+}
+
+// Whether one of these file systems is a child of that one.
+fn any_child(file_systems: &[Arc<FileSystem>], parent: &DsName) -> bool
+    ensures { result ≡ list_any (λ a. option_map_or (same_name parent.now) (parent_of (arc_value {X = Row} a).0) false) file_systems.now }
+{
+    file_systems
+        .iter()
+        .any(|file_system| is_child(file_system, parent))
 }
 
 // The name of the root.

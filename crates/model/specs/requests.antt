@@ -2,7 +2,7 @@
 use Rattle.std.specs.Prelude.{◌≡◌, Option, None}
 use Rattle.stream.specs.Spelling.{Sending}
 use Rattle.model.specs.declared.request.Request.{Request}
-use Rattle.model.specs.declared.request.Request.TheVariants.{Create as ToCreate, Write as ToWrite, Punch as ToPunch, FreeObject as ToFreeObject, Snapshot as ToSnapshot, Read as ToRead, Get as ToGet, PoolGet as ToPoolGet, List as ToList, Sync as ToSync}
+use Rattle.model.specs.declared.request.Request.TheVariants.{Create as ToCreate, Write as ToWrite, Punch as ToPunch, FreeObject as ToFreeObject, Snapshot as ToSnapshot, Read as ToRead, Get as ToGet, PoolGet as ToPoolGet, List as ToList, Rollback as ToRollback, Destroy as ToDestroy, Slice as ToSlice, Sync as ToSync}
 use Rattle.model.specs.declared.reply.Reply.TheVariants.{Done}
 use Rattle.model.specs.State.{State}
 use Rattle.model.specs.Rule.{Rule}
@@ -15,6 +15,9 @@ use Rattle.model.specs.requests.Read.{read_rule}
 use Rattle.model.specs.requests.Get.{get_rule}
 use Rattle.model.specs.requests.PoolGet.{pool_get_rule}
 use Rattle.model.specs.requests.List.{list_rule}
+use Rattle.model.specs.requests.Rollback.{rollback_rule}
+use Rattle.model.specs.requests.Destroy.{destroy_rule}
+use Rattle.model.specs.requests.Slice.{slice_rule}
 use Rattle.model.specs.requests.Sync.{sync_rule}
 pub mod Create
 pub mod Change
@@ -26,6 +29,9 @@ pub mod Read
 pub mod Get
 pub mod PoolGet
 pub mod List
+pub mod Rollback
+pub mod Destroy
+pub mod Slice
 pub mod Sync
 
 -- what the bytes of a request say; no request has any yet (zfs-receive(8))
@@ -43,6 +49,9 @@ rule_of (ToRead target object block) reading = read_rule target object block
 rule_of (ToGet target property) reading = get_rule target property
 rule_of (ToPoolGet property) reading = pool_get_rule property
 rule_of ToList reading = list_rule
+rule_of (ToRollback target later) reading = rollback_rule target later
+rule_of (ToDestroy target recursive defer) reading = destroy_rule target recursive defer
+rule_of (ToSlice count) reading = slice_rule count
 rule_of ToSync reading = sync_rule
 
 -- where it isn't refused, the reply is Done (profile)

@@ -30,6 +30,8 @@ pub enum Reply {
     Group(u64),
     /// Names of datasets or tags, in their order.
     Names(Names),
+    /// How many blocks a slice has taken.
+    Count(u64),
 }
 
 impl Reply {
@@ -44,6 +46,7 @@ impl Reply {
             (Reply::Value(a), Reply::Value(b)) => *a == *b,
             (Reply::Group(a), Reply::Group(b)) => *a == *b,
             (Reply::Names(a), Reply::Names(b)) => a.same(b),
+            (Reply::Count(a), Reply::Count(b)) => *a == *b,
             _ => false,
         }
     }

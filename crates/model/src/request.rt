@@ -93,6 +93,31 @@ pub enum Request {
     /// The names of all file systems in byte order, each with its snapshots and bookmarks after it. The reply is Names. It is never
     /// refused but perhaps NoMemory.
     List,
+    /// Makes the map of a snapshot the live map of its file system; with `later` (zfs-rollback(8): -r) its newer snapshots and bookmarks
+    /// go. What all datasets together lose is to be freed. The reply is Done. It is refused NotSnapshot where the name is no snapshot's,
+    /// NoDataset where no snapshot has it, NotNewest where a newer snapshot or bookmark would stay, Busy where one that would go has a
+    /// tag or an open view, HasClones where it has a clone, and then Quota, RefQuota or NoSpace as a write is: the first of these, or
+    /// NoMemory.
+    Rollback {
+        target: Target,
+        later: bool,
+    },
+    /// Lets a file system, a snapshot or a bookmark go. With `recursive` (zfs-destroy(8): -r) a file system goes with its descendants, its
+    /// snapshots and bookmarks, or a snapshot with those of its name in all descendants of its file system. With `defer` (-d) a
+    /// snapshot that a tag, an open view or a clone needs goes once nothing needs it. What all datasets together lose is to be freed. The
+    /// reply is Done. It is refused NoDataset where nothing has the name, IsRoot for the root, NotSnapshot where a file system's destroy is
+    /// deferred, HasChildren where a file system has a child or a snapshot that isn't asked for, Busy and HasClones where a tag, a view
+    /// or a clone outside needs a snapshot that would go: the first of these, or NoMemory.
+    Destroy {
+        target: Target,
+        recursive: bool,
+        defer: bool,
+    },
+    /// Takes so many blocks out of those that are to be freed, or all where they are fewer, and releases them. The reply is Count, their
+    /// number. It is never refused, but perhaps NoMemory.
+    Slice {
+        count: u64,
+    },
     /// Makes the present world the last synced one and opens the next group: what waited is free. The reply is Group, the new open
     /// group. It is refused TooMany where the open group is the last one, 2^63 - 1, else perhaps NoMemory.
     Sync,
@@ -174,6 +199,29 @@ impl Request {
                 },
             ) => t.same(u) && *p == *q,
             (Request::PoolGet { property: p }, Request::PoolGet { property: q }) => *p == *q,
+            (
+                Request::Rollback {
+                    target: t,
+                    later: l,
+                },
+                Request::Rollback {
+                    target: u,
+                    later: m,
+                },
+            ) => t.same(u) && *l == *m,
+            (
+                Request::Destroy {
+                    target: t,
+                    recursive: r,
+                    defer: d,
+                },
+                Request::Destroy {
+                    target: u,
+                    recursive: s,
+                    defer: e,
+                },
+            ) => t.same(u) && *r == *s && *d == *e,
+            (Request::Slice { count: n }, Request::Slice { count: m }) => *n == *m,
             (Request::List, Request::List) => true,
             (Request::Sync, Request::Sync) => true,
             _ => false,

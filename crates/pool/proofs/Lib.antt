@@ -4,5 +4,7 @@ pub mod Values
 pub mod Commits
 pub mod Changes
 pub mod Steps
+pub mod Slicing
+pub mod Removing
 pub mod Asking
 pub mod Immediate

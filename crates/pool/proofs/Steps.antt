@@ -10,7 +10,7 @@ use Rattle.name.specs.declared.target.Target.TheVariants.{FileSystem as OfFileSy
 use Rattle.base.specs.declared.refusal.Refusal.{Refusal}
 use Rattle.base.specs.declared.refusal.Refusal.TheVariants.{NoDataset, BadKey, TooMany, NoMemory}
 use Rattle.base.specs.Key.{leaf_index}
-use Rattle.base.specs.Map.{Map, contents, block_cmp}
+use Rattle.base.specs.Map.{Map, BlockSet, contents}
 use Rattle.zalloc.specs.declared.BlockState.{BlockState}
 use Rattle.zalloc.specs.States.{is_free, is_allocated, is_waiting}
 use Rattle.model.specs.declared.request.Request.{Request}
@@ -163,8 +163,8 @@ module _ (seen : Shown) (s : State) (numbers : List BlockState) (view : shown s 
     pub pool_get_group : p ≡ Group → v ≡ Number s.now.group → Step seen.state (PoolGet p) (ValueIs v) seen.state
     pool_get_group is same = asked Group _ is same (properties.group_done s sound.steady s.now.group refl)
 
-    pub pool_get_freeing : p ≡ Freeing → v ≡ Size 0 → s.now.freeing ≡ set.empty → Step seen.state (PoolGet p) (ValueIs v) seen.state
-    pool_get_freeing is same none = asked Freeing _ is same (properties.freeing_done s sound.steady 0 (sym (ap set.len none ∙ set.len-empty block_cmp)))
+    pub pool_get_freeing : (n : ℕ) → p ≡ Freeing → v ≡ Size (512 * n) → n ≡ set.len seen.state.now.freeing → Step seen.state (PoolGet p) (ValueIs v) seen.state
+    pool_get_freeing n is same e = asked Freeing _ is same (properties.freeing_done s sound.steady n (e ∙ ap (λ (x : Shown). set.len x.state.now.freeing) (sym view)))
 
     module _ (n : ℕ) where
       pub pool_get_allocated : p ≡ Allocated → v ≡ Size (512 * n) → n ≡ count_by is_allocated numbers → Step seen.state (PoolGet p) (ValueIs v) seen.state
@@ -245,6 +245,10 @@ module _ (seen : Shown) (s : State) (numbers : List BlockState) (view : shown s 
 
     pub sync_can : CanSync seen.state last
     sync_can = subst (λ (x : Shown). CanSync x.state last) view can
+
+    -- with a copy of what is to be freed
+    pub sync_can_do : (freeing : BlockSet) → freeing ≡ s.now.freeing → CanSync seen.state last × (freeing ≡ seen.state.now.freeing)
+    sync_can_do freeing copied = (sync_can, copied ∙ ap (λ (x : Shown). x.state.now.freeing) view)
 
     pub sync_done : Step seen.state Sync (GroupIs (s.now.group + 1)) (synced seen.state last)
     sync_done = subst (λ (x : Shown). Step x.state Sync (GroupIs (s.now.group + 1)) (synced x.state last)) view (sync.sync_done s sound.steady last can)

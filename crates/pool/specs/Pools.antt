@@ -9,11 +9,11 @@ use Rattle.world.specs.Tables.{world_of}
 use Rattle.steps.specs.Steady.{IsSteady}
 use Rattle.pool.specs.declared.pool.Pool.TheInside.{Inside}
 
--- the pool's state: its datasets now and when the last sync had been done, with nothing to be freed, and no open view (profile)
+-- the pool's state: its datasets now and when the last sync had been done, each with what is to be freed, and no open view (profile)
 abbrev pub state_of : Inside → State
 state_of p = record {
-  now = world_of p.present;
-  last = world_of p.last;
+  now = record (world_of p.present) { freeing = p.freeing };
+  last = record (world_of p.last) { freeing = p.last_freeing };
   views = finmap.empty;
   next_guid = p.next_guid;
   next_view = 1;

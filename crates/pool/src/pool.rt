@@ -1,5 +1,6 @@
 //! The pool and its steps.
 ghost use Rattle.std.specs.Prelude.{◌≡◌, ◌<◌, ◌≤◌, ◌⊎◌, ◌↔◌, [], ◌∷◌, false, Err, IfOk, IfErr, map};
+ghost use Rattle.std.specs.FinSet as set;
 ghost use Rattle.base.specs.declared.refusal.Refusal.{Refusal};
 ghost use Rattle.base.specs.Surveys.{dead_block};
 ghost use Rattle.tree.specs.Updates.{IsBatch};
@@ -20,12 +21,14 @@ use base::meter::{Meter, SegMeter};
 use base::number::{Dead, Group};
 use base::refusal::Refusal;
 use datasets::Table;
+use destroyer::{Freeing, Slice};
 use model::names::Names;
 use model::reply::{Reply, Value};
 use model::request::{PoolProperty, Property, Request};
 use model::snap_names::SnapNames;
 use name::{DsName, SnapName, Target};
 use objset::{free_of, punch_of, write_of};
+use removals::{Edit, destroy, rollback};
 use snap::{Guids, Taken, snapshot, snapshot_one};
 use std::alloc::Global;
 use std::marker::Model;
@@ -42,7 +45,9 @@ const LAST_GROUP: u64 = 9223372036854775807;
 #[derive(Drop)]
 pub struct Pool {
     present: Table,
+    freeing: Freeing,
     last: Table,
+    last_freeing: Freeing,
     next_guid: u64,
     size: u32,
     id: u32,
@@ -70,7 +75,9 @@ enum Plan {
     Nothing,
     Change { to: Table, done: Changed },
     Put { to: Table, guids: u64 },
-    Sync(Table),
+    Lose { to: Table, freeing: Freeing },
+    Free { rest: Freeing, taken: Vec<Dead> },
+    Sync { last: Table, freeing: Freeing },
 }
 
 /// A step that was prepared, with the pool as it was prepared on. One that is dropped has changed nothing.
@@ -121,7 +128,9 @@ impl Pool {
         let last = present.copy()?;
         Ok(Pool {
             present,
+            freeing: Freeing::new(alloc),
             last,
+            last_freeing: Freeing::new(alloc),
             next_guid: 1,
             size: blocks,
             id,
@@ -182,6 +191,13 @@ impl Pool {
             Request::Get { target, property } => (self.get(target, *property), Plan::Nothing),
             Request::PoolGet { property } => (self.pool_get(*property), Plan::Nothing),
             Request::List => (self.list(alloc), Plan::Nothing),
+            Request::Rollback { target, later } => self.planned_rollback(alloc, target, *later),
+            Request::Destroy {
+                target,
+                recursive,
+                defer,
+            } => self.planned_destroy(alloc, target, *recursive, *defer),
+            Request::Slice { count } => self.planned_slice(*count),
             Request::Sync => self.planned_sync(),
         }
     }
@@ -220,6 +236,74 @@ impl Pool {
         }
         let guids = count as u64;
         (Reply::Done, Plan::Put { to, guids })
+    }
+
+    fn planned_rollback(&mut self, alloc: Global, target: &Target, later: bool) -> (Reply, Plan)
+        ensures same { self.new ≡ self.old }
+        ensures can { CanDo self.old.state result.1 }
+        ensures step { Step self.old.state (Request.Rollback target.now later) result.0 (state_after_plan self.old.state result.1) }
+    {
+        let _size = self.size;
+        let edit = rollback(
+            alloc,
+            &self.present,
+            &self.freeing,
+            target,
+            later,
+            &mut self.segments,
+        );
+        let Edit { to, freeing } = match edit {
+            Ok(edit) => edit,
+            Err(refusal) => return (Reply::Refused(refusal), Plan::Nothing),
+        };
+        (Reply::Done, Plan::Lose { to, freeing })
+    }
+
+    fn planned_destroy(
+        &mut self,
+        alloc: Global,
+        target: &Target,
+        recursive: bool,
+        defer: bool,
+    ) -> (Reply, Plan)
+        ensures same { self.new ≡ self.old }
+        ensures can { CanDo self.old.state result.1 }
+        ensures step { Step self.old.state (Request.Destroy target.now recursive defer) result.0 (state_after_plan self.old.state result.1) }
+    {
+        let _size = self.size;
+        let edit = destroy(
+            alloc,
+            &self.present,
+            &self.freeing,
+            target,
+            recursive,
+            defer,
+            &mut self.segments,
+        );
+        let Edit { to, freeing } = match edit {
+            Ok(edit) => edit,
+            Err(refusal) => return (Reply::Refused(refusal), Plan::Nothing),
+        };
+        // It tells of the file systems that are left what a table keeps.
+        let _count = to.len();
+        (Reply::Done, Plan::Lose { to, freeing })
+    }
+
+    fn planned_slice(&mut self, count: u64) -> (Reply, Plan)
+        ensures same { self.new ≡ self.old }
+        ensures can { CanDo self.old.state result.1 }
+        ensures step { Step self.old.state (Request.Slice count) result.0 (state_after_plan self.old.state result.1) }
+    {
+        let _size = self.size;
+        let slice = self
+            .freeing
+            .slice(count, &mut self.meter, &mut self.segments);
+        let Slice { rest, taken } = match slice {
+            Ok(slice) => slice,
+            Err(refusal) => return (Reply::Refused(refusal), Plan::Nothing),
+        };
+        let count = taken.as_slice().len() as u64;
+        (Reply::Count(count), Plan::Free { rest, taken })
     }
 
     // Plans this update of the live tree of a file system, or its refusal.
@@ -315,10 +399,17 @@ impl Pool {
             PoolProperty::Size => Reply::Value(in_bytes(self.size)),
             PoolProperty::Allocated => Reply::Value(in_bytes(counts.allocated)),
             PoolProperty::Free => Reply::Value(in_bytes(counts.free)),
-            PoolProperty::Freeing => Reply::Value(in_bytes(0)),
+            PoolProperty::Freeing => Reply::Value(in_bytes(self.freeing_len())),
             PoolProperty::Waiting => Reply::Value(in_bytes(counts.waiting)),
             PoolProperty::Group => Reply::Value(Value::Number(self.present.group().0)),
         }
+    }
+
+    // How many blocks are to be freed, which are no more than all blocks. Constant time.
+    fn freeing_len(&self) -> u32
+        ensures { result ≡ set.len self.now.state.now.freeing }
+    {
+        self.freeing.len().min(u64::from(self.size)) as u32
     }
 
     fn planned_sync(&self) -> (Reply, Plan)
@@ -329,10 +420,14 @@ impl Pool {
         if group.0 >= LAST_GROUP {
             return (Reply::Refused(Refusal::TooMany), Plan::Nothing);
         }
+        let freeing = match self.freeing.copy() {
+            Ok(freeing) => freeing,
+            Err(refusal) => return (Reply::Refused(refusal), Plan::Nothing),
+        };
         match self.present.copy() {
             Ok(mut last) => {
                 last.close_group();
-                (Reply::Group(group.0 + 1), Plan::Sync(last))
+                (Reply::Group(group.0 + 1), Plan::Sync { last, freeing })
             }
             Err(refusal) => (Reply::Refused(refusal), Plan::Nothing),
         }
@@ -357,9 +452,18 @@ impl Pool {
                 self.present = to;
                 self.next_guid += guids;
             }
-            Plan::Sync(last) => {
+            Plan::Lose { to, freeing } => {
+                self.present = to;
+                self.freeing = freeing;
+            }
+            Plan::Free { rest, taken } => {
+                release_all(&mut self.allocator, &taken, self.last.group());
+                self.freeing = rest;
+            }
+            Plan::Sync { last, freeing } => {
                 self.present.close_group();
                 self.last = last;
+                self.last_freeing = freeing;
                 self.allocator.end_group();
             }
         }
@@ -409,6 +513,7 @@ impl Pool {
             Request::Get { target, property } => self.get(target, *property),
             Request::PoolGet { property } => self.pool_get(*property),
             Request::List => self.list(alloc),
+            Request::Slice { count } => self.slice_now(*count),
             Request::Sync => self.sync_now(),
             Request::Snapshot {
                 names,
@@ -417,9 +522,10 @@ impl Pool {
                 [name] => self.snapshot_now(alloc, name),
                 _ => self.answer_prepared(alloc, request),
             },
-            Request::Create { .. } | Request::Snapshot { .. } => {
-                self.answer_prepared(alloc, request)
-            }
+            Request::Create { .. }
+            | Request::Snapshot { .. }
+            | Request::Rollback { .. }
+            | Request::Destroy { .. } => self.answer_prepared(alloc, request),
         }
     }
 
@@ -440,6 +546,10 @@ impl Pool {
         if group.0 >= LAST_GROUP {
             return Reply::Refused(Refusal::TooMany);
         }
+        let freeing = match self.freeing.copy() {
+            Ok(freeing) => freeing,
+            Err(refusal) => return Reply::Refused(refusal),
+        };
         let mut next = match self.present.copy() {
             Ok(next) => next,
             Err(refusal) => return Reply::Refused(refusal),
@@ -448,8 +558,26 @@ impl Pool {
         let open = next.group();
         self.present.close_group();
         self.last = next;
+        self.last_freeing = freeing;
         self.allocator.end_group();
         Reply::Group(open.0)
+    }
+
+    // Takes so many blocks out of those that are to be freed at once, and releases them.
+    fn slice_now(&mut self, count: u64) -> Reply
+        ensures { Step self.old.state (Request.Slice count) result self.new.state }
+    {
+        let _size = self.size;
+        let slice = self
+            .freeing
+            .slice(count, &mut self.meter, &mut self.segments);
+        let Slice { rest, taken } = match slice {
+            Ok(slice) => slice,
+            Err(refusal) => return Reply::Refused(refusal),
+        };
+        release_all(&mut self.allocator, &taken, self.last.group());
+        self.freeing = rest;
+        Reply::Count(taken.as_slice().len() as u64)
     }
 
     // Puts this update of the live tree of a file system in force at once. Only then it releases the dropped blocks, and takes the new

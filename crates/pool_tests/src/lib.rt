@@ -4,6 +4,8 @@
 #[cfg(test)]
 mod pools;
 #[cfg(test)]
+mod removed;
+#[cfg(test)]
 mod rig;
 #[cfg(test)]
 mod rows;

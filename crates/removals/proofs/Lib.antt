@@ -1,1 +1,9 @@
 pub mod Losses
+pub mod Named
+pub mod Yielded
+pub mod Rolled
+pub mod Destroyed
+pub mod Families
+pub mod SystemsGone
+pub mod FamilyGone
+pub mod Refused

@@ -5,7 +5,7 @@ use Rattle.std.specs.Option.{option_map_or}
 use Rattle.std.specs.FinMap as finmap
 use Rattle.std.specs.FinMap.{get, insert}
 use Rattle.std.specs.FinSet.{union}
-use Rattle.base.specs.Map.{Map, Block, BlockSet}
+use Rattle.base.specs.Map.{Map, BlockSet}
 use Rattle.base.specs.Surveys.{IsIn}
 use Rattle.model.specs.World.{FileSystem, Snap, SnapId, same_id, id_of, union_of}
 use Rattle.file_systems.specs.Losses.{newest_map}
@@ -14,7 +14,8 @@ use Rattle.world.specs.Sets.{Has, IsSubset, AreDisjoint}
 use Rattle.world.specs.Blocks.{block_order as o}
 use Rattle.world.specs.Worlds.{AreFileSystems}
 use Rattle.world.specs.Tables.{Datasets, world_of, without_snap, lost_between}
-use Rattle.world.proofs.SetCounts.{from_union, from_difference}
+use Rattle.world.proofs.SetCounts.{same_members, in_union_left, in_union_right, from_union, from_difference}
+use Rattle.world.proofs.Lists.{losses_add}
 use Rattle.world.proofs.Drawn.{union_from}
 use Rattle.world.proofs.Put.{put_maps}
 use Rattle.world.proofs.WithoutSnaps.{without_from}
@@ -28,6 +29,7 @@ lost_apart t u freeing apart b f l = apart b (from_difference o (union_of (world
 pub has_lost : (t u : Datasets) (freeing after : BlockSet) → IsSubset (union_of (world_of u)) (union_of (world_of t)) → AreDisjoint (union_of (world_of t)) freeing
     → after ≡ union freeing (lost_between t u) → HasLost t freeing u after
 has_lost t u freeing after fewer apart is = record {
+  fewer = fewer;
   joined = is;
   apart = λ b h k. ⊎_elim
       (λ f. apart b (fewer b h) f)
@@ -89,3 +91,33 @@ pub lost_back : {T E : Type 0} (r : Result T E) (t u : Datasets) (freeing after 
 lost_back (Ok x) t u freeing after lost good apart name to is joined =
     has_lost t u freeing after (subst (λ v. IsSubset (union_of (world_of v)) (union_of (world_of t))) (sym to) (fewer_back t good name)) apart (joined ∙ ap (union freeing) is)
 lost_back (Err e) t u freeing after lost good apart name to is joined = tt
+
+-- nothing is lost yet
+pub lost_none : (t : Datasets) (freeing : BlockSet) → AreDisjoint (union_of (world_of t)) freeing → HasLost t freeing t freeing
+lost_none t freeing apart = record {
+  fewer = λ b h. h;
+  joined = same_members o freeing (union freeing (lost_between t t))
+      (λ b h. in_union_left o freeing (lost_between t t) b h)
+      (λ b h. ⊎_elim (λ f. f) (λ l. let x = from_difference o (union_of (world_of t)) (union_of (world_of t)) b l in absurd (x.1 x.0)) (from_union o freeing (lost_between t t) b h));
+  apart = apart;
+}
+
+union_thrice : (x y z : BlockSet) → union (union x y) z ≡ union x (union y z)
+union_thrice x y z = same_members o _ _
+    (λ q h. ⊎_elim
+    (λ k. ⊎_elim (λ l. in_union_left o x (union y z) q l) (λ l. in_union_right o x (union y z) q (in_union_left o y z q l)) (from_union o x y q k))
+    (λ k. in_union_right o x (union y z) q (in_union_right o y z q k))
+    (from_union o (union x y) z q h))
+    (λ q h. ⊎_elim
+    (λ k. in_union_left o (union x y) z q (in_union_left o x y q k))
+    (λ k. ⊎_elim (λ l. in_union_left o (union x y) z q (in_union_right o x y q l)) (λ l. in_union_right o (union x y) z q l) (from_union o y z q k))
+    (from_union o x (union y z) q h))
+
+-- what is lost in two steps
+pub lost_then : (t u v : Datasets) (freeing between after : BlockSet) → HasLost t freeing u between → HasLost u between v after → HasLost t freeing v after
+lost_then t u v freeing between after first next = record {
+  fewer = λ b h. first.fewer b (next.fewer b h);
+  joined = next.joined ∙ ap (λ s. union s (lost_between u v)) first.joined ∙ union_thrice freeing (lost_between t u) (lost_between u v)
+      ∙ ap (union freeing) (sym (losses_add (union_of (world_of t)) (union_of (world_of u)) (union_of (world_of v)) first.fewer next.fewer));
+  apart = next.apart;
+}

@@ -1,5 +1,5 @@
 //! A table from which datasets go.
-ghost use Rattle.std.specs.Prelude.{◌≡◌, ◌⊎◌, ◌↔◌, Some, None, IfSome, IfOk, IfErr, OnOk, length};
+ghost use Rattle.std.specs.Prelude.{◌≡◌, ◌⊎◌, ◌↔◌, Some, None, IfSome, IfOk, IfErr, OnOk, is_some, length};
 ghost use Rattle.base.specs.declared.refusal.Refusal.{Refusal};
 ghost use Rattle.file_systems.specs.Losses.{newest_map};
 ghost use Rattle.file_systems.specs.Rows.{live_of, snaps_at, with_live};
@@ -7,12 +7,16 @@ ghost use Rattle.model.specs.World.{id_of, snap_named, union_of};
 ghost use Rattle.world.specs.Sets.{AreDisjoint};
 ghost use Rattle.world.specs.Tables.{world_of, without_snap};
 ghost use Rattle.removals.specs.Edits.{HasLost};
+ghost use Rattle.removals.specs.Named.{without_named, without_all, newer_members};
 
 use base::meter::SegMeter;
+use base::number::Group;
 use base::refusal::Refusal;
 use datasets::Table;
 use destroyer::Freeing;
-use name::{DsName, Member};
+use file_systems::FileSystem;
+use name::{Component, DsName, Member};
+use snap::Named;
 use std::alloc::Global;
 use std::sync::Arc;
 
@@ -71,4 +75,89 @@ impl Edit {
         self.freeing
             .add_tree(&lost.tree, lost.after, u64::from(lost.count))
     }
+
+    // Lets the snapshot of this name go, and nothing where there is none. NoMemory where there is none for it, and then the edit is of no
+    // use. It costs what `lose_snapshot` does.
+    pub(crate) fn lose_named(
+        &mut self,
+        alloc: Global,
+        file_system: &DsName,
+        component: &Component,
+        segments: &mut SegMeter,
+    ) -> Result<(), Refusal>
+        requires apart { AreDisjoint (union_of (world_of self.old.to)) self.old.freeing }
+        ensures ok { OnOk result (self.new.to ≡ without_named self.old.to (record { file_system = file_system.now; component = component.now })) }
+        ensures lost { OnOk result (HasLost self.old.to self.old.freeing self.new.to self.new.freeing) }
+        ensures err { IfErr result (λ e. e ≡ Refusal.NoMemory) }
+    {
+        if !has_snapshot(&self.to, file_system, component) {
+            return Ok(());
+        }
+        let name = member(file_system, component)?;
+        self.lose_snapshot(alloc, &name, segments)
+    }
+
+    // Lets the snapshots of all these names go that are there. NoMemory where there is none for it, and then the edit is of no use. It
+    // costs what `lose_snapshot` does for each.
+    pub(crate) fn lose_all(
+        &mut self,
+        alloc: Global,
+        all: &[Named],
+        segments: &mut SegMeter,
+    ) -> Result<(), Refusal>
+        requires apart { AreDisjoint (union_of (world_of self.old.to)) self.old.freeing }
+        ensures ok { OnOk result (self.new.to ≡ without_all self.old.to all.now) }
+        ensures lost { OnOk result (HasLost self.old.to self.old.freeing self.new.to self.new.freeing) }
+        ensures err { IfErr result (λ e. e ≡ Refusal.NoMemory) }
+    {
+        for name in all {
+            self.lose_named(alloc, name.file_system, name.component, segments)?;
+        }
+        Ok(())
+    }
+
+    // Lets the snapshots go that this file system has of a later group than this one, where they are there. NoMemory where there is none
+    // for it, and then the edit is of no use. It costs what `lose_snapshot` does for each, and the number of the file system's snapshots.
+    pub(crate) fn lose_newer(
+        &mut self,
+        alloc: Global,
+        file_system: &FileSystem,
+        group: Group,
+        segments: &mut SegMeter,
+    ) -> Result<(), Refusal>
+        requires apart { AreDisjoint (union_of (world_of self.old.to)) self.old.freeing }
+        ensures ok { OnOk result (self.new.to ≡ without_all self.old.to (newer_members file_system.now group.0)) }
+        ensures lost { OnOk result (HasLost self.old.to self.old.freeing self.new.to self.new.freeing) }
+        ensures err { IfErr result (λ e. e ≡ Refusal.NoMemory) }
+    {
+        let name = file_system.name();
+        for kept in file_system.snapshots().iter() {
+            if kept.snapshot.group() > group {
+                self.lose_named(alloc, name, kept.snapshot.name(), segments)?;
+            }
+        }
+        Ok(())
+    }
+}
+
+// Whether a snapshot of this name is there. It costs the logarithm of the number of file systems, and that of the number of snapshots
+// of this one.
+fn has_snapshot(table: &Table, file_system: &DsName, component: &Component) -> bool
+    ensures { result ≡ is_some (snap_named (world_of table.now) (record { file_system = file_system.now; component = component.now })) }
+{
+    match table.find(file_system) {
+        Some(file_system) => file_system.snapshot_named(component.as_bytes()).is_some(),
+        None => false,
+    }
+}
+
+// A copy of a snapshot's name. NoMemory where there is none for it. It costs its length.
+fn member(file_system: &DsName, component: &Component) -> Result<Member, Refusal>
+    ensures ok { IfOk result (λ m. m ≡ record { file_system = file_system.now; component = component.now }) }
+    ensures err { IfErr result (λ e. e ≡ Refusal.NoMemory) }
+{
+    Ok(Member {
+        file_system: file_system.clone()?,
+        component: component.clone()?,
+    })
 }

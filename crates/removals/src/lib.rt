@@ -4,6 +4,12 @@
 //! (zfs-destroy(8), zfs-rollback(8); zpool-features(7): async_destroy).
 #![tactic(auto)]
 
+mod back;
 mod edit;
+mod family;
+mod gone;
 
+pub use back::rollback;
 pub use edit::Edit;
+pub use family::destroy;
+pub use gone::destroy_snapshots;

@@ -86,6 +86,26 @@ fn lines_of_bad_shape(rt: HostRuntime) {
         "snapshot -r",
         "snapshot  p@s",
         "snapshot p@s ",
+        "rollback",
+        "rollback -r",
+        "rollback -r -r p@s",
+        "rollback -d p@s",
+        "rollback p@s -r",
+        "rollback p@s p@t",
+        "destroy",
+        "destroy -r -d",
+        "destroy -d -r p@s",
+        "destroy -r -r p@s",
+        "destroy -d -d p@s",
+        "destroy -rd p@s",
+        "destroy p@s -d",
+        "destroy p/a p/b",
+        "destroy -r p// p",
+        "slice",
+        "slice -1",
+        "slice 020",
+        "slice 4294967296",
+        "slice 1 2",
         "read p/ 0 x",
         "READ p 0 0",
         "sync extra",
@@ -139,6 +159,22 @@ fn lines_of_snapshots(rt: HostRuntime) {
     assert!(rt; answers(&rt, alloc, b"get written p", b"0\n"));
     assert!(rt; answers(&rt, alloc, b"get guid p", b"-\n"));
     assert!(rt; answers(&rt, alloc, b"get createtxg p", b"-\n"));
+}
+
+#[test]
+fn lines_of_removals(rt: HostRuntime) {
+    let alloc = rt.alloc();
+    for line in [
+        "rollback p@",
+        "rollback -r p/",
+        "destroy p//a",
+        "destroy -r p@s@t",
+        "destroy -d p#",
+        "destroy -r -d @s",
+    ] {
+        let reply = b"error 1 BadName\n";
+        assert!(rt; answers(&rt, alloc, line.as_bytes(), reply), "{line}");
+    }
 }
 
 /// A line of 4,194,305 of these bytes, and a read.

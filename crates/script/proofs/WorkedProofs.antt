@@ -5,11 +5,11 @@ use Rattle.hex.proofs.OnLiterals.{hex_on_literals}
 use Rattle.name.specs.Reading.{name_of, snap_of, target_of}
 use Rattle.script.specs.Lines.{lines, line_limit}
 use Rattle.script.specs.Words.{number_of_word, block_of_word, property_of_word, pool_property_of_word}
-use Rattle.script.specs.Meaning.{meaning, request_of, words_meaning, command_of, create_of, write_of, block_request_of, free_object_of, snapshots_of, snapshot_of, get_of, pool_get_of}
+use Rattle.script.specs.Meaning.{meaning, request_of, words_meaning, command_of, create_of, write_of, block_request_of, free_object_of, snapshots_of, snapshot_of, target_request_of, rollback_of, destroyed_of, destroy_of, slice_of, get_of, pool_get_of}
 use Rattle.script.specs.Examples.{WorkedLines}
 
 pub worked_lines : WorkedLines
-unfolding lines line_limit meaning request_of words_meaning command_of create_of write_of block_request_of free_object_of snapshots_of snapshot_of get_of pool_get_of number_of_word block_of_word property_of_word pool_property_of_word name_of snap_of target_of digits hex_on_literals
+unfolding lines line_limit meaning request_of words_meaning command_of create_of write_of block_request_of free_object_of snapshots_of snapshot_of target_request_of rollback_of destroyed_of destroy_of slice_of get_of pool_get_of number_of_word block_of_word property_of_word pool_property_of_word name_of snap_of target_of digits hex_on_literals
 worked_lines = record {
   three = refl;
   ended = refl;
@@ -31,6 +31,27 @@ worked_lines = record {
   snapshot_two = refl;
   snapshot_none = refl;
   snapshot_file_system = refl;
+  rollback = refl;
+  rollback_later = refl;
+  rollback_file_system = refl;
+  rollback_twice = refl;
+  rollback_deferred = refl;
+  rollback_option_last = refl;
+  rollback_none = refl;
+  rollback_bad_name = refl;
+  destroy = refl;
+  destroy_all = refl;
+  destroy_deferred = refl;
+  destroy_all_deferred = refl;
+  destroy_bookmark = refl;
+  destroy_turned = refl;
+  destroy_two = refl;
+  destroy_bad_name = refl;
+  slice = refl;
+  slice_of_none = refl;
+  slice_greatest = refl;
+  slice_too_great = refl;
+  slice_bare = refl;
   list = refl;
   sync = refl;
   sync_extra = refl;
@@ -46,6 +67,7 @@ worked_lines = record {
   unknown = refl;
   done = refl;
   group = refl;
+  count = refl;
   no_names = refl;
   names = refl;
   refused = refl;

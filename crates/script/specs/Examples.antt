@@ -2,11 +2,11 @@
 use Rattle.std.specs.Prelude.{◌≡◌, ◌↔◌, ◌≤◌, ℕ, true, false, List, Some, ◌++◌, [], ◌∷◌, codes, replicate}
 use Rattle.std.specs.Fmt.{decimal}
 use Rattle.base.specs.declared.refusal.Refusal.TheVariants.{BadName, NoDataset, BadLine}
-use Rattle.name.specs.declared.target.Target.TheVariants.{FileSystem, Snapshot}
+use Rattle.name.specs.declared.target.Target.TheVariants.{FileSystem, Snapshot, Bookmark}
 use Rattle.model.specs.declared.request.Property.TheVariants.{Referenced, Written, Guid, CreateTxg}
 use Rattle.model.specs.declared.request.PoolProperty.TheVariants.{Free, Freeing}
-use Rattle.model.specs.declared.request.Request.TheVariants.{Create, Write, Punch, FreeObject, Snapshot as TakeSnapshots, Read, Get, PoolGet, List as ListNames, Sync}
-use Rattle.model.specs.declared.reply.Reply.TheVariants.{Done, Refused, Group, Names}
+use Rattle.model.specs.declared.request.Request.TheVariants.{Create, Write, Punch, FreeObject, Snapshot as TakeSnapshots, Read, Get, PoolGet, List as ListNames, Rollback, Destroy, Slice, Sync}
+use Rattle.model.specs.declared.reply.Reply.TheVariants.{Done, Refused, Group, Names, Count}
 use Rattle.script.specs.Lines.{lines}
 use Rattle.script.specs.Words.{number_of_word}
 use Rattle.script.specs.Meaning.{meaning, Silent, Faulty, Asks}
@@ -36,6 +36,39 @@ pub record WorkedLines : Type 0 where
       ≡ Asks (TakeSnapshots (record { file_system = codes "p/a"; component = codes "n" } ∷ record { file_system = codes "p"; component = codes "m" } ∷ []) false)
   pub snapshot_none : meaning (codes "snapshot -r") ≡ Faulty BadLine
   pub snapshot_file_system : meaning (codes "snapshot p@s p") ≡ Faulty BadName
+  pub rollback :
+      meaning (codes "rollback p/a@s")
+      ≡ Asks (Rollback (Snapshot (record { file_system = codes "p/a"; component = codes "s" })) false)
+  pub rollback_later :
+      meaning (codes "rollback -r p@s")
+      ≡ Asks (Rollback (Snapshot (record { file_system = codes "p"; component = codes "s" })) true)
+  pub rollback_file_system : meaning (codes "rollback p") ≡ Asks (Rollback (FileSystem (codes "p")) false)
+  pub rollback_twice : meaning (codes "rollback -r -r p@s") ≡ Faulty BadLine
+  pub rollback_deferred : meaning (codes "rollback -d p@s") ≡ Faulty BadLine
+  pub rollback_option_last : meaning (codes "rollback p@s -r") ≡ Faulty BadLine
+  pub rollback_none : meaning (codes "rollback -r") ≡ Faulty BadLine
+  pub rollback_bad_name : meaning (codes "rollback -r p@") ≡ Faulty BadName
+  pub destroy : meaning (codes "destroy p/a") ≡ Asks (Destroy (FileSystem (codes "p/a")) false false)
+  pub destroy_all :
+      meaning (codes "destroy -r p@s")
+      ≡ Asks (Destroy (Snapshot (record { file_system = codes "p"; component = codes "s" })) true false)
+  pub destroy_deferred :
+      meaning (codes "destroy -d p@s")
+      ≡ Asks (Destroy (Snapshot (record { file_system = codes "p"; component = codes "s" })) false true)
+  pub destroy_all_deferred :
+      meaning (codes "destroy -r -d p@s")
+      ≡ Asks (Destroy (Snapshot (record { file_system = codes "p"; component = codes "s" })) true true)
+  pub destroy_bookmark :
+      meaning (codes "destroy p#s")
+      ≡ Asks (Destroy (Bookmark (record { file_system = codes "p"; component = codes "s" })) false false)
+  pub destroy_turned : meaning (codes "destroy -d -r p@s") ≡ Faulty BadLine
+  pub destroy_two : meaning (codes "destroy p/a p/b") ≡ Faulty BadLine
+  pub destroy_bad_name : meaning (codes "destroy p//a") ≡ Faulty BadName
+  pub slice : meaning (codes "slice 20") ≡ Asks (Slice 20)
+  pub slice_of_none : meaning (codes "slice 0") ≡ Asks (Slice 0)
+  pub slice_greatest : meaning (codes "slice 4294967295") ≡ Asks (Slice 4294967295)
+  pub slice_too_great : meaning (codes "slice 4294967296") ≡ Faulty BadLine
+  pub slice_bare : meaning (codes "slice") ≡ Faulty BadLine
   pub list : meaning (codes "list") ≡ Asks ListNames
   pub sync : meaning (codes "sync") ≡ Asks Sync
   pub sync_extra : meaning (codes "sync extra") ≡ Faulty BadLine
@@ -51,6 +84,7 @@ pub record WorkedLines : Type 0 where
   pub unknown : meaning (codes "frob p") ≡ Faulty BadLine
   pub done : line_of Done ≡ codes "ok" ++ 10 ∷ []
   pub group : line_of (Group 12) ≡ codes "12" ++ 10 ∷ []
+  pub count : line_of (Count 20) ≡ codes "20" ++ 10 ∷ []
   pub no_names : line_of (Names []) ≡ codes "-" ++ 10 ∷ []
   pub names : line_of (Names (codes "p" ∷ codes "p/a" ∷ [])) ≡ codes "p p/a" ++ 10 ∷ []
   pub refused : line_of (Refused NoDataset) ≡ codes "error 2 NoDataset" ++ 10 ∷ []

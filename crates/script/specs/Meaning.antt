@@ -1,5 +1,5 @@
 -- What a line asks for.
-use Rattle.std.specs.Prelude.{ℕ, ◌==◌, nat_lt, Bool, true, false, List, [], ◌∷◌, Option, Some, None, length, if◌then◌else◌, codes}
+use Rattle.std.specs.Prelude.{ℕ, ◌==◌, nat_lt, Bool, false, List, [], ◌∷◌, Option, Some, None, length, if◌then◌else◌, codes}
 use Rattle.std.specs.List.{list_all}
 use Rattle.std.specs.Option.{option_map, option_and_then}
 use Rattle.std.specs.Str.{bytes_eq}
@@ -9,7 +9,7 @@ use Rattle.name.specs.declared.member.Member.{Member}
 use Rattle.name.specs.declared.target.Target.{Target}
 use Rattle.name.specs.Reading.{name_of, snap_of, target_of}
 use Rattle.model.specs.declared.request.Request.{Request}
-use Rattle.model.specs.declared.request.Request.TheVariants.{Create, Write, Punch, FreeObject, Snapshot, Read, Get, PoolGet, List as ListNames, Sync}
+use Rattle.model.specs.declared.request.Request.TheVariants.{Create, Write, Punch, FreeObject, Snapshot, Read, Get, PoolGet, List as ListNames, Rollback, Destroy, Slice, Sync}
 use Rattle.script.specs.Lines.{line_limit}
 use Rattle.script.specs.Words.{is_printable, words_of, is_word, number_of_word, block_of_word, property_of_word, pool_property_of_word}
 
@@ -46,6 +46,16 @@ abbrev pub four_of : List (List ℕ) → Option (List ℕ × List ℕ × List �
 four_of (a ∷ b ∷ c ∷ d ∷ []) = Some (a, b, c, d)
 four_of _ = None
 
+-- whether an option stands before the operands, or what is left of them (profile)
+abbrev pub has_option : List ℕ → List (List ℕ) → Bool
+has_option option [] = false
+has_option option (w ∷ ws) = bytes_eq w option
+
+-- the words without an option that may stand before them (profile)
+abbrev pub after_option : List ℕ → List (List ℕ) → List (List ℕ)
+after_option option [] = []
+after_option option (w ∷ ws) = if bytes_eq w option then ws else w ∷ ws
+
 -- `create NAME` (profile)
 unfoldable pub create_of : List (List ℕ) → Meaning
 create_of operands = shaped (one_of operands) (λ w. named (name_of w) (λ name. Asks (Create name)))
@@ -79,8 +89,29 @@ snapshots_of recursive (w ∷ ws) = named (snap_names_of (w ∷ ws)) (λ names. 
 
 -- `snapshot [-r] SNAP ..` (zfs-snapshot(8))
 unfoldable pub snapshot_of : List (List ℕ) → Meaning
-snapshot_of [] = Faulty BadLine
-snapshot_of (w ∷ ws) = if bytes_eq w (codes "-r") then snapshots_of true ws else snapshots_of false (w ∷ ws)
+snapshot_of operands = snapshots_of (has_option (codes "-r") operands) (after_option (codes "-r") operands)
+
+-- `TARGET`: a request of one dataset or bookmark (profile)
+unfoldable pub target_request_of : (Target → Request) → List (List ℕ) → Meaning
+target_request_of request operands = shaped (one_of operands) (λ w. named (target_of w) (λ target. Asks (request target)))
+
+-- `rollback [-r] TARGET` (zfs-rollback(8))
+unfoldable pub rollback_of : List (List ℕ) → Meaning
+rollback_of operands =
+    target_request_of (λ target. Rollback target (has_option (codes "-r") operands)) (after_option (codes "-r") operands)
+
+-- `[-d] TARGET`: a destroy (zfs-destroy(8))
+unfoldable pub destroyed_of : Bool → List (List ℕ) → Meaning
+destroyed_of recursive operands =
+    target_request_of (λ target. Destroy target recursive (has_option (codes "-d") operands)) (after_option (codes "-d") operands)
+
+-- `destroy [-r] [-d] TARGET` (zfs-destroy(8))
+unfoldable pub destroy_of : List (List ℕ) → Meaning
+destroy_of operands = destroyed_of (has_option (codes "-r") operands) (after_option (codes "-r") operands)
+
+-- `slice NUM` (profile)
+unfoldable pub slice_of : List (List ℕ) → Meaning
+slice_of operands = shaped (one_of operands) (λ w. shaped (number_of_word w) (λ count. Asks (Slice count)))
 
 -- `get PROP TARGET` (profile)
 unfoldable pub get_of : List (List ℕ) → Meaning
@@ -108,6 +139,9 @@ command_of command operands =
     else if bytes_eq command (codes "get") then get_of operands
     else if bytes_eq command (codes "pget") then pool_get_of operands
     else if bytes_eq command (codes "list") then bare ListNames operands
+    else if bytes_eq command (codes "rollback") then rollback_of operands
+    else if bytes_eq command (codes "destroy") then destroy_of operands
+    else if bytes_eq command (codes "slice") then slice_of operands
     else if bytes_eq command (codes "sync") then bare Sync operands
     else Faulty BadLine
 

@@ -5,7 +5,7 @@ use Rattle.base.specs.declared.refusal.Refusal.TheVariants.{NoMemory}
 use Rattle.name.specs.declared.target.Target.{Target}
 use Rattle.model.specs.declared.request.Request.{Request}
 use Rattle.script.specs.Words.{words_of}
-use Rattle.script.specs.Meaning.{Meaning, Faulty, Asks, block_request_of}
+use Rattle.script.specs.Meaning.{Meaning, Faulty, Asks, block_request_of, target_request_of}
 
 -- nothing is left of a line, or these bytes after a space (profile)
 abbrev pub words_left : Option (List ℕ) → List (List ℕ)
@@ -21,3 +21,8 @@ Means (Err refusal) m = (refusal ≡ NoMemory) ⊎ (m ≡ Faulty refusal)
 abbrev pub MeansBlock : Result (Target × ℕ × ℕ) Refusal → List (List ℕ) → (Target → ℕ → ℕ → Request) → Type 0
 MeansBlock (Ok place) words request = block_request_of request words ≡ Asks (request place.0 place.1 place.2)
 MeansBlock (Err refusal) words request = (refusal ≡ NoMemory) ⊎ (block_request_of request words ≡ Faulty refusal)
+
+-- a request of one dataset or bookmark that a line asks, or its fault, unless memory ran out
+abbrev pub MeansTarget : Result Target Refusal → List (List ℕ) → (Target → Request) → Type 0
+MeansTarget (Ok target) words request = target_request_of request words ≡ Asks (request target)
+MeansTarget (Err refusal) words request = (refusal ≡ NoMemory) ⊎ (target_request_of request words ≡ Faulty refusal)

@@ -6,8 +6,8 @@ ghost use Rattle.std.specs.List.{list_all};
 ghost use Rattle.hex.specs.Hex.{decode_of};
 ghost use Rattle.name.specs.Reading.{Reads};
 ghost use Rattle.script.specs.Words.{is_printable, is_word, words_of, number_of_word, number_without_zero, number_from, block_of_word, filled, property_of_word, pool_property_of_word};
-ghost use Rattle.script.specs.Meaning.{request_of, command_of, create_of, write_of, block_request_of, free_object_of, snap_names_of, snapshots_of, snapshot_of, get_of, pool_get_of, bare, one_of, two_of, three_of, four_of};
-ghost use Rattle.script.specs.Reading.{words_left, Means, MeansBlock};
+ghost use Rattle.script.specs.Meaning.{request_of, command_of, create_of, write_of, block_request_of, free_object_of, snap_names_of, snapshots_of, snapshot_of, get_of, rollback_of, destroyed_of, destroy_of, slice_of, pool_get_of, has_option, after_option, bare, one_of, two_of, three_of, four_of};
+ghost use Rattle.script.specs.Reading.{words_left, Means, MeansBlock, MeansTarget};
 
 use crate::lines::LINE_LIMIT;
 use base::data::Data;
@@ -108,6 +108,22 @@ fn four(rest: Option<&[u8]>) -> Option<(&[u8], &[u8], &[u8], &[u8])>
     Some((a, b, c, d))
 }
 
+/// Whether an option stands before the operands, and what stands after it, or all of them.
+fn leading_option<'a>(rest: Option<&'a [u8]>, word: &[u8]) -> (bool, Option<&'a [u8]>)
+    ensures there { result.0 ≡ has_option word.now (words_left (option_copied rest.entry)) }
+    ensures left { words_left (option_copied result.1) ≡ after_option word.now (words_left (option_copied rest.entry)) }
+{
+    let Some(words) = rest else {
+        return (false, None);
+    };
+    let (first, later) = next_word(words);
+    if first == word {
+        (true, later)
+    } else {
+        (false, rest)
+    }
+}
+
 #[tactic(auto, unfolding(crate::specs::Meaning::command_of))]
 fn command_at(alloc: Global, command: &[u8], operands: Option<&[u8]>) -> Result<Request, Refusal>
     ensures { Means result (command_of command.now (words_left (option_copied operands.entry))) }
@@ -130,6 +146,12 @@ fn command_at(alloc: Global, command: &[u8], operands: Option<&[u8]>) -> Result<
         pool_get(operands)
     } else if command == b"list".as_slice() {
         bare(Request::List, operands)
+    } else if command == b"rollback".as_slice() {
+        rollback(alloc, operands)
+    } else if command == b"destroy".as_slice() {
+        destroy(alloc, operands)
+    } else if command == b"slice".as_slice() {
+        slice(operands)
     } else if command == b"sync".as_slice() {
         bare(Request::Sync, operands)
     } else {
@@ -237,15 +259,8 @@ fn free_object(alloc: Global, operands: Option<&[u8]>) -> Result<Request, Refusa
 fn snapshot(alloc: Global, operands: Option<&[u8]>) -> Result<Request, Refusal>
     ensures { Means result (snapshot_of (words_left (option_copied operands.entry))) }
 {
-    let Some(words) = operands else {
-        return Err(Refusal::BadLine);
-    };
-    let (first, rest) = next_word(words);
-    if first == b"-r".as_slice() {
-        snapshots(alloc, rest, true)
-    } else {
-        snapshots(alloc, operands, false)
-    }
+    let (recursive, rest) = leading_option(operands, b"-r");
+    snapshots(alloc, rest, recursive)
 }
 
 // A request for snapshots of these names, one or more.
@@ -273,6 +288,66 @@ fn snap_names(alloc: Global, words: &[u8]) -> Result<SnapNames, Refusal>
         left = rest;
     }
     Ok(SnapNames::from(names))
+}
+
+// The target of a request that has no other operand.
+#[tactic(auto, unfolding(crate::specs::Meaning::target_request_of))]
+fn lone_target(alloc: Global, operands: Option<&[u8]>) -> Result<Target, Refusal>
+    ensures { (request : Target → Request) → MeansTarget result (words_left (option_copied operands.entry)) request }
+{
+    let Some(target) = one(operands) else {
+        return Err(Refusal::BadLine);
+    };
+    Target::read(alloc, target)
+}
+
+#[inline(never)]
+#[tactic(auto, unfolding(crate::specs::Meaning::rollback_of))]
+fn rollback(alloc: Global, operands: Option<&[u8]>) -> Result<Request, Refusal>
+    ensures { Means result (rollback_of (words_left (option_copied operands.entry))) }
+{
+    let (later, rest) = leading_option(operands, b"-r");
+    let target = lone_target(alloc, rest)?;
+    Ok(Request::Rollback { target, later })
+}
+
+#[inline(never)]
+#[tactic(auto, unfolding(crate::specs::Meaning::destroy_of))]
+fn destroy(alloc: Global, operands: Option<&[u8]>) -> Result<Request, Refusal>
+    ensures { Means result (destroy_of (words_left (option_copied operands.entry))) }
+{
+    let (recursive, rest) = leading_option(operands, b"-r");
+    destroyed(alloc, rest, recursive)
+}
+
+// A destroy of one target, deferred or not.
+#[tactic(auto, unfolding(crate::specs::Meaning::destroyed_of))]
+fn destroyed(alloc: Global, operands: Option<&[u8]>, recursive: bool) -> Result<Request, Refusal>
+    ensures { Means result (destroyed_of recursive (words_left (option_copied operands.entry))) }
+{
+    let (defer, rest) = leading_option(operands, b"-d");
+    let target = lone_target(alloc, rest)?;
+    Ok(Request::Destroy {
+        target,
+        recursive,
+        defer,
+    })
+}
+
+#[inline(never)]
+#[tactic(auto, unfolding(crate::specs::Meaning::slice_of))]
+fn slice(operands: Option<&[u8]>) -> Result<Request, Refusal>
+    ensures { Means result (slice_of (words_left (option_copied operands.entry))) }
+{
+    let Some(count) = one(operands) else {
+        return Err(Refusal::BadLine);
+    };
+    let Some(count) = number(count) else {
+        return Err(Refusal::BadLine);
+    };
+    Ok(Request::Slice {
+        count: u64::from(count),
+    })
 }
 
 #[inline(never)]

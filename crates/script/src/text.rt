@@ -32,6 +32,10 @@ pub(crate) fn write_reply<W: Write>(writer: &mut W, reply: &Reply) -> io::Result
             let group = *group;
             writeln!(writer, "{group}")
         }
+        Reply::Count(count) => {
+            let count = *count;
+            writeln!(writer, "{count}")
+        }
         Reply::Names(names) => write_names(writer, names.as_slice()),
         Reply::Value(Value::NotApplicable) => writer.write_all(b"-\n"),
     }

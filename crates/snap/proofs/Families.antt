@@ -23,7 +23,7 @@ own_itself : (a : ℕ) → (a == a) ≡ true
 own_itself a = grind arith
 
 -- a name that begins with the ancestor's
-joined : (a r : List ℕ) → is_in_family a (a ++ r) ≡ ends_component r
+pub joined : (a r : List ℕ) → is_in_family a (a ++ r) ≡ ends_component r
 joined [] [] = refl
 joined [] (b ∷ bs) = and_true (slash == b) ∙ equal_either slash b
   where
@@ -32,7 +32,7 @@ joined [] (b ∷ bs) = and_true (slash == b) ∙ equal_either slash b
     and_true false = refl
 joined (x ∷ xs) r = rw (own_itself x) (joined xs r)
 
-parted : (a n : List ℕ) → pointwise ◌==◌ (take (length a) n) a ≡ true → n ≡ a ++ drop (length a) n
+pub parted : (a n : List ℕ) → pointwise ◌==◌ (take (length a) n) a ≡ true → n ≡ a ++ drop (length a) n
 parted [] n e = refl
 parted (x ∷ xs) [] e = absurd (true≢false (sym e))
 parted (x ∷ xs) (y ∷ ys) e = let p = and_parts (y == x) (pointwise ◌==◌ (take (length xs) ys) xs) e in λ i. eqb-true y x p.0 i ∷ parted xs ys p.1 i

@@ -13,8 +13,9 @@ mod check;
 mod named;
 mod take;
 
+pub use crate::check::any_taken;
 use crate::check::{any_missing, check, refusal_of_one};
-use crate::named::expand;
+pub use crate::named::{Named, expand, is_in_family};
 use crate::take::{take, take_one};
 use base::refusal::Refusal;
 use datasets::Table;

@@ -28,8 +28,8 @@ impl<'a> Model for Named<'a> {
     ghost view = { λ n. record { file_system = n.file_system.now; component = n.component.now } };
 }
 
-// Whether the name is the ancestor's own or a descendant's. It costs the length of the ancestor's name.
-fn is_in_family(ancestor: &[u8], name: &[u8]) -> bool
+/// Whether the name is the ancestor's own or a descendant's (zfs-destroy(8), -r). It costs the length of the ancestor's name.
+pub fn is_in_family(ancestor: &[u8], name: &[u8]) -> bool
     ensures { result ≡ is_in_family ancestor.now name.now }
 {
     match name.strip_prefix(ancestor) {

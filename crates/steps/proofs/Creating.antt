@@ -58,6 +58,7 @@ module _ (s : State) (steady : IsSteady s) (name : List ℕ) (may : create_refus
         good = create_before s steady.good name can.absent can.parent can.room;
         swept = plain_swept (with_datasets s created) plain;
         plain = plain;
+        unseen = steady.unseen;
       }
 
   create_steady : IsSteady (put s (with_system (datasets_of s) name empty_file_system) 0)

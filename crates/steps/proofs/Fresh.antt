@@ -36,7 +36,7 @@ first_plain = plain_put finmap.empty (λ name f at. absurd (no_value f (sym (get
 -- what holds between two steps holds of it
 pub first_steady : (id size : ℕ) → IsSteady (fresh_state id size)
 unfolding fresh_state fresh_world
-first_steady id size = record { good = fresh_keeps id size; swept = plain_swept (fresh_state id size) first_plain; plain = first_plain }
+first_steady id size = record { good = fresh_keeps id size; swept = plain_swept (fresh_state id size) first_plain; plain = first_plain; unseen = refl }
 
 get_replicate : (k n : ℕ) (x : BlockState) → n < k → slice_get (replicate k x) n ≡ Some x
 get_replicate zero n x h = absurd (omega arith)

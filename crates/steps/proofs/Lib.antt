@@ -25,3 +25,9 @@ pub mod Counts
 pub mod Settling
 pub mod Writing
 pub mod Snapping
+pub mod Losing
+pub mod Freeing
+pub mod Unneeded
+pub mod Rolling
+pub mod Destroying
+pub mod Slicing

@@ -217,6 +217,7 @@ module _ (s : State) (steady : IsSteady s) (name : Name) (f : FileSystem) (was :
       good = subst IsPoolState (sym leads_to) (change_before s steady.good name f was ch young late own_late states v is takable);
       swept = plain_swept (with_datasets s after_it) after_plain;
       plain = after_plain;
+      unseen = steady.unseen;
     }
 
     young_stays : (b : Block) → IsIn v.released b → young ≤ b.birth → IsIn (filter (λ b. nat_lt (base_of s.now (Live name)) b.birth) v.released) b

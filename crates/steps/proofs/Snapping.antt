@@ -154,6 +154,7 @@ module _ (s : State) (steady : IsSteady s) (names : List Member) (recursive : Bo
       good = record { now = good.now; last = good.last; pair = good.pair; views = good.views };
       swept = plain_swept (put s t (length all)) plain;
       plain = plain;
+      unseen = steady.unseen;
     };
     reach = snapshot_reach;
   }

@@ -75,6 +75,7 @@ module _ (s : State) (steady : IsSteady s) where
     };
     swept = plain_swept (synced s (next_of s)) steady.plain;
     plain = steady.plain;
+    unseen = steady.unseen;
   }
 
   next_states : (numbers : List BlockState) → HasStates s numbers → HasStates (synced s (next_of s)) (map after_group numbers)

@@ -1,11 +1,11 @@
 -- Other datasets put in the place of a pool's, and what that does to its numbers.
-use Rattle.std.specs.Prelude.{◌≡◌, ◌<◌, ◌≤◌, ◌⊎◌, ◌+◌, ℕ, List, false}
-use Rattle.base.specs.Map.{Block}
+use Rattle.std.specs.Prelude.{◌≡◌, ◌<◌, ◌≤◌, ◌⊎◌, ◌+◌, ℕ, List, [], false}
+use Rattle.base.specs.Map.{Block, BlockSet}
 use Rattle.base.specs.Surveys.{IsIn}
 use Rattle.zalloc.specs.declared.BlockState.TheVariants.{Free}
 use Rattle.model.specs.World.{reach_of}
 use Rattle.model.specs.State.{State, block_state}
-use Rattle.model.specs.Edits.{with_now}
+use Rattle.model.specs.Edits.{with_now, with_losses}
 use Rattle.model.specs.Targets.{has_no_next_group}
 use Rattle.world.specs.Plans.{IsSettling}
 use Rattle.world.specs.Tables.{Datasets}
@@ -33,6 +33,16 @@ pub record CanPut (s : State) (t : Datasets) (guids : ℕ) : Type 0 where
   pub steady : IsSteady (put s t guids)
   pub reach : reach_of (put s t guids).now ≡ reach_of s.now
 
+-- the state with these datasets, where what all datasets together have lost is to be freed (zpool-features(7): async_destroy)
+abbrev pub lose : State → Datasets → State
+lose s t = with_now s (with_losses s.now (record s.now { file_systems = t.file_systems; group = t.group }))
+
+-- They can be put there so, and no number changes its state: what holds between two steps holds after it, and the same blocks are
+-- reached (profile)
+pub record CanLose (s : State) (t : Datasets) : Type 0 where
+  pub steady : IsSteady (lose s t)
+  pub reach : reach_of (lose s t).now ≡ reach_of s.now
+
 -- They can be put there once these blocks are released and these numbers are taken: what holds between two steps holds after it,
 -- and each number is Free, or that of a released block that the last synced world hasn't (profile)
 pub record CanChange (s : State) (t : Datasets) (released : List Block) (taken : List ℕ) : Type 0 where
@@ -41,6 +51,16 @@ pub record CanChange (s : State) (t : Datasets) (released : List Block) (taken :
   pub takable :
       (n : ℕ) → IsIn taken n
       → ((n < s.size) × (block_state s n ≡ Free)) ⊎ ((b : Block) × IsIn released b × (s.last.group ≤ b.birth) × (b.number ≡ n))
+
+-- the state where this is to be freed (zpool-features(7): async_destroy)
+abbrev pub with_freeing : State → BlockSet → State
+with_freeing s rest = with_now s (record s.now { freeing = rest })
+
+-- This may be what is still to be freed, once these blocks are released: what holds between two steps holds after it, and no number is
+-- taken (zpool-features(7): async_destroy)
+pub record CanFree (s : State) (rest : BlockSet) (released : List Block) : Type 0 where
+  pub steady : IsSteady (with_freeing s rest)
+  pub settling : IsSettling (reach_of s.now) (reach_of (with_freeing s rest).now) (reach_of s.last) s.last.group released []
 
 -- a sync can leave them: they are the present ones in the next group, which there is (zpool-sync(8); numbers are profile)
 pub record CanSync (s : State) (t : Datasets) : Type 0 where

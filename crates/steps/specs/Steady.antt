@@ -32,11 +32,12 @@ pub record IsPlain (f : FileSystem) : Type 0 where
 abbrev pub ArePlain : FileSystems → Type 0
 ArePlain ss = (name : List ℕ) (f : FileSystem) → get ss name ≡ Some f → IsPlain f
 
--- The facts of its worlds, with nothing to sweep, and plain file systems (profile)
+-- The facts of its worlds, with nothing to sweep, and plain file systems; and no view is open, which no request opens so far (profile)
 pub record IsSteady (s : State) : Type 0 where
   pub good : IsPoolState s
   pub swept : IsSwept s
   pub plain : ArePlain s.now.file_systems
+  pub unseen : s.views ≡ finmap.empty
 
 -- a snapshot by its name, among file systems (zfs(8))
 abbrev pub snap_in : FileSystems → Member → Option Snap

@@ -7,31 +7,13 @@ use Rattle.name.specs.Names.{same_name}
 use Rattle.model.specs.World.{World, FileSystem, Snap, SnapId, id_of, same_id, empty_file_system, file_system_at, snap_at, map_of_snap}
 use Rattle.model.specs.Edits.{with_file_system, without_snaps, with_losses}
 pub use Rattle.model.specs.requests.Snapshot.{snap_of_live, with_snapshot, with_snapshots}
+pub use Rattle.model.specs.requests.Rollback.{snaps_upto, snaps_after, back_at, after_rollback}
+pub use Rattle.model.specs.requests.Destroy.{without_file_systems, is_one_of}
 
 -- a clone of a snapshot (zfs-clone(8))
 abbrev pub with_clone : World → SnapId → List ℕ → World
 with_clone w id name =
     record w { file_systems = insert w.file_systems name (record empty_file_system { live = map_of_snap w (Some id); origin = Some id }) }
-
--- a file system's snapshots of a group up to this one, and those after it (On-Disk Specification, chapter 4: ds_creation_txg)
-abbrev pub snaps_upto : FileSystem → ℕ → List Snap
-snaps_upto s group = filter (λ t. nat_le t.group group) s.snaps
-
--- a file system's snapshots of a group after this one (profile)
-abbrev pub snaps_after : FileSystem → ℕ → List Snap
-snaps_after s group = filter (λ t. nat_lt group t.group) s.snaps
-
--- a file system back at a snapshot: what is newer goes (zfs-rollback(8), -r)
-abbrev pub back_at : FileSystem → Snap → FileSystem
-back_at s t = record s {
-  live = t.map;
-  snaps = snaps_upto s t.group;
-  bookmarks = from_entries (filter (λ m. nat_le m.1.group t.group) (entries s.bookmarks));
-}
-
--- zfs-rollback(8), -r (profile)
-abbrev pub after_rollback : World → SnapId → World
-after_rollback w id = option_map_or (λ p. with_file_system w p.0 (λ s. back_at s p.1)) (snap_at w id) w
 
 -- what a promote is between: the clone, its origin, and the file system that owns the origin (zfs-promote(8))
 pub record Promotion : Type 0 where
@@ -61,14 +43,6 @@ promoted p = record p.clone { snaps = promoted_snaps p ++ p.clone.snaps; origin 
 -- zfs-promote(8)
 abbrev pub after_promotion : World → List ℕ → Promotion → World
 after_promotion w name p = record w { file_systems = insert (insert w.file_systems p.owner (demoted p)) name (promoted p) }
-
--- file systems gone with their snapshots and bookmarks (zfs-destroy(8), -r)
-abbrev pub without_file_systems : World → List (List ℕ) → World
-without_file_systems w names = record w { file_systems = retain_keys w.file_systems (λ n. not (list_any (same_name n) names)) }
-
--- whether a snapshot is one of these (profile)
-abbrev pub is_one_of : List SnapId → Snap → Bool
-is_one_of ids t = list_any (same_id (id_of t)) ids
 
 -- the file systems of some names alone (zfs-destroy(8), -r)
 abbrev pub with_names : World → (List ℕ → Bool) → World

@@ -1,14 +1,16 @@
 use Rattle.std.proofs.Common.{sym, ap, subst, ◌∙◌, List}
 use Rattle.zalloc.specs.declared.BlockState.{BlockState}
 use Rattle.model.specs.Edits.{with_now}
-use Rattle.world.specs.Tables.{Datasets, world_of}
+use Rattle.base.specs.Map.{BlockSet}
+use Rattle.world.specs.Tables.{world_of}
 use Rattle.steps.specs.Edits.{synced}
 use Rattle.steps.proofs.Putting.{release_them, take_them}
-use Rattle.pool.specs.declared.pool.Plan.TheVariants.{Change, Put, Sync}
+use Rattle.steps.proofs.Slicing.{free_them}
+use Rattle.pool.specs.declared.pool.Plan.TheVariants.{Change, Put, Lose, Free, Sync}
 use Rattle.pool.specs.Plans.{CanDo}
 use Rattle.pool.specs.Pools.{state_of, IsSound}
 use Rattle.pool.specs.Shown.{Shown, Leap}
-use Rattle.pool.proofs.Commits.{sound_changed, sound_put, sound_synced}
+use Rattle.pool.proofs.Commits.{sound_changed, sound_put, sound_lost, sound_freed, sound_synced, sound_copied}
 use Rattle.pool.proofs.pool.Pool.commit.Goals as goal
 
 pub release_all-requires : goal.release_all-requires
@@ -41,11 +43,34 @@ invariant_of-self-in-Put c =
     (subst (λ plan. CanDo c.ready.inside.from.value.state plan) c.in-Put.is c.ready.invariant) in
     sound_put (state_of c.self.inside) c.self.inside.allocator c.self.invariant c.in-Put.to c.in-Put.guids can.0 can.1
 
+pub invariant_of-self-in-Lose : goal.invariant_of-self-in-Lose
+invariant_of-self-in-Lose c =
+    let same = ap (λ (l : Leap). l.from) c.ready.view_is ∙ c.requires ∙ sym c.self.view_is in
+    let can = subst (λ (x : Shown). CanDo x.state (Lose c.in-Lose.to c.in-Lose.freeing)) same
+    (subst (λ plan. CanDo c.ready.inside.from.value.state plan) c.in-Lose.is c.ready.invariant) in
+    subst (λ (x : BlockSet). IsSound (with_now (state_of c.self.inside) (record (world_of c.in-Lose.to) { freeing = x })) c.self.inside.allocator) (sym can.1)
+    (sound_lost (state_of c.self.inside) c.self.inside.allocator c.self.invariant c.in-Lose.to can.0)
+
+pub release_all-requires-in-Free : goal.release_all-requires-in-Free
+release_all-requires-in-Free c =
+    let same = ap (λ (l : Leap). l.from) c.ready.view_is ∙ c.requires ∙ sym c.self.view_is in
+    let can = subst (λ (x : Shown). CanDo x.state (Free c.in-Free.rest c.in-Free.taken)) same
+    (subst (λ plan. CanDo c.ready.inside.from.value.state plan) c.in-Free.is c.ready.invariant) in
+    rw (c.deref-in-Free.ensures.value, c.group-in-Free.ensures) (free_them (state_of c.self.inside) c.self.invariant.steady c.self.inside.allocator c.self.invariant.states c.in-Free.rest _ can)
+
+pub invariant_of-self-in-Free : goal.invariant_of-self-in-Free
+invariant_of-self-in-Free c =
+    let same = ap (λ (l : Leap). l.from) c.ready.view_is ∙ c.requires ∙ sym c.self.view_is in
+    let can = subst (λ (x : Shown). CanDo x.state (Free c.in-Free.rest c.in-Free.taken)) same
+    (subst (λ plan. CanDo c.ready.inside.from.value.state plan) c.in-Free.is c.ready.invariant) in
+    rw (c.release_all-in-Free.ensures, c.deref-in-Free.ensures.value, c.group-in-Free.ensures)
+    (sound_freed (state_of c.self.inside) c.self.inside.allocator c.self.invariant c.in-Free.rest _ can)
+
 pub invariant_of-self-in-Sync : goal.invariant_of-self-in-Sync
 invariant_of-self-in-Sync c =
     let same = ap (λ (l : Leap). l.from) c.ready.view_is ∙ c.requires ∙ sym c.self.view_is in
-    let can = subst (λ (x : Shown). CanDo x.state (Sync c.in-Sync.last)) same
+    let s = state_of c.self.inside in
+    let can = subst (λ (x : Shown). CanDo x.state (Sync c.in-Sync.last c.in-Sync.freeing)) same
     (subst (λ plan. CanDo c.ready.inside.from.value.state plan) c.in-Sync.is c.ready.invariant) in
-    subst (λ (t : Datasets). IsSound (with_now (synced (state_of c.self.inside) c.in-Sync.last) (world_of t)) c.end_group.new.self) (can.is ∙ sym c.close_group.ensures)
-    (subst (λ (st : List BlockState). IsSound (synced (state_of c.self.inside) c.in-Sync.last) st) (sym c.end_group.ensures)
-    (sound_synced (state_of c.self.inside) c.self.inside.allocator c.self.invariant c.in-Sync.last can))
+    sound_copied s c.in-Sync.last c.close_group.new.self c.in-Sync.freeing c.end_group.new.self can.1 (can.0.is ∙ sym c.close_group.ensures)
+    (subst (λ (st : List BlockState). IsSound (synced s c.in-Sync.last) st) (sym c.end_group.ensures) (sound_synced s c.self.inside.allocator c.self.invariant c.in-Sync.last can.0))

@@ -1,4 +1,4 @@
-use Rattle.std.proofs.Common.{refl, ap}
+use Rattle.std.proofs.Common.{ap}
 use Rattle.model.specs.declared.reply.Value.TheVariants.{Number}
 use Rattle.pool.specs.Pools.{state_of}
 use Rattle.pool.proofs.Steps.{pool_get_size, pool_get_allocated, pool_get_free, pool_get_freeing, pool_get_waiting, pool_get_group}
@@ -22,7 +22,7 @@ returns-in-Free c =
 pub returns-in-Freeing : goal.returns-in-Freeing
 returns-in-Freeing c =
     pool_get_freeing c.args.self.now (state_of c.self.inside) c.self.inside.allocator c.self.view_is c.self.invariant c.args.property
-    c.in_bytes-in-Freeing.result c.in-Freeing.is c.in_bytes-in-Freeing.ensures refl
+    c.in_bytes-in-Freeing.result c.freeing_len.result c.in-Freeing.is c.in_bytes-in-Freeing.ensures c.freeing_len.ensures
 
 pub returns-in-Waiting : goal.returns-in-Waiting
 returns-in-Waiting c =

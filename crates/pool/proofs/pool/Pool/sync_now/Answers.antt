@@ -2,14 +2,13 @@ use Rattle.std.proofs.Common.{◌≤◌, ◌<◌, ◌+◌, subst, sym, ap, ◌�
 use Rattle.zalloc.specs.declared.BlockState.{BlockState}
 use Rattle.model.specs.declared.request.Request.TheVariants.{Sync}
 use Rattle.model.specs.declared.reply.Reply.TheVariants.{Group}
-use Rattle.model.specs.Edits.{with_now}
 use Rattle.model.specs.Targets.{number_limit}
 use Rattle.model.specs.Step.{Step}
 use Rattle.world.specs.Tables.{Datasets, world_of}
 use Rattle.steps.specs.Edits.{synced, CanSync}
 use Rattle.pool.specs.Pools.{state_of, IsSound}
 use Rattle.pool.specs.Shown.{Shown}
-use Rattle.pool.proofs.Commits.{sound_synced}
+use Rattle.pool.proofs.Commits.{sound_synced, sound_copied, state_copied}
 use Rattle.pool.proofs.Steps.{sync_too_many, sync_can, sync_done}
 use Rattle.pool.proofs.pool.Pool.sync_now.Goals as goal
 
@@ -22,19 +21,21 @@ pub invariant_of-self : goal.invariant_of-self
 invariant_of-self c =
     let s = state_of c.self.inside in
     let next = c.close_group.new.self in
-    let is = c.close_group.ensures ∙ ap (λ (t : Datasets). record t { group = t.group + 1 }) c.in-Ok.ensures.ok in
+    let is = c.close_group.ensures ∙ ap (λ (t : Datasets). record t { group = t.group + 1 }) c.in-Ok-copy.ensures.ok in
     let low = subst (λ n. n < number_limit) c.group-group.ensures c.if-group-ge-LAST_GROUP.false in
     let can = subst (λ (x : Shown). CanSync x.state next) (sym c.self.view_is) (sync_can c.args.self.now s c.self.inside.allocator c.self.view_is c.self.invariant next is low) in
-    subst (λ (t : Datasets). IsSound (with_now (synced s next) (world_of t)) c.end_group.new.self) (is ∙ sym c.close_group-2.ensures)
+    sound_copied s next c.close_group-2.new.self c.in-Ok.freeing c.end_group.new.self c.in-Ok.ensures.ok (is ∙ sym c.close_group-2.ensures)
     (subst (λ (st : List BlockState). IsSound (synced s next) st) (sym c.end_group.ensures) (sound_synced s c.self.inside.allocator c.self.invariant next can))
 
 pub returns : goal.returns
 returns c =
     let s = state_of c.self.inside in
     let next = c.close_group.new.self in
-    let is = c.close_group.ensures ∙ ap (λ (t : Datasets). record t { group = t.group + 1 }) c.in-Ok.ensures.ok in
+    let is = c.close_group.ensures ∙ ap (λ (t : Datasets). record t { group = t.group + 1 }) c.in-Ok-copy.ensures.ok in
     let low = subst (λ n. n < number_limit) c.group-group.ensures c.if-group-ge-LAST_GROUP.false in
     let done = sync_done c.args.self.now s c.self.inside.allocator c.self.view_is c.self.invariant next is low in
     let here = subst (λ (x : Shown). Step c.args.self.now.state Sync (Group (s.now.group + 1)) (synced x.state next)) (sym c.self.view_is) done in
-    let put = subst (λ (t : Datasets). Step c.args.self.now.state Sync (Group (s.now.group + 1)) (with_now (synced s next) (world_of t))) (is ∙ sym c.close_group-2.ensures) here in
-    subst (λ n. Step c.args.self.now.state Sync (Group n) (with_now (synced s next) (world_of c.close_group-2.new.self))) (sym (c.group-open.ensures ∙ ap (λ (t : Datasets). t.group) is)) put
+    let left = state_copied s next c.close_group-2.new.self c.in-Ok.freeing c.in-Ok.ensures.ok (is ∙ sym c.close_group-2.ensures) in
+    subst (λ n. Step c.args.self.now.state Sync (Group n) (record s { now = record (world_of c.close_group-2.new.self) { freeing = s.now.freeing }; last = record (world_of next) { freeing = c.in-Ok.freeing } }))
+    (sym (c.group-open.ensures ∙ ap (λ (t : Datasets). t.group) is))
+    (subst (λ x. Step c.args.self.now.state Sync (Group (s.now.group + 1)) x) left here)

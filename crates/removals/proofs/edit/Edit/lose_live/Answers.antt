@@ -1,4 +1,4 @@
-use Rattle.std.proofs.Common.{refl, sym, subst}
+use Rattle.std.proofs.Common.{sym, subst}
 use Rattle.base.specs.Map.{BlockSet, blocks}
 use Rattle.world.specs.Blocks.{after}
 use Rattle.world.specs.Sets.{AreDisjoint}

@@ -1,6 +1,5 @@
 use Rattle.std.proofs.Common.{◌≡◌, Ok, Err, Result, sym, ap, subst, ◌∙◌, map}
-use Rattle.std.specs.Prelude.{IfSome, OnOk}
-use Rattle.std.specs.FinSet.{union, from_list}
+use Rattle.std.specs.FinSet.{from_list}
 use Rattle.base.specs.declared.refusal.Refusal.{Refusal}
 use Rattle.base.specs.Map.{BlockSet}
 use Rattle.base.specs.Surveys.{dead_block}

@@ -1,0 +1,77 @@
+-- A file system without snapshots goes from a table.
+use Rattle.std.proofs.Common.{◌≡◌, [], ℕ, Option, Some, None, Result, Ok, Err, refl, sym, ap, subst, ◌∙◌}
+use Rattle.std.specs.Prelude.{IfOk, OnOk, OnErr, IsSome, is_some}
+use Rattle.std.specs.Option.{option_map_or}
+use Rattle.std.specs.FinMap as finmap
+use Rattle.std.specs.FinMap.{get, remove}
+use Rattle.std.specs.FinSet as set
+use Rattle.base.specs.declared.refusal.Refusal.{Refusal}
+use Rattle.base.specs.Map.{blocks}
+use Rattle.model.specs.World.{FileSystem, Live}
+use Rattle.file_systems.specs.declared.lost.Lost.{Lost}
+use Rattle.file_systems.specs.Losses.{IsLost}
+use Rattle.file_systems.specs.Rows.{live_of, snaps_at}
+use Rattle.file_systems.specs.Writes.{newest_group}
+use Rattle.world.specs.Blocks.{after}
+use Rattle.world.specs.Shapes.{Name}
+use Rattle.world.specs.Worlds.{FileSystems}
+use Rattle.world.specs.Dead.{base_of}
+use Rattle.world.specs.Tables.{Datasets, world_of, without_system, lost_between, CanRemove}
+use Rattle.world.proofs.Bridge.{previous_of_live}
+use Rattle.world.proofs.Put.{gone_cases, gone_maps}
+use Rattle.world.proofs.Removals.{unmake_good, unmake_loses}
+use Rattle.datasets.specs.Table.{IsTable}
+use Rattle.datasets.specs.Rollbacks.{Loses}
+use Rattle.datasets.proofs.Kept.{numbers_from}
+use Rattle.datasets.proofs.Above.{base_at}
+
+module _ (t : Datasets) (sound : IsTable t) (name : Name) (can : CanRemove t name) where
+  pub system_there : IsSome (get t.file_systems name)
+  system_there = ap (λ (x : Option FileSystem). is_some x) can.there
+
+  pub system_bare : snaps_at t.file_systems name ≡ []
+  system_bare = ap (λ (x : Option FileSystem). option_map_or (λ (f : FileSystem). f.snaps) x []) can.there ∙ can.bare
+
+  live_is : live_of t.file_systems name ≡ can.system.live
+  live_is = ap (λ (x : Option FileSystem). option_map_or (λ (f : FileSystem). f.live) x finmap.empty) can.there
+
+  -- nothing stands before its live map
+  base_none : base_of (world_of t) (Live name) ≡ 0
+  base_none =
+      base_at t sound name can.system can.there (Live name) (can.system, can.there) can.system.snaps (λ v k. k)
+      (previous_of_live (world_of t) t.group sound.systems.lines name can.system can.there)
+      ∙ ap newest_group can.bare
+
+  left_table : IsTable (without_system t name)
+  left_table = record {
+    systems = unmake_good (world_of t) sound.systems name can.system can.there can.bare can.not_root can.childless;
+    numbers = numbers_from t (without_system t name) sound.systems (gone_maps t.file_systems name) sound.numbers;
+    plain = λ q f at. sound.plain q f (gone_cases t.file_systems name q f at).1;
+  }
+
+  left_lost : after 0 (blocks (live_of t.file_systems name)) ≡ lost_between t (without_system t name)
+  left_lost =
+      (λ i. after (sym base_none i) (blocks (live_is i)))
+      ∙ sym (unmake_loses (world_of t) sound.systems name can.system can.there can.bare can.not_root can.childless)
+
+  -- what the file systems answer
+  module _ (r : Result Lost Refusal) (new : FileSystems) (ok : OnOk r (new ≡ remove t.file_systems name)) where
+    pub system_gone_table : OnErr r (new ≡ t.file_systems) → IsTable (record t { file_systems = new })
+    system_gone_table err = by_result r ok err
+      where
+        by_result : (x : Result Lost Refusal) → OnOk x (new ≡ remove t.file_systems name) → OnErr x (new ≡ t.file_systems) → IsTable (record t { file_systems = new })
+        by_result (Ok l) to e = subst (λ ss. IsTable (record t { file_systems = ss })) (sym to) left_table
+        by_result (Err w) to e = subst (λ ss. IsTable (record t { file_systems = ss })) (sym e) sound
+
+    pub system_gone_loses : IfOk r (IsLost (live_of t.file_systems name) []) → IfOk r (Loses t (record t { file_systems = new }))
+    system_gone_loses = by_result r ok
+      where
+        by_result : (x : Result Lost Refusal) → OnOk x (new ≡ remove t.file_systems name) → IfOk x (IsLost (live_of t.file_systems name) []) → IfOk x (Loses t (record t { file_systems = new }))
+        by_result (Ok l) to h =
+            let whole : after l.after.0 (blocks l.tree) ≡ lost_between t (record t { file_systems = new }) =
+            (λ i. after (h.after_is i) (blocks (h.tree_is i))) ∙ left_lost ∙ ap (λ ss. lost_between t (record t { file_systems = ss })) (sym to) in
+            record {
+              blocks_are = whole;
+              counted = h.counted ∙ ap set.len (sym h.blocks_are ∙ ap (λ m. after l.after.0 (blocks m)) (sym h.tree_is) ∙ whole);
+            }
+        by_result (Err w) to h = tt

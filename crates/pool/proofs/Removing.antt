@@ -1,0 +1,66 @@
+-- Rollbacks and destroys: what is planned can be done, and is a step.
+use Rattle.std.proofs.Common.{◌≡◌, ◌⊎◌, Bool, List, Some, None, refl, sym, subst}
+use Rattle.base.specs.Map.{BlockSet}
+use Rattle.base.specs.declared.refusal.Refusal.{Refusal}
+use Rattle.base.specs.declared.refusal.Refusal.TheVariants.{NoMemory}
+use Rattle.name.specs.declared.target.Target.{Target}
+use Rattle.zalloc.specs.declared.BlockState.{BlockState}
+use Rattle.model.specs.declared.request.Request.TheVariants.{Rollback, Destroy}
+use Rattle.model.specs.declared.reply.Reply.TheVariants.{Done, Refused}
+use Rattle.model.specs.State.{State}
+use Rattle.model.specs.Step.{Step}
+use Rattle.model.specs.World.{union_of}
+use Rattle.world.specs.Sets.{Has, AreDisjoint}
+use Rattle.world.specs.Tables.{Datasets, world_of}
+use Rattle.world.proofs.Kept.{union-fields}
+use Rattle.world.specs.Worlds.{AreFileSystems}
+use Rattle.removals.specs.Edits.{HasLost}
+use Rattle.removals.specs.Requests.{HaveNoBookmark, rolled, rollback_refusal, destroyed, destroy_refusal}
+use Rattle.steps.specs.Edits.{datasets_of, lose, CanLose}
+use Rattle.steps.proofs.Freeing.{joined_losses}
+use Rattle.steps.proofs.Rolling as rolling
+use Rattle.steps.proofs.Destroying as destroying
+use Rattle.pool.specs.Pools.{IsSound}
+use Rattle.pool.specs.Shown.{Shown, shown}
+
+module _ (seen : Shown) (s : State) (numbers : List BlockState) (view : shown s numbers ≡ seen) (sound : IsSound s numbers) where
+  -- no block of a dataset is to be freed
+  pub apart : AreDisjoint (union_of (world_of (datasets_of s))) s.now.freeing
+  apart b h k = sound.steady.good.now.freeing_apart b (subst (λ x. Has x b) (union-fields (world_of (datasets_of s)) s.now refl) h) k
+
+  pub no_bookmark : HaveNoBookmark s.now.file_systems
+  no_bookmark name f at = (sound.steady.plain name f at).bookmarks
+
+  -- what is to be freed beside datasets that can be put in place
+  with_freed : (to : Datasets) (freeing : BlockSet) → HasLost (datasets_of s) s.now.freeing to freeing → CanLose s to → CanLose seen.state to × (freeing ≡ (lose seen.state to).now.freeing)
+  with_freed to freeing lost can = subst (λ (x : Shown). CanLose x.state to × (freeing ≡ (lose x.state to).now.freeing)) view (can, joined_losses s to freeing lost.joined)
+
+  module _ (target : Target) (later : Bool) where
+    pub rollback_refused : (why : Refusal) → (rollback_refusal (datasets_of s) target later ≡ Some why) ⊎ (why ≡ NoMemory) → Step seen.state (Rollback target later) (Refused why) seen.state
+    rollback_refused why which = subst (λ (x : Shown). Step x.state (Rollback target later) (Refused why) x.state) view
+        (rolling.rollback_refused s sound.steady numbers sound.states later target why which)
+
+    module _ (none : rollback_refusal (datasets_of s) target later ≡ None) (to : Datasets) (is : to ≡ rolled (datasets_of s) target) where
+      pub rollback_can : (freeing : BlockSet) → HasLost (datasets_of s) s.now.freeing to freeing → CanLose seen.state to × (freeing ≡ (lose seen.state to).now.freeing)
+      rollback_can freeing lost = with_freed to freeing lost (subst (CanLose s) (sym is) (rolling.rollback_can s sound.steady target))
+
+      pub rollback_done : Step seen.state (Rollback target later) Done (lose seen.state to)
+      rollback_done = subst (λ (x : Shown). Step x.state (Rollback target later) Done (lose x.state to)) view
+          (subst (λ t. Step s (Rollback target later) Done (lose s t)) (sym is) (rolling.rollback_done s sound.steady numbers sound.states later target none))
+
+  module _ (target : Target) (recursive defer : Bool) where
+    pub destroy_refused : (why : Refusal) → (destroy_refusal (datasets_of s) target recursive defer ≡ Some why) ⊎ (why ≡ NoMemory) → Step seen.state (Destroy target recursive defer) (Refused why) seen.state
+    destroy_refused why which = subst (λ (x : Shown). Step x.state (Destroy target recursive defer) (Refused why) x.state) view
+        (destroying.destroy_refused s sound.steady target recursive defer why which)
+
+    module _ (none : destroy_refusal (datasets_of s) target recursive defer ≡ None) (to : Datasets) (is : to ≡ destroyed (datasets_of s) target recursive)
+        (good : AreFileSystems to.file_systems to.group) where
+      can : CanLose s (destroyed (datasets_of s) target recursive)
+      can = destroying.destroy_can s sound.steady target recursive defer none (subst (λ (t : Datasets). AreFileSystems t.file_systems t.group) is good)
+
+      pub destroy_can : (freeing : BlockSet) → HasLost (datasets_of s) s.now.freeing to freeing → CanLose seen.state to × (freeing ≡ (lose seen.state to).now.freeing)
+      destroy_can freeing lost = with_freed to freeing lost (subst (CanLose s) (sym is) can)
+
+      pub destroy_done : Step seen.state (Destroy target recursive defer) Done (lose seen.state to)
+      destroy_done = subst (λ (x : Shown). Step x.state (Destroy target recursive defer) Done (lose x.state to)) view
+          (subst (λ t. Step s (Destroy target recursive defer) Done (lose s t)) (sym is) (destroying.destroy_done s sound.steady target recursive defer none can))

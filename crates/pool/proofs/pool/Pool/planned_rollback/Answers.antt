@@ -1,0 +1,25 @@
+use Rattle.pool.specs.Pools.{state_of}
+use Rattle.pool.proofs.Removing.{apart, no_bookmark, rollback_can, rollback_done, rollback_refused}
+use Rattle.pool.proofs.pool.Pool.planned_rollback.Goals as goal
+
+pub rollback-edit-requires-clause-apart : goal.rollback-edit-requires-clause-apart
+rollback-edit-requires-clause-apart c = apart c.args.self.now (state_of c.self.inside) c.self.inside.allocator c.self.view_is c.self.invariant
+
+pub rollback-edit-requires-clause-plain : goal.rollback-edit-requires-clause-plain
+rollback-edit-requires-clause-plain c = no_bookmark c.args.self.now (state_of c.self.inside) c.self.inside.allocator c.self.view_is c.self.invariant
+
+pub returns-clause-can : goal.returns-clause-can
+returns-clause-can c =
+    let e = c.in-Ok.ensures in
+    rollback_can c.args.self.now (state_of c.self.inside) c.self.inside.allocator c.self.view_is c.self.invariant c.args.target.now c.args.later
+    e.can c.in-Ok.edit.to e.ok c.in-Ok.edit.freeing e.lost
+
+pub returns-clause-step : goal.returns-clause-step
+returns-clause-step c =
+    let e = c.in-Ok.ensures in
+    rollback_done c.args.self.now (state_of c.self.inside) c.self.inside.allocator c.self.view_is c.self.invariant c.args.target.now c.args.later
+    e.can c.in-Ok.edit.to e.ok
+
+pub returns-in-Err-clause-step : goal.returns-in-Err-clause-step
+returns-in-Err-clause-step c =
+    rollback_refused c.args.self.now (state_of c.self.inside) c.self.inside.allocator c.self.view_is c.self.invariant c.args.target.now c.args.later c.in-Err.refusal c.in-Err.ensures.only

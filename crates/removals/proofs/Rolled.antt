@@ -1,0 +1,269 @@
+-- A file system goes back to one of its snapshots: what is newer goes by its names, and then the live map.
+use Rattle.std.proofs.Common.{◌≡◌, ℕ, ◌<◌, ◌≤◌, Bool, true, false, cond, not, List, [], ◌∷◌, ◌++◌, Option, Some, None, refl, sym, ap, subst, ◌∙◌, true≢false, ◌⊎◌, inl, inr, ⊎_elim, map, length, arith}
+use Rattle.std.specs.Prelude.{nat_le, nat_lt, is_some, ◌&&◌}
+use Rattle.base.specs.declared.refusal.Refusal.{Refusal}
+use Rattle.base.specs.declared.refusal.Refusal.TheVariants.{NoDataset, NotNewest}
+use Rattle.model.specs.Rule.{first_of}
+use Rattle.std.specs.List.{find, filter, last_or}
+use Rattle.std.proofs.lemmas.Bool.{lt-ltb, le-ltb, ltb-true}
+use Rattle.std.specs.Option.{option_map, option_map_or, option_and_then}
+use Rattle.std.specs.FinMap as finmap
+use Rattle.std.specs.FinMap.{get, insert, entries, from_entries, same_map, get-from_entries, get-empty, len-entries, len-empty}
+use Rattle.name.specs.declared.member.Member.{Member}
+use Rattle.name.specs.declared.target.Target.TheVariants.{Snapshot as OfSnapshot}
+use Rattle.name.specs.Names.{same_name, name_cmp}
+use Rattle.base.specs.Surveys.{IsIn}
+use Rattle.base.specs.Map.{Map}
+use Rattle.model.specs.World.{World, FileSystem, Snap, SnapId, Bookmark, id_of, snap_named}
+use Rattle.model.specs.Edits.{without_snaps, with_file_system}
+use Rattle.model.specs.requests.Rollback.{snaps_upto, snaps_after, back_at, after_rollback}
+use Rattle.file_systems.specs.Losses.{newest_map}
+use Rattle.file_systems.specs.Writes.{newest_group}
+use Rattle.file_systems.specs.Rows.{Row, live_of, snaps_at, with_live}
+use Rattle.world.specs.Shapes.{Name, name_order}
+use Rattle.world.specs.Worlds.{FileSystems, AreRising, AreFileSystems}
+use Rattle.world.specs.Outcomes.{is_one_of}
+use Rattle.world.specs.Tables.{Datasets, world_of}
+use Rattle.world.proofs.Maps.{key_cases, same_value, no_value}
+use Rattle.world.proofs.Listed.{in_map, map_in, length-mapped}
+use Rattle.world.proofs.Finding.{from_find, find_only, filter_front, filter_all, in_filter, from_filter, in_right, one_name, name_itself}
+use Rattle.world.proofs.Promotions.{split_at, upto_is, after_is, append_assoc}
+use Rattle.world.proofs.Put.{put_here, put_other}
+use Rattle.world.proofs.Bridge.{start, rising, rising_above, one_snap, snap_is_at, in_middle}
+use Rattle.world.proofs.WithoutSnaps.{get-without, any_in, any_from}
+use Rattle.removals.specs.Named.{without_all, member_of, newer_members}
+use Rattle.removals.specs.Requests.{rolled, rollback_refusal}
+use Rattle.removals.proofs.Named.{AreNamesOnce, names_once, ids_of, all_are}
+
+-- each snapshot of a file system is found by its name
+module _ (t : Datasets) (once : AreNamesOnce t.file_systems) (r : Row) (at : get t.file_systems r.0 ≡ Some r.1) where
+  found_itself : (u : Snap) → IsIn r.1.snaps u → snap_named (world_of t) (member_of r u) ≡ Some u
+  found_itself u h =
+      ap (option_and_then (λ (f : FileSystem). find (λ (v : Snap). same_name v.name u.name) f.snaps)) at
+      ∙ find_only (λ (v : Snap). same_name v.name u.name) r.1.snaps u h (name_itself u.name) (λ y i n. once r.0 r.1 at y u i h (one_name y.name u.name n))
+
+  ids_are : (us : List Snap) → ((u : Snap) → IsIn us u → IsIn r.1.snaps u) → ids_of t (map (member_of r) us) ≡ map (λ (u : Snap). id_of u) us
+  ids_are [] each = refl
+  ids_are (u ∷ us) each =
+      ap (λ x. option_map_or (λ (s : Snap). id_of s ∷ []) x [] ++ ids_of t (map (member_of r) us)) (found_itself u (each u (inl refl)))
+      ∙ ap (λ l. id_of u ∷ l) (ids_are us (λ v i. each v (inr i)))
+
+-- the last snapshots of one file system go
+module _ (t : Datasets) (good : AreFileSystems t.file_systems t.group) (r : Row) (at : get t.file_systems r.0 ≡ Some r.1) (older newer : List Snap) (is : r.1.snaps ≡ older ++ newer) where
+  abbrev ids : List SnapId
+  ids = map (λ (u : Snap). id_of u) newer
+
+  up : AreRising (start t.file_systems t.group good.lines r.0 r.1 at).base (older ++ newer)
+  up = subst (AreRising (start t.file_systems t.group good.lines r.0 r.1 at).base) is (rising t.file_systems t.group good.lines r.0 r.1 at)
+
+  apart : (base : ℕ) (xs ys : List Snap) → AreRising base (xs ++ ys) → (u v : Snap) → IsIn xs u → IsIn ys v → u.group < v.group
+  apart base [] ys r u v h k = absurd h
+  apart base (x ∷ xs) ys r u v h k = ⊎_elim
+      (λ (e : u ≡ x). let l = rising_above x.group (xs ++ ys) v r.1 (in_right xs ys v k) in let m = ap (λ (y : Snap). y.group) e in omega arith)
+      (λ i. apart x.group xs ys r.1 u v i k)
+      h
+
+  not_any : (u : Snap) → (is_one_of ids u ≡ true → ⊥) → not (is_one_of ids u) ≡ true
+  not_any u out = by_test (is_one_of ids u) refl
+    where
+      by_test : (b : Bool) → is_one_of ids u ≡ b → not (is_one_of ids u) ≡ true
+      by_test true e = absurd (out e)
+      by_test false e = ap not e
+
+  front : filter (λ u. not (is_one_of ids u)) r.1.snaps ≡ older
+  front = ap (filter (λ u. not (is_one_of ids u))) is ∙ filter_front (λ u. not (is_one_of ids u)) older newer
+      (λ u h. not_any u (λ e.
+      let v = in_map (λ (u : Snap). id_of u) newer (id_of u) (any_from ids (id_of u) e) in
+      let l = apart _ older newer up u v.0 h v.1 in
+      let m = ap (λ (i : SnapId). i.group) v.2 in
+      absurd (omega arith)))
+      (λ u h e. true≢false (sym e ∙ ap not (any_in ids (id_of u) (id_of u) (map_in (λ (u : Snap). id_of u) newer u h) refl)))
+
+  elsewhere : (q : Name) (x : FileSystem) → ¬ (q ≡ r.0) → get t.file_systems q ≡ Some x → filter (λ u. not (is_one_of ids u)) x.snaps ≡ x.snaps
+  elsewhere q x ne e = filter_all (λ u. not (is_one_of ids u)) x.snaps (λ u h. not_any u (λ k.
+      let v = in_map (λ (u : Snap). id_of u) newer (id_of u) (any_from ids (id_of u) k) in
+      ne (one_snap t.file_systems t.group good.lines q r.0 x r.1 u v.0 e at h (subst (λ l. IsIn l v.0) (sym is) (in_right older newer v.0 v.1)) v.2).0))
+
+  shorter : (without_snaps (world_of t) (is_one_of ids)).file_systems ≡ insert t.file_systems r.0 (record r.1 { snaps = older })
+  shorter = same_map name_order.total name_order.exact _ _ (λ n. get-without (world_of t) (is_one_of ids) n ∙ ⊎_elim
+      (λ (same : n ≡ r.0).
+      ap (option_map (λ (s : FileSystem). record s { snaps = filter (λ t. not (is_one_of ids t)) s.snaps })) (ap (get t.file_systems) same ∙ at)
+      ∙ ap (λ l. Some (record r.1 { snaps = l })) front
+      ∙ sym (put_here t.file_systems r.0 (record r.1 { snaps = older })) ∙ ap (get (insert t.file_systems r.0 (record r.1 { snaps = older }))) (sym same))
+      (λ (ne : ¬ (n ≡ r.0)). by_old n ne (get t.file_systems n) refl ∙ sym (put_other t.file_systems r.0 (record r.1 { snaps = older }) n ne))
+      (key_cases name_order n r.0))
+    where
+      by_old : (n : Name) → ¬ (n ≡ r.0) → (y : Option FileSystem) → get t.file_systems n ≡ y
+          → option_map (λ (s : FileSystem). record s { snaps = filter (λ t. not (is_one_of ids t)) s.snaps }) (get t.file_systems n) ≡ get t.file_systems n
+      by_old n ne None e = ap (option_map (λ (s : FileSystem). record s { snaps = filter (λ t. not (is_one_of ids t)) s.snaps })) e ∙ sym e
+      by_old n ne (Some x) e = ap (option_map (λ (s : FileSystem). record s { snaps = filter (λ t. not (is_one_of ids t)) s.snaps })) e ∙ ap (λ l. Some (record x { snaps = l })) (elsewhere n x ne e) ∙ sym e
+
+  pub last_go : without_all t (map (member_of r) newer) ≡ record t { file_systems = insert t.file_systems r.0 (record r.1 { snaps = older }) }
+  last_go =
+      all_are (map (member_of r) newer) t (names_once t good)
+      ∙ ap (λ l. record t { file_systems = (without_snaps (world_of t) (is_one_of l)).file_systems }) (ids_are t (names_once t good) r at newer (λ u i. subst (λ l. IsIn l u) (sym is) (in_right older newer u i)))
+      ∙ ap (λ ss. record t { file_systems = ss }) shorter
+
+insert_twice : (ss : FileSystems) (name : Name) (a b : FileSystem) → insert (insert ss name a) name b ≡ insert ss name b
+insert_twice ss name a b = same_map name_order.total name_order.exact _ _ (λ q. ⊎_elim
+    (λ (same : q ≡ name). ap (get (insert (insert ss name a) name b)) same ∙ put_here (insert ss name a) name b ∙ sym (put_here ss name b) ∙ ap (get (insert ss name b)) (sym same))
+    (λ (ne : ¬ (q ≡ name)). put_other (insert ss name a) name b q ne ∙ put_other ss name a q ne ∙ sym (put_other ss name b q ne))
+    (key_cases name_order q name))
+
+newest_is : (m : Map) (older : List Snap) (u : Snap) → newest_map m (older ++ u ∷ []) ≡ u.map
+newest_is m [] u = refl
+newest_is m (v ∷ vs) u = newest_is v.map vs u
+
+some_there : (older : List Snap) (u : Snap) → length (older ++ u ∷ []) ≡ 0 → ⊥
+some_there [] u e = absurd (omega arith)
+some_there (v ∷ vs) u e = absurd (omega arith)
+
+none_of : {A : Type 0} (xs : List A) → length xs ≡ 0 → xs ≡ []
+none_of [] e = refl
+none_of (x ∷ xs) e = absurd (omega arith)
+
+no_entries : entries (finmap.empty {K = List ℕ} {X = Bookmark} {R = name_cmp}) ≡ []
+no_entries = none_of (entries (finmap.empty {K = List ℕ} {X = Bookmark} {R = name_cmp})) (sym (len-entries finmap.empty) ∙ len-empty name_cmp Bookmark)
+
+-- a file system goes back to a snapshot that stands between these
+module _ (t : Datasets) (good : AreFileSystems t.file_systems t.group) (r : Row) (at : get t.file_systems r.0 ≡ Some r.1) (older : List Snap) (s : Snap) (newer : List Snap) (is : r.1.snaps ≡ older ++ s ∷ newer) where
+  rises : AreRising (start t.file_systems t.group good.lines r.0 r.1 at).base (older ++ s ∷ newer)
+  rises = subst (AreRising (start t.file_systems t.group good.lines r.0 r.1 at).base) is (rising t.file_systems t.group good.lines r.0 r.1 at)
+
+  newer_gone : without_all t (newer_members r s.group) ≡ record t { file_systems = insert t.file_systems r.0 (record r.1 { snaps = older ++ s ∷ [] }) }
+  newer_gone =
+      ap (λ l. without_all t (map (member_of r) (filter (λ (u : Snap). nat_lt s.group u.group) l))) is
+      ∙ ap (λ l. without_all t (map (member_of r) l)) (after_is _ older s newer rises)
+      ∙ last_go t good r at (older ++ s ∷ []) newer (is ∙ sym (append_assoc older (s ∷ []) newer))
+
+  abbrev back : FileSystem
+  back = record r.1 { live = s.map; snaps = older ++ s ∷ [] }
+
+  back_is : r.1.bookmarks ≡ finmap.empty → back_at r.1 s ≡ record r.1 { live = s.map; snaps = older ++ s ∷ [] }
+  back_is none = λ i. record r.1 { live = s.map; snaps = upto i; bookmarks = marks i }
+    where
+      upto : snaps_upto r.1 s.group ≡ older ++ s ∷ []
+      upto = ap (filter (λ (u : Snap). nat_le u.group s.group)) is ∙ upto_is _ older s newer rises
+
+      marks : from_entries {R = name_cmp} (filter (λ (m : List ℕ × Bookmark). nat_le m.1.group s.group) (entries r.1.bookmarks)) ≡ r.1.bookmarks
+      marks = ap (λ (x : finmap.FinMap name_cmp Bookmark). from_entries {R = name_cmp} (filter (λ (m : List ℕ × Bookmark). nat_le m.1.group s.group) (entries x))) none
+          ∙ ap (λ (l : List (List ℕ × Bookmark)). from_entries {R = name_cmp} (filter (λ (m : List ℕ × Bookmark). nat_le m.1.group s.group) l)) no_entries
+          ∙ same_map name_order.total name_order.exact _ _ (λ q. get-from_entries name_order.total [] q ∙ sym (get-empty name_cmp q)) ∙ sym none
+
+  there : IsIn r.1.snaps s
+  there = subst (λ l. IsIn l s) (sym is) (in_middle older s newer)
+
+  rolled_at : (component : List ℕ) → find (λ (v : Snap). same_name v.name component) r.1.snaps ≡ Some s
+      → rolled t (OfSnapshot (record { file_system = r.0; component = component })) ≡ record t { file_systems = insert t.file_systems r.0 (back_at r.1 s) }
+  rolled_at component found = ap (λ ss. record t { file_systems = ss })
+      (ap (λ x. (option_map_or (λ (p : FileSystem × Snap). after_rollback w (id_of p.1)) (option_and_then (λ f. option_map (λ (u : Snap). (f, u)) (option_and_then (λ (g : FileSystem). find (λ (v : Snap). same_name v.name component) g.snaps) x)) x) w).file_systems) at
+      ∙ ap (λ y. (option_map_or (λ (p : FileSystem × Snap). after_rollback w (id_of p.1)) (option_map (λ (u : Snap). (r.1, u)) y) w).file_systems) found
+      ∙ ap (λ x. (option_map_or (λ (p : Name × Snap). with_file_system w p.0 (λ f. back_at f p.1)) x w).file_systems) (snap_is_at w t.group good.lines r.0 r.1 s (id_of s) at there refl)
+      ∙ ap (λ x. (option_map_or (λ (f : FileSystem). record w { file_systems = insert w.file_systems r.0 (back_at f s) }) x w).file_systems) at)
+    where
+      w : World
+      w = world_of t
+
+  module _ (u : Datasets) (to : u ≡ without_all t (newer_members r s.group)) where
+    shorter_there : get u.file_systems r.0 ≡ Some (record r.1 { snaps = older ++ s ∷ [] })
+    shorter_there = ap (λ (x : Datasets). get x.file_systems r.0) (to ∙ newer_gone) ∙ put_here t.file_systems r.0 (record r.1 { snaps = older ++ s ∷ [] })
+
+    pub has_snaps : length (snaps_at u.file_systems r.0) ≡ 0 → ⊥
+    has_snaps e = some_there older s (sym (ap (λ (x : Option FileSystem). length (option_map_or (λ (f : FileSystem). f.snaps) x [])) shorter_there) ∙ e)
+
+    pub rolled_is : r.1.bookmarks ≡ finmap.empty → (component : List ℕ) → find (λ (v : Snap). same_name v.name component) r.1.snaps ≡ Some s
+        → record u { file_systems = with_live u.file_systems r.0 (newest_map (live_of u.file_systems r.0) (snaps_at u.file_systems r.0)) } ≡ rolled t (OfSnapshot (record { file_system = r.0; component = component }))
+    rolled_is none component found =
+        (λ i. record u { file_systems = option_map_or (λ (f : FileSystem). insert u.file_systems r.0 (record f { live = newest_map (option_map_or (λ (g : FileSystem). g.live) (shorter_there i) finmap.empty) (option_map_or (λ (g : FileSystem). g.snaps) (shorter_there i) []) })) (shorter_there i) u.file_systems })
+        ∙ ap (λ m. record u { file_systems = insert u.file_systems r.0 (record r.1 { live = m; snaps = older ++ s ∷ [] }) }) (newest_is r.1.live older s)
+        ∙ ap (λ (x : Datasets). record x { file_systems = insert x.file_systems r.0 (record r.1 { live = s.map; snaps = older ++ s ∷ [] }) }) (to ∙ newer_gone)
+        ∙ ap (λ ss. record t { file_systems = ss }) (insert_twice t.file_systems r.0 (record r.1 { snaps = older ++ s ∷ [] }) (record r.1 { live = s.map; snaps = older ++ s ∷ [] }))
+        ∙ ap (λ f. record t { file_systems = insert t.file_systems r.0 f }) (sym (back_is none))
+        ∙ sym (rolled_at component found)
+
+-- ---- whether a snapshot is the newest
+
+newest_high : (ts : List Snap) (t : Snap) → AreRising t.group ts → (t.group ≤ option_map_or (λ (u : Snap). u.group) (last_or (Some t) ts) 0) × ((u : Snap) → IsIn ts u → u.group ≤ option_map_or (λ (u : Snap). u.group) (last_or (Some t) ts) 0)
+newest_high [] t r = (omega arith, λ u i. absurd i)
+newest_high (x ∷ xs) t r =
+    let k = newest_high xs x r.1 in
+    let a = k.0 in
+    let l = r.0 in
+    (omega arith, λ u i. ⊎_elim (λ (e : u ≡ x). let m = ap (λ (y : Snap). y.group) e in omega arith) (λ j. k.1 u j) i)
+
+newest_there : (ts : List Snap) (t : Snap) → (u : Snap) × ((u ≡ t) ⊎ IsIn ts u) × (last_or (Some t) ts ≡ Some u)
+newest_there [] t = (t, inl refl, refl)
+newest_there (x ∷ xs) t = let k = newest_there xs x in (k.0, inr k.1, k.2)
+
+pub is_newer : (g low : ℕ) (ts : List Snap) → AreRising low ts → nat_lt g (newest_group ts) ≡ nat_lt 0 (length (filter (λ (u : Snap). nat_lt g u.group) ts))
+is_newer g low [] up = le-ltb g 0 (omega arith)
+is_newer g low (t ∷ ts) up = by_list (filter (λ (u : Snap). nat_lt g u.group) (t ∷ ts)) refl
+  where
+    by_group : (b : Bool) → nat_lt g (newest_group (t ∷ ts)) ≡ b → filter (λ (u : Snap). nat_lt g u.group) (t ∷ ts) ≡ [] → nat_lt g (newest_group (t ∷ ts)) ≡ false
+    by_group false k e = k
+    by_group true k e =
+        let n = newest_there ts t in
+        let high : nat_lt g n.0.group ≡ true = sym (ap (λ (x : Option Snap). nat_lt g (option_map_or (λ (u : Snap). u.group) x 0)) n.2) ∙ k in
+        absurd (subst (λ l. IsIn l n.0) e (in_filter (λ (u : Snap). nat_lt g u.group) (t ∷ ts) n.0 n.1 high))
+
+    by_list : (l : List Snap) → filter (λ (u : Snap). nat_lt g u.group) (t ∷ ts) ≡ l → nat_lt g (newest_group (t ∷ ts)) ≡ nat_lt 0 (length (filter (λ (u : Snap). nat_lt g u.group) (t ∷ ts)))
+    by_list [] e = by_group (nat_lt g (newest_group (t ∷ ts))) refl e ∙ sym (ap (λ (l : List Snap). nat_lt 0 (length l)) e)
+    by_list (x ∷ xs) e =
+        let k = from_filter (λ (u : Snap). nat_lt g u.group) (t ∷ ts) x (subst (λ l. IsIn l x) (sym e) (inl refl)) in
+        let m = ltb-true g x.group k.1 in
+        let h = newest_high ts t up.1 in
+        let a = h.0 in
+        let above : x.group ≤ newest_group (t ∷ ts) = ⊎_elim (λ (i : x ≡ t). let c = ap (λ (y : Snap). y.group) i in omega arith) (λ i. h.1 x i) k.0 in
+        lt-ltb g (newest_group (t ∷ ts)) (omega arith) ∙ sym (lt-ltb 0 (length (x ∷ xs)) (omega arith)) ∙ sym (ap (λ (l : List Snap). nat_lt 0 (length l)) e)
+
+-- ---- what a rollback finds
+
+pub back_of : (t : Datasets) → AreFileSystems t.file_systems t.group → (r : Row) → get t.file_systems r.0 ≡ Some r.1 → r.1.bookmarks ≡ finmap.empty → (component : List ℕ) (g : ℕ)
+    → option_map (λ (u : Snap). u.group) (find (λ (v : Snap). same_name v.name component) r.1.snaps) ≡ Some g
+    → (u : Datasets) → u ≡ without_all t (newer_members r g)
+    → (length (snaps_at u.file_systems r.0) ≡ 0 → ⊥)
+    × (record u { file_systems = with_live u.file_systems r.0 (newest_map (live_of u.file_systems r.0) (snaps_at u.file_systems r.0)) } ≡ rolled t (OfSnapshot (record { file_system = r.0; component = component })))
+back_of t good r at none component g told u to = by_snap (find (λ (v : Snap). same_name v.name component) r.1.snaps) refl told
+  where
+    by_snap : (x : Option Snap) → find (λ (v : Snap). same_name v.name component) r.1.snaps ≡ x → option_map (λ (u : Snap). u.group) x ≡ Some g
+        → (length (snaps_at u.file_systems r.0) ≡ 0 → ⊥)
+        × (record u { file_systems = with_live u.file_systems r.0 (newest_map (live_of u.file_systems r.0) (snaps_at u.file_systems r.0)) } ≡ rolled t (OfSnapshot (record { file_system = r.0; component = component })))
+    by_snap None e k = absurd (no_value g k)
+    by_snap (Some s) e k =
+        let there = (from_find (λ (v : Snap). same_name v.name component) r.1.snaps s e).0 in
+        let parts = split_at r.1.snaps s there in
+        let to' : u ≡ without_all t (newer_members r s.group) = to ∙ ap (λ n. without_all t (newer_members r n)) (sym (same_value s.group g k)) in
+        (has_snaps t good r at parts.0 s parts.1 parts.2 u to', rolled_is t good r at parts.0 s parts.1 parts.2 u to' none component e)
+
+-- ---- why it is refused
+
+-- what was found under a name
+pub told_of : (n : List ℕ) (r : Row) (x : Option FileSystem) → ◌≡◌ {A = Option Row} (Some r) (option_map (λ (f : FileSystem). (n, f)) x) → (r.0 ≡ n) × (x ≡ Some r.1)
+told_of n r None e = absurd (no_value r (sym e))
+told_of n r (Some f) e = let k = same_value r (n, f) e in (ap (λ (y : Row). y.0) k, ap (λ (y : Row). Some y.1) (sym k))
+
+abbrev refusal_where : Bool → Option (FileSystem × Snap) → Option Refusal
+refusal_where later p = first_of ((not (is_some p), NoDataset) ∷ (not later && nat_lt 0 (length (option_map_or (λ (q : FileSystem × Snap). map {A = Snap} id_of (snaps_after q.0 q.1.group)) p [])), NotNewest) ∷ [])
+
+abbrev among_snaps : FileSystem → Option Snap → Option (FileSystem × Snap)
+among_snaps f y = option_map (λ u. (f, u)) y
+
+abbrev placed_by : Member → Option FileSystem → Option (FileSystem × Snap)
+placed_by m x = option_and_then (λ g. among_snaps g (option_and_then (λ (h : FileSystem). find (λ (v : Snap). same_name v.name m.component) h.snaps) x)) x
+
+refusal_by : (t : Datasets) (m : Member) (later : Bool) (f : FileSystem) → get t.file_systems m.file_system ≡ Some f → (y : Option Snap) → find (λ (v : Snap). same_name v.name m.component) f.snaps ≡ y
+    → rollback_refusal t (OfSnapshot m) later ≡ refusal_where later (among_snaps f y)
+refusal_by t m later f at y found = ap (refusal_where later) (ap (placed_by m) at ∙ ap (among_snaps f) found)
+
+-- there is no such snapshot
+pub refused_missing : (t : Datasets) (m : Member) (later : Bool) (f : FileSystem) → get t.file_systems m.file_system ≡ Some f → find (λ (v : Snap). same_name v.name m.component) f.snaps ≡ None
+    → rollback_refusal t (OfSnapshot m) later ≡ Some NoDataset
+refused_missing t m later f at found = refusal_by t m later f at None found
+
+-- there is one
+pub refused_at : (t : Datasets) → AreFileSystems t.file_systems t.group → (m : Member) (later : Bool) (f : FileSystem) → get t.file_systems m.file_system ≡ Some f
+    → (s : Snap) → find (λ (v : Snap). same_name v.name m.component) f.snaps ≡ Some s → rollback_refusal t (OfSnapshot m) later ≡ cond (not later && nat_lt s.group (newest_group f.snaps)) (Some NotNewest) None
+refused_at t good m later f at s found =
+    refusal_by t m later f at (Some s) found
+    ∙ ap (λ (n : ℕ). cond (not later && nat_lt 0 n) (Some NotNewest) None) (length-mapped id_of (snaps_after f s.group))
+    ∙ ap (λ b. cond (not later && b) (Some NotNewest) None) (sym (is_newer s.group _ f.snaps (rising t.file_systems t.group good.lines m.file_system f at)))

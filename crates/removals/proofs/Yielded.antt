@@ -1,0 +1,75 @@
+-- The names of the newer ones of the snapshots that an iterator has yielded.
+use Rattle.std.proofs.Common.{◌≡◌, ℕ, Bool, true, false, cond, List, [], ◌∷◌, ◌++◌, Bor, map, refl, sym, ap, ◌∙◌, ⊎_elim, is_gt, nat_cmp, arith}
+use Rattle.std.specs.Cmp.{nat_cmp_is}
+use Rattle.std.specs.declared.cmp.Ordering.TheVariants.{Less, Equal, Greater}
+use Rattle.std.proofs.lemmas.Bool.{cases_lt, lt-ltb, le-ltb}
+use Rattle.std.specs.Prelude.{nat_lt}
+use Rattle.std.specs.List.{filter}
+use Rattle.std.specs.Iterator.{Yields, YieldsFirstRef}
+use Rattle.name.specs.declared.member.Member.{Member}
+use Rattle.model.specs.World.{Snap}
+use Rattle.snapshots.specs.declared.kept.Kept.{Kept}
+use Rattle.file_systems.specs.Dead.{snaps_in}
+use Rattle.file_systems.specs.Rows.{Row}
+use Rattle.world.specs.Tables.{Datasets}
+use Rattle.world.proofs.Finding.{append_none}
+use Rattle.removals.specs.Named.{without_named, without_all, member_of, newer_members}
+use Rattle.removals.proofs.Named.{all_then}
+
+abbrev pub newer_in : Row → ℕ → List Snap → List Member
+newer_in r group us = map (member_of r) (filter (λ u. nat_lt group u.group) us)
+
+abbrev pub newer_yielded : Row → ℕ → List (Bor Kept) → List Member
+newer_yielded r group xs = newer_in r group (map (λ x. x.now.snapshot) xs)
+
+newer_join : (r : Row) (group : ℕ) (xs : List (Bor Kept)) (x : Bor Kept) → newer_yielded r group (xs ++ x ∷ []) ≡ newer_yielded r group xs ++ newer_in r group (x.now.snapshot ∷ [])
+newer_join r group [] x = refl
+newer_join r group (y ∷ ys) x = by_test (nat_lt group y.now.snapshot.group) (newer_join r group ys x)
+  where
+    by_test : (b : Bool) → newer_yielded r group (ys ++ x ∷ []) ≡ newer_yielded r group ys ++ newer_in r group (x.now.snapshot ∷ [])
+        → map (member_of r) (cond b (y.now.snapshot ∷ filter (λ u. nat_lt group u.group) (map (λ z. z.now.snapshot) (ys ++ x ∷ []))) (filter (λ u. nat_lt group u.group) (map (λ z. z.now.snapshot) (ys ++ x ∷ []))))
+        ≡ map (member_of r) (cond b (y.now.snapshot ∷ filter (λ u. nat_lt group u.group) (map (λ z. z.now.snapshot) ys)) (filter (λ u. nat_lt group u.group) (map (λ z. z.now.snapshot) ys))) ++ newer_in r group (x.now.snapshot ∷ [])
+    by_test true ih = ap (λ l. member_of r y.now.snapshot ∷ l) ih
+    by_test false ih = ih
+
+module _ (t u : Datasets) (r : Row) (group : ℕ) (xs : List (Bor Kept)) (x : Bor Kept) (so_far : u ≡ without_all t (newer_yielded r group xs)) where
+  -- a newer one goes
+  pub newer_goes : nat_lt group x.now.snapshot.group ≡ true → (v : Datasets) → v ≡ without_named u (member_of r x.now.snapshot) → v ≡ without_all t (newer_yielded r group (xs ++ x ∷ []))
+  newer_goes newer v is =
+      is ∙ ap (λ w. without_named w (member_of r x.now.snapshot)) so_far
+      ∙ sym (all_then t (newer_yielded r group xs) (member_of r x.now.snapshot))
+      ∙ ap (λ b. without_all t (newer_yielded r group xs ++ map (member_of r) (cond b (x.now.snapshot ∷ []) []))) (sym newer)
+      ∙ ap (without_all t) (sym (newer_join r group xs x))
+
+  -- another one stays
+  pub older_stays : nat_lt group x.now.snapshot.group ≡ false → u ≡ without_all t (newer_yielded r group (xs ++ x ∷ []))
+  older_stays older =
+      so_far ∙ ap (without_all t) (sym (append_none (newer_yielded r group xs)))
+      ∙ ap (λ b. without_all t (newer_yielded r group xs ++ map (member_of r) (cond b (x.now.snapshot ∷ []) []))) (sym older)
+      ∙ ap (without_all t) (sym (newer_join r group xs x))
+
+yielded_front : {S A : Type 0} (rest : S → List A) (s : S) (xs : List (Bor A)) (t : S) → Yields (YieldsFirstRef rest) s xs t → rest s ≡ map (λ x. x.now) xs ++ rest t
+yielded_front rest s [] t y = ap rest y
+yielded_front rest s (x ∷ xs) t y = y.1 ∙ ap (λ ys. x.now ∷ ys) (yielded_front rest y.0 xs t y.2)
+
+-- all of it, where nothing is left
+pub yielded_all : {S A : Type 0} (rest : S → List A) (s : S) (xs : List (Bor A)) (t : S) → Yields (YieldsFirstRef rest) s xs t → rest t ≡ [] → rest s ≡ map (λ x. x.now) xs
+yielded_all rest s xs t y none = yielded_front rest s xs t y ∙ ap (λ ys. map (λ x. x.now) xs ++ ys) none ∙ append_none _
+
+snaps_yielded : (xs : List (Bor Kept)) → map (λ (x : Bor Kept). x.now.snapshot) xs ≡ snaps_in (map (λ x. x.now) xs)
+snaps_yielded [] = refl
+snaps_yielded (x ∷ xs) = ap (λ l. x.now.snapshot ∷ l) (snaps_yielded xs)
+
+-- all that a file system has
+pub all_yielded : (r : Row) (group : ℕ) (xs : List (Bor Kept)) → r.1.snaps ≡ snaps_in (map (λ x. x.now) xs) → newer_yielded r group xs ≡ newer_members r group
+all_yielded r group xs is = ap (newer_in r group) (snaps_yielded xs ∙ sym is)
+
+-- a later group
+pub gt_is : (a g : ℕ) → is_gt (nat_cmp a g) ≡ nat_lt g a
+gt_is a g = ⊎_elim
+    (λ l. ap is_gt (sym (nat_cmp_is a g Greater l)) ∙ sym (lt-ltb g a l))
+    (λ l. ⊎_elim
+    (λ m. ap is_gt (sym (nat_cmp_is a g Less m)) ∙ sym (le-ltb g a l))
+    (λ m. ap is_gt (sym (nat_cmp_is a g Equal (omega arith))) ∙ sym (le-ltb g a l))
+    (cases_lt a g))
+    (cases_lt g a)

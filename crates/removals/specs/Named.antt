@@ -1,0 +1,25 @@
+-- Snapshots that go by their names.
+use Rattle.std.specs.Prelude.{ℕ, List, [], ◌∷◌, map, nat_lt}
+use Rattle.std.specs.List.{filter}
+use Rattle.std.specs.Option.{option_map_or}
+use Rattle.name.specs.declared.member.Member.{Member}
+use Rattle.model.specs.World.{Snap, id_of, snap_named}
+use Rattle.file_systems.specs.Rows.{Row}
+use Rattle.world.specs.Tables.{Datasets, world_of, without_snap}
+
+-- the datasets without the snapshot of this name, and the same where there is none (zfs-destroy(8))
+abbrev pub without_named : Datasets → Member → Datasets
+without_named t m = option_map_or (λ s. without_snap t (id_of s)) (snap_named (world_of t) m) t
+
+-- without those of all these names, one after another (zfs-destroy(8))
+abbrev pub without_all : Datasets → List Member → Datasets
+without_all t [] = t
+without_all t (m ∷ ms) = without_all (without_named t m) ms
+
+-- a snapshot's name, under that of its file system (zfs(8))
+abbrev pub member_of : Row → Snap → Member
+member_of r s = record { file_system = r.0; component = s.name }
+
+-- the names of a file system's snapshots of a later group than this one (On-Disk Specification, chapter 4: ds_creation_txg)
+abbrev pub newer_members : Row → ℕ → List Member
+newer_members r group = map (member_of r) (filter (λ s. nat_lt group s.group) r.1.snaps)

@@ -1,0 +1,171 @@
+//! File systems that are destroyed.
+ghost use Rattle.std.specs.Prelude.{◌≡◌, ◌⊎◌, true, false, Some, None, IfSome, IfOk, IfErr, OnOk};
+ghost use Rattle.std.specs.FinMap.{get};
+ghost use Rattle.base.specs.declared.refusal.Refusal.{Refusal};
+ghost use Rattle.name.specs.declared.target.Target.{Target};
+ghost use Rattle.name.specs.Names.{root_name};
+ghost use Rattle.model.specs.World.{union_of};
+ghost use Rattle.snap.specs.Taking.{is_in_family};
+ghost use Rattle.world.specs.Sets.{AreDisjoint};
+ghost use Rattle.world.specs.Tables.{CanRemove, world_of, without_system};
+ghost use Rattle.removals.specs.Edits.{HasLost};
+ghost use Rattle.removals.specs.Families.{bare_at};
+ghost use Rattle.removals.specs.Requests.{destroyed, destroy_refusal};
+
+use crate::edit::Edit;
+use crate::gone::destroy_snapshots;
+use base::meter::SegMeter;
+use base::number::Group;
+use base::refusal::Refusal;
+use datasets::Table;
+use destroyer::Freeing;
+use file_systems::FileSystem;
+use name::{DsName, Target};
+use snap::is_in_family;
+use std::alloc::Global;
+
+// Takes out this file system, which has no snapshot and no child and isn't the root: its blocks are to be freed. NoMemory where there
+// is none for it, and then the edit is of no use. It costs the number of file systems.
+fn lose_file_system(edit: &mut Edit, name: &DsName) -> Result<(), Refusal>
+    requires apart { AreDisjoint (union_of (world_of edit.old.to)) edit.old.freeing }
+    requires can { CanRemove edit.old.to name.now }
+    ensures ok { OnOk result (edit.new.to ≡ without_system edit.old.to name.now) }
+    ensures lost { OnOk result (HasLost edit.old.to edit.old.freeing edit.new.to edit.new.freeing) }
+    ensures err { IfErr result (λ e. e ≡ Refusal.NoMemory) }
+{
+    let _count = edit.to.len();
+    let lost = edit.to.remove(name)?;
+    edit.freeing
+        .add_tree(&lost.tree, lost.after, u64::from(lost.count))
+}
+
+// Takes out this file system, which has no child and isn't the root, with its snapshots: their blocks are to be freed. NoMemory where
+// there is none for it, and then the edit is of no use. It costs the number of file systems, and what `lose_snapshot` does for each
+// snapshot.
+fn lose_whole(
+    edit: &mut Edit,
+    alloc: Global,
+    file_system: &FileSystem,
+    segments: &mut SegMeter,
+) -> Result<(), Refusal>
+    requires apart { AreDisjoint (union_of (world_of edit.old.to)) edit.old.freeing }
+    requires there { get edit.old.to.file_systems file_system.now.0 ≡ Some file_system.now.1 }
+    requires can { CanRemove (bare_at edit.old.to file_system.now) file_system.now.0 }
+    ensures ok { OnOk result (edit.new.to ≡ without_system (bare_at edit.old.to file_system.now) file_system.now.0) }
+    ensures lost { OnOk result (HasLost edit.old.to edit.old.freeing edit.new.to edit.new.freeing) }
+    ensures err { IfErr result (λ e. e ≡ Refusal.NoMemory) }
+{
+    // It tells of the snapshots that their groups rise.
+    let _count = edit.to.len();
+    edit.lose_newer(alloc, file_system, Group(0), segments)?;
+    lose_file_system(edit, file_system.name())?;
+    Ok(())
+}
+
+// Takes out the file systems of the family of this name, which isn't the root's, children before their parents. NoMemory where there
+// is none for it, and then the edit is of no use. It costs what `lose_whole` does for each, and the number of file systems.
+fn lose_family(
+    edit: &mut Edit,
+    alloc: Global,
+    table: &Table,
+    name: &DsName,
+    segments: &mut SegMeter,
+) -> Result<(), Refusal>
+    requires apart { AreDisjoint (union_of (world_of edit.old.to)) edit.old.freeing }
+    requires same { edit.old.to ≡ table.now }
+    requires not_root { ¬ (name.now ≡ root_name) }
+    ensures ok { OnOk result (edit.new.to ≡ destroyed table.now (Target.FileSystem name.now) true) }
+    ensures lost { OnOk result (HasLost edit.old.to edit.old.freeing edit.new.to edit.new.freeing) }
+    ensures err { IfErr result (λ e. e ≡ Refusal.NoMemory) }
+{
+    let rows = table.file_systems();
+    let mut left = rows.len();
+    while left > 0 {
+        left -= 1;
+        let file_system: &FileSystem = &rows[left];
+        if is_in_family(name.as_bytes(), file_system.name().as_bytes()) {
+            lose_whole(edit, alloc, file_system, segments)?;
+        }
+    }
+    Ok(())
+}
+
+// Why a file system isn't destroyed, if it isn't. It costs the number of file systems.
+fn refusal_of(table: &Table, name: &DsName, recursive: bool, defer: bool) -> Option<Refusal>
+    ensures { result ≡ destroy_refusal table.now (Target.FileSystem name.now) recursive defer }
+{
+    let Some(file_system) = table.find(name) else {
+        return Some(Refusal::NoDataset);
+    };
+    if name.as_bytes() == b"p".as_slice() {
+        return Some(Refusal::IsRoot);
+    }
+    if defer {
+        return Some(Refusal::NotSnapshot);
+    }
+    if !recursive && (table.has_child(name) || file_system.snapshots().len() > 0) {
+        return Some(Refusal::HasChildren);
+    }
+    None
+}
+
+// The datasets without this file system, or with `recursive` without its family, which nothing refuses. NoMemory where there is none
+// for it. It costs what `destroy` does.
+fn without_systems(
+    alloc: Global,
+    table: &Table,
+    freeing: &Freeing,
+    name: &DsName,
+    recursive: bool,
+    segments: &mut SegMeter,
+) -> Result<Edit, Refusal>
+    requires apart { AreDisjoint (union_of (world_of table.now)) freeing.now }
+    requires none { destroy_refusal table.now (Target.FileSystem name.now) recursive false ≡ None }
+    ensures ok { IfOk result (λ e. e.to ≡ destroyed table.now (Target.FileSystem name.now) recursive) }
+    ensures lost { IfOk result (λ e. HasLost table.now freeing.now e.to e.freeing) }
+    ensures err { IfErr result (λ e. e ≡ Refusal.NoMemory) }
+{
+    let mut edit = Edit::of(table, freeing)?;
+    if recursive {
+        lose_family(&mut edit, alloc, table, name, segments)?;
+        return Ok(edit);
+    }
+    lose_file_system(&mut edit, name)?;
+    Ok(edit)
+}
+
+/// The datasets without what this name is of (zfs-destroy(8)); what they have no more is to be freed. The table and what it has to free
+/// stay as they are. With `recursive` a file system goes with its descendants and all their snapshots, or with a snapshot those of its
+/// name of each descendant of its file system. Refused are NoDataset where nothing has the name; of a file system IsRoot for the root,
+/// else NotSnapshot with `defer`, else HasChildren where it has a child or a snapshot and not `recursive`; NoMemory, where there is none
+/// for it, may come before NoDataset of a snapshot. It costs the number of file systems, the chunks of pieces that are to be freed, and
+/// for each snapshot that goes what `Edit::lose_snapshot` does.
+pub fn destroy(
+    alloc: Global,
+    table: &Table,
+    freeing: &Freeing,
+    target: &Target,
+    recursive: bool,
+    defer: bool,
+    segments: &mut SegMeter,
+) -> Result<Edit, Refusal>
+    requires { AreDisjoint (union_of (world_of table.now)) freeing.now }
+    ensures ok { IfOk result (λ e. e.to ≡ destroyed table.now target.now recursive) }
+    ensures lost { IfOk result (λ e. HasLost table.now freeing.now e.to e.freeing) }
+    ensures can { OnOk result (destroy_refusal table.now target.now recursive defer ≡ None) }
+    ensures refused { IfSome (destroy_refusal table.now target.now recursive defer) (λ e. (result ≡ Err e) ⊎ (result ≡ Err Refusal.NoMemory)) }
+    ensures only { IfErr result (λ e. (destroy_refusal table.now target.now recursive defer ≡ Some e) ⊎ (e ≡ Refusal.NoMemory)) }
+{
+    match target {
+        Target::FileSystem(name) => {
+            if let Some(refusal) = refusal_of(table, name, recursive, defer) {
+                return Err(refusal);
+            }
+            without_systems(alloc, table, freeing, name, recursive, segments)
+        }
+        Target::Snapshot(name) => {
+            destroy_snapshots(alloc, table, freeing, name, recursive, segments)
+        }
+        Target::Bookmark(_) => Err(Refusal::NoDataset),
+    }
+}
