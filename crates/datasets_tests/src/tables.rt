@@ -70,6 +70,22 @@ fn rows_in_byte_order(rt: HostRuntime) {
     assert!(rt; has_rows(&table, &wanted));
 }
 
+fn is_parent(rt: &impl Abort, alloc: Global, table: &Table, bytes: &[u8]) -> bool {
+    table.has_child(&name(rt, alloc, bytes))
+}
+
+#[test]
+fn parents_have_children(rt: HostRuntime) {
+    let alloc = rt.alloc();
+    let table = family(&rt, alloc);
+    let parents = is_parent(&rt, alloc, &table, b"p") && is_parent(&rt, alloc, &table, b"p/a");
+    let others = is_parent(&rt, alloc, &table, b"p/a-x") || is_parent(&rt, alloc, &table, b"p/a/x");
+    let below = is_parent(&rt, alloc, &table, b"p/a/x/y");
+    drop(table);
+    assert!(rt; parents);
+    assert!(rt; !others && !below);
+}
+
 #[test]
 fn refusals_in_order(rt: HostRuntime) {
     let alloc = rt.alloc();

@@ -1,5 +1,5 @@
 //! One file system, with its snapshots.
-ghost use Rattle.std.specs.Prelude.{◌≡◌, ◌≤◌, ◌<◌, ◌+◌, ◌==◌, ◌++◌, ◌∷◌, [], Some, IsSome, List, IfOk, IfErr, OnOk, OnErr, length, map, remove, slice_get, slice_set};
+ghost use Rattle.std.specs.Prelude.{◌≡◌, ◌≤◌, ◌<◌, ◌+◌, ◌^◌, ◌==◌, max, nat_lt, ◌++◌, ◌∷◌, [], Some, IsSome, List, IfOk, IfErr, OnOk, OnErr, length, map, remove, slice_get, slice_set};
 ghost use Rattle.std.specs.Option.{option_map, option_copied};
 ghost use Rattle.std.specs.Arc.{arc_value};
 ghost use Rattle.std.specs.FinSet.{empty};
@@ -26,7 +26,7 @@ use crate::lost::Lost;
 use crate::splice::{joined, joined_next, place_of};
 use crate::written::{group_of, written_over};
 use base::meter::{Meter, SegMeter};
-use base::number::{Group, Guid};
+use base::number::{Dead, Group, Guid};
 use base::refusal::Refusal;
 use deadlist::deadlist::Deadlist;
 use name::{Component, DsName};
@@ -282,13 +282,28 @@ impl FileSystem {
         ensures never_lower { meter.old ≤ meter.new }
     {
         let newest = self.newest_group();
-        let young = synced.max(Group(newest.0 + 1));
+        let young = young_from(newest, synced);
         let draft = self.live.draft(alloc, updates, young, allocator, meter)?;
         let (dead, live) = (&mut self.dead, &mut self.live);
         let mut changed = put(dead, live, alloc, updates, group, draft, newest, segments)?;
-        changed.released.retain(|dead| dead.birth > newest);
+        changed.released.retain(|dead| is_born_after(dead, newest));
         Ok(changed)
     }
+}
+
+// The first group whose blocks are young: after that of the newest snapshot, and no earlier than the one that the last sync left open.
+fn young_from(newest: Group, synced: Group) -> Group
+    requires { newest.0 + 1 < 2 ^ 64 }
+    ensures { result.0 ≡ max synced.0 (newest.0 + 1) }
+{
+    Group(synced.0.max(newest.0 + 1))
+}
+
+// Whether a block was born after that group.
+fn is_born_after(dead: &Dead, group: Group) -> bool
+    ensures { result ≡ nat_lt group.0 dead.now.birth.0 }
+{
+    dead.birth.0 > group.0
 }
 
 // Puts a snapshot behind others: where they are, if they have no other owner, and else behind a copy of them, which comes to their
@@ -348,7 +363,16 @@ fn shared_name(alloc: Global, name: &DsName) -> Result<Arc<DsName>, Refusal>
     ensures ok { IfOk result (λ a. arc_value a ≡ name.now) }
     ensures err { IfErr result (λ e. e ≡ Refusal.NoMemory) }
 {
-    Ok(Arc::new(alloc, name.clone()?)?)
+    let own = own_name(name)?;
+    Ok(Arc::new(alloc, own)?)
+}
+
+// A copy of a file system's name.
+fn own_name(name: &DsName) -> Result<DsName, Refusal>
+    ensures ok { IfOk result (λ n. n ≡ name.now) }
+    ensures err { IfErr result (λ e. e ≡ Refusal.NoMemory) }
+{
+    Ok(name.clone()?)
 }
 
 // A copy of a name within a file system.

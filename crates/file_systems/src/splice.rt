@@ -1,6 +1,7 @@
 //! A snapshot that goes from those of a file system.
 ghost use Rattle.std.specs.Prelude.{◌≡◌, ◌+◌, ◌<◌, ◌≤◌, ◌==◌, Some, None, IsSome, IfOk, IfErr, length, take, nat_lt, slice_get};
 ghost use Rattle.std.specs.List.{find, last_or};
+ghost use Rattle.std.specs.List.Sorted.{IsPermutation};
 ghost use Rattle.std.specs.Option.{option_copied, option_map};
 ghost use Rattle.base.specs.declared.refusal.Refusal.{Refusal};
 ghost use Rattle.world.specs.Worlds.{AreRising};
@@ -16,6 +17,12 @@ use shared_list::SharedList;
 use snapshots::Kept;
 use std::alloc::Global;
 use std::sync::Arc;
+
+/// How many entries a segment has at least, on average, in a dead list that is cut.
+const MANY: u64 = 256;
+
+/// A cut stands at most so many snapshots below.
+const NEAR: usize = 64;
 
 fn is_before(kept: &Kept, group: Group) -> bool
     ensures { result ≡ nat_lt kept.now.snapshot.group group.0 }
@@ -44,8 +51,29 @@ fn before(kept: &SharedList<Kept>, place: usize) -> Option<&Kept>
     kept.get(place - 1)
 }
 
+/// Cuts a long dead list at the group of a snapshot not far below that place, so that what the next ones below it lose is found among
+/// the few entries after the cut. A list with few entries a segment is left as it is. It costs a segment where it cuts, and else nothing.
+/// NoMemory where there is none for the cut; then nothing is changed.
+fn cut_below(
+    kept: &SharedList<Kept>,
+    place: usize,
+    dead: &mut Deadlist,
+    segments: &mut SegMeter,
+) -> Result<(), Refusal>
+    requires { place ≤ length kept.now }
+    ensures entries { IsPermutation dead.old.entries dead.new.entries }
+    ensures err { IfErr result (λ e. e ≡ Refusal.NoMemory) }
+{
+    if dead.len() / MANY < dead.segments() as u64 {
+        return Ok(());
+    }
+    let below = place - place % NEAR;
+    dead.cut(group_of(before(kept, below)), segments)
+}
+
 /// The dead list of what comes after the snapshot at that place, once that is gone, and what is lost with it: from the dead list that it has
-/// now. It costs the segments of both lists. NoMemory where there is none for it.
+/// now. It costs the segments of both lists, and where no cut stands at the group before the place, the entries of one segment. NoMemory
+/// where there is none for it.
 pub fn joined(
     kept: &SharedList<Kept>,
     place: usize,
@@ -63,7 +91,10 @@ pub fn joined(
     let lost = own.take_after(group_of(before(kept, place)), segments)?;
     let mut all = gone.dead.copy(segments)?;
     match all.append(own, segments) {
-        Ok(()) => Ok((all, lost)),
+        Ok(()) => {
+            cut_below(kept, place, &mut all, segments)?;
+            Ok((all, lost))
+        }
         Err((refusal, _own)) => Err(refusal),
     }
 }

@@ -1,2 +1,3 @@
--- What a session's batches promise. In the comments "profile" stands for a rule of this project's own.
+-- What a session's batches and workers promise. In the comments "profile" stands for a rule of this project's own.
 pub mod Calls
+pub mod Works

@@ -13,3 +13,5 @@ mod memory;
 mod rig;
 #[cfg(test)]
 mod threads;
+#[cfg(test)]
+mod workers;

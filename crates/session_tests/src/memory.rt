@@ -94,7 +94,8 @@ fn batch_that_ran<K: Opening, R: Wait + Abort>(
     }
 }
 
-fn closes_unless_refused<K: Opening>(
+/// Whether a book is closed with this seat, and has so many entries, if there is memory for the list of seats.
+pub fn closes_unless_refused<K: Opening>(
     alloc: Global,
     book: Book<K>,
     seat: Seat<K>,

@@ -44,7 +44,17 @@ pub fn gate_of(turns: u64) -> Turns {
 }
 
 pub fn write_of(alloc: Global, object: u32, block: u32, byte: u8) -> Result<Request, Refusal> {
-    let target = Target::read(alloc, b"p")?;
+    write_to(alloc, b"p", object, block, byte)
+}
+
+pub fn write_to(
+    alloc: Global,
+    name: &[u8],
+    object: u32,
+    block: u32,
+    byte: u8,
+) -> Result<Request, Refusal> {
+    let target = Target::read(alloc, name)?;
     Ok(Request::Write {
         target,
         object,

@@ -31,7 +31,7 @@ use Rattle.world.proofs.Maps.{no_value}
 use Rattle.world.proofs.WithoutSnaps.{from_without, without_from, set_goes}
 use Rattle.steps.specs.Steady.{IsPlain, ArePlain, IsSteady}
 use Rattle.steps.specs.Edits.{datasets_of, lose, CanLose}
-use Rattle.steps.specs.Refusals.{destroy_refusal}
+use Rattle.removals.specs.Requests.{destroyed, destroy_refusal}
 use Rattle.steps.proofs.Losing.{can_lose}
 use Rattle.steps.proofs.Plain.{no_bookmark_named}
 use Rattle.steps.proofs.Ruled.{no_choice, refused_by, no_memory_by, done_by}
@@ -107,7 +107,7 @@ module _ (s : State) (steady : IsSteady s) (recursive defer : Bool) (m : Member)
 -- the world after a destroy is that of the datasets
 pub destroyed_world : (s : State) → IsSteady s → (target : Target) (recursive defer : Bool)
     → after_destroy s.now (λ t. defer && is_needed s t) target recursive
-    ≡ record s.now { file_systems = (after_destroy (world_of (datasets_of s)) (λ _. false) target recursive).file_systems }
+    ≡ record s.now { file_systems = (destroyed (datasets_of s) target recursive).file_systems }
 destroyed_world s steady (OfFileSystem name) recursive defer = refl
 destroyed_world s steady (OfSnapshot m) recursive defer = λ i. record s.now { file_systems = snaps_alike s steady recursive defer m i }
 destroyed_world s steady (OfBookmark m) recursive defer = at (get s.now.file_systems m.file_system)
@@ -121,7 +121,7 @@ destroyed_world s steady (OfBookmark m) recursive defer = at (get s.now.file_sys
 -- the state after it
 pub destroyed_state : (s : State) → IsSteady s → (target : Target) (recursive defer : Bool)
     → with_now s (with_losses s.now (after_destroy s.now (λ t. defer && is_needed s t) target recursive))
-    ≡ lose s (record (datasets_of s) { file_systems = (after_destroy (world_of (datasets_of s)) (λ _. false) target recursive).file_systems })
+    ≡ lose s (destroyed (datasets_of s) target recursive)
 destroyed_state s steady target recursive defer = ap (λ x. with_now s (with_losses s.now x)) (destroyed_world s steady target recursive defer)
 
 -- ---- its refusals
@@ -142,7 +142,7 @@ first-mark there e = rw e refl
 
 module _ (s : State) (steady : IsSteady s) where
   -- which refusal it gets
-  pub destroy_row_is : (target : Target) (recursive defer : Bool) → first_of (destroy_row s target recursive defer) ≡ destroy_refusal s.now target recursive defer
+  pub destroy_row_is : (target : Target) (recursive defer : Bool) → first_of (destroy_row s target recursive defer) ≡ destroy_refusal (datasets_of s) target recursive defer
   destroy_row_is (OfFileSystem name) recursive defer =
       first-system _ _ defer _ _ _ (not_busy s steady (snaps_within s.now (file_systems_named s.now name recursive)))
       (no_clone_outside s steady (file_systems_named s.now name recursive) (snaps_within s.now (file_systems_named s.now name recursive)))
@@ -191,36 +191,36 @@ module _ (s : State) (steady : IsSteady s) where
       (set_goes (world_of (datasets_of s)) s.now.group steady.good.now.systems (named_in recursive m) (λ n x t at i g q y there o. absurd (no_value _ (sym (steady.plain q y there).origin ∙ o))))
 
   -- the datasets after a destroy that nothing refuses have maps of those before, and are plain
-  destroy_from : (target : Target) (recursive defer : Bool) → destroy_refusal s.now target recursive defer ≡ None
-      → AreMapsFrom s.now.file_systems (after_destroy (world_of (datasets_of s)) (λ _. false) target recursive).file_systems
+  destroy_from : (target : Target) (recursive defer : Bool) → destroy_refusal (datasets_of s) target recursive defer ≡ None
+      → AreMapsFrom s.now.file_systems (destroyed (datasets_of s) target recursive).file_systems
   destroy_from (OfFileSystem name) recursive defer none = retained_maps s.now.file_systems (λ n. not (list_any (same_name n) (file_systems_named s.now name recursive)))
   destroy_from (OfSnapshot m) recursive defer none = subst (AreMapsFrom s.now.file_systems) (sym (none_deferred recursive m)) (without_from (world_of (datasets_of s)) (named_in recursive m))
   destroy_from (OfBookmark m) recursive defer none = absurd cc
 
-  destroy_plain : (target : Target) (recursive defer : Bool) → destroy_refusal s.now target recursive defer ≡ None
-      → ArePlain (after_destroy (world_of (datasets_of s)) (λ _. false) target recursive).file_systems
+  destroy_plain : (target : Target) (recursive defer : Bool) → destroy_refusal (datasets_of s) target recursive defer ≡ None
+      → ArePlain (destroyed (datasets_of s) target recursive).file_systems
   destroy_plain (OfFileSystem name) recursive defer none =
       λ q x at. steady.plain q x (from_retained s.now.file_systems (λ n. not (list_any (same_name n) (file_systems_named s.now name recursive))) q x at).1
   destroy_plain (OfSnapshot m) recursive defer none = subst (λ ss. ArePlain ss) (sym (none_deferred recursive m)) (without_plain (named_in recursive m))
   destroy_plain (OfBookmark m) recursive defer none = absurd cc
 
   -- they can be put in place, where what holds of file systems holds of them
-  pub destroy_can : (target : Target) (recursive defer : Bool) → destroy_refusal s.now target recursive defer ≡ None
-      → AreFileSystems (after_destroy (world_of (datasets_of s)) (λ _. false) target recursive).file_systems s.now.group
-      → CanLose s (record (datasets_of s) { file_systems = (after_destroy (world_of (datasets_of s)) (λ _. false) target recursive).file_systems })
+  pub destroy_can : (target : Target) (recursive defer : Bool) → destroy_refusal (datasets_of s) target recursive defer ≡ None
+      → AreFileSystems (destroyed (datasets_of s) target recursive).file_systems s.now.group
+      → CanLose s (destroyed (datasets_of s) target recursive)
   destroy_can target recursive defer none good =
-      can_lose s steady (record (datasets_of s) { file_systems = (after_destroy (world_of (datasets_of s)) (λ _. false) target recursive).file_systems }) good refl
+      can_lose s steady (destroyed (datasets_of s) target recursive) good refl
       (destroy_from target recursive defer none) (destroy_plain target recursive defer none)
 
 -- ---- steps
 
 module _ (s : State) (steady : IsSteady s) (target : Target) (recursive defer : Bool) where
-  row_is : refusal_of s (destroy_rule target recursive defer) ≡ destroy_refusal s.now target recursive defer
+  row_is : refusal_of s (destroy_rule target recursive defer) ≡ destroy_refusal (datasets_of s) target recursive defer
   unfolding refusal_of
   row_is = destroy_row_is s steady target recursive defer
 
   -- a destroy that is refused, or has no memory
-  pub destroy_refused : (why : Refusal) → (destroy_refusal s.now target recursive defer ≡ Some why) ⊎ (why ≡ NoMemory) → Step s (Destroy target recursive defer) (Refused why) s
+  pub destroy_refused : (why : Refusal) → (destroy_refusal (datasets_of s) target recursive defer ≡ Some why) ⊎ (why ≡ NoMemory) → Step s (Destroy target recursive defer) (Refused why) s
   destroy_refused why which = ⊎_elim
       (λ e. refused_by (Destroy target recursive defer) (destroy_rule target recursive defer) refl s why (row_is ∙ e))
       (λ e. subst (λ z. Step s (Destroy target recursive defer) (Refused z) s) (sym e)
@@ -228,9 +228,9 @@ module _ (s : State) (steady : IsSteady s) (target : Target) (recursive defer : 
       which
 
   -- and one that nothing refuses
-  pub destroy_done : destroy_refusal s.now target recursive defer ≡ None
-      → CanLose s (record (datasets_of s) { file_systems = (after_destroy (world_of (datasets_of s)) (λ _. false) target recursive).file_systems })
-      → Step s (Destroy target recursive defer) Done (lose s (record (datasets_of s) { file_systems = (after_destroy (world_of (datasets_of s)) (λ _. false) target recursive).file_systems }))
+  pub destroy_done : destroy_refusal (datasets_of s) target recursive defer ≡ None
+      → CanLose s (destroyed (datasets_of s) target recursive)
+      → Step s (Destroy target recursive defer) Done (lose s (destroyed (datasets_of s) target recursive))
   destroy_done none can = done_by (Destroy target recursive defer) (destroy_rule target recursive defer) refl s no_choice
-      (lose s (record (datasets_of s) { file_systems = (after_destroy (world_of (datasets_of s)) (λ _. false) target recursive).file_systems })) Done refl refl (row_is ∙ none) refl
+      (lose s (destroyed (datasets_of s) target recursive)) Done refl refl (row_is ∙ none) refl
       (sym (destroyed_state s steady target recursive defer)) can.steady

@@ -1,6 +1,5 @@
 -- What is to be freed is within what is reached, and what datasets have lost joins it.
-use Rattle.std.proofs.Common.{◌≡◌, ◌≤◌, ℕ, List, refl, sym, subst, ◌∙◌, length, arith}
-use Rattle.std.specs.Prelude.{count_by}
+use Rattle.std.proofs.Common.{◌≡◌, ◌≤◌, List, refl, sym, subst, ◌∙◌, arith}
 use Rattle.std.specs.FinSet as set
 use Rattle.std.specs.FinSet.{union, difference}
 use Rattle.std.proofs.lemmas.List.Sums.{count_by-le-length}

@@ -31,7 +31,7 @@ use Rattle.world.proofs.Maps.{no_value}
 use Rattle.world.proofs.Rollbacks.{rollback_systems, rollback_from}
 use Rattle.steps.specs.Steady.{IsPlain, ArePlain, IsSteady}
 use Rattle.steps.specs.Edits.{datasets_of, lose, CanLose}
-use Rattle.steps.specs.Refusals.{rollback_refusal}
+use Rattle.removals.specs.Requests.{rolled, rollback_refusal}
 use Rattle.steps.proofs.Losing.{can_lose, lose_limits}
 use Rattle.steps.proofs.Plain.{plain_put}
 use Rattle.steps.proofs.Ruled.{no_choice, refused_by, no_memory_by, done_by}
@@ -71,7 +71,7 @@ rolled_world s target = at (placed s.now target)
 
 -- the state after it
 pub rolled_state : (s : State) (target : Target)
-    → with_now s (with_losses s.now (rolled_back s.now target)) ≡ lose s (record (datasets_of s) { file_systems = (rolled_back (world_of (datasets_of s)) target).file_systems })
+    → with_now s (with_losses s.now (rolled_back s.now target)) ≡ lose s (rolled (datasets_of s) target)
 rolled_state s target = ap (λ x. with_now s (with_losses s.now x)) (rolled_world s target)
 
 -- ---- the datasets after it
@@ -126,7 +126,7 @@ module _ (s : State) (steady : IsSteady s) where
         at (Some p) = is_back (id_of p.1)
 
     -- the datasets after a rollback can be put in place
-    pub rollback_can : CanLose s (record (datasets_of s) { file_systems = (rolled_back (world_of (datasets_of s)) target).file_systems })
+    pub rollback_can : CanLose s (rolled (datasets_of s) target)
     rollback_can = subst (λ ss. CanLose s (record (datasets_of s) { file_systems = ss })) (ap (λ (x : World). x.file_systems) (rolled_world s target))
         (can_lose s steady (record (datasets_of s) { file_systems = (rolled_back s.now target).file_systems }) is_rolled.systems refl is_rolled.from is_rolled.plain)
 
@@ -153,7 +153,7 @@ placed_there w m = at (get w.file_systems m.file_system) refl
 
 module _ (s : State) (steady : IsSteady s) (numbers : List BlockState) (known : HasStates s numbers) (later : Bool) where
   -- which refusal it gets
-  pub rollback_row_is : (target : Target) → first_of (rollback_row s (with_now s (with_losses s.now (rolled_back s.now target))) target later) ≡ rollback_refusal s.now target later
+  pub rollback_row_is : (target : Target) → first_of (rollback_row s (with_now s (with_losses s.now (rolled_back s.now target))) target later) ≡ rollback_refusal (datasets_of s) target later
   rollback_row_is (OfFileSystem name) = refl
   rollback_row_is (OfBookmark m) = refl
   rollback_row_is (OfSnapshot m) =
@@ -161,25 +161,25 @@ module _ (s : State) (steady : IsSteady s) (numbers : List BlockState) (known : 
       (placed_there s.now m) (no_newer_bookmark s steady m) (not_busy s steady (newer_snaps s.now (OfSnapshot m)))
       (no_clone_outside s steady [] (newer_snaps s.now (OfSnapshot m)))
       (ap (λ x. first_of (limit_row x)) (rolled_state s (OfSnapshot m))
-      ∙ lose_limits s numbers known (record (datasets_of s) { file_systems = (rolled_back (world_of (datasets_of s)) (OfSnapshot m)).file_systems }) (rollback_can s steady (OfSnapshot m)))
+      ∙ lose_limits s numbers known (rolled (datasets_of s) (OfSnapshot m)) (rollback_can s steady (OfSnapshot m)))
 
   module _ (target : Target) where
-    row_is : refusal_of s (rollback_rule target later) ≡ rollback_refusal s.now target later
+    row_is : refusal_of s (rollback_rule target later) ≡ rollback_refusal (datasets_of s) target later
     unfolding refusal_of state_asked
     row_is = rollback_row_is target
 
     -- ---- steps
 
     -- a rollback that is refused, or has no memory
-    pub rollback_refused : (why : Refusal) → (rollback_refusal s.now target later ≡ Some why) ⊎ (why ≡ NoMemory) → Step s (Rollback target later) (Refused why) s
+    pub rollback_refused : (why : Refusal) → (rollback_refusal (datasets_of s) target later ≡ Some why) ⊎ (why ≡ NoMemory) → Step s (Rollback target later) (Refused why) s
     rollback_refused why which = ⊎_elim
         (λ e. refused_by (Rollback target later) (rollback_rule target later) refl s why (row_is ∙ e))
         (λ e. subst (λ z. Step s (Rollback target later) (Refused z) s) (sym e) (no_memory_by (Rollback target later) (rollback_rule target later) refl s refl))
         which
 
     -- and one that nothing refuses
-    pub rollback_done : rollback_refusal s.now target later ≡ None
-        → Step s (Rollback target later) Done (lose s (record (datasets_of s) { file_systems = (rolled_back (world_of (datasets_of s)) target).file_systems }))
+    pub rollback_done : rollback_refusal (datasets_of s) target later ≡ None
+        → Step s (Rollback target later) Done (lose s (rolled (datasets_of s) target))
     rollback_done none = done_by (Rollback target later) (rollback_rule target later) refl s no_choice
-        (lose s (record (datasets_of s) { file_systems = (rolled_back (world_of (datasets_of s)) target).file_systems })) Done refl refl (row_is ∙ none) refl
+        (lose s (rolled (datasets_of s) target)) Done refl refl (row_is ∙ none) refl
         (sym (rolled_state s target)) (rollback_can s steady target).steady

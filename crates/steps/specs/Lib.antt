@@ -4,4 +4,3 @@ pub mod Room
 pub mod Steady
 pub mod Edits
 pub mod Listed
-pub mod Refusals

@@ -1,4 +1,4 @@
-use Rattle.std.proofs.Common.{◌≡◌, None, false, [], ◌∷◌, sym, subst, ◌∙◌}
+use Rattle.std.proofs.Common.{◌≡◌, None, false, [], ◌∷◌, sym, subst}
 use Rattle.name.specs.declared.member.Member.{Member}
 use Rattle.world.specs.Tables.{world_of}
 use Rattle.world.specs.Takings.{AreTakable}

@@ -2,6 +2,7 @@ use Rattle.std.proofs.Common.{◌≡◌, ◌++◌, List, take, ap, sym, subst, �
 use Rattle.std.specs.Prelude.{filter}
 use Rattle.std.specs.Arc.{arc_value}
 use Rattle.std.specs.List.Sorted.{IsPermutation}
+use Rattle.std.proofs.lemmas.List.Sorted.{IsPermutation-trans}
 use Rattle.std.specs.Option.{option_map_or}
 use Rattle.base.specs.declared.number.Dead.{Dead}
 use Rattle.deadlist.specs.Entries.{is_after, is_upto}
@@ -13,8 +14,8 @@ use Rattle.file_systems.proofs.Stacks.{base_is}
 use Rattle.file_systems.proofs.splice.joined.Goals as goal
 
 -- what was born by the group before joins the snapshot's own entries
-pub returns-in-Ok-clause-ok : goal.returns-in-Ok-clause-ok
-returns-in-Ok-clause-ok c =
+pub returns-in_ok-cut_below-in-Ok-clause-ok : goal.returns-in_ok-cut_below-in-Ok-clause-ok
+returns-in_ok-cut_below-in-Ok-clause-ok c =
     let ks = c.args.kept.now in
     let next = c.args.next.now.entries in
     let base : c.group_of.result.0 ≡ newest_group (snaps_in (take c.args.place ks)) =
@@ -26,6 +27,6 @@ returns-in-Ok-clause-ok c =
     record {
       gone = c.in-Some.gone.now;
       there = sym c.in-Some.ensures;
-      joined = subst (λ (l : List Dead). IsPermutation l c.append.new.self.entries) both c.in-Ok.ensures.entries;
+      joined = IsPermutation-trans _ _ _ (subst (λ (l : List Dead). IsPermutation l c.append.new.self.entries) both c.in-Ok.ensures.entries) c.in_ok-cut_below-in-Ok.ensures.entries;
       rest = c.in_ok-lost.ensures.taken ∙ ap (filter (is_after c.group_of.result.0)) c.in_ok-own.ensures.entries ∙ ap (λ n. filter (is_after n) next) base;
     }

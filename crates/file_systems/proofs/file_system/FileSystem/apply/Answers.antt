@@ -18,22 +18,34 @@ use Rattle.tree.specs.ChangeParts.{change_done}
 use Rattle.tree.specs.Updates.{changes_of}
 use Rattle.file_systems.proofs.file_system.FileSystem.apply.Goals as goal
 
+-- the change may be asked for with the blocks young that are
+pub put-requires : goal.put-requires
+put-requires c =
+    let young : c.young_from-young.result.0 ≡ max c.args.synced.0 (newest_group c.args.self.now.1.snaps + 1) = c.young_from-young.ensures ∙ ap (λ n. max c.args.synced.0 (n + 1)) c.newest_group-newest.ensures in
+    record {
+      young = c.young_from-young.result.0;
+      states = c.args.allocator.now;
+      asks = subst (λ f. AllowsChange f.1.live c.args.updates.now c.args.group.0 c.young_from-young.result.0 c.args.allocator.now) (sym c.self.view_is)
+          (subst (λ y. AllowsChange c.args.self.now.1.live c.args.updates.now c.args.group.0 y c.args.allocator.now) (sym young) c.requires.asks);
+      is = c.in_ok-draft.ensures.ok;
+    }
+
 -- of what the tree released stays what was born after the newest snapshot
 pub returns-clause-ok : goal.returns-clause-ok
 returns-clause-ok c =
     let newest = newest_group c.args.self.now.1.snaps in
-    let young : c.max-young.result.0 ≡ max c.args.synced.0 (newest + 1) = search rules in
+    let young : c.young_from-young.result.0 ≡ max c.args.synced.0 (newest + 1) = c.young_from-young.ensures ∙ ap (λ n. max c.args.synced.0 (n + 1)) c.newest_group-newest.ensures in
     let done = c.in_ok-changed.changed in
     let kept : c.retain.new.self.items ≡ filter (λ (d : Dead). nat_lt c.newest_group-newest.result.0 d.birth.0) done.released.items = retained _ (λ (d : Dead). nat_lt c.newest_group-newest.result.0 d.birth.0) _ (λ x b g y k. search rules) _ _ c.retain.ensures.filtered in
-    let asked : AllowsChange c.self.inside.live c.args.updates.now c.args.group.0 c.max-young.result.0 c.args.allocator.now =
-    subst (λ f. AllowsChange f.1.live c.args.updates.now c.args.group.0 c.max-young.result.0 c.args.allocator.now) (sym c.self.view_is)
+    let asked : AllowsChange c.self.inside.live c.args.updates.now c.args.group.0 c.young_from-young.result.0 c.args.allocator.now =
+    subst (λ f. AllowsChange f.1.live c.args.updates.now c.args.group.0 c.young_from-young.result.0 c.args.allocator.now) (sym c.self.view_is)
     (subst (λ y. AllowsChange c.args.self.now.1.live c.args.updates.now c.args.group.0 y c.args.allocator.now) (sym young) c.requires.asks) in
-    let put : IsChange c.self.inside.live (changes_of c.args.updates.now) c.args.group.0 c.max-young.result.0 c.args.allocator.now (change_done c.self.inside.live c.put.new.live done) =
-    c.in_ok-changed.ensures.ok.changed c.max-young.result.0 c.args.allocator.now asked c.in_ok-draft.ensures.ok in
+    let put : IsChange c.self.inside.live (changes_of c.args.updates.now) c.args.group.0 c.young_from-young.result.0 c.args.allocator.now (change_done c.self.inside.live c.put.new.live done) =
+    c.in_ok-changed.ensures.ok.changed c.young_from-young.result.0 c.args.allocator.now asked c.in_ok-draft.ensures.ok in
     record {
       change = change_done c.self.inside.live c.put.new.live done;
       is = subst (λ y. IsChange c.args.self.now.1.live (changes_of c.args.updates.now) c.args.group.0 y c.args.allocator.now (change_done c.self.inside.live c.put.new.live done)) young
-          (subst (λ f. IsChange f.1.live (changes_of c.args.updates.now) c.args.group.0 c.max-young.result.0 c.args.allocator.now (change_done c.self.inside.live c.put.new.live done)) c.self.view_is put);
+          (subst (λ f. IsChange f.1.live (changes_of c.args.updates.now) c.args.group.0 c.young_from-young.result.0 c.args.allocator.now (change_done c.self.inside.live c.put.new.live done)) c.self.view_is put);
       new_is = refl;
       released = ap (map dead_block) (kept ∙ ap (λ n. filter (λ (d : Dead). nat_lt n d.birth.0) done.released.items) c.newest_group-newest.ensures) ∙ map_filter dead_block (λ b. nat_lt newest b.birth) done.released.items;
       taken = refl;
@@ -55,21 +67,21 @@ pub invariant_of-self-2 : goal.invariant_of-self-2
 invariant_of-self-2 c =
     let snaps = snaps_in (arc_value c.self.inside.snapshots) in
     let newest = newest_group c.args.self.now.1.snaps in
-    let young : c.max-young.result.0 ≡ max c.args.synced.0 (newest + 1) = search rules in
+    let young : c.young_from-young.result.0 ≡ max c.args.synced.0 (newest + 1) = c.young_from-young.ensures ∙ ap (λ n. max c.args.synced.0 (n + 1)) c.newest_group-newest.ensures in
     let done = c.in_ok-changed.changed in
-    let asked : AllowsChange c.self.inside.live c.args.updates.now c.args.group.0 c.max-young.result.0 c.args.allocator.now =
-    subst (λ f. AllowsChange f.1.live c.args.updates.now c.args.group.0 c.max-young.result.0 c.args.allocator.now) (sym c.self.view_is)
+    let asked : AllowsChange c.self.inside.live c.args.updates.now c.args.group.0 c.young_from-young.result.0 c.args.allocator.now =
+    subst (λ f. AllowsChange f.1.live c.args.updates.now c.args.group.0 c.young_from-young.result.0 c.args.allocator.now) (sym c.self.view_is)
     (subst (λ y. AllowsChange c.args.self.now.1.live c.args.updates.now c.args.group.0 y c.args.allocator.now) (sym young) c.requires.asks) in
-    let put : IsChange c.self.inside.live (changes_of c.args.updates.now) c.args.group.0 c.max-young.result.0 c.args.allocator.now (change_done c.self.inside.live c.put.new.live done) =
-    c.in_ok-changed.ensures.ok.changed c.max-young.result.0 c.args.allocator.now asked c.in_ok-draft.ensures.ok in
+    let put : IsChange c.self.inside.live (changes_of c.args.updates.now) c.args.group.0 c.young_from-young.result.0 c.args.allocator.now (change_done c.self.inside.live c.put.new.live done) =
+    c.in_ok-changed.ensures.ok.changed c.young_from-young.result.0 c.args.allocator.now asked c.in_ok-draft.ensures.ok in
     let here : newest ≡ newest_group snaps = ap (λ f. newest_group f.1.snaps) (sym c.self.view_is) in
     let above : IsAbove c.self.inside.live snaps = subst (λ f. IsAbove f.1.live f.1.snaps) (sym c.self.view_is) c.requires.above in
-    let late : newest_group snaps < c.max-young.result.0 = omega arith in
-    let early : c.max-young.result.0 ≤ c.args.group.0 = asked.young in
+    let late : newest_group snaps < c.young_from-young.result.0 = omega arith in
+    let early : c.young_from-young.result.0 ≤ c.args.group.0 = asked.young in
     let gained : HasGained (arc_value c.self.inside.dead).entries (arc_value c.put.new.dead).entries c.in_ok-draft.draft.released.items (newest_group snaps) =
     subst (HasGained (arc_value c.self.inside.dead).entries (arc_value c.put.new.dead).entries c.in_ok-draft.draft.released.items) (c.newest_group-newest.ensures ∙ here) c.in_ok-changed.ensures.dead in
     record {
       accounted = c.self.invariant.accounted;
-      dead = dead_changed c.self.inside.live c.put.new.live (changes_of c.args.updates.now) c.args.group.0 c.max-young.result.0 c.args.allocator.now (change_done c.self.inside.live c.put.new.live done)
+      dead = dead_changed c.self.inside.live c.put.new.live (changes_of c.args.updates.now) c.args.group.0 c.young_from-young.result.0 c.args.allocator.now (change_done c.self.inside.live c.put.new.live done)
           put c.in_ok-draft.ensures.unique snaps above late early _ _ c.in_ok-draft.draft.released.items gained (ap (map dead_block) c.in_ok-changed.ensures.ok.released) refl c.self.invariant.dead;
     }

@@ -1,0 +1,62 @@
+-- How a worker's requests add up.
+use Rattle.std.proofs.Common.{◌≡◌, ◌+◌, ◌<◌, ◌^◌, ◌∷◌, ◌++◌, [], ℕ, zero, suc, List, length, refl, sym, ap, arith, length-append, Option, Some, inl, inr}
+use Rattle.std.specs.Prelude.{All}
+use Rattle.std.proofs.lemmas.List.{append-nil}
+use Rattle.std.proofs.lemmas.List.Elements.{All-append}
+use Rattle.base.specs.declared.refusal.Refusal.{Refusal}
+use Rattle.base.specs.declared.refusal.Refusal.TheVariants.{NoMemory}
+use Rattle.model.specs.declared.request.Request.{Request}
+use Rattle.book.specs.Receipts.{Placed, Kept}
+use Rattle.book.specs.Calls.{Ran}
+use Rattle.book.proofs.Alls.{all_none, all_one}
+use Rattle.session.specs.Calls.{IsAdded}
+use Rattle.session.specs.Works.{HadMemory, IsWork}
+use Rattle.session.proofs.SoFar.{more_added}
+
+-- so many ran, and all of them had memory
+pub record IsSteady (seat : Kept) (request : Request) (count : ℕ) (after : Kept) : Type 0 where
+  pub receipts : List Placed
+  pub added : IsAdded seat receipts after
+  pub counted : length receipts ≡ count
+  pub asked : All (λ r. r.entry.request ≡ request) receipts
+  pub memory : All HadMemory receipts
+
+abbrev IsFor : Request → Placed → Type 0
+IsFor request r = r.entry.request ≡ request
+
+none_added : (seat : Kept) → IsAdded seat [] seat
+none_added seat = record { kept = ap (λ rs. record { number = seat.number; receipts = rs }) (sym (append-nil seat.receipts)); seated = all_none (λ (r : Placed). r.entry.seat ≡ seat.number) }
+
+pub no_work : (seat : Kept) (request : Request) → IsSteady seat request 0 seat
+no_work seat request = record { receipts = []; added = none_added seat; counted = refl; asked = all_none (IsFor request); memory = all_none HadMemory }
+
+one_more : (seat now after : Kept) (request : Request) (rs : List Placed) (r : Placed) → IsAdded seat rs now → Ran now request r after → IsAdded seat (rs ++ r ∷ []) after
+one_more seat now after request rs r h ran = more_added seat now after rs r h (ran.0, refl, ran.2)
+
+pub more_work : (seat now after : Kept) (request : Request) (n : ℕ) (r : Placed) → IsSteady seat request n now → Ran now request r after → HadMemory r → IsSteady seat request (n + 1) after
+more_work seat now after request n r w ran had =
+    record {
+      receipts = w.receipts ++ r ∷ [];
+      added = one_more seat now after request w.receipts r w.added ran;
+      counted = omega (arith, length-append w.receipts (r ∷ []), w.counted);
+      asked = All-append (IsFor request) w.receipts (r ∷ []) w.asked (all_one (IsFor request) r ran.1);
+      memory = All-append HadMemory w.receipts (r ∷ []) w.memory (all_one HadMemory r had);
+    }
+
+pub steady_work : (seat now : Kept) (request : Request) (n : ℕ) (end : Option Refusal) → IsSteady seat request n now → IsWork seat request n end now
+steady_work seat now request n end w = record { receipts = w.receipts; added = w.added; counted = w.counted; asked = w.asked; memory = inl w.memory }
+
+pub last_work : (seat now after : Kept) (request : Request) (n : ℕ) (r : Placed) → IsSteady seat request n now → Ran now request r after → IsWork seat request (n + 1) (Some NoMemory) after
+last_work seat now after request n r w ran =
+    record {
+      receipts = w.receipts ++ r ∷ [];
+      added = one_more seat now after request w.receipts r w.added ran;
+      counted = omega (arith, length-append w.receipts (r ∷ []), w.counted);
+      asked = All-append (IsFor request) w.receipts (r ∷ []) w.asked (all_one (IsFor request) r ran.1);
+      memory = inr (refl, (w.receipts, r, refl, w.memory));
+    }
+
+-- the turns that there were fit, as those that are left before the first do
+pub few_more : (before left ran : ℕ) → before ≡ left + ran → left < 2 ^ 64 → (0 < ran → before < 2 ^ 64) → before < 2 ^ 64
+few_more before left zero spent few more = omega arith
+few_more before left (suc n) spent few more = more (omega arith)

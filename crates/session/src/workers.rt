@@ -1,0 +1,104 @@
+//! Workers, which make one request again and again.
+ghost use Rattle.std.specs.Prelude.{◌≡◌, ◌↔◌, IsTrue};
+ghost use Rattle.base.specs.declared.refusal.Refusal.TheVariants.{NoMemory};
+ghost use Rattle.model.specs.declared.reply.Reply.TheVariants.{Refused};
+ghost use Rattle.model.specs.declared.request.Request.TheVariants.{Sync as ToSync, Slice as ToSlice};
+ghost use Rattle.session.specs.Works.{IsWork, IsWorked, work_request};
+
+use crate::gate::Gate;
+use crate::shared::Session;
+use base::refusal::Refusal;
+use book::{Opening, Receipt, Seat};
+use model::reply::Reply;
+use model::request::Request;
+use std::alloc::Global;
+use std::sync::Wait;
+
+// What a worker asks for.
+#[derive(Clone, Copy)]
+enum Work {
+    Syncs,
+    Slices(u64),
+}
+
+impl Work {
+    // Its next request.
+    fn request(self) -> Request
+        ensures { result ≡ work_request self }
+    {
+        match self {
+            Work::Syncs => Request::Sync,
+            Work::Slices(count) => Request::Slice { count },
+        }
+    }
+}
+
+impl<K: Opening> Session<K> {
+    /// Asks for `Sync` again and again, and tells how many of these requests have run. Before each the gate is asked, and each is a
+    /// hold of the lock by itself, so that other callers come between them. It ends without a refusal where the gate says no; with
+    /// SessionFull once the session has taken all its calls; with NoMemory where there is no memory for the next entry or its receipt,
+    /// which then has not run, or where the request that ran last was refused for want of memory, which is counted. A request that is
+    /// refused otherwise has run, and the next one follows. Each costs what the pool's step does, and the seat a receipt (profile).
+    pub fn run_syncer<R: Wait, G: Gate>(
+        &self,
+        alloc: Global,
+        rt: &R,
+        seat: &mut Seat<K>,
+        gate: &mut G,
+    ) -> (u64, Option<Refusal>)
+        ensures work { IsWork seat.old ToSync result.0 result.1 seat.new }
+        ensures end { IsWorked (G.left gate.old) result.0 (G.left gate.new) (G.stopped gate.new) result.1 }
+    {
+        run_work(self, alloc, rt, seat, gate, Work::Syncs)
+    }
+
+    /// Asks for `Slice` of `count` blocks again and again, and tells how many of these requests have run. It asks the gate, holds the
+    /// lock and ends as `run_syncer` does. That nothing is left to be freed doesn't end it (profile).
+    pub fn run_destroyer<R: Wait, G: Gate>(
+        &self,
+        alloc: Global,
+        rt: &R,
+        seat: &mut Seat<K>,
+        count: u64,
+        gate: &mut G,
+    ) -> (u64, Option<Refusal>)
+        ensures work { IsWork seat.old (ToSlice count) result.0 result.1 seat.new }
+        ensures end { IsWorked (G.left gate.old) result.0 (G.left gate.new) (G.stopped gate.new) result.1 }
+    {
+        run_work(self, alloc, rt, seat, gate, Work::Slices(count))
+    }
+}
+
+// Makes the request as long as the gate says so, the session has room and there is memory.
+fn run_work<K: Opening, R: Wait, G: Gate>(
+    session: &Session<K>,
+    alloc: Global,
+    rt: &R,
+    seat: &mut Seat<K>,
+    gate: &mut G,
+    work: Work,
+) -> (u64, Option<Refusal>)
+    ensures work { IsWork seat.old (work_request work) result.0 result.1 seat.new }
+    ensures end { IsWorked (G.left gate.old) result.0 (G.left gate.new) (G.stopped gate.new) result.1 }
+{
+    let mut ran = 0;
+    'turns: while gate.turn() {
+        match session.call(alloc, rt, seat, work.request()) {
+            Ok(receipt) => {
+                ran += 1;
+                if lacked_memory(receipt) {
+                    return (ran, Some(Refusal::NoMemory));
+                }
+            }
+            Err(refusal) => return (ran, Some(refusal)),
+        }
+    }
+    (ran, None)
+}
+
+// Whether the request was refused for want of memory.
+fn lacked_memory(receipt: Receipt) -> bool
+    ensures { IsTrue result ↔ (receipt.entry.reply ≡ Refused NoMemory) }
+{
+    receipt.entry.reply.is(&Reply::Refused(Refusal::NoMemory))
+}
