@@ -20,20 +20,24 @@ abbrev pub within : ℕ → List ℕ → Option ℕ
 within most word = limited most (number_of_word word)
 
 -- the command line, where both numbers are there (profile)
-abbrev pub with_numbers : Bool → Option ℕ → Option ℕ → Option ℕ → Option Args
-with_numbers stop (Some blocks) (Some id) script = Some (record { stop = stop; workers = false; blocks = blocks; id = id; script = script })
-with_numbers stop (Some blocks) None script = None
-with_numbers stop None id script = None
+abbrev pub with_numbers : Bool → Bool → Option ℕ → Option ℕ → Option ℕ → Option Args
+with_numbers stop workers (Some blocks) (Some id) script = Some (record { stop = stop; workers = workers; blocks = blocks; id = id; script = script })
+with_numbers stop workers (Some blocks) None script = None
+with_numbers stop workers None id script = None
 
 -- `BLOCKS POOLID [SCRIPT]`, the first of them at this place (profile)
-abbrev pub operands_of : Bool → ℕ → List (List ℕ) → Option Args
-operands_of stop first (blocks ∷ id ∷ []) = with_numbers stop (within MOST_BLOCKS blocks) (within 4294967295 id) None
-operands_of stop first (blocks ∷ id ∷ script ∷ []) = with_numbers stop (within MOST_BLOCKS blocks) (within 4294967295 id) (Some (first + 2))
-operands_of stop first _ = None
+abbrev pub operands_of : Bool → Bool → ℕ → List (List ℕ) → Option Args
+operands_of stop workers first (blocks ∷ id ∷ []) = with_numbers stop workers (within MOST_BLOCKS blocks) (within 4294967295 id) None
+operands_of stop workers first (blocks ∷ id ∷ script ∷ []) = with_numbers stop workers (within MOST_BLOCKS blocks) (within 4294967295 id) (Some (first + 2))
+operands_of stop workers first _ = None
 
--- `[-e] BLOCKS POOLID [SCRIPT]` (profile)
+-- `[-w] BLOCKS POOLID [SCRIPT]`, the first of them at this place (profile)
+abbrev pub beside_of : Bool → ℕ → List (List ℕ) → Option Args
+beside_of stop first words = if is_first (codes "-w") words then operands_of stop true (first + 1) (drop 1 words) else operands_of stop false first words
+
+-- `[-e] [-w] BLOCKS POOLID [SCRIPT]` (profile)
 abbrev pub args_of : List (List ℕ) → Option Args
-args_of words = if is_first (codes "-e") words then operands_of true 1 (drop 1 words) else operands_of false 0 words
+args_of words = if is_first (codes "-e") words then beside_of true 1 (drop 1 words) else beside_of false 0 words
 
 -- no command line, or one with a number outside its limits (profile)
 abbrev pub is_bad : Option Args → Bool

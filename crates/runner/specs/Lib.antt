@@ -1,3 +1,4 @@
 pub mod Args
 pub mod Serving
 pub mod Status
+pub mod Beside

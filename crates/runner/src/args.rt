@@ -1,7 +1,7 @@
 //! The command line.
-ghost use Rattle.std.specs.Prelude.{◌≡◌, map};
+ghost use Rattle.std.specs.Prelude.{◌≡◌, ◌+◌, ◌<◌, ◌^◌, length, map};
 ghost use Rattle.std.specs.String.{string_bytes};
-ghost use Rattle.runner.specs.Args.{args_of, within, is_first};
+ghost use Rattle.runner.specs.Args.{args_of, beside_of, operands_of, within, is_first};
 
 use pool::MOST_BLOCKS;
 use script::parse::number;
@@ -11,7 +11,7 @@ use script::parse::number;
 pub struct Args {
     /// Whether to stop at the first refused line.
     pub stop: bool,
-    /// Whether to run beside workers; not yet.
+    /// Whether to run beside workers.
     pub workers: bool,
     /// How many blocks the pool has, 1 to `MOST_BLOCKS`.
     pub blocks: u32,
@@ -21,14 +21,36 @@ pub struct Args {
     pub script: Option<usize>,
 }
 
-/// Reads the words `[-e] BLOCKS POOLID [SCRIPT]` (profile), the program's own name left out. None for a bad command line, as
-/// for `-w` so far. A word after POOLID is SCRIPT, whatever it looks like.
+/// Reads the words `[-e] [-w] BLOCKS POOLID [SCRIPT]` (profile), the program's own name left out. None for a bad command line. The
+/// options stand in this order, and a word after POOLID is SCRIPT, whatever it looks like.
 pub fn read_args(words: &[String]) -> Option<Args>
     ensures { result ≡ args_of (map string_bytes words.now) }
 {
-    let stop = is_option(words, "-e");
-    let first = if stop { 1 } else { 0 };
-    let (blocks, id, script) = match &words[first..] {
+    if is_option(words, "-e") {
+        beside(&words[1..], true, 1)
+    } else {
+        beside(words, false, 0)
+    }
+}
+
+/// The command line from the option `-w` on, whose place is `first`.
+fn beside(words: &[String], stop: bool, first: usize) -> Option<Args>
+    requires { first < 2 }
+    ensures { result ≡ beside_of stop first (map string_bytes words.now) }
+{
+    if is_option(words, "-w") {
+        operands(&words[1..], stop, true, first + 1)
+    } else {
+        operands(words, stop, false, first)
+    }
+}
+
+/// The command line from BLOCKS on, whose place is `first`.
+fn operands(words: &[String], stop: bool, workers: bool, first: usize) -> Option<Args>
+    requires { first < 3 }
+    ensures { result ≡ operands_of stop workers first (map string_bytes words.now) }
+{
+    let (blocks, id, script) = match words {
         [blocks, id] => (blocks, id, None),
         [blocks, id, _] => (blocks, id, Some(first + 2)),
         _ => return None,
@@ -37,7 +59,7 @@ pub fn read_args(words: &[String]) -> Option<Args>
     let id = number_within(id, u32::MAX)?;
     Some(Args {
         stop,
-        workers: false,
+        workers,
         blocks,
         id,
         script,

@@ -2,8 +2,11 @@
 #![tactic(auto)]
 
 mod args;
+mod beside;
 mod caller;
 mod run;
+mod seated;
+mod turns;
 
 pub use args::{Args, read_args};
 pub use run::{print_fault, print_usage, run_args};

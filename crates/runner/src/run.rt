@@ -1,12 +1,14 @@
 //! Runs of the program.
-ghost use Rattle.std.specs.Prelude.{◌≡◌, ◌<◌, ◌≤◌, ◌↔◌, IsTrue, IfSome};
+ghost use Rattle.std.specs.Prelude.{◌≡◌, ◌<◌, ◌≤◌, ◌↔◌, IsTrue, IfSome, true, false};
 ghost use Rattle.std.specs.Option.{option_copied};
 ghost use Rattle.model.specs.State.{fresh_state};
 ghost use Rattle.runner.specs.Args.{is_bad};
+ghost use Rattle.runner.specs.Beside.{RanBeside};
 ghost use Rattle.runner.specs.Serving.{Serves};
-ghost use Rattle.runner.specs.Status.{RanAs};
+ghost use Rattle.runner.specs.Status.{RanAs, RanTo};
 
 use crate::args::Args;
+use crate::beside::run_beside;
 use crate::caller::Served;
 use base::failing::Failing;
 use base::refusal::Refusal;
@@ -14,13 +16,22 @@ use pool::Pool;
 use script::run::{Caller, ScriptFault, run_script};
 use std::alloc::Global;
 use std::io::{BufRead, Write};
+use std::marker::Brand;
 use std::mem;
+use std::sync::Wait;
+use std::thread::Threads;
 
 /// Runs a script on a fresh pool, and gives the exit status: 0; 1 where a line was refused and the command line asks to stop
 /// there; 2 for a bad command line, after the usage line on `errors`; 3 after a fault's line on `errors`, where a read or a
 /// write failed or there was no memory (profile). Replies go to `writer`. That a line could be written to `errors` isn't
 /// promised. The pool isn't freed, for the program ends after its run.
-pub fn run_args<R, W, E>(
+///
+/// Where the command line asks for workers, the script has a seat of a session of `CALL_LIMIT` calls, and a syncer and a destroyer, with
+/// slices of 64 blocks, have the others; each may take one turn a line, in a thread of its own. A line whose request finds no room in
+/// the session, or no memory, is answered so. All threads have ended, and the receipts of all seats were compared with the history: the
+/// status is 3, after a fault's line, should they not be it.
+pub fn run_args<T, R, W, E>(
+    rt: &T,
     alloc: Global,
     args: Option<&Args>,
     reader: &mut R,
@@ -28,31 +39,73 @@ pub fn run_args<R, W, E>(
     errors: &mut E,
 ) -> u8
 where
+    T: Threads + Wait + Sync,
     R: BufRead + Failing,
     W: Write + Failing,
     E: Write + Failing,
     ensures usage { (result ≡ 2) ↔ IsTrue (is_bad (option_copied args.entry)) }
     ensures most { result ≤ 3 }
-    ensures ran { result < 2 → IfSome (option_copied args.entry) (λ a. RanAs Serves a.stop (R.remaining reader.old)
+    ensures ran { result < 2 → IfSome (option_copied args.entry) (λ a. a.workers ≡ false → RanAs Serves a.stop (R.remaining reader.old)
         (W.contents writer.old) (W.contents writer.new) (fresh_state a.id a.blocks) result) }
+    ensures beside { result < 2 → IfSome (option_copied args.entry) (λ a. a.workers ≡ true → RanBeside (fresh_state a.id a.blocks) a.stop
+        (R.remaining reader.old) (W.contents writer.old) (W.contents writer.new) result) }
 {
     let Some(args) = args else {
         return print_usage(errors);
     };
     match Pool::create(alloc, args.id, args.blocks) {
-        Ok(pool) => {
-            let mut caller = Served { alloc, pool };
-            let status = run_on(alloc, &mut caller, args.stop, reader, writer, errors);
-            mem::forget(caller);
-            status
-        }
+        Ok(pool) => run_pool(rt, alloc, args, pool, reader, writer, errors),
         Err(Refusal::NoMemory) => print_fault(errors, ScriptFault::NoMemory),
         Err(_) => print_usage(errors),
     }
 }
 
+/// Runs a script on a pool, beside workers where the command line asks for them, and gives the exit status.
+fn run_pool<T, R, W, E>(
+    rt: &T,
+    alloc: Global,
+    args: &Args,
+    pool: Pool,
+    reader: &mut R,
+    writer: &mut W,
+    errors: &mut E,
+) -> u8
+where
+    T: Threads + Wait + Sync,
+    R: BufRead + Failing,
+    W: Write + Failing,
+    E: Write,
+    ensures ran { result < 2 → args.now.workers ≡ false → RanAs Serves args.now.stop (R.remaining reader.old) (W.contents writer.old) (W.contents writer.new) pool.state result }
+    ensures beside { result < 2 → args.now.workers ≡ true → RanBeside pool.state args.now.stop (R.remaining reader.old) (W.contents writer.old) (W.contents writer.new) result }
+    ensures fault { 2 ≤ result → result ≡ 3 }
+{
+    if args.workers {
+        run_beside::<Brand, T, R, W, E>(rt, alloc, pool, args.stop, reader, writer, errors)
+    } else {
+        run_alone(alloc, pool, args.stop, reader, writer, errors)
+    }
+}
+
+/// Runs a script on a pool, and gives the exit status.
+fn run_alone<R: BufRead + Failing, W: Write + Failing, E: Write>(
+    alloc: Global,
+    pool: Pool,
+    stop: bool,
+    reader: &mut R,
+    writer: &mut W,
+    errors: &mut E,
+) -> u8
+    ensures ran { result < 2 → RanAs Serves stop (R.remaining reader.old) (W.contents writer.old) (W.contents writer.new) pool.state result }
+    ensures fault { 2 ≤ result → result ≡ 3 }
+{
+    let mut caller = Served { alloc, pool };
+    let status = run_on(alloc, &mut caller, stop, reader, writer, errors);
+    mem::forget(caller);
+    status
+}
+
 /// Runs a script on a caller, and gives the exit status.
-fn run_on<C: Caller, R: BufRead + Failing, W: Write + Failing, E: Write>(
+pub(crate) fn run_on<C: Caller, R: BufRead + Failing, W: Write + Failing, E: Write>(
     alloc: Global,
     caller: &mut C,
     stop: bool,
@@ -60,7 +113,7 @@ fn run_on<C: Caller, R: BufRead + Failing, W: Write + Failing, E: Write>(
     writer: &mut W,
     errors: &mut E,
 ) -> u8
-    ensures ran { result < 2 → RanAs C.asks stop (R.remaining reader.old) (W.contents writer.old) (W.contents writer.new) caller.old result }
+    ensures ran { result < 2 → RanTo C.asks stop (R.remaining reader.old) (W.contents writer.old) (W.contents writer.new) caller.old caller.new result }
     ensures fault { 2 ≤ result → result ≡ 3 }
 {
     let failures = writer.failures();

@@ -6,6 +6,8 @@ use std::alloc::Global;
 use std::io;
 use std::io::{BufReader, ErrorKind, Read, Write};
 use std::process::Abort;
+use std::sync::Wait;
+use std::thread::Threads;
 
 const FAULT: &[u8] = b"zfsp: input or output failed\n";
 
@@ -64,7 +66,12 @@ impl<W: Write> Write for FailAt<W> {
 }
 
 /// A run whose reader fails at its read number `at`.
-fn run_failing(rt: &impl Abort, alloc: Global, at: u32, kind: ErrorKind) -> Ran {
+fn run_failing(
+    rt: &(impl Threads + Wait + Abort + Sync),
+    alloc: Global,
+    at: u32,
+    kind: ErrorKind,
+) -> Ran {
     run(
         rt,
         alloc,
@@ -91,7 +98,7 @@ fn a_reader_that_is_interrupted(rt: HostRuntime) {
 }
 
 /// Whether a run fails whose writer does, at its call number `at`.
-fn write_fails(rt: &impl Abort, alloc: Global, at: u32) -> bool {
+fn write_fails(rt: &(impl Threads + Wait + Abort + Sync), alloc: Global, at: u32) -> bool {
     let writer = FailAt::new(Vec::new(alloc), at, ErrorKind::Other);
     let (status, errors) = run_into(rt, alloc, SCRIPT, writer);
     status == 3 && errors.as_slice() == FAULT
@@ -126,7 +133,7 @@ impl<T> Failing for Untold<T> {
 }
 
 /// The exit status and the errors of a run whose reader fails and tells nothing.
-fn run_untold(rt: &impl Abort, alloc: Global) -> (u8, Vec<u8>) {
+fn run_untold(rt: &(impl Threads + Wait + Abort + Sync), alloc: Global) -> (u8, Vec<u8>) {
     let inner = Untold {
         inner: FailAt::new(SCRIPT, 2, ErrorKind::Other),
     };
@@ -135,7 +142,14 @@ fn run_untold(rt: &impl Abort, alloc: Global) -> (u8, Vec<u8>) {
     let mut output = Counted::new(Vec::new(alloc));
     let mut errors = Counted::new(Vec::new(alloc));
     let args = args_of(false, 1000);
-    let status = run_args(alloc, Some(&args), &mut reader, &mut output, &mut errors);
+    let status = run_args(
+        rt,
+        alloc,
+        Some(&args),
+        &mut reader,
+        &mut output,
+        &mut errors,
+    );
     (status, errors.inner)
 }
 
@@ -154,7 +168,14 @@ fn refused_memory_is_told(rt: HostRuntime) {
     let mut output = Counted::new(Vec::new(alloc));
     let mut errors = Counted::new(Vec::new(alloc));
     let args = args_of(false, 1000);
-    match run_args(alloc, Some(&args), &mut reader, &mut output, &mut errors) {
+    match run_args(
+        &rt,
+        alloc,
+        Some(&args),
+        &mut reader,
+        &mut output,
+        &mut errors,
+    ) {
         0 => assert!(rt; output.inner.as_slice() == b"hole\nhole\n".as_slice()),
         status => {
             assert!(rt; status == 3);

@@ -2,9 +2,11 @@
 use crate::rig::{args_of, run, run_script};
 use std::alloc::{AllocError, Global};
 use std::process::Abort;
+use std::sync::Wait;
+use std::thread::Threads;
 
 fn prints(
-    rt: &impl Abort,
+    rt: &(impl Threads + Wait + Abort + Sync),
     alloc: Global,
     stop: bool,
     script: &[u8],
@@ -43,7 +45,12 @@ fn ends_of_a_run(rt: HostRuntime) {
 }
 
 /// Whether a fresh pool answers a line so, with its line feed and without.
-fn answers(rt: &impl Abort, alloc: Global, line: &[u8], reply: &[u8]) -> bool {
+fn answers(
+    rt: &(impl Threads + Wait + Abort + Sync),
+    alloc: Global,
+    line: &[u8],
+    reply: &[u8],
+) -> bool {
     let mut script = Vec::new(alloc);
     script
         .extend_from_slice(line)
@@ -184,7 +191,12 @@ fn too_long(alloc: Global, byte: u8) -> Result<Vec<u8>, AllocError> {
     Ok(script)
 }
 
-fn prints_after_it(rt: &impl Abort, alloc: Global, byte: u8, output: &[u8]) -> bool {
+fn prints_after_it(
+    rt: &(impl Threads + Wait + Abort + Sync),
+    alloc: Global,
+    byte: u8,
+    output: &[u8],
+) -> bool {
     let script = too_long(alloc, byte).expect(rt, "memory for a script");
     prints(rt, alloc, false, script.as_slice(), output, 0)
 }

@@ -4,6 +4,8 @@ use runner::{Args, run_args};
 use std::alloc::Global;
 use std::io::{BufReader, Read, Write};
 use std::process::Abort;
+use std::sync::Wait;
+use std::thread::Threads;
 
 /// What a run printed, to its output and to its errors, and its exit status.
 #[derive(Drop)]
@@ -36,13 +38,29 @@ pub fn args_of(stop: bool, blocks: u32) -> Args {
     }
 }
 
+/// The same beside workers.
+pub fn beside(stop: bool, blocks: u32) -> Args {
+    Args {
+        stop,
+        workers: true,
+        blocks,
+        id: 1,
+        script: None,
+    }
+}
+
 /// A run with a reader that gives at most seven bytes at a time.
-pub fn run<R: Read + Drop>(rt: &impl Abort, alloc: Global, args: Option<&Args>, source: R) -> Ran {
+pub fn run<R: Read + Drop>(
+    rt: &(impl Threads + Wait + Abort + Sync),
+    alloc: Global,
+    args: Option<&Args>,
+    source: R,
+) -> Ran {
     let reader = BufReader::with_capacity(alloc, 7, Counted::new(source));
     let mut reader = reader.expect(rt, "memory for a buffer");
     let mut output = Counted::new(Vec::new(alloc));
     let mut errors = Counted::new(Vec::new(alloc));
-    let status = run_args(alloc, args, &mut reader, &mut output, &mut errors);
+    let status = run_args(rt, alloc, args, &mut reader, &mut output, &mut errors);
     Ran {
         output: output.inner,
         errors: errors.inner,
@@ -51,13 +69,18 @@ pub fn run<R: Read + Drop>(rt: &impl Abort, alloc: Global, args: Option<&Args>, 
 }
 
 /// A run of a good command line.
-pub fn run_script(rt: &impl Abort, alloc: Global, args: Args, script: &[u8]) -> Ran {
+pub fn run_script(
+    rt: &(impl Threads + Wait + Abort + Sync),
+    alloc: Global,
+    args: Args,
+    script: &[u8],
+) -> Ran {
     run(rt, alloc, Some(&args), script)
 }
 
 /// The exit status and the errors of a run into another writer.
 pub fn run_into<W: Write + Drop>(
-    rt: &impl Abort,
+    rt: &(impl Threads + Wait + Abort + Sync),
     alloc: Global,
     script: &[u8],
     writer: W,
@@ -67,6 +90,13 @@ pub fn run_into<W: Write + Drop>(
     let mut reader = reader.expect(rt, "memory for a buffer");
     let mut output = Counted::new(writer);
     let mut errors = Counted::new(Vec::new(alloc));
-    let status = run_args(alloc, Some(&args), &mut reader, &mut output, &mut errors);
+    let status = run_args(
+        rt,
+        alloc,
+        Some(&args),
+        &mut reader,
+        &mut output,
+        &mut errors,
+    );
     (status, errors.inner)
 }

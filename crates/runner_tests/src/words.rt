@@ -22,7 +22,7 @@ fn is_good(rt: &impl Abort, alloc: Global, line: &str) -> bool {
 
 #[test]
 fn good_command_lines(rt: HostRuntime) {
-    for line in ["4194304 4294967295", "5 1 -e", "-e 5 1 x"] {
+    for line in ["4194304 4294967295", "5 1 -e", "-e 5 1 x", "-e -w 5 1 x"] {
         assert!(rt; is_good(&rt, rt.alloc(), line), "{line}");
     }
 }
@@ -38,22 +38,28 @@ fn bad_command_lines(rt: HostRuntime) {
         "+5 1",
         "5",
         "-e",
+        "-w",
         "-e -e 5 1",
-        "-w 5 1",
-        "-e -w 5 1",
+        "-w -w 5 1",
+        "-w -e 5 1",
         "5 1 x y",
     ] {
         assert!(rt; !is_good(&rt, rt.alloc(), line), "{line}");
     }
 }
 
-/// Whether a command line says to stop, so many blocks, this id, and a script at this place.
-fn says(rt: &impl Abort, alloc: Global, line: &str, stop: bool, script: Option<usize>) -> bool {
+/// Whether a command line says to stop and to run beside workers or not, 5 blocks, the id 1, and a script at this place.
+fn says(
+    rt: &impl Abort,
+    alloc: Global,
+    line: &str,
+    options: (bool, bool),
+    script: Option<usize>,
+) -> bool {
     let words = words_of(alloc, line).expect(rt, "memory for words");
     match read_args(words.as_slice()) {
         Some(args) => {
-            args.stop == stop
-                && !args.workers
+            (args.stop, args.workers) == options
                 && args.blocks == 5
                 && args.id == 1
                 && args.script == script
@@ -65,10 +71,13 @@ fn says(rt: &impl Abort, alloc: Global, line: &str, stop: bool, script: Option<u
 #[test]
 fn what_command_lines_say(rt: HostRuntime) {
     let alloc = rt.alloc();
-    assert!(rt; says(&rt, alloc, "5 1", false, None));
-    assert!(rt; says(&rt, alloc, "-e 5 1", true, None));
-    assert!(rt; says(&rt, alloc, "5 1 -e", false, Some(2)));
-    assert!(rt; says(&rt, alloc, "-e 5 1 x", true, Some(3)));
+    assert!(rt; says(&rt, alloc, "5 1", (false, false), None));
+    assert!(rt; says(&rt, alloc, "-e 5 1", (true, false), None));
+    assert!(rt; says(&rt, alloc, "-w 5 1", (false, true), None));
+    assert!(rt; says(&rt, alloc, "5 1 -w", (false, false), Some(2)));
+    assert!(rt; says(&rt, alloc, "-e 5 1 x", (true, false), Some(3)));
+    assert!(rt; says(&rt, alloc, "-w 5 1 x", (false, true), Some(3)));
+    assert!(rt; says(&rt, alloc, "-e -w 5 1 x", (true, true), Some(4)));
 }
 
 #[test]

@@ -9,12 +9,14 @@ use runner::{Args, print_fault, print_usage, read_args, run_args};
 use script::run::ScriptFault;
 use std::io::{BufReader, BufWriter, ErrorKind, Read};
 use std::process::ExitCode;
+use std::sync::Wait;
+use std::thread::Threads;
 use std::{env, fs, io};
 
 const BUFFER_SIZE: usize = 65536;
 
 /// Reads the command line, opens the script, and runs it. An error is of memory or of the opening.
-fn serve(rt: &HostRuntime) -> io::Result<u8>
+fn serve<T: Threads + Wait + Sync>(rt: &HostRuntime, threads: &T) -> io::Result<u8>
     ensures { IfOk result (λ status. status ≤ 3) }
 {
     let mut words = Vec::new(rt.alloc());
@@ -29,13 +31,18 @@ fn serve(rt: &HostRuntime) -> io::Result<u8>
     }
     let args = read_args(words.as_slice());
     match script_of(words.as_slice(), args.as_ref()) {
-        Some(path) => run_source(rt, args.as_ref(), fs::open(rt, path.as_str())?),
-        None => run_source(rt, args.as_ref(), rt.stdin()),
+        Some(path) => run_source(rt, threads, args.as_ref(), fs::open(rt, path.as_str())?),
+        None => run_source(rt, threads, args.as_ref(), rt.stdin()),
     }
 }
 
 /// Runs the script that a source gives, and writes to the standard output.
-fn run_source<R: Read + Drop>(rt: &HostRuntime, args: Option<&Args>, source: R) -> io::Result<u8>
+fn run_source<T: Threads + Wait + Sync, R: Read + Drop>(
+    rt: &HostRuntime,
+    threads: &T,
+    args: Option<&Args>,
+    source: R,
+) -> io::Result<u8>
     ensures usage { IfOk result (λ status. (status ≡ 2) ↔ IsTrue (is_bad (option_copied args.entry))) }
     ensures most { IfOk result (λ status. status ≤ 3) }
 {
@@ -43,7 +50,7 @@ fn run_source<R: Read + Drop>(rt: &HostRuntime, args: Option<&Args>, source: R) 
     let mut reader = BufReader::with_capacity(alloc, BUFFER_SIZE, Counted::new(source))?;
     let mut writer = BufWriter::with_capacity(alloc, BUFFER_SIZE, Counted::new(rt.stdout()))?;
     let mut errors = Counted::new(rt.stderr());
-    Ok(run_args(alloc, args, &mut reader, &mut writer, &mut errors))
+    Ok(run_args(threads, alloc, args, &mut reader, &mut writer, &mut errors))
 }
 
 /// The word that names the script file, where there is one.
@@ -54,7 +61,7 @@ fn script_of<'a>(words: &'a [String], args: Option<&Args>) -> Option<&'a String>
 }
 
 fn main(rt: HostRuntime) -> ExitCode {
-    match serve(&rt) {
+    match serve(&rt, &rt) {
         Ok(status) => ExitCode::from(status),
         Err(e) => {
             let fault = if e.kind() == ErrorKind::OutOfMemory {

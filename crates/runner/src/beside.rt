@@ -1,0 +1,281 @@
+//! A script that runs beside workers.
+ghost use Rattle.std.specs.Prelude.{◌≡◌, ◌<◌, ◌≤◌, List, [], ◌∷◌, IfSome};
+ghost use Rattle.book.specs.declared.book.TheConstants.{CALL_LIMIT};
+ghost use Rattle.book.specs.Receipts.{Kept};
+ghost use Rattle.runner.specs.Beside.{Gains, HasHistory, RanBeside};
+ghost use Rattle.runner.specs.Status.{RanTo};
+
+use crate::run::{print_fault, run_on};
+use crate::seated::{Seated, Shared};
+use crate::turns::{Lines, Turns};
+use base::failing::Failing;
+use book::{Book, CALL_LIMIT, Opening, Seat};
+use pool::Pool;
+use script::run::{Caller, ScriptFault};
+use session::Session;
+use std::alloc::Global;
+use std::io::{BufRead, Write};
+use std::mem;
+use std::sync::Wait;
+use std::thread::{Threads, join_mut};
+
+/// How many blocks the destroyer takes at a time (profile).
+const SLICE: u64 = 64;
+
+/// The workers' seats.
+#[derive(Drop)]
+struct Workers<K: Opening> {
+    syncer: Seat<K>,
+    destroyer: Seat<K>,
+}
+
+/// Runs a script on a session of a pool, beside a syncer and a destroyer that may each take one turn a line, and gives the exit status
+/// as `run_args` does. All threads have ended. Neither the pool nor the history is freed, for the program ends after its run.
+pub(crate) fn run_beside<K, T, R, W, E>(
+    rt: &T,
+    alloc: Global,
+    pool: Pool,
+    stop: bool,
+    reader: &mut R,
+    writer: &mut W,
+    errors: &mut E,
+) -> u8
+where
+    K: Opening + Send + Sync,
+    T: Threads + Wait + Sync,
+    R: BufRead + Failing,
+    W: Write + Failing,
+    E: Write,
+    requires opening { pool.state ≡ K.opening }
+    requires limit { CALL_LIMIT ≡ K.limit }
+    ensures ran { result < 2 → RanBeside K.opening stop (R.remaining reader.old) (W.contents writer.old) (W.contents writer.new) result }
+    ensures fault { 2 ≤ result → result ≡ 3 }
+{
+    let Some((session, script, mut workers)) = opened::<K, T>(rt, alloc, pool) else {
+        return print_fault(errors, ScriptFault::NoMemory);
+    };
+    let shared = Shared {
+        session,
+        lines: Lines::new(),
+    };
+    let (status, script) = run_seated(
+        rt,
+        alloc,
+        &shared,
+        script,
+        &mut workers,
+        stop,
+        reader,
+        writer,
+        errors,
+    );
+    let Shared { session, lines: _ } = shared;
+    if status >= 2 {
+        mem::forget(session);
+        return 3;
+    }
+    close(alloc, session.end(), script, workers, status, errors)
+}
+
+/// A session of a pool, the script's seat, without receipts, and the workers' seats. None where there is no memory.
+fn opened<K: Opening, T: Wait>(
+    rt: &T,
+    alloc: Global,
+    pool: Pool,
+) -> Option<(Session<K>, Seat<K>, Workers<K>)>
+    requires opening { pool.state ≡ K.opening }
+    requires limit { CALL_LIMIT ≡ K.limit }
+    ensures { IfSome result (λ r. r.1.receipts ≡ []) }
+{
+    let session: Session<K> = match Session::open(alloc, pool, CALL_LIMIT) {
+        Ok(session) => session,
+        Err((_, pool)) => {
+            mem::forget(pool);
+            return None;
+        }
+    };
+    let script = session.seat(alloc, rt).ok()?;
+    let workers = Workers {
+        syncer: session.seat(alloc, rt).ok()?,
+        destroyer: session.seat(alloc, rt).ok()?,
+    };
+    Some((session, script, workers))
+}
+
+/// Runs the script by its seat, beside the workers, and gives the exit status and the seat.
+fn run_seated<K, T, R, W, E>(
+    rt: &T,
+    alloc: Global,
+    shared: &Shared<K>,
+    seat: Seat<K>,
+    workers: &mut Workers<K>,
+    stop: bool,
+    reader: &mut R,
+    writer: &mut W,
+    errors: &mut E,
+) -> (u8, Seat<K>)
+where
+    K: Opening + Send + Sync,
+    T: Threads + Wait + Sync,
+    R: BufRead + Failing,
+    W: Write + Failing,
+    E: Write,
+    ensures ran { result.0 < 2 → RanTo Gains stop (R.remaining reader.old) (W.contents writer.old) (W.contents writer.new) seat result.1 result.0 }
+{
+    let mut caller = Seated {
+        alloc,
+        rt,
+        shared,
+        seat,
+    };
+    let status = run_threads(
+        rt,
+        alloc,
+        shared,
+        workers,
+        &mut caller,
+        stop,
+        reader,
+        writer,
+        errors,
+    );
+    let Seated {
+        alloc: _,
+        rt: _,
+        shared: _,
+        seat,
+    } = caller;
+    (status, seat)
+}
+
+/// Runs the script in this thread and the workers in others, and gives the exit status once all have ended.
+fn run_threads<'a, C, K, T, R, W, E>(
+    rt: &'a T,
+    alloc: Global,
+    shared: &'a Shared<K>,
+    workers: &'a mut Workers<K>,
+    caller: &'a mut C,
+    stop: bool,
+    reader: &'a mut R,
+    writer: &'a mut W,
+    errors: &'a mut E,
+) -> u8
+where
+    C: Caller,
+    K: Opening + Send + Sync,
+    T: Threads + Wait + Sync,
+    R: BufRead + Failing,
+    W: Write + Failing,
+    E: Write,
+    ensures ran { result < 2 → RanTo C.asks stop (R.remaining reader.old) (W.contents writer.old) (W.contents writer.new) caller.old caller.new result }
+{
+    let (_, status) = join_mut(
+        rt,
+        &mut || run_workers(rt, alloc, shared, workers),
+        &mut || -> u8
+            ensures { result < 2 → RanTo C.asks stop (R.remaining reader.entry.now) (W.contents writer.entry.now) (W.contents writer.exit.now) caller.entry.now caller.exit.now result }
+        {
+            run_lines(
+                rt,
+                alloc,
+                &shared.lines,
+                caller,
+                stop,
+                reader,
+                writer,
+                errors,
+            )
+        },
+    );
+    status
+}
+
+/// Runs the script, and then lets the workers end.
+fn run_lines<C: Caller, T: Wait, R: BufRead + Failing, W: Write + Failing, E: Write>(
+    rt: &T,
+    alloc: Global,
+    lines: &Lines,
+    caller: &mut C,
+    stop: bool,
+    reader: &mut R,
+    writer: &mut W,
+    errors: &mut E,
+) -> u8
+    ensures ran { result < 2 → RanTo C.asks stop (R.remaining reader.old) (W.contents writer.old) (W.contents writer.new) caller.old caller.new result }
+{
+    let status = run_on(alloc, caller, stop, reader, writer, errors);
+    lines.end(rt);
+    status
+}
+
+/// Runs both workers until the script has ended. One that finds no room or no memory ends before.
+fn run_workers<K: Opening + Send + Sync, T: Threads + Wait + Sync>(
+    rt: &T,
+    alloc: Global,
+    shared: &Shared<K>,
+    workers: &mut Workers<K>,
+) {
+    let Workers { syncer, destroyer } = workers;
+    join_mut(
+        rt,
+        &mut || run_syncer(rt, alloc, shared, syncer),
+        &mut || run_destroyer(rt, alloc, shared, destroyer),
+    );
+}
+
+fn run_syncer<K: Opening, T: Wait>(rt: &T, alloc: Global, shared: &Shared<K>, seat: &mut Seat<K>) {
+    let mut turns = Turns::new(rt, &shared.lines);
+    let _ = shared.session.run_syncer(alloc, rt, seat, &mut turns);
+}
+
+fn run_destroyer<K: Opening, T: Wait>(
+    rt: &T,
+    alloc: Global,
+    shared: &Shared<K>,
+    seat: &mut Seat<K>,
+) {
+    let mut turns = Turns::new(rt, &shared.lines);
+    let _ = shared
+        .session
+        .run_destroyer(alloc, rt, seat, SLICE, &mut turns);
+}
+
+/// The exit status, once all seats' receipts are the history. Else 3, after a fault's line: there is no memory for the list of seats, or
+/// the receipts aren't the history.
+fn close<K: Opening, E: Write>(
+    alloc: Global,
+    book: Book<K>,
+    script: Seat<K>,
+    workers: Workers<K>,
+    status: u8,
+    errors: &mut E,
+) -> u8
+    requires { status < 2 }
+    ensures same { result < 2 → result ≡ status }
+    ensures history { result < 2 → (others : List Kept) × HasHistory K.opening (script ∷ others) }
+    ensures fault { 2 ≤ result → result ≡ 3 }
+{
+    let Workers { syncer, destroyer } = workers;
+    let Ok(seats) = vec![in alloc; script, syncer, destroyer] else {
+        mem::forget(book);
+        return print_fault(errors, ScriptFault::NoMemory);
+    };
+    match book.close(seats) {
+        Ok(closed) => {
+            mem::forget(closed);
+            status
+        }
+        Err(back) => {
+            mem::forget(back);
+            print_unclosed(errors)
+        }
+    }
+}
+
+/// Prints that the receipts of a session's seats aren't its history, and gives the exit status.
+fn print_unclosed<E: Write>(errors: &mut E) -> u8
+    ensures { result ≡ 3 }
+{
+    let _ = errors.write_all(b"zfsp: the receipts are not the history\n");
+    3
+}
