@@ -1,8 +1,9 @@
 //! Scripts beside workers. What a line sees of the workers is open, so these lines are answered the same whatever they do, or are
 //! only counted.
-use crate::rig::{Ran, beside, run, run_script};
+use crate::rig::{Ran, beside, run, run_from, run_script};
+use base::failing::Counted;
 use std::alloc::Global;
-use std::io::{self, ErrorKind, Read};
+use std::io::{self, BufReader, ErrorKind, Read};
 use std::process::Abort;
 use std::sync::Wait;
 use std::thread::Threads;
@@ -98,7 +99,10 @@ fn a_reader_that_fails(rt: HostRuntime) {
 /// memory to say so.
 #[test]
 fn refused_memory_is_told(rt: HostRuntime) {
-    let ran = run_script(&rt, rt.alloc(), beside(false, 1000), FREEING);
+    let Ok(reader) = BufReader::with_capacity(rt.alloc(), 7, Counted::new(FREEING)) else {
+        return;
+    };
+    let ran = run_from(&rt, rt.alloc(), Some(&beside(false, 1000)), reader);
     assert!(rt; is_told(&ran));
 }
 

@@ -57,7 +57,17 @@ pub fn run<R: Read + Drop>(
     source: R,
 ) -> Ran {
     let reader = BufReader::with_capacity(alloc, 7, Counted::new(source));
-    let mut reader = reader.expect(rt, "memory for a buffer");
+    let reader = reader.expect(rt, "memory for a buffer");
+    run_from(rt, alloc, args, reader)
+}
+
+/// A run with a reader that has its buffer.
+pub fn run_from<R: Read + Drop>(
+    rt: &(impl Threads + Wait + Abort + Sync),
+    alloc: Global,
+    args: Option<&Args>,
+    mut reader: BufReader<Counted<R>>,
+) -> Ran {
     let mut output = Counted::new(Vec::new(alloc));
     let mut errors = Counted::new(Vec::new(alloc));
     let status = run_args(rt, alloc, args, &mut reader, &mut output, &mut errors);
