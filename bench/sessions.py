@@ -1,9 +1,11 @@
 #!/usr/bin/env python3
-"""Times the built `session_workloads`: writes by a pool alone, by one caller of a session, and by four callers in threads.
+"""Times the built `session_workloads`: writes by a pool alone, by one caller of a session, and by four callers in threads; and reads
+through a view by four threads, alone and beside a writer.
 
     python3 bench/sessions.py SESSION_WORKLOADS [--calls N] [--times T]
 
-Prints, of the fastest of T runs (3 if left out) of N writes (1,000,000 if left out), the seconds and their ratio to the pool's.
+Prints, of the fastest of T runs (3 if left out) of N writes (1,000,000 if left out), the seconds and their ratio to the pool's; and of
+the fastest of T runs of N reads the seconds, less those of a run without a read, and their ratio to those without a writer.
 """
 
 import argparse
@@ -19,16 +21,30 @@ def main():
     options.add_argument("--times", type=int, default=3)
     options = options.parse_args()
     program = options.session_workloads.resolve()
-    best = {"apply": float("inf"), "one": float("inf"), "four": float("inf")}
-    for _ in range(options.times):
-        for who in best:
+    writes = fastest(program, ["apply", "one", "four"], options.calls, options.times)
+    tell(writes, writes["apply"])
+    none = fastest(program, ["views"], 0, options.times)["views"]
+    reads = fastest(program, ["views", "beside"], options.calls, options.times)
+    reads = {who: seconds - none for who, seconds in reads.items()}
+    tell(reads, reads["views"])
+
+
+def fastest(program, names, calls, times):
+    """The seconds of the fastest of so many runs, by who works."""
+    best = {who: float("inf") for who in names}
+    for _ in range(times):
+        for who in names:
             begin = time.perf_counter()
-            told = subprocess.run([program, who, str(options.calls)], check=True, capture_output=True, text=True).stdout
+            told = subprocess.run([program, who, str(calls)], check=True, capture_output=True, text=True).stdout
             best[who] = min(best[who], time.perf_counter() - begin)
-            if told != f"{options.calls}\n":
+            if told != f"{calls}\n":
                 raise SystemExit(f"{who}: {told}")
+    return best
+
+
+def tell(best, unit):
     for who, seconds in best.items():
-        print(f"{who:8} {seconds:9.3f} s {seconds / best['apply']:6.2f}")
+        print(f"{who:8} {seconds:9.3f} s {seconds / unit:6.2f}")
 
 
 if __name__ == "__main__":

@@ -6,7 +6,7 @@ use Rattle.model.specs.Step.{Step}
 use Rattle.model.specs.declared.entry.Entry.{Entry}
 use Rattle.model.specs.declared.request.Request.{Request}
 use Rattle.model.specs.declared.reply.Reply.{Reply}
-use Rattle.model.proofs.Runs.{run_grows}
+use Rattle.world.proofs.Runs.{run_grows}
 use Rattle.book.specs.History.{IsLegal}
 use Rattle.book.specs.Books.{IsSound}
 

@@ -1,11 +1,12 @@
 //! What lies under the lock, and the one function that adds to its history.
-ghost use Rattle.std.specs.Prelude.{◌≡◌, ◌+◌, ◌≤◌, ◌↔◌, [], ◌∷◌, ◌++◌, length, Err, IfOk, IfErr, IsErr, IsTrue, OnErr, OnOk};
+ghost use Rattle.std.specs.Prelude.{◌≡◌, ◌+◌, ◌≤◌, ◌↔◌, [], ◌∷◌, ◌++◌, length, Err, IfOk, IfErr, IfSome, IsErr, IsTrue, OnErr, OnOk, is_some};
 ghost use Rattle.model.specs.Step.{Step};
 ghost use Rattle.book.specs.Calls.{IsFullOrNoMemory, IsNoLimit, IsUnopened, Ran};
+ghost use Rattle.book.specs.Entered.{is_opened};
 ghost use Rattle.book.specs.History.{IsLegal};
 
 use crate::call::Call;
-use crate::entering::entry_of;
+use crate::entering::{Owners, entry_of};
 use crate::opening::Opening;
 use crate::seat::{Receipt, Seat};
 use base::refusal::Refusal;
@@ -111,6 +112,13 @@ impl<K: Opening> Book<K> {
     }
 }
 
+/// A call that has run: its receipt, and where it opened a view one more owner of its entry.
+#[derive(Drop)]
+pub struct Entered {
+    pub receipt: Receipt,
+    pub viewed: Option<Arc<Entry>>,
+}
+
 /// Applies a call of a seat, and appends its entry, which the seat's receipt and the one handed back share. A request that the pool
 /// refuses has run, and its entry has the refusal as its reply. At `Err` nothing ran: SessionFull where the history has its full
 /// length, NoMemory where there is no memory for the reply or the seat's receipt. All that it allocates, it allocates before the
@@ -120,13 +128,15 @@ pub fn enter_call<K: Opening>(
     book: &mut Book<K>,
     seat: &mut Seat<K>,
     call: Call,
-) -> Result<Receipt, Refusal>
+) -> Result<Entered, Refusal>
     requires own { call.seat ≡ seat.old.number }
-    ensures ran { IfOk result (λ r. Ran seat.old call.request r seat.new) }
-    ensures number { IfOk result (λ r. r.number ≡ length book.old.history) }
-    ensures step { IfOk result (λ r. Step book.old.pool call.request r.entry.reply book.new.pool) }
+    ensures ran { IfOk result (λ r. Ran seat.old call.request r.receipt seat.new) }
+    ensures number { IfOk result (λ r. r.receipt.number ≡ length book.old.history) }
+    ensures step { IfOk result (λ r. Step book.old.pool call.request r.receipt.entry.reply book.new.pool) }
+    ensures viewed { IfOk result (λ r. IfSome r.viewed (λ v. v.value ≡ r.receipt.entry)) }
+    ensures opened { IfOk result (λ r. is_some r.viewed ≡ is_opened r.receipt.entry.reply) }
     ensures legal { IsLegal K.opening book.new.history book.new.pool }
-    ensures book { IfOk result (λ r. book.new ≡ record book.old { history = book.old.history ++ r.entry ∷ []; pool = book.new.pool }) }
+    ensures book { IfOk result (λ r. book.new ≡ record book.old { history = book.old.history ++ r.receipt.entry ∷ []; pool = book.new.pool }) }
     ensures err { OnErr result ((book.new ≡ book.old) × (seat.new ≡ seat.old)) }
     ensures full { (result ≡ Err Refusal.SessionFull) ↔ (K.limit ≤ length book.old.history) }
     ensures refusal { IfErr result (λ r. IsFullOrNoMemory r) }
@@ -139,18 +149,27 @@ pub fn enter_call<K: Opening>(
         drop(call);
         return Err(Refusal::NoMemory);
     }
-    let Some((kept, ours, theirs)) = entry_of(alloc, &mut book.pool, call) else {
+    let Some(owners) = entry_of(alloc, &mut book.pool, call) else {
         return Err(Refusal::NoMemory);
     };
+    let Owners {
+        kept,
+        ours,
+        theirs,
+        viewed,
+    } = owners;
     let number = book.history.len() as u64;
     book.history.push_reserved(kept);
     seat.receipts.push_reserved(Receipt {
         number,
         entry: ours,
     });
-    Ok(Receipt {
-        number,
-        entry: theirs,
+    Ok(Entered {
+        receipt: Receipt {
+            number,
+            entry: theirs,
+        },
+        viewed,
     })
 }
 
@@ -175,5 +194,7 @@ pub fn enter<K: Opening>(
         return Err(Refusal::SessionFull);
     }
     let call = Call::new(alloc, seat, request)?;
-    enter_call(alloc, book, seat, call)
+    let Entered { receipt, viewed } = enter_call(alloc, book, seat, call)?;
+    drop(viewed);
+    Ok(receipt)
 }

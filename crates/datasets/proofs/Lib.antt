@@ -6,3 +6,5 @@ pub mod Removed
 pub mod RolledBack
 pub mod SystemGone
 pub mod Children
+pub mod Marked
+pub mod Placed

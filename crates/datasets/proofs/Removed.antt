@@ -47,15 +47,15 @@ is_other a b ne = by_test (a == b) refl
     by_test false e = e
 
 -- groups rise from 0 too
-from_zero : (low : ℕ) (ts : List Snap) → AreRising low ts → AreRising 0 ts
+pub from_zero : (low : ℕ) (ts : List Snap) → AreRising low ts → AreRising 0 ts
 from_zero low [] r = tt
 from_zero low (t ∷ ts) r = (let l = r.0 in omega arith, r.1)
 
 module _ (low : ℕ) (older : List Snap) (u : Snap) (newer : List Snap) (up : AreRising low (older ++ u ∷ newer)) where
-  older_differ : (v : Snap) → IsIn older v → (v.group == u.group) ≡ false
+  pub older_differ : (v : Snap) → IsIn older v → (v.group == u.group) ≡ false
   older_differ v h = is_other v.group u.group (λ e. let l = rising_below low older u newer up v h in absurd (omega arith))
 
-  newer_differ : (v : Snap) → IsIn newer v → (v.group == u.group) ≡ false
+  pub newer_differ : (v : Snap) → IsIn newer v → (v.group == u.group) ≡ false
   newer_differ v h = is_other v.group u.group (λ e. let l = rising_above u.group newer v (rising_after low older u newer up) h in absurd (omega arith))
 
   others_stay : filter (λ (v : Snap). not (v.group == u.group)) (older ++ u ∷ newer) ≡ older ++ newer
@@ -93,7 +93,7 @@ found_there (v ∷ vs) u newer = at (v.group == u.group) (found_there vs u newer
 -- ---- in a table
 
 module _ (t : Datasets) (sound : IsTable t) (name : Name) (f : FileSystem) (at : get t.file_systems name ≡ Some f) where
-  rising_at : AreRising 0 f.snaps
+  pub rising_at : AreRising 0 f.snaps
   rising_at = from_zero (start t.file_systems t.group sound.systems.lines name f at).base f.snaps (rising t.file_systems t.group sound.systems.lines name f at)
 
   are_above : AreAbove f
@@ -191,17 +191,17 @@ group_told (Some u) g e = (u, refl, sym (same_value g u.group e))
 -- the snapshot of this name, which is there, by its group
 module _ (t : Datasets) (sound : IsTable t) (m : Member) (g : ℕ) (told : Some g ≡ option_map (λ (u : Snap). u.group) (snap_named (world_of t) m)) where
   -- it, and its file system
-  record IsOf : Type 0 where
-    system : FileSystem
-    at : get t.file_systems m.file_system ≡ Some system
-    it : Snap
-    found : snap_named (world_of t) m ≡ Some it
-    group_is : it.group ≡ g
-    older : List Snap
-    newer : List Snap
-    snaps_are : system.snaps ≡ older ++ it ∷ newer
+  pub record IsOf : Type 0 where
+    pub system : FileSystem
+    pub at : get t.file_systems m.file_system ≡ Some system
+    pub it : Snap
+    pub found : snap_named (world_of t) m ≡ Some it
+    pub group_is : it.group ≡ g
+    pub older : List Snap
+    pub newer : List Snap
+    pub snaps_are : system.snaps ≡ older ++ it ∷ newer
 
-  of : IsOf
+  pub of : IsOf
   of =
       let u = group_told (snap_named (world_of t) m) g told in
       by_system (get t.file_systems m.file_system) refl u.0 u.1 u.2

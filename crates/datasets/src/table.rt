@@ -8,7 +8,8 @@ ghost use Rattle.std.specs.FinMap.{get, insert, entries, len};
 ghost use Rattle.base.specs.declared.refusal.Refusal.{Refusal};
 ghost use Rattle.name.specs.Names.{root_name, same_name, parent_of};
 ghost use Rattle.base.specs.Surveys.{dead_block};
-ghost use Rattle.model.specs.World.{empty_file_system, id_of, snap_named, children_of};
+ghost use Rattle.model.specs.World.{empty_file_system, id_of, snap_at, snap_named, children_of};
+ghost use Rattle.model.specs.Ids.{snap_id};
 ghost use Rattle.model.specs.Hierarchy.{has_parent};
 ghost use Rattle.model.specs.requests.Create.{create_refusal};
 ghost use Rattle.tree.specs.Asking.{IsNoSpaceOrNoMemory};
@@ -16,7 +17,7 @@ ghost use Rattle.tree.specs.Change.{HasRoom, LacksRoom, CountsDropped};
 ghost use Rattle.tree.specs.Updates.{changes_of};
 ghost use Rattle.world.specs.Worlds.{AreFileSystems};
 ghost use Rattle.world.specs.Deadlists.{Lists};
-ghost use Rattle.world.specs.Tables.{world_of, with_system, without_snap, without_system, lost_between, CanSnap, CanRemove};
+ghost use Rattle.world.specs.Tables.{world_of, with_system, without_snap, deferred_snap, without_system, lost_between, CanSnap, CanRemove};
 ghost use Rattle.file_systems.specs.Losses.{newest_map};
 ghost use Rattle.file_systems.specs.Rows.{Row, live_of, snaps_at, with_live, snap_count, plain_snap};
 ghost use Rattle.datasets.specs.Rollbacks.{Loses};
@@ -29,7 +30,8 @@ use base::meter::{Meter, SegMeter};
 use base::number::{Group, Guid};
 use base::refusal::Refusal;
 use deadlist::deadlist::Deadlist;
-use file_systems::{FileSystem, FileSystems, Lost};
+use file_systems::{FileSystem, FileSystems, Lost, Snapshot};
+use model::snapshot_id::SnapshotId;
 use name::{Component, DsName, Member};
 use std::alloc::Global;
 use std::marker::Model;
@@ -123,6 +125,21 @@ impl Table {
         ensures { option_copied result ≡ option_map (λ f. (name.now, f)) (get self.now.file_systems name.now) }
     {
         self.systems.find(name)
+    }
+
+    /// The snapshot of this identity with its file system, or none (On-Disk Specification, chapter 4: ds_creation_txg, ds_guid). It costs
+    /// the number of file systems times the logarithm of that of the snapshots of one.
+    pub fn snapshot_of(&self, id: SnapshotId) -> Option<(&FileSystem, &Snapshot)>
+        ensures { option_map (λ p. (p.0.now.0, p.1.now)) result ≡ snap_at (world_of self.now) (snap_id id) }
+    {
+        // It tells of the snapshots that their groups rise.
+        let _count = self.len();
+        for file_system in self.file_systems() {
+            if let Some(snapshot) = file_system.snapshot_of(id) {
+                return Some((file_system, snapshot));
+            }
+        }
+        None
     }
 
     /// Why a file system of this name can't be added, if it can't: Exists where one of that name is there, else NoParent where
@@ -244,7 +261,7 @@ impl Table {
     /// Takes a snapshot out (zfs-destroy(8)): what comes after it keeps its blocks, and the answer lists the blocks that no dataset has
     /// any more, each once; nobody has walked them. NoDataset exactly where there is no snapshot of this name; else NoMemory where
     /// there is none for it. At `Err` the table is as it was. It costs the logarithms of the numbers of file systems and of snapshots,
-    /// the segments of two dead lists, and a 32nd of the number of snapshots of its file system.
+    /// the segments of two dead lists with the entries of at most one of them, and a 32nd of the number of snapshots of its file system.
     pub fn destroy_snapshot(
         &mut self,
         alloc: Global,
@@ -262,6 +279,21 @@ impl Table {
         };
         self.systems
             .splice(alloc, &name.file_system, group, segments)
+    }
+
+    /// From now on the destroy of the snapshot of this name is deferred (zfs-destroy(8), -d). NoDataset exactly where there is no snapshot
+    /// of this name; else NoMemory where there is none for it. At `Err` the table is as it was. It costs the logarithms of the numbers of
+    /// file systems and of snapshots, and a walk over the chunks of its file system's.
+    pub fn defer(&mut self, alloc: Global, name: &Member) -> Result<(), Refusal>
+        ensures ok { IfSome (snap_named (world_of self.old) name.now) (λ t. OnOk result (self.new ≡ deferred_snap self.old (id_of t))) }
+        ensures no_dataset { (result ≡ Err Refusal.NoDataset) ↔ (snap_named (world_of self.old) name.now ≡ None) }
+        ensures err { OnErr result (self.new ≡ self.old) }
+        ensures only { IfErr result (λ e. (e ≡ Refusal.NoDataset) ⊎ (e ≡ Refusal.NoMemory)) }
+    {
+        let Some(group) = self.group_of(name) else {
+            return Err(Refusal::NoDataset);
+        };
+        self.systems.defer(alloc, &name.file_system, group)
     }
 
     /// Makes the map of its newest snapshot the live map of this file system (zfs-rollback(8)), by one more owner of its tree, and answers

@@ -8,3 +8,4 @@ pub mod Splices
 pub mod Stacks
 pub mod Removed
 pub mod Losses
+pub mod Deferred

@@ -162,17 +162,12 @@ module _ (es : List Row) (sorted : IsTrue (is_sorted name_cmp es)) (q : List ℕ
     pub placed_is : from_sorted {R = name_cmp} (set es i r) ≡ finmap.insert (from_sorted {R = name_cmp} es) q v
     placed_is = ap (from_sorted {R = name_cmp}) placed ∙ set_is es sorted q v i at
 
-  -- with one more snapshot, as the map tells it
-  pub taken_is : (name : List ℕ) (guid group : ℕ) (r : Row) → r ≡ (e.0, with_snap e.1 name guid group) → from_sorted {R = name_cmp} (set es i r) ≡ option_map_or (λ f. finmap.insert (from_sorted {R = name_cmp} es) q (with_snap f name guid group)) (get (from_sorted {R = name_cmp} es) q) (from_sorted {R = name_cmp} es)
-  taken_is name guid group r others =
-      placed_is (with_snap e.1 name guid group) r others
-      ∙ sym (ap (λ o. option_map_or (λ f. finmap.insert (from_sorted {R = name_cmp} es) q (with_snap f name guid group)) o (from_sorted {R = name_cmp} es)) got)
-
-  -- without a snapshot, as the map tells it
-  pub spliced_is : (group : ℕ) (r : Row) → r ≡ (e.0, without_group e.1 group) → from_sorted {R = name_cmp} (set es i r) ≡ without_snap_of (from_sorted {R = name_cmp} es) q group
-  spliced_is group r others =
-      placed_is (without_group e.1 group) r others
-      ∙ sym (ap (λ o. option_map_or (λ f. finmap.insert (from_sorted {R = name_cmp} es) q (without_group f group)) o (from_sorted {R = name_cmp} es)) got)
+  -- changed by a function of its file system, as the map tells it
+  pub made_is : (change : FileSystem → FileSystem) (r : Row) → r ≡ (e.0, change e.1)
+      → from_sorted {R = name_cmp} (set es i r) ≡ option_map_or (λ f. finmap.insert (from_sorted {R = name_cmp} es) q (change f)) (get (from_sorted {R = name_cmp} es) q) (from_sorted {R = name_cmp} es)
+  made_is change r others =
+      placed_is (change e.1) r others
+      ∙ sym (ap (λ o. option_map_or (λ f. finmap.insert (from_sorted {R = name_cmp} es) q (change f)) o (from_sorted {R = name_cmp} es)) got)
 
   -- it keeps the rule that its file system keeps
   pub rule_here : (P : FileSystem → Type 0) → IfSome (get (from_sorted {R = name_cmp} es) q) P → P e.1

@@ -1,6 +1,6 @@
 -- The snapshots of a file system with one of them gone.
 use Rattle.std.proofs.Common.{◌≡◌, ◌≤◌, ◌<◌, ◌+◌, ℕ, zero, suc, Bool, true, false, cond, List, [], ◌∷◌, ◌++◌, map, length, take, drop, set, slice_get, Option, Some, None, is_some, true≢false, refl, sym, ap, subst, ◌∙◌, inl, inr, arith, add-one, get_or, leb, ltb}
-use Rattle.std.specs.Prelude.{filter, not, remove, ◌==◌, nat_lt}
+use Rattle.std.specs.Prelude.{filter, not, remove, ◌==◌, ◌&&◌, nat_lt}
 use Rattle.std.specs.Cmp.Lexicographic.{same_text}
 use Rattle.std.specs.List.{find, last_or}
 use Rattle.std.specs.List.Sorted.{IsPartitionedBy, IsPartitionPoint}
@@ -14,7 +14,7 @@ use Rattle.base.specs.Surveys.{IsIn, dead_block}
 use Rattle.base.specs.declared.number.Dead.{Dead}
 use Rattle.deadlist.specs.Entries.{is_upto}
 use Rattle.name.specs.Names.{same_name}
-use Rattle.model.specs.World.{Snap, FileSystem}
+use Rattle.model.specs.World.{Snap, SnapId, FileSystem, id_of, same_id}
 use Rattle.snapshots.specs.declared.kept.Kept.{Kept}
 use Rattle.snapshots.specs.Index.{AreNamesOnce}
 use Rattle.world.specs.Sets.{Has}
@@ -32,10 +32,10 @@ use Rattle.file_systems.proofs.Splices.{dead_joined, dead_lost}
 
 -- ---- groups that rise
 
-is_it : (n m : ℕ) → n ≡ m → (n == m) ≡ true
+pub is_it : (n m : ℕ) → n ≡ m → (n == m) ≡ true
 is_it n m e = grind (arith, nat_tests)
 
-is_other : (n m : ℕ) → (n ≡ m → ⊥) → (n == m) ≡ false
+pub is_other : (n m : ℕ) → (n ≡ m → ⊥) → (n == m) ≡ false
 is_other n m e = grind (arith, nat_tests)
 
 -- none has a group below them
@@ -58,7 +58,7 @@ nothing_at zero g e = cc
 nothing_at (suc i) g e = cc
 
 -- the group at a place is above what they are above
-group_above : (low g i : ℕ) (ks : List Kept) → AreRising low (snaps_in ks) → option_map (λ (k : Kept). k.snapshot.group) (slice_get ks i) ≡ Some g → low < g
+pub group_above : (low g i : ℕ) (ks : List Kept) → AreRising low (snaps_in ks) → option_map (λ (k : Kept). k.snapshot.group) (slice_get ks i) ≡ Some g → low < g
 group_above low g i [] up e = absurd (nothing_at i g e)
 group_above low g zero (k ∷ ks) up e = let same : k.snapshot.group ≡ g = cc in let l = up.0 in omega arith
 group_above low g (suc i) (k ∷ ks) up e = let l = up.0 in let m = group_above k.snapshot.group g i ks up.1 e in omega arith
@@ -110,6 +110,38 @@ parted low g (k ∷ ks) up zero (suc j) d le lt e =
     at_place low (suc j) (x ∷ ks) up d lt = let l = up.0 in let m = at_place x.snapshot.group j ks up.1 d (omega arith) in omega arith
 parted low g (k ∷ ks) up (suc i) zero d le lt e = absurd (omega arith)
 parted low g (k ∷ ks) up (suc i) (suc j) d le lt e = parted k.snapshot.group g ks up.1 i j d (omega arith) (omega arith) e
+
+-- a snapshot of another group has another identity
+other_group : (t : Snap) (id : SnapId) → (t.group ≡ id.group → ⊥) → same_id (id_of t) id ≡ false
+other_group t id ne = ap (λ b. b && (t.guid == id.guid)) (is_other t.group id.group ne)
+
+none_of_id : (low : ℕ) (id : SnapId) (ts : List Snap) → AreRising low ts → id.group ≤ low → find (λ (t : Snap). same_id (id_of t) id) ts ≡ None
+none_of_id low id [] up le = refl
+none_of_id low id (t ∷ ts) up le =
+    let l = up.0 in
+    ap (λ b. cond b (Some t) (find (λ (u : Snap). same_id (id_of u) id) ts)) (other_group t id (λ e. absurd (omega arith))) ∙ none_of_id t.group id ts up.1 (omega arith)
+
+-- what the place of a group tells of an identity
+unfoldable pub id_at : SnapId → Option Kept → Option Snap
+id_at id None = None
+id_at id (Some k) = cond (same_id (id_of k.snapshot) id) (Some k.snapshot) None
+
+-- where the groups are no longer below it, the snapshot of an identity stands, or it isn't there
+pub id_found : (low i : ℕ) (id : SnapId) (ks : List Kept) → AreRising low (snaps_in ks)
+    → IsPartitionPoint (λ (k : Kept). nat_lt k.snapshot.group id.group ≡ true) (λ (k : Kept). nat_lt k.snapshot.group id.group ≡ false) ks i
+    → find (λ (t : Snap). same_id (id_of t) id) (snaps_in ks) ≡ id_at id (slice_get ks i)
+unfolding id_at
+id_found low zero id [] up point = refl
+id_found low (suc i) id [] up point = refl
+id_found low zero id (k ∷ ks) up point =
+    let high : nat_lt k.snapshot.group id.group ≡ false = point.1 zero k (omega arith) (omega arith) in
+    let over : id.group ≤ k.snapshot.group = grind (arith, nat_tests) in
+    ap (λ l. cond (same_id (id_of k.snapshot) id) (Some k.snapshot) l) (none_of_id k.snapshot.group id (snaps_in ks) up.1 over)
+id_found low (suc i) id (k ∷ ks) up point =
+    let under : nat_lt k.snapshot.group id.group ≡ true = point.0 zero k (omega arith) (omega arith) in
+    let below : k.snapshot.group < id.group = grind (arith, nat_tests) in
+    ap (λ b. cond b (Some k.snapshot) (find (λ (t : Snap). same_id (id_of t) id) (snaps_in ks))) (other_group k.snapshot id (λ e. absurd (omega arith)))
+    ∙ id_found k.snapshot.group i id ks up.1 (λ j d l m. point.0 (suc j) d (omega arith) (omega arith), λ j d l m. point.1 (suc j) d (omega arith) (omega arith))
 
 -- ---- names
 

@@ -5,3 +5,4 @@ pub mod Dead
 pub mod Sorted
 pub mod Splices
 pub mod Losses
+pub mod Deferred

@@ -8,7 +8,8 @@ ghost use Rattle.name.specs.Names.{name_cmp, same_name};
 ghost use Rattle.base.specs.declared.refusal.Refusal.{Refusal};
 ghost use Rattle.base.specs.Map.{blocks};
 ghost use Rattle.base.specs.Surveys.{dead_block};
-ghost use Rattle.model.specs.World.{empty_file_system};
+ghost use Rattle.model.specs.World.{empty_file_system, id_of, same_id};
+ghost use Rattle.model.specs.Ids.{snap_id};
 ghost use Rattle.model.specs.Sums.{size_without};
 ghost use Rattle.tree.specs.Asking.{IsNoSpaceOrNoMemory};
 ghost use Rattle.tree.specs.Change.{HasRoom, LacksRoom, CountsDropped};
@@ -17,18 +18,22 @@ ghost use Rattle.file_systems.specs.Dead.{snaps_in, newest_blocks, written_from,
 ghost use Rattle.file_systems.specs.Losses.{newest_map, IsLost};
 ghost use Rattle.snapshots.specs.Index.{AreNamesOnce};
 ghost use Rattle.world.specs.Deadlists.{Lists};
+ghost use Rattle.world.specs.Worlds.{AreRising};
 ghost use Rattle.file_systems.specs.Rows.{with_snap};
 ghost use Rattle.file_systems.specs.Splices.{lost_from, without_group, AreAbove};
+ghost use Rattle.file_systems.specs.Deferred.{deferred_at};
 ghost use Rattle.file_systems.specs.Writes.{newest_group, young_after, IsWritten};
 
 use crate::dead::put;
 use crate::lost::Lost;
-use crate::splice::{joined, joined_next, place_of};
+use crate::mark::deferred;
+use crate::splice::{joined, joined_next, kept_of, place_of};
 use crate::written::{group_of, written_over};
 use base::meter::{Meter, SegMeter};
 use base::number::{Dead, Group, Guid};
 use base::refusal::Refusal;
 use deadlist::deadlist::Deadlist;
+use model::snapshot_id::SnapshotId;
 use name::{Component, DsName};
 use shared_list::SharedList;
 use snapshots::{Kept, Line, Snapshot};
@@ -111,6 +116,14 @@ impl FileSystem {
         ensures { option_copied result ≡ find (λ t. same_name t.name component.now) self.now.1.snaps }
     {
         self.kept_named(component).map(|kept| &kept.snapshot)
+    }
+
+    /// Its snapshot of this identity, or none. It costs the logarithm of the number of its snapshots, and a walk over their chunks.
+    pub fn snapshot_of(&self, id: SnapshotId) -> Option<&Snapshot>
+        requires { AreRising 0 self.now.1.snaps }
+        ensures { option_copied result ≡ find (λ t. same_id (id_of t) (snap_id id)) self.now.1.snaps }
+    {
+        kept_of(self.snapshots.list(), id).map(|kept| &kept.snapshot)
     }
 
     /// The creation group of its newest snapshot, and 0 where it has none. Constant time.
@@ -197,7 +210,8 @@ impl FileSystem {
 
     // Takes out the snapshot of this group, which is there. Its dead list becomes a part of that of what comes after it; the blocks that
     // neither what stands before it nor what comes after it has are lost: the answer, which nobody has to walk. It costs the logarithm
-    // of the number of snapshots, the chunks of them, and the segments of both dead lists.
+    // of the number of snapshots, the chunks of them, the segments of both dead lists, and where no cut stands at the group before it, the
+    // entries of one of them.
     pub(crate) fn splice(
         &mut self,
         alloc: Global,
@@ -223,6 +237,22 @@ impl FileSystem {
         remove_from(&mut self.snapshots, alloc, place)?;
         self.dead = dead;
         Ok(lost)
+    }
+
+    // From now on the destroy of the snapshot of this group, which is there, is deferred. It costs the logarithm of the number of
+    // snapshots, a walk over the chunks of them, and at most a chunk of them and one of their index.
+    pub(crate) fn defer(&mut self, alloc: Global, group: Group) -> Result<(), Refusal>
+        requires there { IsSome (find (λ t. t.group == group.0) self.old.1.snaps) }
+        requires above { AreAbove self.old.1 }
+        ensures ok { OnOk result (self.new ≡ (self.old.0, deferred_at self.old.1 group.0)) }
+        ensures err { OnErr result (self.new ≡ self.old) }
+        ensures only { IfErr result (λ e. e ≡ Refusal.NoMemory) }
+    {
+        let kept = self.snapshots.list();
+        let place = place_of(kept, group);
+        let next = deferred(kept, place)?;
+        set_in(&mut self.snapshots, alloc, place, next)?;
+        Ok(())
     }
 
     // What is lost where the live map goes.
@@ -381,4 +411,22 @@ fn copy_of(name: &Component) -> Result<Component, Refusal>
     ensures err { IfErr result (λ e. e ≡ Refusal.NoMemory) }
 {
     Ok(name.clone()?)
+}
+
+// Puts a snapshot in place of the one at that place, which has its name: where they are, if they have no other owner, and else in a copy
+// of them, which comes to their place.
+fn set_in(line: &mut Arc<Line>, alloc: Global, place: usize, next: Kept) -> Result<(), Refusal>
+    requires same { option_map (λ k. k.snapshot.name) (slice_get (arc_value line.old) place) ≡ Some next.snapshot.name }
+    requires once { AreNamesOnce (arc_value line.old) }
+    ensures ok { OnOk result (arc_value line.new ≡ slice_set (arc_value line.old) place next) }
+    ensures err { OnErr result (arc_value line.new ≡ arc_value line.old) }
+    ensures only { IfErr result (λ e. e ≡ Refusal.NoMemory) }
+{
+    if let Some(line) = Arc::get_mut(line) {
+        return line.set(alloc, place, next);
+    }
+    let mut changed = line.copy()?;
+    changed.set(alloc, place, next)?;
+    *line = Arc::new(alloc, changed)?;
+    Ok(())
 }

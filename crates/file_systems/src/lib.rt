@@ -5,6 +5,7 @@ mod dead;
 mod file_system;
 mod list;
 mod lost;
+mod mark;
 mod place;
 mod row;
 mod splice;

@@ -13,6 +13,7 @@ ghost use Rattle.file_systems.specs.Dead.{AllowsLive, IsAbove};
 ghost use Rattle.file_systems.specs.Losses.{newest_map, IsLost};
 ghost use Rattle.file_systems.specs.Rows.{live_of, snaps_at, with_live, with_snap, snap_count};
 ghost use Rattle.file_systems.specs.Splices.{lost_from, without_snap_of, AreAbove};
+ghost use Rattle.file_systems.specs.Deferred.{deferred_of};
 ghost use Rattle.file_systems.specs.Writes.{young_after, IsWritten};
 ghost use Rattle.world.specs.Deadlists.{Lists};
 ghost use Rattle.tree.specs.Asking.{IsNoSpaceOrNoMemory};
@@ -22,7 +23,7 @@ ghost use Rattle.tree.specs.Updates.{changes_of};
 use crate::file_system::FileSystem;
 use crate::lost::Lost;
 use crate::place::{gap, place};
-use crate::row::{apply, rollback, shared, splice, take, with_added};
+use crate::row::{apply, defer, rollback, shared, splice, take, with_added};
 use base::meter::{Meter, SegMeter};
 use base::number::{Group, Guid};
 use base::refusal::Refusal;
@@ -214,7 +215,8 @@ impl FileSystems {
     /// Takes the snapshot of this group, which is there, out of this file system (zfs-destroy(8)), and answers the blocks that are lost with
     /// it, which neither what stands before it has nor what comes after it: nobody has to walk them. NoMemory where there is none for it;
     /// then all are as they were. Where others share the file system, a copy of it takes its place. It costs the logarithm of the number of
-    /// file systems and that of the number of its snapshots, a 32nd of their number, and the segments of two dead lists.
+    /// file systems and that of the number of its snapshots, a 32nd of their number, the segments of two dead lists, and where none of them
+    /// ends at the group of the snapshot before, the entries of one.
     pub fn splice(
         &mut self,
         alloc: Global,
@@ -235,6 +237,23 @@ impl FileSystems {
         let lost = splice(&mut self.rows[place], alloc, group, segments)?;
         self.snapshot_count -= 1;
         Ok(lost)
+    }
+
+    /// From now on the destroy of the snapshot of this group, which is there, of this file system is deferred (zfs-destroy(8), -d). NoMemory
+    /// where there is none for it; then all are as they were. Where others share the file system, a copy of it takes its place. It costs
+    /// the logarithm of the number of file systems and that of the number of its snapshots, and a walk over the chunks of them.
+    pub fn defer(&mut self, alloc: Global, name: &DsName, group: Group) -> Result<(), Refusal>
+        requires there { IsSome (find (λ t. t.group == group.0) (snaps_at self.old name.now)) }
+        requires above { IfSome (get self.old name.now) AreAbove }
+        ensures ok { OnOk result (self.new ≡ deferred_of self.old name.now group.0) }
+        ensures err { OnErr result (self.new ≡ self.old) }
+        ensures only { IfErr result (λ e. e ≡ Refusal.NoMemory) }
+    {
+        let Ok(place) = place(&self.rows, name.as_bytes()) else {
+            unreachable!()
+        };
+        defer(&mut self.rows[place], alloc, group)?;
+        Ok(())
     }
 
     /// Makes the map of its newest snapshot, which is there, the live map of this file system, by one more owner of its tree

@@ -12,6 +12,7 @@ ghost use Rattle.file_systems.specs.Dead.{AllowsLive, IsAbove};
 ghost use Rattle.file_systems.specs.Losses.{newest_map, IsLost};
 ghost use Rattle.file_systems.specs.Rows.{with_snap};
 ghost use Rattle.file_systems.specs.Splices.{lost_from, without_group, AreAbove};
+ghost use Rattle.file_systems.specs.Deferred.{deferred_at};
 ghost use Rattle.world.specs.Deadlists.{Lists};
 ghost use Rattle.file_systems.specs.Writes.{young_after, IsWritten};
 
@@ -168,4 +169,22 @@ pub fn rollback(row: &mut Arc<FileSystem>, alloc: Global) -> Result<Lost, Refusa
     let lost = file_system.rollback(alloc)?;
     *row = Arc::new(alloc, file_system)?;
     Ok(lost)
+}
+
+/// Defers the destroy of the snapshot of this group of a row, as `FileSystem::defer` does: in the row, if it has no other owner, and else in
+/// a copy of it, which comes to its place.
+pub fn defer(row: &mut Arc<FileSystem>, alloc: Global, group: Group) -> Result<(), Refusal>
+    requires there { IsSome (find (λ t. t.group == group.0) (arc_value row.old).1.snaps) }
+    requires above { AreAbove (arc_value row.old).1 }
+    ensures ok { OnOk result (arc_value row.new ≡ ((arc_value row.old).0, deferred_at (arc_value row.old).1 group.0)) }
+    ensures err { OnErr result (arc_value row.new ≡ arc_value row.old) }
+    ensures only { IfErr result (λ e. e ≡ Refusal.NoMemory) }
+{
+    if let Some(file_system) = Arc::get_mut(row) {
+        return file_system.defer(alloc, group);
+    }
+    let mut file_system = row.copy()?;
+    file_system.defer(alloc, group)?;
+    *row = Arc::new(alloc, file_system)?;
+    Ok(())
 }

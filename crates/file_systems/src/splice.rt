@@ -4,6 +4,8 @@ ghost use Rattle.std.specs.List.{find, last_or};
 ghost use Rattle.std.specs.List.Sorted.{IsPermutation};
 ghost use Rattle.std.specs.Option.{option_copied, option_map};
 ghost use Rattle.base.specs.declared.refusal.Refusal.{Refusal};
+ghost use Rattle.model.specs.World.{id_of, same_id};
+ghost use Rattle.model.specs.Ids.{snap_id};
 ghost use Rattle.world.specs.Worlds.{AreRising};
 ghost use Rattle.file_systems.specs.Dead.{snaps_in};
 ghost use Rattle.file_systems.specs.Splices.{AreJoined, CanJoin, IsNext};
@@ -13,6 +15,7 @@ use base::meter::SegMeter;
 use base::number::Group;
 use base::refusal::Refusal;
 use deadlist::deadlist::Deadlist;
+use model::snapshot_id::SnapshotId;
 use shared_list::SharedList;
 use snapshots::Kept;
 use std::alloc::Global;
@@ -40,6 +43,21 @@ pub fn place_of(kept: &SharedList<Kept>, group: Group) -> usize
     kept.partition_point(|kept: &Kept| is_before(kept, group))
 }
 
+/// What is kept of the snapshot of this identity, or none. It costs the logarithm of the number of snapshots, and a walk over their
+/// chunks.
+pub fn kept_of(kept: &SharedList<Kept>, id: SnapshotId) -> Option<&Kept>
+    requires { AreRising 0 (snaps_in kept.now) }
+    ensures { option_map (λ k. k.snapshot) (option_copied result) ≡ find (λ t. same_id (id_of t) (snap_id id)) (snaps_in kept.now) }
+{
+    let place = kept.partition_point(|kept: &Kept| is_before(kept, id.group));
+    let found = kept.get(place)?;
+    if found.snapshot.id() == id {
+        Some(found)
+    } else {
+        None
+    }
+}
+
 /// The snapshot before that place, or None where the first stands there. It costs a walk over the chunks before it.
 fn before(kept: &SharedList<Kept>, place: usize) -> Option<&Kept>
     requires { place ≤ length kept.now }
@@ -52,7 +70,8 @@ fn before(kept: &SharedList<Kept>, place: usize) -> Option<&Kept>
 }
 
 /// Cuts a long dead list at the group of a snapshot not far below that place, so that what the next ones below it lose is found among
-/// the few entries after the cut. A list with few entries a segment is left as it is. It costs a segment where it cuts, and else nothing.
+/// the few entries after the cut. A list with few entries a segment is left as it is. It costs the entries of one segment where it cuts, and
+/// else nothing.
 /// NoMemory where there is none for the cut; then nothing is changed.
 fn cut_below(
     kept: &SharedList<Kept>,

@@ -1,4 +1,4 @@
-//! Tests of `shared_list` and `snapshots` from outside.
+//! Tests of `shared_list`, `snapshots` and `views` from outside.
 #![tactic(auto)]
 
 #[cfg(test)]
@@ -7,5 +7,7 @@ mod lines;
 mod lists;
 #[cfg(test)]
 mod names;
+#[cfg(test)]
+mod open_views;
 #[cfg(test)]
 mod own_names;

@@ -2,6 +2,8 @@
 -- ZFS On-Disk Specification (2006) or an OpenZFS manual page.
 pub mod World
 pub mod State
+pub mod Sights
+pub mod Ids
 pub mod Hierarchy
 pub mod Codes
 pub mod Sums
@@ -17,4 +19,3 @@ pub mod Numbers
 pub mod Kept
 pub mod Step
 pub mod Run
-pub mod RunLaws

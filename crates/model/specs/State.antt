@@ -11,12 +11,16 @@ use Rattle.zalloc.specs.declared.BlockState.{BlockState}
 use Rattle.zalloc.specs.declared.BlockState.TheVariants.{Free, Allocated, Waiting}
 use Rattle.model.specs.World.{World, SnapId, same_id, empty_file_system, reach_of}
 
+-- the open views by their numbers, each with its snapshot (profile; a view counts as a hold, zfs-hold(8))
+abbrev pub Views : Type 0
+Views = FinMap nat_cmp SnapId
+
 -- all that the pool is, between two steps: the present world and the one that the last sync left, the open views, each with its
 -- snapshot, the next guid's counter, the next view's number, how many blocks the pool has, and its id (profile)
 pub record State : Type 0 where
   pub now : World
   pub last : World
-  pub views : FinMap nat_cmp SnapId
+  pub views : Views
   pub next_guid : ℕ
   pub next_view : ℕ
   pub size : ℕ
@@ -26,9 +30,9 @@ pub record State : Type 0 where
 unfoldable pub waiting_of : State → BlockSet
 waiting_of s = set.difference (reach_of s.last) (reach_of s.now)
 
--- an open view of a snapshot (profile; it counts as a hold, zfs-hold(8))
-abbrev pub has_view : State → SnapId → Bool
-has_view s id = list_any (same_id id) (values s.views)
+-- a view of the snapshot is open (profile)
+abbrev pub is_viewed : Views → SnapId → Bool
+is_viewed views id = list_any (same_id id) (values views)
 
 -- the root file system alone, empty, in group 1 (profile)
 unfoldable pub fresh_world : World

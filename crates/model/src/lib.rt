@@ -2,8 +2,9 @@
 #![tactic(auto)]
 
 pub mod entry;
-pub mod laws;
 pub mod names;
 pub mod reply;
 pub mod request;
+pub mod sight;
 pub mod snap_names;
+pub mod snapshot_id;

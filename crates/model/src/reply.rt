@@ -2,6 +2,7 @@
 ghost use Rattle.std.specs.Prelude.{◌≡◌, ◌↔◌, IsTrue};
 
 use crate::names::Names;
+use crate::sight::Sight;
 use base::refusal::Refusal;
 
 /// The value of a property.
@@ -32,6 +33,8 @@ pub enum Reply {
     Names(Names),
     /// How many blocks a slice has taken.
     Count(u64),
+    /// The number of the view that was opened, and what it shows.
+    Opened(u64, Sight),
 }
 
 impl Reply {
@@ -47,6 +50,7 @@ impl Reply {
             (Reply::Group(a), Reply::Group(b)) => *a == *b,
             (Reply::Names(a), Reply::Names(b)) => a.same(b),
             (Reply::Count(a), Reply::Count(b)) => *a == *b,
+            (Reply::Opened(n, a), Reply::Opened(m, b)) => *n == *m && a.same(b),
             _ => false,
         }
     }

@@ -121,6 +121,18 @@ pub enum Request {
     /// Makes the present world the last synced one and opens the next group: what waited is free. The reply is Group, the new open
     /// group. It is refused TooMany where the open group is the last one, 2^63 - 1, else perhaps NoMemory.
     Sync,
+    /// Opens a view of a snapshot, which is then in use until the view is closed (a view counts as a hold, zfs-hold(8)). The reply is
+    /// Opened, with the view's number and what the snapshot is. It is refused NotSnapshot where the name is no snapshot's, NoDataset where
+    /// no snapshot has it, Deferred where the snapshot's destroy is deferred, TooMany where 1,024 views are open or the next view's number
+    /// is past 2^63 - 1: the first of these, or NoMemory.
+    OpenView {
+        target: Target,
+    },
+    /// Closes the view of that number; a snapshot whose destroy is deferred goes with the last view of it. The reply is Done. It is
+    /// refused NoView where no view of that number is open, else perhaps NoMemory.
+    CloseView {
+        view: u64,
+    },
 }
 
 impl Request {
@@ -224,6 +236,8 @@ impl Request {
             (Request::Slice { count: n }, Request::Slice { count: m }) => *n == *m,
             (Request::List, Request::List) => true,
             (Request::Sync, Request::Sync) => true,
+            (Request::OpenView { target: t }, Request::OpenView { target: u }) => t.same(u),
+            (Request::CloseView { view: v }, Request::CloseView { view: w }) => *v == *w,
             _ => false,
         }
     }

@@ -6,9 +6,12 @@ use Rattle.zalloc.specs.States.{after_group}
 use Rattle.tree.specs.Taking.{takes}
 use Rattle.model.specs.State.{State}
 use Rattle.model.specs.Targets.{guid_limit}
+use Rattle.model.specs.World.{SnapId}
 use Rattle.world.specs.Tables.{Datasets, world_of}
 use Rattle.steps.specs.Settles.{releases}
-use Rattle.steps.specs.Edits.{with_datasets, put, lose, with_freeing, synced, CanPut, CanLose, CanFree, CanChange, CanSync}
+use Rattle.steps.specs.Steady.{IsSteady}
+use Rattle.steps.specs.Edits.{with_datasets, put, lose, with_freeing, synced, viewing, closed, CanPut, CanLose, CanFree, CanChange, CanSync}
+use Rattle.steps.proofs.Known.{states_of, of_states}
 use Rattle.steps.proofs.Losing.{lose_states}
 use Rattle.steps.proofs.Slicing.{freed_states}
 use Rattle.steps.proofs.Putting.{put_states, kept_states}
@@ -32,6 +35,23 @@ module _ (s : State) (numbers : List BlockState) (sound : IsSound s numbers) (to
   -- and after a sync
   pub sound_synced : CanSync s to → IsSound (synced s to) (map after_group numbers)
   sound_synced can = record { steady = sync_steady s sound.steady to can; states = sync_states s sound.steady to can numbers sound.states; guids = sound.guids }
+
+module _ (s : State) (numbers : List BlockState) (sound : IsSound s numbers) where
+  -- and with one more view
+  pub sound_viewing : (id : SnapId) → IsSteady (viewing s id) → IsSound (viewing s id) numbers
+  sound_viewing id steady = record { steady = steady; states = of_states (viewing s id) numbers (states_of s numbers sound.states); guids = sound.guids }
+
+  -- or one less
+  pub sound_closed : (number : ℕ) → IsSteady (closed s number) → IsSound (closed s number) numbers
+  sound_closed number steady = record { steady = steady; states = of_states (closed s number) numbers (states_of s numbers sound.states); guids = sound.guids }
+
+  -- and without what goes with that
+  pub sound_swept : (number : ℕ) (to : Datasets) → CanLose (closed s number) to → IsSound (lose (closed s number) to) numbers
+  sound_swept number to can = record {
+    steady = can.steady;
+    states = lose_states (closed s number) numbers (of_states (closed s number) numbers (states_of s numbers sound.states)) to can;
+    guids = sound.guids;
+  }
 
 -- with a copy of what is to be freed, and with the present datasets in the next group
 pub state_copied : (s : State) (last now : Datasets) (freeing : BlockSet) → freeing ≡ s.now.freeing → last ≡ now

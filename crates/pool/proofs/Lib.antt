@@ -8,3 +8,4 @@ pub mod Slicing
 pub mod Removing
 pub mod Asking
 pub mod Immediate
+pub mod Sights

@@ -15,9 +15,10 @@ use Rattle.world.specs.Tables.{Datasets, world_of}
 use Rattle.world.proofs.Kept.{union-fields}
 use Rattle.world.specs.Worlds.{AreFileSystems}
 use Rattle.removals.specs.Edits.{HasLost}
-use Rattle.removals.specs.Requests.{HaveNoBookmark, rolled, rollback_refusal, destroyed, destroy_refusal}
+use Rattle.removals.specs.Requests.{AreBare, rolled, rollback_refusal, destroyed, destroy_refusal}
 use Rattle.steps.specs.Edits.{datasets_of, lose, CanLose}
 use Rattle.steps.proofs.Freeing.{joined_losses}
+use Rattle.steps.proofs.Plain.{bare}
 use Rattle.steps.proofs.Rolling as rolling
 use Rattle.steps.proofs.Destroying as destroying
 use Rattle.pool.specs.Pools.{IsSound}
@@ -28,34 +29,34 @@ module _ (seen : Shown) (s : State) (numbers : List BlockState) (view : shown s 
   pub apart : AreDisjoint (union_of (world_of (datasets_of s))) s.now.freeing
   apart b h k = sound.steady.good.now.freeing_apart b (subst (λ x. Has x b) (union-fields (world_of (datasets_of s)) s.now refl) h) k
 
-  pub no_bookmark : HaveNoBookmark s.now.file_systems
-  no_bookmark name f at = (sound.steady.plain name f at).bookmarks
+  pub no_clone : AreBare s.now.file_systems
+  no_clone = bare (datasets_of s) sound.steady.plain
 
   -- what is to be freed beside datasets that can be put in place
   with_freed : (to : Datasets) (freeing : BlockSet) → HasLost (datasets_of s) s.now.freeing to freeing → CanLose s to → CanLose seen.state to × (freeing ≡ (lose seen.state to).now.freeing)
   with_freed to freeing lost can = subst (λ (x : Shown). CanLose x.state to × (freeing ≡ (lose x.state to).now.freeing)) view (can, joined_losses s to freeing lost.joined)
 
   module _ (target : Target) (later : Bool) where
-    pub rollback_refused : (why : Refusal) → (rollback_refusal (datasets_of s) target later ≡ Some why) ⊎ (why ≡ NoMemory) → Step seen.state (Rollback target later) (Refused why) seen.state
+    pub rollback_refused : (why : Refusal) → (rollback_refusal (datasets_of s) s.views target later ≡ Some why) ⊎ (why ≡ NoMemory) → Step seen.state (Rollback target later) (Refused why) seen.state
     rollback_refused why which = subst (λ (x : Shown). Step x.state (Rollback target later) (Refused why) x.state) view
         (rolling.rollback_refused s sound.steady numbers sound.states later target why which)
 
-    module _ (none : rollback_refusal (datasets_of s) target later ≡ None) (to : Datasets) (is : to ≡ rolled (datasets_of s) target) where
+    module _ (none : rollback_refusal (datasets_of s) s.views target later ≡ None) (to : Datasets) (is : to ≡ rolled (datasets_of s) target) where
       pub rollback_can : (freeing : BlockSet) → HasLost (datasets_of s) s.now.freeing to freeing → CanLose seen.state to × (freeing ≡ (lose seen.state to).now.freeing)
-      rollback_can freeing lost = with_freed to freeing lost (subst (CanLose s) (sym is) (rolling.rollback_can s sound.steady target))
+      rollback_can freeing lost = with_freed to freeing lost (subst (CanLose s) (sym is) (rolling.rollback_can s sound.steady target later none))
 
       pub rollback_done : Step seen.state (Rollback target later) Done (lose seen.state to)
       rollback_done = subst (λ (x : Shown). Step x.state (Rollback target later) Done (lose x.state to)) view
           (subst (λ t. Step s (Rollback target later) Done (lose s t)) (sym is) (rolling.rollback_done s sound.steady numbers sound.states later target none))
 
   module _ (target : Target) (recursive defer : Bool) where
-    pub destroy_refused : (why : Refusal) → (destroy_refusal (datasets_of s) target recursive defer ≡ Some why) ⊎ (why ≡ NoMemory) → Step seen.state (Destroy target recursive defer) (Refused why) seen.state
+    pub destroy_refused : (why : Refusal) → (destroy_refusal (datasets_of s) s.views target recursive defer ≡ Some why) ⊎ (why ≡ NoMemory) → Step seen.state (Destroy target recursive defer) (Refused why) seen.state
     destroy_refused why which = subst (λ (x : Shown). Step x.state (Destroy target recursive defer) (Refused why) x.state) view
         (destroying.destroy_refused s sound.steady target recursive defer why which)
 
-    module _ (none : destroy_refusal (datasets_of s) target recursive defer ≡ None) (to : Datasets) (is : to ≡ destroyed (datasets_of s) target recursive)
+    module _ (none : destroy_refusal (datasets_of s) s.views target recursive defer ≡ None) (to : Datasets) (is : to ≡ destroyed (datasets_of s) s.views target recursive defer)
         (good : AreFileSystems to.file_systems to.group) where
-      can : CanLose s (destroyed (datasets_of s) target recursive)
+      can : CanLose s (destroyed (datasets_of s) s.views target recursive defer)
       can = destroying.destroy_can s sound.steady target recursive defer none (subst (λ (t : Datasets). AreFileSystems t.file_systems t.group) is good)
 
       pub destroy_can : (freeing : BlockSet) → HasLost (datasets_of s) s.now.freeing to freeing → CanLose seen.state to × (freeing ≡ (lose seen.state to).now.freeing)

@@ -1,6 +1,5 @@
 -- What a pool keeps between two steps.
 use Rattle.std.specs.Prelude.{◌+◌, ◌≤◌, List}
-use Rattle.std.specs.FinMap as finmap
 use Rattle.zalloc.specs.declared.BlockState.{BlockState}
 use Rattle.model.specs.State.{State}
 use Rattle.model.specs.Targets.{guid_limit}
@@ -9,14 +8,14 @@ use Rattle.world.specs.Tables.{world_of}
 use Rattle.steps.specs.Steady.{IsSteady}
 use Rattle.pool.specs.declared.pool.Pool.TheInside.{Inside}
 
--- the pool's state: its datasets now and when the last sync had been done, each with what is to be freed, and no open view (profile)
+-- the pool's state: its datasets now and when the last sync had been done, each with what is to be freed, and the open views (profile)
 abbrev pub state_of : Inside → State
 state_of p = record {
   now = record (world_of p.present) { freeing = p.freeing };
   last = record (world_of p.last) { freeing = p.last_freeing };
-  views = finmap.empty;
+  views = p.views.opened;
   next_guid = p.next_guid;
-  next_view = 1;
+  next_view = p.views.next;
   size = p.size;
   pool = p.id;
 }

@@ -6,6 +6,7 @@
 
 mod named;
 mod pool;
+mod viewing;
 
 pub use pool::{Pool, Ready};
 pub use zalloc::MOST_BLOCKS;

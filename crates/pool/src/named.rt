@@ -31,7 +31,7 @@ pub fn tree_named<'a>(table: &'a Table, target: &Target) -> Option<&'a Tree>
 }
 
 // The snapshot of this name, or none.
-fn snapshot_named<'a>(table: &'a Table, member: &Member) -> Option<&'a Snapshot>
+pub(crate) fn snapshot_named<'a>(table: &'a Table, member: &Member) -> Option<&'a Snapshot>
     ensures { option_copied result ≡ snap_in table.now.file_systems member.now }
 {
     table

@@ -26,6 +26,7 @@ use model::names::Names;
 use model::reply::{Reply, Value};
 use model::request::{PoolProperty, Property, Request};
 use model::snap_names::SnapNames;
+use model::snapshot_id::SnapshotId;
 use name::{DsName, SnapName, Target};
 use objset::{free_of, punch_of, write_of};
 use removals::{Edit, destroy, rollback};
@@ -36,6 +37,7 @@ use std::slice::from_ref;
 use std::snapshot::Snapshot;
 use toll::Toll;
 use tree::{Changed, Update, take_all};
+use views::Views;
 use zalloc::{Allocator, MOST_BLOCKS};
 
 /// The last group, which no sync closes (profile).
@@ -44,16 +46,17 @@ const LAST_GROUP: u64 = 9223372036854775807;
 /// A pool of blocks with its file systems and snapshots. Contracts see its state, and the state of each block number.
 #[derive(Drop)]
 pub struct Pool {
-    present: Table,
-    freeing: Freeing,
+    pub(crate) present: Table,
+    pub(crate) freeing: Freeing,
     last: Table,
     last_freeing: Freeing,
+    pub(crate) views: Views,
     next_guid: u64,
-    size: u32,
+    pub(crate) size: u32,
     id: u32,
     allocator: Allocator,
     meter: Meter,
-    segments: SegMeter,
+    pub(crate) segments: SegMeter,
 }
 
 impl Model for Pool {
@@ -71,13 +74,39 @@ impl Model for Pool {
 
 // What a prepared step will do.
 #[derive(Drop)]
-enum Plan {
+pub(crate) enum Plan {
     Nothing,
-    Change { to: Table, done: Changed },
-    Put { to: Table, guids: u64 },
-    Lose { to: Table, freeing: Freeing },
-    Free { rest: Freeing, taken: Vec<Dead> },
-    Sync { last: Table, freeing: Freeing },
+    Change {
+        to: Table,
+        done: Changed,
+    },
+    Put {
+        to: Table,
+        guids: u64,
+    },
+    Lose {
+        to: Table,
+        freeing: Freeing,
+    },
+    Free {
+        rest: Freeing,
+        taken: Vec<Dead>,
+    },
+    Sync {
+        last: Table,
+        freeing: Freeing,
+    },
+    Open {
+        snapshot: SnapshotId,
+    },
+    Close {
+        number: u64,
+    },
+    Sweep {
+        number: u64,
+        to: Table,
+        freeing: Freeing,
+    },
 }
 
 /// A step that was prepared, with the pool as it was prepared on. One that is dropped has changed nothing.
@@ -126,11 +155,13 @@ impl Pool {
         let allocator = Allocator::new(alloc, blocks)?;
         let present = Table::new(alloc)?;
         let last = present.copy()?;
+        let views = Views::new(alloc)?;
         Ok(Pool {
             present,
             freeing: Freeing::new(alloc),
             last,
             last_freeing: Freeing::new(alloc),
+            views,
             next_guid: 1,
             size: blocks,
             id,
@@ -144,7 +175,8 @@ impl Pool {
     /// number of file systems, and a snapshot's also that of the number of its file system's snapshots. What changes file systems is
     /// made on a copy of them, which costs a count for each: beside it a write or a punch costs the path to its leaf, to free an object
     /// costs its nodes, and a snapshot costs its names and a 32nd of the snapshots of its file system, but no block. A read costs the path,
-    /// and takes no memory. A list costs the names. Nothing else grows.
+    /// and takes no memory. A list costs the names. To open a view costs what its name does; to close one costs the number of open views and of
+    /// file systems, and where its snapshot goes with it what to destroy that does. Nothing else grows.
     pub fn prepare(&mut self, alloc: Global, request: &Request) -> (Reply, Ready)
         ensures same { self.new ≡ self.old }
         ensures from { result.1.from ≡ self.new }
@@ -199,6 +231,8 @@ impl Pool {
             } => self.planned_destroy(alloc, target, *recursive, *defer),
             Request::Slice { count } => self.planned_slice(*count),
             Request::Sync => self.planned_sync(),
+            Request::OpenView { target } => self.planned_open(target),
+            Request::CloseView { view } => self.planned_close(alloc, *view),
         }
     }
 
@@ -248,6 +282,7 @@ impl Pool {
             alloc,
             &self.present,
             &self.freeing,
+            &self.views,
             target,
             later,
             &mut self.segments,
@@ -275,6 +310,7 @@ impl Pool {
             alloc,
             &self.present,
             &self.freeing,
+            &self.views,
             target,
             recursive,
             defer,
@@ -466,6 +502,17 @@ impl Pool {
                 self.last_freeing = freeing;
                 self.allocator.end_group();
             }
+            Plan::Open { snapshot } => self.views.open(snapshot),
+            Plan::Close { number } => self.views.close(number),
+            Plan::Sweep {
+                number,
+                to,
+                freeing,
+            } => {
+                self.views.close(number);
+                self.present = to;
+                self.freeing = freeing;
+            }
         }
     }
 
@@ -525,7 +572,9 @@ impl Pool {
             Request::Create { .. }
             | Request::Snapshot { .. }
             | Request::Rollback { .. }
-            | Request::Destroy { .. } => self.answer_prepared(alloc, request),
+            | Request::Destroy { .. }
+            | Request::OpenView { .. }
+            | Request::CloseView { .. } => self.answer_prepared(alloc, request),
         }
     }
 

@@ -13,3 +13,5 @@ mod rows;
 mod taken;
 #[cfg(test)]
 mod values;
+#[cfg(test)]
+mod viewed;

@@ -3,7 +3,6 @@ use base::data::Data;
 use base::refusal::Refusal;
 use base::text::Bytes;
 use model::entry::{Entry, KeptReply};
-use model::laws::run_laws;
 use model::names::Names;
 use model::reply::{Reply, Value};
 use model::request::{PoolProperty, Property, Request};
@@ -11,6 +10,7 @@ use model::snap_names::SnapNames;
 use name::{DsName, SnapName, Target};
 use std::alloc::Global;
 use std::process::Abort;
+use world::laws::run_laws;
 
 fn target(rt: &impl Abort, alloc: Global, bytes: &[u8]) -> Target {
     Target::read(alloc, bytes).expect(rt, "memory for a name")

@@ -7,7 +7,6 @@ use Rattle.std.proofs.lemmas.Bool.{lt-ltb}
 use Rattle.std.proofs.lemmas.List.{take-append-drop}
 use Rattle.snap.proofs.Rests.{next_left, none_left}
 use Rattle.base.specs.Map.{BlockSet}
-use Rattle.name.specs.declared.target.Target.TheVariants.{FileSystem as OfFileSystem}
 use Rattle.name.specs.Names.{root_name}
 use Rattle.model.specs.World.{Snap, union_of}
 use Rattle.file_systems.specs.Rows.{Row}
@@ -23,7 +22,7 @@ use Rattle.world.proofs.Bridge.{start, rising, rising_above}
 use Rattle.removals.specs.Edits.{HasLost}
 use Rattle.removals.specs.Families.{bare_at}
 use Rattle.removals.specs.Named.{without_all, member_of, newer_members}
-use Rattle.removals.specs.Requests.{destroyed}
+use Rattle.removals.specs.Requests.{without_family}
 use Rattle.removals.proofs.Families.{family_parts}
 use Rattle.removals.proofs.Losses.{has_lost}
 use Rattle.removals.proofs.Rolled.{last_go}
@@ -94,7 +93,7 @@ module _ (t : Datasets) (name : List ℕ) (rows : List Row) (is : rows ≡ entri
   pub first_turn : (n : ℕ) → n ≡ length rows → (u : Datasets) → u ≡ t → u ≡ left_by t name (drop n rows)
   first_turn n all u same = same ∙ sym (none_left_by t name) ∙ ap (left_by t name) (sym (none_left rows n (omega (arith, all))))
 
-  pub last_turn : (u : Datasets) → u ≡ left_by t name (drop 0 rows) → u ≡ destroyed t (OfFileSystem name) true
+  pub last_turn : (u : Datasets) → u ≡ left_by t name (drop 0 rows) → u ≡ without_family t name true
   last_turn u so_far = so_far ∙ ap (left_by t name) is ∙ family_gone t name
 
 -- the same of shared rows, of which those from `left` on have had their turn

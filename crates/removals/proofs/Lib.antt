@@ -7,3 +7,7 @@ pub mod Families
 pub mod SystemsGone
 pub mod FamilyGone
 pub mod Refused
+pub mod Bare
+pub mod Seen
+pub mod Deferring
+pub mod Closed

@@ -137,3 +137,24 @@ all_are (m ∷ ms) t once = by_snap (λ v o. all_are ms v o) (snap_named (world_
 pub all_then : (t : Datasets) (ms : List Member) (m : Member) → without_all t (ms ++ m ∷ []) ≡ without_named (without_all t ms) m
 all_then t [] m = refl
 all_then t (n ∷ ms) m = all_then (without_named t n) ms m
+
+-- what other names stand for where some have gone, of a snapshot that is none of those
+pub ids_left : (ns ms : List Member) (t : Datasets) → AreNamesOnce t.file_systems → (u : Snap) → is_one_of (ids_of t ns) u ≡ false
+    → is_one_of (ids_of (without_all t ns) ms) u ≡ is_one_of (ids_of t ms) u
+ids_left [] ms t once u out = refl
+ids_left (n ∷ ns) ms t once u out = by_snap (λ v o k. ids_left ns ms v o u k) (snap_named (world_of t) n) refl
+  where
+    parts : (a b : Bool) → (a || b) ≡ false → (a ≡ false) × (b ≡ false)
+    parts true b e = absurd (true≢false e)
+    parts false b e = (refl, e)
+
+    by_snap : ((v : Datasets) → AreNamesOnce v.file_systems → is_one_of (ids_of v ns) u ≡ false → is_one_of (ids_of (without_all v ns) ms) u ≡ is_one_of (ids_of v ms) u)
+        → (x : Option Snap) → snap_named (world_of t) n ≡ x → is_one_of (ids_of (without_all t (n ∷ ns)) ms) u ≡ is_one_of (ids_of t ms) u
+    by_snap ih None e =
+        ap (λ x. is_one_of (ids_of (without_all (option_map_or (λ (s : Snap). without_snap t (id_of s)) x t) ns) ms) u) e
+        ∙ ih t once (sym (ap (λ x. is_one_of (option_map_or (λ (s : Snap). id_of s ∷ []) x [] ++ ids_of t ns) u) e) ∙ out)
+    by_snap ih (Some s) e =
+        let k = parts (same_id (id_of u) (id_of s)) (is_one_of (ids_of t ns) u) (sym (ap (λ x. is_one_of (option_map_or (λ (v : Snap). id_of v ∷ []) x [] ++ ids_of t ns) u) e) ∙ out) in
+        ap (λ x. is_one_of (ids_of (without_all (option_map_or (λ (v : Snap). without_snap t (id_of v)) x t) ns) ms) u) e
+        ∙ ih (without_snap t (id_of s)) (once_after t (id_of s) once) (ids_after ns t once (id_of s) u k.0 ∙ k.1)
+        ∙ ids_after ms t once (id_of s) u k.0

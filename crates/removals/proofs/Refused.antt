@@ -1,51 +1,129 @@
 -- Why the destroy of a file system is refused, and what holds where it isn't.
-use Rattle.std.proofs.Common.{◌≡◌, ℕ, Bool, true, false, cond, not, ◌&&◌, ◌||◌, List, [], ◌∷◌, ◌++◌, Option, Some, None, refl, sym, ap, ◌∙◌, true≢false, map, length, arith}
+use Rattle.std.proofs.Common.{◌≡◌, ℕ, Bool, true, false, cond, not, ◌&&◌, ◌||◌, List, [], ◌∷◌, ◌++◌, Option, Some, None, refl, sym, ap, ◌∙◌, true≢false, map, length, inl, inr, subst, arith}
 use Rattle.std.specs.Prelude.{nat_lt, is_some}
-use Rattle.std.specs.List.{filter, list_any}
+use Rattle.std.specs.List.{filter, flat_map, list_any}
 use Rattle.std.specs.Option.{option_map_or}
 use Rattle.std.specs.FinMap.{get, keys, entries}
 use Rattle.std.proofs.lemmas.Bool.{lt-ltb}
 use Rattle.std.proofs.lemmas.List.{append-nil}
 use Rattle.base.specs.Surveys.{IsIn}
 use Rattle.base.specs.declared.refusal.Refusal.{Refusal}
-use Rattle.base.specs.declared.refusal.Refusal.TheVariants.{NoDataset, NotSnapshot, HasChildren, IsRoot}
+use Rattle.base.specs.declared.refusal.Refusal.TheVariants.{NoDataset, NotSnapshot, Busy, HasClones, HasChildren, IsRoot}
 use Rattle.name.specs.declared.target.Target.TheVariants.{FileSystem as OfFileSystem}
 use Rattle.name.specs.Names.{root_name, same_name, parent_of}
-use Rattle.model.specs.World.{FileSystem, Snap, id_of, children_of}
-use Rattle.model.specs.Rule.{first_of}
+use Rattle.model.specs.World.{FileSystem, Snap, SnapId, id_of, children_of, family_of}
+use Rattle.model.specs.State.{Views, is_viewed}
+use Rattle.model.specs.requests.Destroy.{file_systems_named, snaps_within}
 use Rattle.file_systems.specs.Rows.{Row}
 use Rattle.world.specs.Shapes.{name_order}
 use Rattle.world.specs.Tables.{Datasets, CanRemove, world_of}
-use Rattle.world.proofs.Maps.{some_of, entry_of}
+use Rattle.world.specs.Worlds.{AreFileSystems}
+use Rattle.world.proofs.Bridge.{start, rising, rising_above, from_entries}
+use Rattle.snap.specs.Taking.{is_in_family}
+use Rattle.world.proofs.Maps.{some_of, entry_of, at_entry}
 use Rattle.world.proofs.Listed.{map_in, length-mapped}
-use Rattle.world.proofs.Finding.{in_filter, name_itself}
-use Rattle.removals.specs.Requests.{destroy_refusal}
+use Rattle.world.proofs.Finding.{in_filter, filter_all, name_itself}
+use Rattle.removals.specs.Named.{is_viewed_after}
+use Rattle.removals.specs.Requests.{destroy_refusal, AreBare}
+use Rattle.removals.proofs.Bare.{busy_is, no_clone_outside}
+use Rattle.removals.proofs.Seen.{any_join, any_later}
 use Rattle.removals.proofs.SystemsGone.{in_entries}
 
 -- by the tests of a file system that is there
-abbrev pub refusal_with : Bool → Bool → Bool → Bool → ℕ → Option Refusal
-refusal_with root recursive defer children snaps =
-    cond root (Some IsRoot) (cond defer (Some NotSnapshot) (cond (not recursive && (children || nat_lt 0 snaps)) (Some HasChildren) None))
+abbrev pub refusal_with : Bool → Bool → Bool → Bool → ℕ → Bool → Option Refusal
+refusal_with root recursive defer children snaps viewed =
+    cond root (Some IsRoot) (cond defer (Some NotSnapshot) (cond (not recursive && (children || nat_lt 0 snaps)) (Some HasChildren) (cond (recursive && viewed) (Some Busy) None)))
+
+-- the last of them, and none
+pub is_busy : (root recursive defer children : Bool) (snaps : ℕ) (viewed : Bool) → root ≡ false → defer ≡ false → recursive ≡ true → viewed ≡ true → refusal_with root recursive defer children snaps viewed ≡ Some Busy
+is_busy root recursive defer children snaps viewed a b c d = λ i. refusal_with (a i) (c i) (b i) children snaps (d i)
+
+pub is_free : (root recursive defer children : Bool) (snaps : ℕ) (viewed : Bool) → root ≡ false → defer ≡ false → (not recursive && (children || nat_lt 0 snaps)) ≡ false → (recursive && viewed) ≡ false
+    → refusal_with root recursive defer children snaps viewed ≡ None
+is_free root recursive defer children snaps viewed a b c d = λ i. cond {A = Option Refusal} (a i) (Some IsRoot) (cond (b i) (Some NotSnapshot) (cond (c i) (Some HasChildren) (cond (d i) (Some Busy) None)))
 
 abbrev has_children : Datasets → List ℕ → Bool
 has_children t name = nat_lt 0 (length (children_of (world_of t) name))
 
-abbrev refusal_by : Datasets → List ℕ → Bool → Bool → Option FileSystem → Option Refusal
-refusal_by t name recursive defer x = first_of (
-    (not (is_some x), NoDataset)
-    ∷ (same_name name root_name, IsRoot)
-    ∷ (defer, NotSnapshot)
-    ∷ (not recursive && (has_children t name || nat_lt 0 (length (option_map_or (λ (f : FileSystem). map {A = Snap} id_of f.snaps) x [] ++ []))), HasChildren)
-    ∷ [])
+-- an open view shows a snapshot of the family
+abbrev pub family_viewed : Datasets → Views → List ℕ → Bool
+family_viewed t views name = list_any (λ (r : Row). is_in_family name r.0 && list_any (is_viewed_after views 0) r.1.snaps) (entries t.file_systems)
 
-pub refused_gone : (t : Datasets) (name : List ℕ) (recursive defer : Bool) → get t.file_systems name ≡ None → destroy_refusal t (OfFileSystem name) recursive defer ≡ Some NoDataset
-refused_gone t name recursive defer at = ap (refusal_by t name recursive defer) at
+-- the identities of the snapshots of a file system of this name
+abbrev ids_at : Datasets → List ℕ → List SnapId
+ids_at t n = option_map_or (λ (f : FileSystem). map {A = Snap} id_of f.snaps) (get t.file_systems n) []
 
-pub refused_there : (t : Datasets) (name : List ℕ) (recursive defer : Bool) (f : FileSystem) → get t.file_systems name ≡ Some f
-    → destroy_refusal t (OfFileSystem name) recursive defer ≡ refusal_with (same_name name root_name) recursive defer (nat_lt 0 (length (children_of (world_of t) name))) (length f.snaps)
-refused_there t name recursive defer f at =
-    ap (refusal_by t name recursive defer) at
-    ∙ ap (refusal_with (same_name name root_name) recursive defer (has_children t name)) (ap length (append-nil (map {A = Snap} id_of f.snaps)) ∙ length-mapped id_of f.snaps)
+module _ (t : Datasets) (good : AreFileSystems t.file_systems t.group) (views : Views) where
+  -- all snapshots are of a later group than 0
+  all_later : (n : List ℕ) (f : FileSystem) → get t.file_systems n ≡ Some f → list_any (is_viewed views) (map {A = Snap} id_of f.snaps) ≡ list_any (is_viewed_after views 0) f.snaps
+  all_later n f at =
+      ap (λ l. list_any (is_viewed views) (map {A = Snap} id_of l)) (sym (filter_all (λ (s : Snap). nat_lt 0 s.group) f.snaps (λ u i.
+      let l = rising_above (start t.file_systems t.group good.lines n f at).base f.snaps u (rising t.file_systems t.group good.lines n f at) i in
+      lt-ltb 0 u.group (omega (arith, l)))))
+      ∙ any_later views 0 f.snaps
+
+  any_within : (p : List ℕ → Bool) (rows : List Row) → ((r : Row) → IsIn rows r → get t.file_systems r.0 ≡ Some r.1)
+      → list_any (is_viewed views) (flat_map (ids_at t) (filter p (map (λ (r : Row). r.0) rows))) ≡ list_any (λ (r : Row). p r.0 && list_any (is_viewed_after views 0) r.1.snaps) rows
+  any_within p [] each = refl
+  any_within p (r ∷ rows) each = by_test (p r.0) (any_within p rows (λ x i. each x (inr i)))
+    where
+      by_test : (b : Bool) → list_any (is_viewed views) (flat_map (ids_at t) (filter p (map (λ (r : Row). r.0) rows))) ≡ list_any (λ (r : Row). p r.0 && list_any (is_viewed_after views 0) r.1.snaps) rows
+          → list_any (is_viewed views) (flat_map (ids_at t) (cond b (r.0 ∷ filter p (map (λ (r : Row). r.0) rows)) (filter p (map (λ (r : Row). r.0) rows))))
+          ≡ ((b && list_any (is_viewed_after views 0) r.1.snaps) || list_any (λ (r : Row). p r.0 && list_any (is_viewed_after views 0) r.1.snaps) rows)
+      by_test true ih =
+          any_join (is_viewed views) (ids_at t r.0) (flat_map (ids_at t) (filter p (map (λ (r : Row). r.0) rows)))
+          ∙ (λ i. (ap (λ x. list_any (is_viewed views) (option_map_or (λ (f : FileSystem). map {A = Snap} id_of f.snaps) x [])) (each r (inl refl)) ∙ all_later r.0 r.1 (each r (inl refl))) i || ih i)
+      by_test false ih = ih
+
+  -- those of a family
+  family_is : (name : List ℕ) → list_any (is_viewed views) (snaps_within (world_of t) (family_of (world_of t) name)) ≡ family_viewed t views name
+  family_is name = any_within (is_in_family name) (entries t.file_systems) (λ r i. at_entry name_order t.file_systems r.0 r.1 (from_entries (entries t.file_systems) r i))
+
+module _ (t : Datasets) (bare : AreBare t.file_systems) (views : Views) (name : List ℕ) (recursive defer : Bool) where
+  first-of : (there root children snaps busy viewed clones : Bool) → busy ≡ viewed → clones ≡ false
+      → cond {A = Option Refusal} (not there) (Some NoDataset) (cond root (Some IsRoot) (cond defer (Some NotSnapshot) (cond (not recursive && (children || snaps)) (Some HasChildren) (cond busy (Some Busy) (cond clones (Some HasClones) None)))))
+      ≡ cond {A = Option Refusal} (not there) (Some NoDataset) (cond root (Some IsRoot) (cond defer (Some NotSnapshot) (cond (not recursive && (children || snaps)) (Some HasChildren) (cond viewed (Some Busy) None))))
+  first-of there root children snaps busy viewed clones a b = rw (a, b) refl
+
+  -- whether the snapshots that go are viewed
+  abbrev viewed_of : Option FileSystem → Option Refusal
+  viewed_of x = cond {A = Option Refusal} (not (is_some x)) (Some NoDataset) (cond (same_name name root_name) (Some IsRoot) (cond defer (Some NotSnapshot)
+      (cond (not recursive && (has_children t name || nat_lt 0 (length (option_map_or (λ (f : FileSystem). map {A = Snap} id_of f.snaps) x [] ++ [])))) (Some HasChildren)
+      (cond (list_any (is_viewed views) (snaps_within (world_of t) (file_systems_named (world_of t) name recursive))) (Some Busy) None))))
+
+  refusal_is : destroy_refusal t views (OfFileSystem name) recursive defer ≡ viewed_of (get t.file_systems name)
+  refusal_is = first-of (is_some (get t.file_systems name)) (same_name name root_name) (has_children t name) (nat_lt 0 (length (ids_at t name ++ []))) _
+      (list_any (is_viewed views) (snaps_within (world_of t) (file_systems_named (world_of t) name recursive))) _
+      (busy_is t bare views (snaps_within (world_of t) (file_systems_named (world_of t) name recursive)))
+      (no_clone_outside t bare views (file_systems_named (world_of t) name recursive) (snaps_within (world_of t) (file_systems_named (world_of t) name recursive)))
+
+  pub refused_gone : get t.file_systems name ≡ None → destroy_refusal t views (OfFileSystem name) recursive defer ≡ Some NoDataset
+  refused_gone at = refusal_is ∙ ap viewed_of at
+
+module _ (t : Datasets) (good : AreFileSystems t.file_systems t.group) (bare : AreBare t.file_systems) (views : Views) (name : List ℕ) (defer : Bool) (f : FileSystem) (at : get t.file_systems name ≡ Some f) where
+  pub refused_there : (recursive : Bool) → destroy_refusal t views (OfFileSystem name) recursive defer
+      ≡ refusal_with (same_name name root_name) recursive defer (nat_lt 0 (length (children_of (world_of t) name))) (length f.snaps) (family_viewed t views name)
+  refused_there true = refusal_is t bare views name true defer ∙ ap (viewed_of t bare views name true defer) at
+      ∙ ap (λ b. cond {A = Option Refusal} (same_name name root_name) (Some IsRoot) (cond defer (Some NotSnapshot) (cond b (Some Busy) None))) (family_is t good views name)
+  refused_there false = refusal_is t bare views name false defer ∙ ap (viewed_of t bare views name false defer) at
+      ∙ ap (λ (r : Option Refusal). cond {A = Option Refusal} (same_name name root_name) (Some IsRoot) (cond defer (Some NotSnapshot) r))
+      (by_count f.snaps refl (has_children t name))
+    where
+      none_viewed : f.snaps ≡ [] → list_any (is_viewed views) (snaps_within (world_of t) (name ∷ [])) ≡ false
+      none_viewed e = ap (λ x. list_any (is_viewed views) (option_map_or (λ (g : FileSystem). map {A = Snap} id_of g.snaps) x [] ++ [])) at ∙ ap (λ l. list_any (is_viewed views) (map {A = Snap} id_of l ++ [])) e
+
+      by_count : (l : List Snap) → f.snaps ≡ l → (children : Bool)
+          → cond {A = Option Refusal} (children || nat_lt 0 (length (map {A = Snap} id_of f.snaps ++ []))) (Some HasChildren) (cond (list_any (is_viewed views) (snaps_within (world_of t) (name ∷ []))) (Some Busy) None)
+          ≡ cond {A = Option Refusal} (children || nat_lt 0 (length f.snaps)) (Some HasChildren) None
+      by_count l e true = refl
+      by_count [] e false =
+          (λ i. cond {A = Option Refusal} (nat_lt 0 (length (map {A = Snap} id_of (e i) ++ []))) (Some HasChildren) (cond (none_viewed e i) (Some Busy) None))
+          ∙ sym (ap (λ (l : List Snap). cond {A = Option Refusal} (nat_lt 0 (length l)) (Some HasChildren) None) e)
+      by_count (u ∷ us) e false =
+          ap (λ (l : List Snap). cond {A = Option Refusal} (nat_lt 0 (length (map {A = Snap} id_of l ++ []))) (Some HasChildren) (cond (list_any (is_viewed views) (snaps_within (world_of t) (name ∷ []))) (Some Busy) None)) e
+          ∙ ap (λ b. cond {A = Option Refusal} b (Some HasChildren) (cond (list_any (is_viewed views) (snaps_within (world_of t) (name ∷ []))) (Some Busy) None)) (lt-ltb 0 (length (id_of u ∷ (map {A = Snap} id_of us ++ []))) (omega arith))
+          ∙ sym (ap (λ b. cond {A = Option Refusal} b (Some HasChildren) None) (lt-ltb 0 (length (u ∷ us)) (omega arith)))
+          ∙ sym (ap (λ (l : List Snap). cond {A = Option Refusal} (nat_lt 0 (length l)) (Some HasChildren) None) e)
 
 pub any_of : (p : List ℕ → Bool) (rows : List Row) → list_any (λ (r : Row). p r.0) rows ≡ nat_lt 0 (length (filter p (map (λ (r : Row). r.0) rows)))
 any_of p [] = refl
@@ -78,43 +156,48 @@ or_right false b e = e
 pub other_name : (name : List ℕ) → same_name name root_name ≡ false → ¬ (root_name ≡ name)
 other_name name other e = true≢false (sym (ap (same_name name) e ∙ name_itself name) ∙ other)
 
--- where the destroy of one with its descendants isn't refused, it isn't the root
-pub root_stays : (t : Datasets) (name : List ℕ) (recursive defer : Bool) → destroy_refusal t (OfFileSystem name) recursive defer ≡ None → same_name name root_name ≡ false
-root_stays t name recursive defer none = by_system (get t.file_systems name) refl
-  where
-    by_root : (b : Bool) (f : FileSystem) → refusal_with b recursive defer (nat_lt 0 (length (children_of (world_of t) name))) (length f.snaps) ≡ None → b ≡ false
-    by_root true f e = absurd (no_refusal IsRoot e)
-    by_root false f e = refl
+-- where the destroy of one isn't refused, it isn't the root; and without its descendants it may be removed
+module _ (t : Datasets) (good : AreFileSystems t.file_systems t.group) (bare : AreBare t.file_systems) (views : Views) (name : List ℕ) (recursive defer : Bool)
+    (none : destroy_refusal t views (OfFileSystem name) recursive defer ≡ None) where
+  pub root_stays : same_name name root_name ≡ false
+  root_stays = by_system (get t.file_systems name) refl
+    where
+      by_root : (b : Bool) (f : FileSystem) → refusal_with b recursive defer (nat_lt 0 (length (children_of (world_of t) name))) (length f.snaps) (family_viewed t views name) ≡ None → b ≡ false
+      by_root true f e = absurd (no_refusal IsRoot e)
+      by_root false f e = refl
 
-    by_system : (x : Option FileSystem) → get t.file_systems name ≡ x → same_name name root_name ≡ false
-    by_system None at = absurd (no_refusal NoDataset (sym (refused_gone t name recursive defer at) ∙ none))
-    by_system (Some f) at = by_root (same_name name root_name) f (sym (refused_there t name recursive defer f at) ∙ none)
+      by_system : (x : Option FileSystem) → get t.file_systems name ≡ x → same_name name root_name ≡ false
+      by_system None at = absurd (no_refusal NoDataset (sym (refused_gone t bare views name recursive defer at) ∙ none))
+      by_system (Some f) at = by_root (same_name name root_name) f (sym (refused_there t good bare views name defer f at recursive) ∙ none)
 
--- and where one without them isn't, it may be removed
-pub may_remove : (t : Datasets) (name : List ℕ) → destroy_refusal t (OfFileSystem name) false false ≡ None → CanRemove t name
-may_remove t name none = by_system (get t.file_systems name) refl
-  where
-    bare : (root : Bool) (f : FileSystem) → refusal_with root false false (has_children t name) (length f.snaps) ≡ None → (has_children t name || nat_lt 0 (length f.snaps)) ≡ false
-    bare true f e = absurd (no_refusal IsRoot e)
-    bare false f e = by_test (has_children t name || nat_lt 0 (length f.snaps)) e
-      where
-        by_test : (b : Bool) → cond b (Some HasChildren) None ≡ None → b ≡ false
-        by_test true k = absurd (no_refusal HasChildren k)
-        by_test false k = refl
+  pub not_root : ¬ (name ≡ root_name)
+  not_root e = other_name name root_stays (sym e)
 
-    by_system : (x : Option FileSystem) → get t.file_systems name ≡ x → CanRemove t name
-    by_system None at = absurd (no_refusal NoDataset (sym (refused_gone t name false false at) ∙ none))
-    by_system (Some f) at =
-        let free = bare (same_name name root_name) f (sym (refused_there t name false false f at) ∙ none) in
-        record {
-          system = f;
-          there = at;
-          bare = none_in f.snaps (or_right (has_children t name) (nat_lt 0 (length f.snaps)) free);
-          not_root = other_name name (root_stays t name false false none);
-          childless = λ q p some parent. let s = some_of (get t.file_systems q) some in
-              let child : option_map_or (same_name name) (parent_of q) false ≡ true = ap (λ (y : Option (List ℕ)). option_map_or (same_name name) y false) (p.named ∙ ap Some parent) ∙ name_itself name in
-              true≢false (sym (some_in (children_of (world_of t) name) q
-              (in_filter (λ n. option_map_or (same_name name) (parent_of n) false) (keys t.file_systems) q
-              (map_in (λ (r : Row). r.0) (entries t.file_systems) (q, s.0) (in_entries (entries t.file_systems) q s.0 (entry_of name_order t.file_systems q s.0 s.1)))
-              child)) ∙ or_left (has_children t name) (nat_lt 0 (length f.snaps)) free);
-        }
+  pub may_remove : recursive ≡ false → CanRemove t name
+  may_remove alone = by_system (get t.file_systems name) refl
+    where
+      bare_of : (root d : Bool) (f : FileSystem) → refusal_with root false d (has_children t name) (length f.snaps) (family_viewed t views name) ≡ None → (has_children t name || nat_lt 0 (length f.snaps)) ≡ false
+      bare_of true d f e = absurd (no_refusal IsRoot e)
+      bare_of false true f e = absurd (no_refusal NotSnapshot e)
+      bare_of false false f e = by_test (has_children t name || nat_lt 0 (length f.snaps)) e
+        where
+          by_test : (b : Bool) → cond {A = Option Refusal} b (Some HasChildren) None ≡ None → b ≡ false
+          by_test true k = absurd (no_refusal HasChildren k)
+          by_test false k = refl
+
+      by_system : (x : Option FileSystem) → get t.file_systems name ≡ x → CanRemove t name
+      by_system None at = absurd (no_refusal NoDataset (sym (refused_gone t bare views name recursive defer at) ∙ none))
+      by_system (Some f) at =
+          let free = bare_of (same_name name root_name) defer f (sym (refused_there t good bare views name defer f at false) ∙ subst (λ b. destroy_refusal t views (OfFileSystem name) b defer ≡ None) alone none) in
+          record {
+            system = f;
+            there = at;
+            bare = none_in f.snaps (or_right (has_children t name) (nat_lt 0 (length f.snaps)) free);
+            not_root = other_name name root_stays;
+            childless = λ q p some parent. let s = some_of (get t.file_systems q) some in
+                let child : option_map_or (same_name name) (parent_of q) false ≡ true = ap (λ (y : Option (List ℕ)). option_map_or (same_name name) y false) (p.named ∙ ap Some parent) ∙ name_itself name in
+                true≢false (sym (some_in (children_of (world_of t) name) q
+                (in_filter (λ n. option_map_or (same_name name) (parent_of n) false) (keys t.file_systems) q
+                (map_in (λ (r : Row). r.0) (entries t.file_systems) (q, s.0) (in_entries (entries t.file_systems) q s.0 (entry_of name_order t.file_systems q s.0 s.1)))
+                child)) ∙ or_left (has_children t name) (nat_lt 0 (length f.snaps)) free);
+          }

@@ -1,10 +1,9 @@
 -- A file system goes back to one of its snapshots: what is newer goes by its names, and then the live map.
 use Rattle.std.proofs.Common.{◌≡◌, ℕ, ◌<◌, ◌≤◌, Bool, true, false, cond, not, List, [], ◌∷◌, ◌++◌, Option, Some, None, refl, sym, ap, subst, ◌∙◌, true≢false, ◌⊎◌, inl, inr, ⊎_elim, map, length, arith}
-use Rattle.std.specs.Prelude.{nat_le, nat_lt, is_some, ◌&&◌}
+use Rattle.std.specs.Prelude.{nat_le, nat_lt, is_some, ◌&&◌, ◌||◌}
 use Rattle.base.specs.declared.refusal.Refusal.{Refusal}
-use Rattle.base.specs.declared.refusal.Refusal.TheVariants.{NoDataset, NotNewest}
-use Rattle.model.specs.Rule.{first_of}
-use Rattle.std.specs.List.{find, filter, last_or}
+use Rattle.base.specs.declared.refusal.Refusal.TheVariants.{NoDataset, NotNewest, Busy, HasClones}
+use Rattle.std.specs.List.{find, filter, last_or, list_any}
 use Rattle.std.proofs.lemmas.Bool.{lt-ltb, le-ltb, ltb-true}
 use Rattle.std.specs.Option.{option_map, option_map_or, option_and_then}
 use Rattle.std.specs.FinMap as finmap
@@ -16,7 +15,8 @@ use Rattle.base.specs.Surveys.{IsIn}
 use Rattle.base.specs.Map.{Map}
 use Rattle.model.specs.World.{World, FileSystem, Snap, SnapId, Bookmark, id_of, snap_named}
 use Rattle.model.specs.Edits.{without_snaps, with_file_system}
-use Rattle.model.specs.requests.Rollback.{snaps_upto, snaps_after, back_at, after_rollback}
+use Rattle.model.specs.State.{Views, is_viewed}
+use Rattle.model.specs.requests.Rollback.{snaps_upto, snaps_after, back_at, after_rollback, placed, newer_snaps}
 use Rattle.file_systems.specs.Losses.{newest_map}
 use Rattle.file_systems.specs.Writes.{newest_group}
 use Rattle.file_systems.specs.Rows.{Row, live_of, snaps_at, with_live}
@@ -31,8 +31,10 @@ use Rattle.world.proofs.Promotions.{split_at, upto_is, after_is, append_assoc}
 use Rattle.world.proofs.Put.{put_here, put_other}
 use Rattle.world.proofs.Bridge.{start, rising, rising_above, one_snap, snap_is_at, in_middle}
 use Rattle.world.proofs.WithoutSnaps.{get-without, any_in, any_from}
-use Rattle.removals.specs.Named.{without_all, member_of, newer_members}
-use Rattle.removals.specs.Requests.{rolled, rollback_refusal}
+use Rattle.removals.specs.Named.{without_all, member_of, newer_members, is_viewed_after}
+use Rattle.removals.specs.Requests.{rolled, rollback_refusal, refusal_at, AreBare}
+use Rattle.removals.proofs.Bare.{busy_is, no_clone_outside, no_newer_bookmark}
+use Rattle.removals.proofs.Seen.{any_later}
 use Rattle.removals.proofs.Named.{AreNamesOnce, names_once, ids_of, all_are}
 
 -- each snapshot of a file system is found by its name
@@ -242,28 +244,60 @@ pub told_of : (n : List ℕ) (r : Row) (x : Option FileSystem) → ◌≡◌ {A 
 told_of n r None e = absurd (no_value r (sym e))
 told_of n r (Some f) e = let k = same_value r (n, f) e in (ap (λ (y : Row). y.0) k, ap (λ (y : Row). Some y.1) (sym k))
 
-abbrev refusal_where : Bool → Option (FileSystem × Snap) → Option Refusal
-refusal_where later p = first_of ((not (is_some p), NoDataset) ∷ (not later && nat_lt 0 (length (option_map_or (λ (q : FileSystem × Snap). map {A = Snap} id_of (snaps_after q.0 q.1.group)) p [])), NotNewest) ∷ [])
+-- the snapshots newer than the one that was found
+abbrev newer_of : Option (FileSystem × Snap) → List SnapId
+newer_of p = option_map_or (λ (q : FileSystem × Snap). map {A = Snap} id_of (snaps_after q.0 q.1.group)) p []
 
-abbrev among_snaps : FileSystem → Option Snap → Option (FileSystem × Snap)
-among_snaps f y = option_map (λ u. (f, u)) y
+abbrev refusal_where : Views → Bool → Option (FileSystem × Snap) → Option Refusal
+refusal_where views later p =
+    cond (not (is_some p)) (Some NoDataset) (cond (not later && nat_lt 0 (length (newer_of p))) (Some NotNewest) (cond (list_any (is_viewed views) (newer_of p)) (Some Busy) None))
 
-abbrev placed_by : Member → Option FileSystem → Option (FileSystem × Snap)
-placed_by m x = option_and_then (λ g. among_snaps g (option_and_then (λ (h : FileSystem). find (λ (v : Snap). same_name v.name m.component) h.snaps) x)) x
+first-back : (is_there late newer mark busy viewed clones : Bool) → mark ≡ false → busy ≡ viewed → clones ≡ false
+    → cond {A = Option Refusal} (not is_there) (Some NoDataset) (cond (not late && (newer || mark)) (Some NotNewest) (cond busy (Some Busy) (cond clones (Some HasClones) None)))
+    ≡ cond {A = Option Refusal} (not is_there) (Some NoDataset) (cond (not late && newer) (Some NotNewest) (cond viewed (Some Busy) None))
+first-back is_there late newer mark busy viewed clones a b c =
+    λ i. cond {A = Option Refusal} (not is_there) (Some NoDataset) (cond (not late && (ap (λ m. newer || m) a ∙ or_none newer) i) (Some NotNewest) (cond (b i) (Some Busy) (cond (c i) (Some HasClones) None)))
+  where
+    or_none : (x : Bool) → (x || false) ≡ x
+    or_none true = refl
+    or_none false = refl
 
-refusal_by : (t : Datasets) (m : Member) (later : Bool) (f : FileSystem) → get t.file_systems m.file_system ≡ Some f → (y : Option Snap) → find (λ (v : Snap). same_name v.name m.component) f.snaps ≡ y
-    → rollback_refusal t (OfSnapshot m) later ≡ refusal_where later (among_snaps f y)
-refusal_by t m later f at y found = ap (refusal_where later) (ap (placed_by m) at ∙ ap (among_snaps f) found)
+-- what was found is the file system's
+pub told_placed : (t : Datasets) (m : Member) (f : FileSystem) (s : Snap) → placed (world_of t) (OfSnapshot m) ≡ Some (f, s)
+    → (get t.file_systems m.file_system ≡ Some f) × (find (λ (v : Snap). same_name v.name m.component) f.snaps ≡ Some s)
+told_placed t m f s told = by_system (get t.file_systems m.file_system) refl told
+  where
+    found : FileSystem → Option Snap
+    found g = find (λ (v : Snap). same_name v.name m.component) g.snaps
 
--- there is no such snapshot
-pub refused_missing : (t : Datasets) (m : Member) (later : Bool) (f : FileSystem) → get t.file_systems m.file_system ≡ Some f → find (λ (v : Snap). same_name v.name m.component) f.snaps ≡ None
-    → rollback_refusal t (OfSnapshot m) later ≡ Some NoDataset
-refused_missing t m later f at found = refusal_by t m later f at None found
+    by_system : (x : Option FileSystem) → get t.file_systems m.file_system ≡ x
+        → option_and_then (λ (g : FileSystem). option_map {U = FileSystem × Snap} (λ (u : Snap). (g, u)) (option_and_then found x)) x ≡ Some (f, s)
+        → (get t.file_systems m.file_system ≡ Some f) × (found f ≡ Some s)
+    by_system None at e = absurd (no_value _ e)
+    by_system (Some g) at e = by_snap (found g) refl e
+      where
+        by_snap : (y : Option Snap) → found g ≡ y → option_map {U = FileSystem × Snap} (λ (u : Snap). (g, u)) y ≡ Some (f, s) → (get t.file_systems m.file_system ≡ Some f) × (found f ≡ Some s)
+        by_snap None k e = absurd (no_value _ e)
+        by_snap (Some u) k e =
+            let same : ◌≡◌ {A = FileSystem × Snap} (g, u) (f, s) = same_value _ _ e in
+            let system : g ≡ f = ap (λ (x : FileSystem × Snap). x.0) same in
+            (at ∙ ap Some system, ap found (sym system) ∙ k ∙ ap (λ (x : FileSystem × Snap). Some x.1) same)
 
--- there is one
-pub refused_at : (t : Datasets) → AreFileSystems t.file_systems t.group → (m : Member) (later : Bool) (f : FileSystem) → get t.file_systems m.file_system ≡ Some f
-    → (s : Snap) → find (λ (v : Snap). same_name v.name m.component) f.snaps ≡ Some s → rollback_refusal t (OfSnapshot m) later ≡ cond (not later && nat_lt s.group (newest_group f.snaps)) (Some NotNewest) None
-refused_at t good m later f at s found =
-    refusal_by t m later f at (Some s) found
-    ∙ ap (λ (n : ℕ). cond (not later && nat_lt 0 n) (Some NotNewest) None) (length-mapped id_of (snaps_after f s.group))
-    ∙ ap (λ b. cond (not later && b) (Some NotNewest) None) (sym (is_newer s.group _ f.snaps (rising t.file_systems t.group good.lines m.file_system f at)))
+module _ (t : Datasets) (bare : AreBare t.file_systems) (views : Views) (m : Member) (later : Bool) where
+  refusal_is : rollback_refusal t views (OfSnapshot m) later ≡ refusal_where views later (placed (world_of t) (OfSnapshot m))
+  refusal_is = first-back (is_some (placed (world_of t) (OfSnapshot m))) later (nat_lt 0 (length (newer_snaps (world_of t) (OfSnapshot m)))) _ _
+      (list_any (is_viewed views) (newer_snaps (world_of t) (OfSnapshot m))) _
+      (no_newer_bookmark t bare views m) (busy_is t bare views (newer_snaps (world_of t) (OfSnapshot m))) (no_clone_outside t bare views [] (newer_snaps (world_of t) (OfSnapshot m)))
+
+  -- there is no such snapshot
+  pub refused_missing : placed (world_of t) (OfSnapshot m) ≡ None → rollback_refusal t views (OfSnapshot m) later ≡ Some NoDataset
+  refused_missing none = refusal_is ∙ ap (refusal_where views later) none
+
+  -- there is one
+  pub refused_at : AreFileSystems t.file_systems t.group → (name : Name) (f : FileSystem) → get t.file_systems name ≡ Some f → (s : Snap) → placed (world_of t) (OfSnapshot m) ≡ Some (f, s)
+      → rollback_refusal t views (OfSnapshot m) later ≡ refusal_at f s.group views later
+  refused_at good name f at s found =
+      refusal_is ∙ ap (refusal_where views later) found
+      ∙ (λ i. cond (not later && nat_lt 0 (length-mapped id_of (snaps_after f s.group) i)) (Some NotNewest) (cond (any_later views s.group f.snaps i) (Some Busy) None))
+      ∙ ap (λ b. cond (not later && b) (Some NotNewest) (cond (list_any (is_viewed_after views s.group) f.snaps) (Some Busy) None))
+      (sym (is_newer s.group _ f.snaps (rising t.file_systems t.group good.lines name f at)))

@@ -6,7 +6,6 @@ use Rattle.std.specs.FinMap.{get, insert, remove, entries, entries_sorted, keys,
 use Rattle.std.specs.FinMap.Entries.{is_sorted, below_all}
 use Rattle.std.specs.declared.cmp.Ordering.TheVariants.{Equal, Greater}
 use Rattle.base.specs.Surveys.{IsIn}
-use Rattle.name.specs.declared.target.Target.TheVariants.{FileSystem as OfFileSystem}
 use Rattle.name.specs.Names.{name_cmp, same_name, root_name, parent_of}
 use Rattle.model.specs.World.{FileSystem, family_of}
 use Rattle.file_systems.specs.Rows.{Row}
@@ -19,7 +18,7 @@ use Rattle.world.proofs.Bridge.{from_entries}
 use Rattle.world.proofs.Families.{retained, from_retained}
 use Rattle.world.proofs.Put.{put_here, put_other}
 use Rattle.snap.specs.Taking.{is_in_family}
-use Rattle.removals.specs.Requests.{destroyed}
+use Rattle.removals.specs.Requests.{without_family}
 use Rattle.removals.proofs.Families.{child_in_family, child_after, before_there, below_there}
 
 pub in_entries : (es : List Row) (name : Name) (f : FileSystem) → IsEntry es name f → IsIn es (name, f)
@@ -189,14 +188,14 @@ among_keys : (rows : List Row) (n : List ℕ) → is_among rows n ≡ list_any (
 among_keys [] n = refl
 among_keys (x ∷ xs) n = ap (λ b. same_name n x.0 || b) (among_keys xs n)
 
-pub family_gone : (t : Datasets) (name : List ℕ) → left_by t name (entries t.file_systems) ≡ destroyed t (OfFileSystem name) true
+pub family_gone : (t : Datasets) (name : List ℕ) → left_by t name (entries t.file_systems) ≡ without_family t name true
 family_gone t name = λ i. record t { file_systems = retain_keys t.file_systems (λ n. not (same n i)) }
   where
     same : (n : List ℕ) → (is_in_family name n && is_among (entries t.file_systems) n) ≡ list_any (same_name n) (family_of (world_of t) name)
     same n = ap (λ b. is_in_family name n && b) (among_keys (entries t.file_systems) n) ∙ sym (family_any name n (keys t.file_systems))
 
 -- one alone
-pub one_gone : (t : Datasets) (name : List ℕ) → record t { file_systems = remove t.file_systems name } ≡ destroyed t (OfFileSystem name) false
+pub one_gone : (t : Datasets) (name : List ℕ) → record t { file_systems = remove t.file_systems name } ≡ without_family t name false
 one_gone t name = ap (λ ss. record t { file_systems = ss }) (same_map name_order.total name_order.exact _ _ (λ n. ⊎_elim
     (λ (same : n ≡ name).
     ap (get (remove t.file_systems name)) same ∙ get-remove_same name_order t.file_systems name

@@ -48,7 +48,8 @@ module _ (t u : Datasets) (r : Row) (group : ℕ) (xs : List (Bor Kept)) (x : Bo
       ∙ ap (λ b. without_all t (newer_yielded r group xs ++ map (member_of r) (cond b (x.now.snapshot ∷ []) []))) (sym older)
       ∙ ap (without_all t) (sym (newer_join r group xs x))
 
-yielded_front : {S A : Type 0} (rest : S → List A) (s : S) (xs : List (Bor A)) (t : S) → Yields (YieldsFirstRef rest) s xs t → rest s ≡ map (λ x. x.now) xs ++ rest t
+-- those that were yielded, and then those that are left
+pub yielded_front : {S A : Type 0} (rest : S → List A) (s : S) (xs : List (Bor A)) (t : S) → Yields (YieldsFirstRef rest) s xs t → rest s ≡ map (λ x. x.now) xs ++ rest t
 yielded_front rest s [] t y = ap rest y
 yielded_front rest s (x ∷ xs) t y = y.1 ∙ ap (λ ys. x.now ∷ ys) (yielded_front rest y.0 xs t y.2)
 
@@ -56,7 +57,7 @@ yielded_front rest s (x ∷ xs) t y = y.1 ∙ ap (λ ys. x.now ∷ ys) (yielded_
 pub yielded_all : {S A : Type 0} (rest : S → List A) (s : S) (xs : List (Bor A)) (t : S) → Yields (YieldsFirstRef rest) s xs t → rest t ≡ [] → rest s ≡ map (λ x. x.now) xs
 yielded_all rest s xs t y none = yielded_front rest s xs t y ∙ ap (λ ys. map (λ x. x.now) xs ++ ys) none ∙ append_none _
 
-snaps_yielded : (xs : List (Bor Kept)) → map (λ (x : Bor Kept). x.now.snapshot) xs ≡ snaps_in (map (λ x. x.now) xs)
+pub snaps_yielded : (xs : List (Bor Kept)) → map (λ (x : Bor Kept). x.now.snapshot) xs ≡ snaps_in (map (λ x. x.now) xs)
 snaps_yielded [] = refl
 snaps_yielded (x ∷ xs) = ap (λ l. x.now.snapshot ∷ l) (snaps_yielded xs)
 

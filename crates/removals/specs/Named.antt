@@ -1,11 +1,12 @@
 -- Snapshots that go by their names.
-use Rattle.std.specs.Prelude.{ℕ, List, [], ◌∷◌, map, nat_lt}
+use Rattle.std.specs.Prelude.{ℕ, Bool, false, ◌&&◌, List, [], ◌∷◌, map, nat_lt}
 use Rattle.std.specs.List.{filter}
 use Rattle.std.specs.Option.{option_map_or}
 use Rattle.name.specs.declared.member.Member.{Member}
 use Rattle.model.specs.World.{Snap, id_of, snap_named}
+use Rattle.model.specs.State.{Views, is_viewed}
 use Rattle.file_systems.specs.Rows.{Row}
-use Rattle.world.specs.Tables.{Datasets, world_of, without_snap}
+use Rattle.world.specs.Tables.{Datasets, world_of, without_snap, deferred_snap}
 
 -- the datasets without the snapshot of this name, and the same where there is none (zfs-destroy(8))
 abbrev pub without_named : Datasets → Member → Datasets
@@ -15,6 +16,23 @@ without_named t m = option_map_or (λ s. without_snap t (id_of s)) (snap_named (
 abbrev pub without_all : Datasets → List Member → Datasets
 without_all t [] = t
 without_all t (m ∷ ms) = without_all (without_named t m) ms
+
+-- the datasets where the destroy of the snapshot of this name is deferred, and the same where there is none (zfs-destroy(8), -d)
+abbrev pub deferred_named : Datasets → Member → Datasets
+deferred_named t m = option_map_or (λ s. deferred_snap t (id_of s)) (snap_named (world_of t) m) t
+
+-- those of all these names (zfs-destroy(8), -d)
+abbrev pub deferred_all : Datasets → List Member → Datasets
+deferred_all t [] = t
+deferred_all t (m ∷ ms) = deferred_all (deferred_named t m) ms
+
+-- a view of the snapshot of this name is open (profile)
+abbrev pub is_named_viewed : Datasets → Views → Member → Bool
+is_named_viewed t views m = option_map_or (λ s. is_viewed views (id_of s)) (snap_named (world_of t) m) false
+
+-- a snapshot of a later group than this one that an open view shows (profile)
+abbrev pub is_viewed_after : Views → ℕ → Snap → Bool
+is_viewed_after views group s = nat_lt group s.group && is_viewed views (id_of s)
 
 -- a snapshot's name, under that of its file system (zfs(8))
 abbrev pub member_of : Row → Snap → Member

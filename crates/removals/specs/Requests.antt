@@ -1,47 +1,73 @@
--- What a rollback and a destroy leave of datasets without a tag, a view, a clone or a bookmark, and why they are refused.
-use Rattle.std.specs.Prelude.{◌≡◌, ◌&&◌, ◌||◌, ℕ, List, Bool, false, not, [], ◌∷◌, Option, Some, is_some, length, nat_lt}
+-- What a rollback, a destroy and the close of a view leave of datasets, and why the first two are refused.
+use Rattle.std.specs.Prelude.{◌≡◌, ◌&&◌, ℕ, List, Bool, true, not, [], Option, None, Some, if◌then◌else◌, nat_lt}
+use Rattle.std.specs.List.{list_any}
 use Rattle.std.specs.FinMap as finmap
-use Rattle.std.specs.FinMap.{get, contains_key}
+use Rattle.std.specs.FinMap.{get, remove}
+use Rattle.std.specs.Option.{option_and_then}
+use Rattle.base.specs.Surveys.{IsIn}
 use Rattle.base.specs.declared.refusal.Refusal.{Refusal}
-use Rattle.base.specs.declared.refusal.Refusal.TheVariants.{NoDataset, NotSnapshot, NotNewest, HasChildren, IsRoot}
+use Rattle.base.specs.declared.refusal.Refusal.TheVariants.{NotNewest, Busy}
 use Rattle.name.specs.declared.target.Target.{Target}
-use Rattle.name.specs.declared.target.Target.TheVariants.{FileSystem as OfFileSystem, Snapshot as OfSnapshot, Bookmark as OfBookmark}
-use Rattle.name.specs.Names.{root_name, same_name}
-use Rattle.model.specs.World.{FileSystem, children_of}
-use Rattle.model.specs.Targets.{is_snapshot_name}
+use Rattle.file_systems.specs.Writes.{newest_group}
+use Rattle.model.specs.World.{FileSystem, Snap, snap_at}
+use Rattle.model.specs.State.{Views, is_viewed}
+use Rattle.model.specs.Edits.{without_snaps}
+use Rattle.model.specs.Outcome.{is_needed}
 use Rattle.model.specs.Rule.{first_of}
-use Rattle.model.specs.requests.Rollback.{placed, newer_snaps, rolled_back}
-use Rattle.model.specs.requests.Destroy.{snaps_named, snaps_within, after_destroy}
+use Rattle.model.specs.requests.Rollback.{rolled_back, back_row}
+use Rattle.model.specs.requests.Destroy.{file_systems_named, without_file_systems, after_destroy, destroy_row}
 use Rattle.world.specs.Worlds.{FileSystems}
 use Rattle.world.specs.Tables.{Datasets, world_of}
+use Rattle.removals.specs.Named.{is_viewed_after}
 
--- none of these file systems has a bookmark (zfs-bookmark(8))
-abbrev pub HaveNoBookmark : FileSystems → Type 0
-HaveNoBookmark ss = (name : List ℕ) (f : FileSystem) → get ss name ≡ Some f → f.bookmarks ≡ finmap.empty
+-- a file system that isn't a clone, without bookmarks, none of whose snapshots has a tag (profile)
+pub record IsBare (f : FileSystem) : Type 0 where
+  pub tags : (t : Snap) → IsIn f.snaps t → t.tags ≡ []
+  pub origin : f.origin ≡ None
+  pub bookmarks : f.bookmarks ≡ finmap.empty
+
+-- all of them are so (profile)
+abbrev pub AreBare : FileSystems → Type 0
+AreBare ss = (name : List ℕ) (f : FileSystem) → get ss name ≡ Some f → IsBare f
 
 -- the datasets after a rollback (zfs-rollback(8))
 abbrev pub rolled : Datasets → Target → Datasets
 rolled t target = record t { file_systems = (rolled_back (world_of t) target).file_systems }
 
--- why a rollback is refused, if it is (zfs-rollback(8))
-abbrev pub rollback_refusal : Datasets → Target → Bool → Option Refusal
-rollback_refusal t target later = first_of (
-    (not (is_snapshot_name target), NotSnapshot)
-    ∷ (not (is_some (placed (world_of t) target)), NoDataset)
-    ∷ (not later && nat_lt 0 (length (newer_snaps (world_of t) target)), NotNewest)
-    ∷ [])
+-- why a rollback is refused, if it is, whatever the limits (zfs-rollback(8))
+abbrev pub rollback_refusal : Datasets → Views → Target → Bool → Option Refusal
+rollback_refusal t views target later = first_of (back_row (world_of t) views target later)
+
+-- why a file system can't go back to its snapshot of this group, if it can't (zfs-rollback(8); the view is profile)
+abbrev pub refusal_at : FileSystem → ℕ → Views → Bool → Option Refusal
+refusal_at f group views later =
+    if not later && nat_lt group (newest_group f.snaps) then Some NotNewest else if list_any (is_viewed_after views group) f.snaps then Some Busy else None
 
 -- the datasets after a destroy (zfs-destroy(8))
-abbrev pub destroyed : Datasets → Target → Bool → Datasets
-destroyed t target recursive = record t { file_systems = (after_destroy (world_of t) (λ _. false) target recursive).file_systems }
+abbrev pub destroyed : Datasets → Views → Target → Bool → Bool → Datasets
+destroyed t views target recursive defer =
+    record t { file_systems = (after_destroy (world_of t) (λ u. defer && is_needed (world_of t) views u) target recursive).file_systems }
 
--- why a destroy is refused, if it is (zfs-destroy(8); that the root stays is profile)
-abbrev pub destroy_refusal : Datasets → Target → Bool → Bool → Option Refusal
-destroy_refusal t (OfFileSystem name) recursive defer = first_of (
-    (not (contains_key t.file_systems name), NoDataset)
-    ∷ (same_name name root_name, IsRoot)
-    ∷ (defer, NotSnapshot)
-    ∷ (not recursive && (nat_lt 0 (length (children_of (world_of t) name)) || nat_lt 0 (length (snaps_within (world_of t) (name ∷ [])))), HasChildren)
-    ∷ [])
-destroy_refusal t (OfSnapshot m) recursive defer = first_of ((not (nat_lt 0 (length (snaps_named (world_of t) m recursive))), NoDataset) ∷ [])
-destroy_refusal t (OfBookmark m) recursive defer = Some NoDataset
+-- the datasets without this file system, or with -r without it and its descendants (zfs-destroy(8), -r)
+abbrev pub without_family : Datasets → List ℕ → Bool → Datasets
+without_family t name recursive = record t { file_systems = (without_file_systems (world_of t) (file_systems_named (world_of t) name recursive)).file_systems }
+
+-- why a destroy is refused, if it is (zfs-destroy(8))
+abbrev pub destroy_refusal : Datasets → Views → Target → Bool → Bool → Option Refusal
+destroy_refusal t views target recursive defer = first_of (destroy_row (world_of t) views target recursive defer)
+
+-- the datasets without the snapshots whose destroy is deferred and that nothing needs (zfs-destroy(8), -d)
+abbrev pub swept : Datasets → Views → Datasets
+swept t views = record t { file_systems = (without_snaps (world_of t) (λ u. u.deferred && not (is_needed (world_of t) views u))).file_systems }
+
+-- The snapshot that goes with a view of this number, with the name of its file system: the one that it shows, where its destroy is
+-- deferred and no other view shows it (zfs-destroy(8), -d)
+abbrev pub gone_with : Datasets → Views → ℕ → Option (List ℕ × Snap)
+gone_with t views number =
+    option_and_then (λ id. if is_viewed (remove views number) id then None else option_and_then (λ p. if p.1.deferred then Some p else None) (snap_at (world_of t) id))
+    (get views number)
+
+-- each snapshot whose destroy is deferred is needed: there is nothing to sweep (zfs-destroy(8), -d)
+abbrev pub IsSweptBy : Datasets → Views → Type 0
+IsSweptBy t views =
+    (name : List ℕ) (f : FileSystem) (u : Snap) → get t.file_systems name ≡ Some f → IsIn f.snaps u → u.deferred ≡ true → is_needed (world_of t) views u ≡ true

@@ -7,58 +7,59 @@ ghost use Rattle.base.specs.declared.refusal.Refusal.{Refusal};
 ghost use Rattle.name.specs.declared.target.Target.{Target};
 ghost use Rattle.name.specs.Names.{same_name};
 ghost use Rattle.model.specs.World.{union_of};
+ghost use Rattle.model.specs.requests.Rollback.{placed};
 ghost use Rattle.world.specs.Sets.{AreDisjoint};
 ghost use Rattle.world.specs.Tables.{world_of};
 ghost use Rattle.removals.specs.Edits.{HasLost};
-ghost use Rattle.removals.specs.Requests.{rolled, rollback_refusal, HaveNoBookmark};
+ghost use Rattle.removals.specs.Requests.{rolled, rollback_refusal, refusal_at, AreBare};
 
 use crate::edit::Edit;
+use crate::viewed::any_later_viewed;
 use base::meter::SegMeter;
 use base::number::Group;
 use base::refusal::Refusal;
 use datasets::Table;
 use destroyer::Freeing;
-use file_systems::FileSystem;
-use name::{Component, Target};
+use file_systems::{FileSystem, Snapshot};
+use name::{Component, Member, Target};
 use std::alloc::Global;
+use views::Views;
 
 /// The datasets with this file system back at a snapshot: its live map is the snapshot's again, and what is newer goes; what is lost
 /// with that is to be freed. The table and what it has to free stay as they are. Refused are NotSnapshot where the name isn't one of a
-/// snapshot, else NoDataset where there is no such snapshot, else NotNewest where it isn't the newest and not `later`; else NoMemory
-/// where there is none for it (zfs-rollback(8)). It costs the number of file systems, the chunks of pieces that are to be freed, the
-/// number of the file system's snapshots, and what the destroy of each newer one does.
+/// snapshot, else NoDataset where there is no such snapshot, else NotNewest where it isn't the newest and not `later`, else Busy where one of
+/// these views shows a newer one; else NoMemory where there is none for it (zfs-rollback(8)). It costs the number of file systems, the chunks
+/// of pieces that are to be freed, the number of the file system's snapshots, and for each newer one what its destroy does and the number of
+/// open views.
 pub fn rollback(
     alloc: Global,
     table: &Table,
     freeing: &Freeing,
+    views: &Views,
     target: &Target,
     later: bool,
     segments: &mut SegMeter,
 ) -> Result<Edit, Refusal>
     requires apart { AreDisjoint (union_of (world_of table.now)) freeing.now }
-    requires plain { HaveNoBookmark table.now.file_systems }
+    requires bare { AreBare table.now.file_systems }
     ensures ok { IfOk result (λ e. e.to ≡ rolled table.now target.now) }
     ensures lost { IfOk result (λ e. HasLost table.now freeing.now e.to e.freeing) }
-    ensures can { OnOk result (rollback_refusal table.now target.now later ≡ None) }
-    ensures refused { IfSome (rollback_refusal table.now target.now later) (λ e. result ≡ Err e) }
-    ensures only { IfErr result (λ e. (rollback_refusal table.now target.now later ≡ Some e) ⊎ (e ≡ Refusal.NoMemory)) }
+    ensures can { OnOk result (rollback_refusal table.now views.now.opened target.now later ≡ None) }
+    ensures refused { IfSome (rollback_refusal table.now views.now.opened target.now later) (λ e. result ≡ Err e) }
+    ensures only { IfErr result (λ e. (rollback_refusal table.now views.now.opened target.now later ≡ Some e) ⊎ (e ≡ Refusal.NoMemory)) }
 {
     let Target::Snapshot(name) = target else {
         return Err(Refusal::NotSnapshot);
     };
-    let member = name.member();
-    let Some(file_system) = table.find(&member.file_system) else {
-        return Err(Refusal::NoDataset);
-    };
-    let component = &member.component;
-    let Some(snapshot) = file_system.snapshot_named(component.as_bytes()) else {
+    let component = &name.member().component;
+    let Some((file_system, snapshot)) = placed(table, name.member()) else {
         return Err(Refusal::NoDataset);
     };
     let group = snapshot.group();
     // It tells of the snapshots that their groups rise.
     let _count = table.len();
-    if !later && file_system.newest_group() > group {
-        return Err(Refusal::NotNewest);
+    if let Some(refusal) = refusal_of(file_system, group, views, later) {
+        return Err(refusal);
     }
     back_to(
         alloc,
@@ -69,6 +70,30 @@ pub fn rollback(
         group,
         segments,
     )
+}
+
+// The snapshot of this name with its file system, or none. It costs the logarithm of the number of file systems, and that of the number
+// of snapshots of this one.
+fn placed<'a>(table: &'a Table, name: &Member) -> Option<(&'a FileSystem, &'a Snapshot)>
+    ensures found { option_map (λ p. (p.0.now.1, p.1.now)) result ≡ placed (world_of table.now) (Target.Snapshot name.now) }
+    ensures named { IfSome result (λ p. p.0.now.0 ≡ name.now.file_system) }
+{
+    let file_system = table.find(&name.file_system)?;
+    let snapshot = file_system.snapshot_named(name.component.as_bytes())?;
+    Some((file_system, snapshot))
+}
+
+// Why this file system can't go back to its snapshot of this group, if it can't. It costs what `any_later_viewed` does.
+fn refusal_of(file_system: &FileSystem, group: Group, views: &Views, later: bool) -> Option<Refusal>
+    ensures { result ≡ refusal_at file_system.now.1 group.0 views.now.opened later }
+{
+    if !later && file_system.newest_group() > group {
+        return Some(Refusal::NotNewest);
+    }
+    if any_later_viewed(file_system, group, views) {
+        return Some(Refusal::Busy);
+    }
+    None
 }
 
 // The datasets with this file system of the table back at its snapshot of this name, which is of this group. NoMemory where there is
@@ -83,7 +108,7 @@ fn back_to(
     segments: &mut SegMeter,
 ) -> Result<Edit, Refusal>
     requires apart { AreDisjoint (union_of (world_of table.now)) freeing.now }
-    requires plain { HaveNoBookmark table.now.file_systems }
+    requires bare { AreBare table.now.file_systems }
     requires there { get table.now.file_systems file_system.now.0 ≡ Some file_system.now.1 }
     requires group { option_map (λ s. s.group) (find (λ s. same_name s.name component.now) file_system.now.1.snaps) ≡ Some group.0 }
     ensures ok { IfOk result (λ e. e.to ≡ rolled table.now (Target.Snapshot (record { file_system = file_system.now.0; component = component.now }))) }

@@ -1,5 +1,5 @@
 //! A table from which datasets go.
-ghost use Rattle.std.specs.Prelude.{◌≡◌, ◌⊎◌, ◌↔◌, Some, None, IfSome, IfOk, IfErr, OnOk, is_some, length};
+ghost use Rattle.std.specs.Prelude.{◌≡◌, ◌⊎◌, ◌↔◌, not, filter, Some, None, IfSome, IfOk, IfErr, OnOk, is_some, length};
 ghost use Rattle.base.specs.declared.refusal.Refusal.{Refusal};
 ghost use Rattle.file_systems.specs.Losses.{newest_map};
 ghost use Rattle.file_systems.specs.Rows.{live_of, snaps_at, with_live};
@@ -7,8 +7,9 @@ ghost use Rattle.model.specs.World.{id_of, snap_named, union_of};
 ghost use Rattle.world.specs.Sets.{AreDisjoint};
 ghost use Rattle.world.specs.Tables.{world_of, without_snap};
 ghost use Rattle.removals.specs.Edits.{HasLost};
-ghost use Rattle.removals.specs.Named.{without_named, without_all, newer_members};
+ghost use Rattle.removals.specs.Named.{without_named, without_all, deferred_named, deferred_all, is_named_viewed, newer_members};
 
+use crate::viewed::is_named_viewed;
 use base::meter::SegMeter;
 use base::number::Group;
 use base::refusal::Refusal;
@@ -19,6 +20,7 @@ use name::{Component, DsName, Member};
 use snap::Named;
 use std::alloc::Global;
 use std::sync::Arc;
+use views::Views;
 
 /// A table, and what is to be freed beside it.
 #[derive(Drop)]
@@ -97,21 +99,59 @@ impl Edit {
         self.lose_snapshot(alloc, &name, segments)
     }
 
-    // Lets the snapshots of all these names go that are there. NoMemory where there is none for it, and then the edit is of no use. It
-    // costs what `lose_snapshot` does for each.
-    pub(crate) fn lose_all(
+    // Lets the snapshots of all these names go that are there, but for those that one of these views shows; the table is the one that the
+    // names are of. NoMemory where there is none for it, and then the edit is of no use. It costs what `lose_snapshot` does for each, and
+    // the number of open views.
+    pub(crate) fn lose_unviewed(
         &mut self,
         alloc: Global,
+        table: &Table,
+        views: &Views,
         all: &[Named],
         segments: &mut SegMeter,
     ) -> Result<(), Refusal>
         requires apart { AreDisjoint (union_of (world_of self.old.to)) self.old.freeing }
-        ensures ok { OnOk result (self.new.to ≡ without_all self.old.to all.now) }
+        ensures ok { OnOk result (self.new.to ≡ without_all self.old.to (filter (λ m. not (is_named_viewed table.now views.now.opened m)) all.now)) }
         ensures lost { OnOk result (HasLost self.old.to self.old.freeing self.new.to self.new.freeing) }
         ensures err { IfErr result (λ e. e ≡ Refusal.NoMemory) }
     {
         for name in all {
-            self.lose_named(alloc, name.file_system, name.component, segments)?;
+            let (file_system, component) = (name.file_system, name.component);
+            if !is_named_viewed(table, views, file_system, component) {
+                self.lose_named(alloc, file_system, component, segments)?;
+            }
+        }
+        Ok(())
+    }
+
+    // From now on the destroy of the snapshot of this name is deferred, where it is there. NoMemory where there is none for it, and then
+    // the edit is of no use. It costs what `Table::defer` does.
+    fn defer_named(
+        &mut self,
+        alloc: Global,
+        file_system: &DsName,
+        component: &Component,
+    ) -> Result<(), Refusal>
+        ensures ok { OnOk result (self.new.to ≡ deferred_named self.old.to (record { file_system = file_system.now; component = component.now })) }
+        ensures same { OnOk result (self.new.freeing ≡ self.old.freeing) }
+        ensures err { IfErr result (λ e. e ≡ Refusal.NoMemory) }
+    {
+        if !has_snapshot(&self.to, file_system, component) {
+            return Ok(());
+        }
+        let name = member(file_system, component)?;
+        self.to.defer(alloc, &name)
+    }
+
+    // From now on the destroy of the snapshots of all these names is deferred that are there. NoMemory where there is none for it, and then
+    // the edit is of no use. It costs what `Table::defer` does for each.
+    pub(crate) fn defer_all(&mut self, alloc: Global, all: &[Named]) -> Result<(), Refusal>
+        ensures ok { OnOk result (self.new.to ≡ deferred_all self.old.to all.now) }
+        ensures same { OnOk result (self.new.freeing ≡ self.old.freeing) }
+        ensures err { IfErr result (λ e. e ≡ Refusal.NoMemory) }
+    {
+        for name in all {
+            self.defer_named(alloc, name.file_system, name.component)?;
         }
         Ok(())
     }

@@ -1,19 +1,20 @@
 //! File systems that are destroyed.
-ghost use Rattle.std.specs.Prelude.{◌≡◌, ◌⊎◌, true, false, Some, None, IfSome, IfOk, IfErr, OnOk};
+ghost use Rattle.std.specs.Prelude.{◌≡◌, ◌⊎◌, ◌||◌, true, false, Some, None, IfSome, IfOk, IfErr, OnOk, length, nat_lt};
 ghost use Rattle.std.specs.FinMap.{get};
 ghost use Rattle.base.specs.declared.refusal.Refusal.{Refusal};
 ghost use Rattle.name.specs.declared.target.Target.{Target};
 ghost use Rattle.name.specs.Names.{root_name};
-ghost use Rattle.model.specs.World.{union_of};
+ghost use Rattle.model.specs.World.{union_of, children_of};
 ghost use Rattle.snap.specs.Taking.{is_in_family};
 ghost use Rattle.world.specs.Sets.{AreDisjoint};
 ghost use Rattle.world.specs.Tables.{CanRemove, world_of, without_system};
 ghost use Rattle.removals.specs.Edits.{HasLost};
 ghost use Rattle.removals.specs.Families.{bare_at};
-ghost use Rattle.removals.specs.Requests.{destroyed, destroy_refusal};
+ghost use Rattle.removals.specs.Requests.{destroyed, destroy_refusal, without_family, AreBare};
 
 use crate::edit::Edit;
 use crate::gone::destroy_snapshots;
+use crate::viewed::any_of_family_viewed;
 use base::meter::SegMeter;
 use base::number::Group;
 use base::refusal::Refusal;
@@ -23,6 +24,7 @@ use file_systems::FileSystem;
 use name::{DsName, Target};
 use snap::is_in_family;
 use std::alloc::Global;
+use views::Views;
 
 // Takes out this file system, which has no snapshot and no child and isn't the root: its blocks are to be freed. NoMemory where there
 // is none for it, and then the edit is of no use. It costs the number of file systems.
@@ -74,7 +76,7 @@ fn lose_family(
     requires apart { AreDisjoint (union_of (world_of edit.old.to)) edit.old.freeing }
     requires same { edit.old.to ≡ table.now }
     requires not_root { ¬ (name.now ≡ root_name) }
-    ensures ok { OnOk result (edit.new.to ≡ destroyed table.now (Target.FileSystem name.now) true) }
+    ensures ok { OnOk result (edit.new.to ≡ without_family table.now name.now true) }
     ensures lost { OnOk result (HasLost edit.old.to edit.old.freeing edit.new.to edit.new.freeing) }
     ensures err { IfErr result (λ e. e ≡ Refusal.NoMemory) }
 {
@@ -90,10 +92,27 @@ fn lose_family(
     Ok(())
 }
 
-// Why a file system isn't destroyed, if it isn't. It costs the number of file systems.
-fn refusal_of(table: &Table, name: &DsName, recursive: bool, defer: bool) -> Option<Refusal>
-    ensures { result ≡ destroy_refusal table.now (Target.FileSystem name.now) recursive defer }
+// Whether a file system of this name has a child, or this one a snapshot. It costs the number of file systems.
+fn has_parts(table: &Table, file_system: &FileSystem, name: &DsName) -> bool
+    ensures { result ≡ (nat_lt 0 (length (children_of (world_of table.now) name.now)) || nat_lt 0 (length file_system.now.1.snaps)) }
 {
+    table.has_child(name) || file_system.snapshots().len() > 0
+}
+
+// Why a file system isn't destroyed, if it isn't. It costs the number of file systems, and with `recursive` for each snapshot of the family
+// the number of open views.
+fn refusal_of(
+    table: &Table,
+    views: &Views,
+    name: &DsName,
+    recursive: bool,
+    defer: bool,
+) -> Option<Refusal>
+    requires { AreBare table.now.file_systems }
+    ensures { result ≡ destroy_refusal table.now views.now.opened (Target.FileSystem name.now) recursive defer }
+{
+    // It tells of the snapshots that none is of group 0.
+    let _count = table.len();
     let Some(file_system) = table.find(name) else {
         return Some(Refusal::NoDataset);
     };
@@ -103,8 +122,11 @@ fn refusal_of(table: &Table, name: &DsName, recursive: bool, defer: bool) -> Opt
     if defer {
         return Some(Refusal::NotSnapshot);
     }
-    if !recursive && (table.has_child(name) || file_system.snapshots().len() > 0) {
+    if !recursive && has_parts(table, file_system, name) {
         return Some(Refusal::HasChildren);
+    }
+    if recursive && any_of_family_viewed(table, views, name) {
+        return Some(Refusal::Busy);
     }
     None
 }
@@ -120,8 +142,9 @@ fn without_systems(
     segments: &mut SegMeter,
 ) -> Result<Edit, Refusal>
     requires apart { AreDisjoint (union_of (world_of table.now)) freeing.now }
-    requires none { destroy_refusal table.now (Target.FileSystem name.now) recursive false ≡ None }
-    ensures ok { IfOk result (λ e. e.to ≡ destroyed table.now (Target.FileSystem name.now) recursive) }
+    requires not_root { ¬ (name.now ≡ root_name) }
+    requires can { recursive ≡ false → CanRemove table.now name.now }
+    ensures ok { IfOk result (λ e. e.to ≡ without_family table.now name.now recursive) }
     ensures lost { IfOk result (λ e. HasLost table.now freeing.now e.to e.freeing) }
     ensures err { IfErr result (λ e. e ≡ Refusal.NoMemory) }
 {
@@ -136,36 +159,41 @@ fn without_systems(
 
 /// The datasets without what this name is of (zfs-destroy(8)); what they have no more is to be freed. The table and what it has to free
 /// stay as they are. With `recursive` a file system goes with its descendants and all their snapshots, or with a snapshot those of its
-/// name of each descendant of its file system. Refused are NoDataset where nothing has the name; of a file system IsRoot for the root,
-/// else NotSnapshot with `defer`, else HasChildren where it has a child or a snapshot and not `recursive`; NoMemory, where there is none
-/// for it, may come before NoDataset of a snapshot. It costs the number of file systems, the chunks of pieces that are to be freed, and
-/// for each snapshot that goes what `Edit::lose_snapshot` does.
+/// name of each descendant of its file system. With `defer` a snapshot that one of these views shows stays, and goes once nothing needs
+/// it. Refused are NoDataset where nothing has the name; of a file system IsRoot for the root, else NotSnapshot with `defer`, else
+/// HasChildren where it has a child or a snapshot and not `recursive`; else Busy where one of these views shows a snapshot that would go.
+/// NoMemory, where there is none for it, may come before the refusals of a snapshot. It costs the number of file systems, the chunks of
+/// pieces that are to be freed, and for each snapshot that goes what `Edit::lose_snapshot` does and the number of open views.
 pub fn destroy(
     alloc: Global,
     table: &Table,
     freeing: &Freeing,
+    views: &Views,
     target: &Target,
     recursive: bool,
     defer: bool,
     segments: &mut SegMeter,
 ) -> Result<Edit, Refusal>
-    requires { AreDisjoint (union_of (world_of table.now)) freeing.now }
-    ensures ok { IfOk result (λ e. e.to ≡ destroyed table.now target.now recursive) }
+    requires apart { AreDisjoint (union_of (world_of table.now)) freeing.now }
+    requires bare { AreBare table.now.file_systems }
+    ensures ok { IfOk result (λ e. e.to ≡ destroyed table.now views.now.opened target.now recursive defer) }
     ensures lost { IfOk result (λ e. HasLost table.now freeing.now e.to e.freeing) }
-    ensures can { OnOk result (destroy_refusal table.now target.now recursive defer ≡ None) }
-    ensures refused { IfSome (destroy_refusal table.now target.now recursive defer) (λ e. (result ≡ Err e) ⊎ (result ≡ Err Refusal.NoMemory)) }
-    ensures only { IfErr result (λ e. (destroy_refusal table.now target.now recursive defer ≡ Some e) ⊎ (e ≡ Refusal.NoMemory)) }
+    ensures can { OnOk result (destroy_refusal table.now views.now.opened target.now recursive defer ≡ None) }
+    ensures refused { IfSome (destroy_refusal table.now views.now.opened target.now recursive defer) (λ e. (result ≡ Err e) ⊎ (result ≡ Err Refusal.NoMemory)) }
+    ensures only { IfErr result (λ e. (destroy_refusal table.now views.now.opened target.now recursive defer ≡ Some e) ⊎ (e ≡ Refusal.NoMemory)) }
 {
+    // It tells of the snapshots that none is of group 0.
+    let _count = table.len();
     match target {
         Target::FileSystem(name) => {
-            if let Some(refusal) = refusal_of(table, name, recursive, defer) {
+            if let Some(refusal) = refusal_of(table, views, name, recursive, defer) {
                 return Err(refusal);
             }
             without_systems(alloc, table, freeing, name, recursive, segments)
         }
-        Target::Snapshot(name) => {
-            destroy_snapshots(alloc, table, freeing, name, recursive, segments)
-        }
+        Target::Snapshot(name) => destroy_snapshots(
+            alloc, table, freeing, views, name, recursive, defer, segments,
+        ),
         Target::Bookmark(_) => Err(Refusal::NoDataset),
     }
 }

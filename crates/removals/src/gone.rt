@@ -1,41 +1,57 @@
 //! Datasets that are destroyed.
-ghost use Rattle.std.specs.Prelude.{◌≡◌, ◌⊎◌, false, Some, None, IfSome, IfOk, IfErr, OnOk};
+ghost use Rattle.std.specs.Prelude.{◌≡◌, ◌⊎◌, ◌&&◌, not, Some, None, IfSome, IfOk, IfErr, OnOk};
+ghost use Rattle.std.specs.List.{list_any};
 ghost use Rattle.base.specs.declared.refusal.Refusal.{Refusal};
 ghost use Rattle.name.specs.declared.target.Target.{Target};
 ghost use Rattle.model.specs.World.{union_of};
 ghost use Rattle.world.specs.Sets.{AreDisjoint};
 ghost use Rattle.world.specs.Tables.{world_of};
 ghost use Rattle.removals.specs.Edits.{HasLost};
-ghost use Rattle.removals.specs.Requests.{destroyed, destroy_refusal};
+ghost use Rattle.removals.specs.Named.{is_named_viewed};
+ghost use Rattle.removals.specs.Requests.{destroyed, destroy_refusal, AreBare};
 
 use crate::edit::Edit;
+use crate::viewed::any_named_viewed;
 use base::meter::SegMeter;
 use base::refusal::Refusal;
 use datasets::Table;
 use destroyer::Freeing;
 use name::SnapName;
-use snap::{any_taken, expand};
+use snap::{Named, any_taken, expand};
 use std::alloc::Global;
 use std::slice::from_ref;
+use views::Views;
+
+// Whether one of these can't be destroyed, not even later, for an open view shows it. It costs what `any_named_viewed` does.
+fn any_busy(table: &Table, views: &Views, all: &[Named], defer: bool) -> bool
+    ensures { result ≡ (not defer && list_any (is_named_viewed table.now views.now.opened) all.now) }
+{
+    !defer && any_named_viewed(table, views, all)
+}
 
 /// The datasets without the snapshot of this name, or with `recursive` without those of that name of its file system and of each
-/// descendant; the blocks that no dataset has then are to be freed. The table and what it has to free stay as they are. Refused is
-/// NoDataset where there is none of them; NoMemory, where there is none for it, may come before that (zfs-destroy(8)). It costs the
-/// number of file systems, the chunks of pieces that are to be freed, and for each name what `Edit::lose_snapshot` does.
+/// descendant; with `defer` those that one of these views shows stay, and go once nothing needs them. The blocks that no dataset has then
+/// are to be freed. The table and what it has to free stay as they are. Refused are NoDataset where there is none of them, else Busy where
+/// one of these views shows one of them and not `defer`; NoMemory, where there is none for it, may come before both (zfs-destroy(8)). It
+/// costs the number of file systems, the chunks of pieces that are to be freed, and for each name what `Edit::lose_snapshot` does and the
+/// number of open views.
 pub fn destroy_snapshots(
     alloc: Global,
     table: &Table,
     freeing: &Freeing,
+    views: &Views,
     name: &SnapName,
     recursive: bool,
+    defer: bool,
     segments: &mut SegMeter,
 ) -> Result<Edit, Refusal>
     requires apart { AreDisjoint (union_of (world_of table.now)) freeing.now }
-    ensures ok { IfOk result (λ e. e.to ≡ destroyed table.now (Target.Snapshot name.now) recursive) }
+    requires bare { AreBare table.now.file_systems }
+    ensures ok { IfOk result (λ e. e.to ≡ destroyed table.now views.now.opened (Target.Snapshot name.now) recursive defer) }
     ensures lost { IfOk result (λ e. HasLost table.now freeing.now e.to e.freeing) }
-    ensures can { OnOk result (destroy_refusal table.now (Target.Snapshot name.now) recursive false ≡ None) }
-    ensures refused { IfSome (destroy_refusal table.now (Target.Snapshot name.now) recursive false) (λ e. (result ≡ Err e) ⊎ (result ≡ Err Refusal.NoMemory)) }
-    ensures only { IfErr result (λ e. (destroy_refusal table.now (Target.Snapshot name.now) recursive false ≡ Some e) ⊎ (e ≡ Refusal.NoMemory)) }
+    ensures can { OnOk result (destroy_refusal table.now views.now.opened (Target.Snapshot name.now) recursive defer ≡ None) }
+    ensures refused { IfSome (destroy_refusal table.now views.now.opened (Target.Snapshot name.now) recursive defer) (λ e. (result ≡ Err e) ⊎ (result ≡ Err Refusal.NoMemory)) }
+    ensures only { IfErr result (λ e. (destroy_refusal table.now views.now.opened (Target.Snapshot name.now) recursive defer ≡ Some e) ⊎ (e ≡ Refusal.NoMemory)) }
 {
     // It tells of the snapshots that their names are different.
     let _count = table.len();
@@ -43,7 +59,11 @@ pub fn destroy_snapshots(
     if !any_taken(table, &all) {
         return Err(Refusal::NoDataset);
     }
+    if any_busy(table, views, &all, defer) {
+        return Err(Refusal::Busy);
+    }
     let mut edit = Edit::of(table, freeing)?;
-    edit.lose_all(alloc, &all, segments)?;
+    edit.lose_unviewed(alloc, table, views, &all, segments)?;
+    edit.defer_all(alloc, &all)?;
     Ok(edit)
 }

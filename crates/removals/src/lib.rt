@@ -5,11 +5,14 @@
 #![tactic(auto)]
 
 mod back;
+mod close;
 mod edit;
 mod family;
 mod gone;
+mod viewed;
 
 pub use back::rollback;
+pub use close::close_view;
 pub use edit::Edit;
 pub use family::destroy;
 pub use gone::destroy_snapshots;

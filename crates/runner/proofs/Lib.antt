@@ -1,1 +1,3 @@
 pub mod Rans
+pub mod Holding
+pub mod Gaining

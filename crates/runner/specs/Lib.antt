@@ -1,4 +1,5 @@
 pub mod Args
 pub mod Serving
 pub mod Status
+pub mod Sitting
 pub mod Beside

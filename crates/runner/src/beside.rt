@@ -1,5 +1,5 @@
 //! A script that runs beside workers.
-ghost use Rattle.std.specs.Prelude.{◌≡◌, ◌<◌, ◌≤◌, List, [], ◌∷◌, IfSome};
+ghost use Rattle.std.specs.Prelude.{◌≡◌, ◌<◌, ◌≤◌, ℕ, List, [], ◌∷◌, IfSome};
 ghost use Rattle.book.specs.declared.book.TheConstants.{CALL_LIMIT};
 ghost use Rattle.book.specs.Receipts.{Kept};
 ghost use Rattle.runner.specs.Beside.{Gains, HasHistory, RanBeside};
@@ -102,7 +102,7 @@ fn opened<K: Opening, T: Wait>(
     Some((session, script, workers))
 }
 
-/// Runs the script by its seat, beside the workers, and gives the exit status and the seat.
+/// Runs the script by its seat, beside the workers, and gives the exit status and the seat. The views that are left open are forgotten.
 fn run_seated<K, T, R, W, E>(
     rt: &T,
     alloc: Global,
@@ -120,13 +120,15 @@ where
     R: BufRead + Failing,
     W: Write + Failing,
     E: Write,
-    ensures ran { result.0 < 2 → RanTo Gains stop (R.remaining reader.old) (W.contents writer.old) (W.contents writer.new) seat result.1 result.0 }
+    ensures ran { result.0 < 2 → (held : List ℕ) × RanTo Gains stop (R.remaining reader.old) (W.contents writer.old) (W.contents writer.new)
+        (record { seat = seat; held = [] }) (record { seat = result.1; held = held }) result.0 }
 {
     let mut caller = Seated {
         alloc,
         rt,
         shared,
         seat,
+        views: Vec::new(alloc),
     };
     let status = run_threads(
         rt,
@@ -144,7 +146,11 @@ where
         rt: _,
         shared: _,
         seat,
+        views,
     } = caller;
+    for view in views {
+        let _number = view.forget();
+    }
     (status, seat)
 }
 

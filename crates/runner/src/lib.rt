@@ -4,6 +4,7 @@
 mod args;
 mod beside;
 mod caller;
+mod copies;
 mod run;
 mod seated;
 mod turns;

@@ -1,15 +1,19 @@
-//! A seat of a session as a caller.
-ghost use Rattle.std.specs.Prelude.{◌≡◌, IfSome};
+//! A seat of a session as a caller, with the views that it opened.
+ghost use Rattle.std.specs.Prelude.{◌≡◌, ◌==◌, ◌<◌, false, length, IfSome};
+ghost use Rattle.std.specs.List.{position};
+ghost use Rattle.model.specs.declared.request.Request.{Request};
+ghost use Rattle.session.specs.ViewCalls.{is_of_views};
 ghost use Rattle.runner.specs.Beside.{Gains};
 
+use crate::copies::reply_of;
 use crate::turns::Lines;
-use base::text::Bytes;
-use book::{Opening, Receipt, Seat};
-use model::names::Names;
+use base::refusal::Refusal;
+use book::{Opening, Seat};
 use model::reply::Reply;
 use model::request::Request;
+use name::Target;
 use script::run::Caller;
-use session::Session;
+use session::{ClosedView, OpenedView, Session, View};
 use std::alloc::Global;
 use std::marker::Model;
 use std::sync::Wait;
@@ -21,72 +25,100 @@ pub(crate) struct Shared<K: Opening> {
     pub(crate) lines: Lines,
 }
 
-/// A seat of a session, with what its calls need. Contracts see the seat.
+/// A seat of a session with the views that it opened and didn't close, and with what its calls need. Contracts see the seat and the
+/// numbers of the views.
 pub(crate) struct Seated<'t, 's, K: Opening, T: Wait> {
     pub(crate) alloc: Global,
     pub(crate) rt: &'t T,
     pub(crate) shared: &'s Shared<K>,
     pub(crate) seat: Seat<K>,
+    pub(crate) views: Vec<View<K>>,
 }
 
 impl<'t, 's, K: Opening, T: Wait> Model for Seated<'t, 's, K, T> {
-    ghost use Rattle.book.specs.Receipts.{Kept, kept_code};
+    ghost use Rattle.std.specs.Prelude.{map};
+    ghost use Rattle.session.specs.Views.{Viewed};
+    ghost use Rattle.runner.specs.Sitting.{Sitting, sitting_code};
 
-    ghost Value = { Kept };
+    ghost Value = { Sitting };
 
-    ghost coded = { kept_code };
+    ghost coded = { sitting_code };
 
-    ghost view = { λ s. s.seat };
+    ghost view = { λ s. record { seat = s.seat; held = map (λ (v : Viewed). v.number) s.views.items } };
 }
 
 impl<K: Opening, T: Wait> Caller for Seated<'_, '_, K, T> {
     ghost asks = { Gains };
 
     fn ask(&mut self, request: Request) -> Option<Reply> {
-        let shared = self.shared;
-        shared.lines.ask(self.rt);
-        let called = shared
-            .session
-            .call(self.alloc, self.rt, &mut self.seat, request);
-        match called {
-            Ok(receipt) => reply_of(self.alloc, receipt),
-            Err(refusal) => Some(Reply::Refused(refusal)),
+        self.shared.lines.ask(self.rt);
+        match request {
+            Request::OpenView { target } => self.open(target),
+            Request::CloseView { view } => self.close(view),
+            request => self.call(request),
         }
     }
 }
 
-/// A copy of a receipt's reply. None where there is no memory for it.
-fn reply_of(alloc: Global, receipt: Receipt) -> Option<Reply>
-    ensures { IfSome result (λ r. r ≡ receipt.entry.reply) }
-{
-    match receipt.entry.reply.other() {
-        Some(reply) => copy_of(alloc, reply),
-        None => Some(Reply::Done),
+impl<K: Opening, T: Wait> Seated<'_, '_, K, T> {
+    // Asks for what neither opens nor closes a view.
+    fn call(&mut self, request: Request) -> Option<Reply>
+        requires { is_of_views request ≡ false }
+        ensures { Gains self.old request result self.new }
+    {
+        let session = &self.shared.session;
+        match session.call(self.alloc, self.rt, &mut self.seat, request) {
+            Ok(receipt) => reply_of(self.alloc, receipt),
+            Err(refusal) => Some(Reply::Refused(refusal)),
+        }
+    }
+
+    // Opens a view, and holds it.
+    fn open(&mut self, target: Target) -> Option<Reply>
+        ensures { Gains self.old (Request.OpenView target) result self.new }
+    {
+        if self.views.reserve(1).is_err() {
+            drop(target);
+            return Some(Reply::Refused(Refusal::NoMemory));
+        }
+        let session = &self.shared.session;
+        match session.open_view(self.alloc, self.rt, &mut self.seat, target) {
+            Ok(OpenedView::Opened(view, receipt)) => {
+                self.views.push_reserved(view);
+                reply_of(self.alloc, receipt)
+            }
+            Ok(OpenedView::Refused(receipt)) => reply_of(self.alloc, receipt),
+            Err(refusal) => Some(Reply::Refused(refusal)),
+        }
+    }
+
+    // Closes a view that it holds.
+    fn close(&mut self, number: u64) -> Option<Reply>
+        ensures { Gains self.old (Request.CloseView number) result self.new }
+    {
+        let Some(place) = place_of(&self.views, number) else {
+            return Some(Reply::Refused(Refusal::NoView));
+        };
+        let view = self.views.swap_remove(place);
+        let session = &self.shared.session;
+        match session.close_view(self.alloc, self.rt, &mut self.seat, view) {
+            ClosedView::Closed(receipt) => reply_of(self.alloc, receipt),
+            ClosedView::Refused(receipt, view) => {
+                self.views.push_reserved(view);
+                reply_of(self.alloc, receipt)
+            }
+            ClosedView::NotRun(refusal, view) => {
+                self.views.push_reserved(view);
+                Some(Reply::Refused(refusal))
+            }
+        }
     }
 }
 
-/// A copy of a reply. None where there is no memory for its names.
-fn copy_of(alloc: Global, reply: &Reply) -> Option<Reply>
-    ensures { IfSome result (λ r. r ≡ reply.now) }
+// The place of a view of this number, or none.
+fn place_of<K: Opening>(views: &[View<K>], number: u64) -> Option<usize>
+    ensures first { result ≡ position (λ v. v.number == number) views.now }
+    ensures within { IfSome result (λ place. place < length views.now) }
 {
-    match reply {
-        Reply::Done => Some(Reply::Done),
-        Reply::Refused(refusal) => Some(Reply::Refused(*refusal)),
-        Reply::Data(bytes) => Some(Reply::Data(*bytes)),
-        Reply::Value(value) => Some(Reply::Value(*value)),
-        Reply::Group(group) => Some(Reply::Group(*group)),
-        Reply::Names(names) => Some(Reply::Names(copy_of_names(alloc, names)?)),
-        Reply::Count(count) => Some(Reply::Count(*count)),
-    }
-}
-
-fn copy_of_names(alloc: Global, names: &Names) -> Option<Names>
-    ensures { IfSome result (λ r. r ≡ names.now) }
-{
-    let mut copy = Vec::new(alloc);
-    for name in names.as_slice() {
-        let bytes = Vec::from_slice(alloc, name.as_slice()).ok()?;
-        copy.push(Bytes::from(bytes)).ok()?;
-    }
-    Some(Names::from(copy))
+    views.iter().position(|view| view.number() == number)
 }

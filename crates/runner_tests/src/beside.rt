@@ -52,6 +52,15 @@ fn replies_that_workers_leave(rt: HostRuntime) {
 }
 
 #[test]
+fn views_of_a_seat(rt: HostRuntime) {
+    let script: &[u8] =
+        b"create p/a\nwrite p/a 0 0 61\nsnapshot p/a@s\nview p/a@s\nview p/a@s\nunview 7\ndestroy p/a@s\nunview 1\nunview 1\ndestroy p/a@s\nview p/a\n";
+    let output: &[u8] =
+        b"ok\nok\nok\n1\n2\nerror 26 NoView\nerror 8 Busy\nok\nerror 26 NoView\nerror 8 Busy\nerror 7 NotSnapshot\n";
+    assert!(rt; prints(&rt, rt.alloc(), false, script, output, 0));
+}
+
+#[test]
 fn stops_at_the_first_refused_line(rt: HostRuntime) {
     let alloc = rt.alloc();
     let bad: &[u8] = b"read p 0 0\nfrob\nread p 0 0\n";

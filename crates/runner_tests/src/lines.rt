@@ -113,6 +113,14 @@ fn lines_of_bad_shape(rt: HostRuntime) {
         "slice 020",
         "slice 4294967296",
         "slice 1 2",
+        "view",
+        "view p@s p@t",
+        "view -r p@s",
+        "unview",
+        "unview p@s",
+        "unview 01",
+        "unview 4294967296",
+        "unview 1 2",
         "read p/ 0 x",
         "READ p 0 0",
         "sync extra",
@@ -169,7 +177,7 @@ fn lines_of_snapshots(rt: HostRuntime) {
 }
 
 #[test]
-fn lines_of_removals(rt: HostRuntime) {
+fn lines_of_removals_and_views(rt: HostRuntime) {
     let alloc = rt.alloc();
     for line in [
         "rollback p@",
@@ -178,6 +186,8 @@ fn lines_of_removals(rt: HostRuntime) {
         "destroy -r p@s@t",
         "destroy -d p#",
         "destroy -r -d @s",
+        "view p@",
+        "view p/",
     ] {
         let reply = b"error 1 BadName\n";
         assert!(rt; answers(&rt, alloc, line.as_bytes(), reply), "{line}");

@@ -5,11 +5,11 @@ use Rattle.hex.proofs.OnLiterals.{hex_on_literals}
 use Rattle.name.specs.Reading.{name_of, snap_of, target_of}
 use Rattle.script.specs.Lines.{lines, line_limit}
 use Rattle.script.specs.Words.{number_of_word, block_of_word, property_of_word, pool_property_of_word}
-use Rattle.script.specs.Meaning.{meaning, request_of, words_meaning, command_of, create_of, write_of, block_request_of, free_object_of, snapshots_of, snapshot_of, target_request_of, rollback_of, destroyed_of, destroy_of, slice_of, get_of, pool_get_of}
+use Rattle.script.specs.Meaning.{meaning, request_of, words_meaning, command_of, create_of, write_of, block_request_of, free_object_of, snapshots_of, snapshot_of, target_request_of, rollback_of, destroyed_of, destroy_of, number_request_of, get_of, pool_get_of}
 use Rattle.script.specs.Examples.{WorkedLines}
 
 pub worked_lines : WorkedLines
-unfolding lines line_limit meaning request_of words_meaning command_of create_of write_of block_request_of free_object_of snapshots_of snapshot_of target_request_of rollback_of destroyed_of destroy_of slice_of get_of pool_get_of number_of_word block_of_word property_of_word pool_property_of_word name_of snap_of target_of digits hex_on_literals
+unfolding lines line_limit meaning request_of words_meaning command_of create_of write_of block_request_of free_object_of snapshots_of snapshot_of target_request_of rollback_of destroyed_of destroy_of number_request_of get_of pool_get_of number_of_word block_of_word property_of_word pool_property_of_word name_of snap_of target_of digits hex_on_literals
 worked_lines = record {
   three = refl;
   ended = refl;
@@ -52,6 +52,11 @@ worked_lines = record {
   slice_greatest = refl;
   slice_too_great = refl;
   slice_bare = refl;
+  view = refl;
+  view_file_system = refl;
+  view_bad_name = refl;
+  unview = refl;
+  unview_by_name = refl;
   list = refl;
   sync = refl;
   sync_extra = refl;
@@ -68,6 +73,7 @@ worked_lines = record {
   done = refl;
   group = refl;
   count = refl;
+  opened = refl;
   no_names = refl;
   names = refl;
   refused = refl;

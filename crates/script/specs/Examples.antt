@@ -1,12 +1,13 @@
 -- Worked lines.
 use Rattle.std.specs.Prelude.{◌≡◌, ◌↔◌, ◌≤◌, ℕ, true, false, List, Some, ◌++◌, [], ◌∷◌, codes, replicate}
 use Rattle.std.specs.Fmt.{decimal}
+use Rattle.std.specs.FinMap as finmap
 use Rattle.base.specs.declared.refusal.Refusal.TheVariants.{BadName, NoDataset, BadLine}
 use Rattle.name.specs.declared.target.Target.TheVariants.{FileSystem, Snapshot, Bookmark}
 use Rattle.model.specs.declared.request.Property.TheVariants.{Referenced, Written, Guid, CreateTxg}
 use Rattle.model.specs.declared.request.PoolProperty.TheVariants.{Free, Freeing}
-use Rattle.model.specs.declared.request.Request.TheVariants.{Create, Write, Punch, FreeObject, Snapshot as TakeSnapshots, Read, Get, PoolGet, List as ListNames, Rollback, Destroy, Slice, Sync}
-use Rattle.model.specs.declared.reply.Reply.TheVariants.{Done, Refused, Group, Names, Count}
+use Rattle.model.specs.declared.request.Request.TheVariants.{Create, Write, Punch, FreeObject, Snapshot as TakeSnapshots, Read, Get, PoolGet, List as ListNames, Rollback, Destroy, Slice, Sync, OpenView, CloseView}
+use Rattle.model.specs.declared.reply.Reply.TheVariants.{Done, Refused, Group, Names, Count, Opened}
 use Rattle.script.specs.Lines.{lines}
 use Rattle.script.specs.Words.{number_of_word}
 use Rattle.script.specs.Meaning.{meaning, Silent, Faulty, Asks}
@@ -69,6 +70,11 @@ pub record WorkedLines : Type 0 where
   pub slice_greatest : meaning (codes "slice 4294967295") ≡ Asks (Slice 4294967295)
   pub slice_too_great : meaning (codes "slice 4294967296") ≡ Faulty BadLine
   pub slice_bare : meaning (codes "slice") ≡ Faulty BadLine
+  pub view : meaning (codes "view p/a@s") ≡ Asks (OpenView (Snapshot (record { file_system = codes "p/a"; component = codes "s" })))
+  pub view_file_system : meaning (codes "view p") ≡ Asks (OpenView (FileSystem (codes "p")))
+  pub view_bad_name : meaning (codes "view p@") ≡ Faulty BadName
+  pub unview : meaning (codes "unview 7") ≡ Asks (CloseView 7)
+  pub unview_by_name : meaning (codes "unview p@s") ≡ Faulty BadLine
   pub list : meaning (codes "list") ≡ Asks ListNames
   pub sync : meaning (codes "sync") ≡ Asks Sync
   pub sync_extra : meaning (codes "sync extra") ≡ Faulty BadLine
@@ -85,6 +91,7 @@ pub record WorkedLines : Type 0 where
   pub done : line_of Done ≡ codes "ok" ++ 10 ∷ []
   pub group : line_of (Group 12) ≡ codes "12" ++ 10 ∷ []
   pub count : line_of (Count 20) ≡ codes "20" ++ 10 ∷ []
+  pub opened : line_of (Opened 3 (record { map = finmap.empty; guid = 5; group = 7 })) ≡ codes "3" ++ 10 ∷ []
   pub no_names : line_of (Names []) ≡ codes "-" ++ 10 ∷ []
   pub names : line_of (Names (codes "p" ∷ codes "p/a" ∷ [])) ≡ codes "p p/a" ++ 10 ∷ []
   pub refused : line_of (Refused NoDataset) ≡ codes "error 2 NoDataset" ++ 10 ∷ []

@@ -9,7 +9,7 @@ use Rattle.name.specs.declared.member.Member.{Member}
 use Rattle.name.specs.declared.target.Target.{Target}
 use Rattle.name.specs.Reading.{name_of, snap_of, target_of}
 use Rattle.model.specs.declared.request.Request.{Request}
-use Rattle.model.specs.declared.request.Request.TheVariants.{Create, Write, Punch, FreeObject, Snapshot, Read, Get, PoolGet, List as ListNames, Rollback, Destroy, Slice, Sync}
+use Rattle.model.specs.declared.request.Request.TheVariants.{Create, Write, Punch, FreeObject, Snapshot, Read, Get, PoolGet, List as ListNames, Rollback, Destroy, Slice, Sync, OpenView, CloseView}
 use Rattle.script.specs.Lines.{line_limit}
 use Rattle.script.specs.Words.{is_printable, words_of, is_word, number_of_word, block_of_word, property_of_word, pool_property_of_word}
 
@@ -109,9 +109,9 @@ destroyed_of recursive operands =
 unfoldable pub destroy_of : List (List ℕ) → Meaning
 destroy_of operands = destroyed_of (has_option (codes "-r") operands) (after_option (codes "-r") operands)
 
--- `slice NUM` (profile)
-unfoldable pub slice_of : List (List ℕ) → Meaning
-slice_of operands = shaped (one_of operands) (λ w. shaped (number_of_word w) (λ count. Asks (Slice count)))
+-- `NUM`: a request of one number (profile)
+unfoldable pub number_request_of : (ℕ → Request) → List (List ℕ) → Meaning
+number_request_of request operands = shaped (one_of operands) (λ w. shaped (number_of_word w) (λ n. Asks (request n)))
 
 -- `get PROP TARGET` (profile)
 unfoldable pub get_of : List (List ℕ) → Meaning
@@ -141,8 +141,10 @@ command_of command operands =
     else if bytes_eq command (codes "list") then bare ListNames operands
     else if bytes_eq command (codes "rollback") then rollback_of operands
     else if bytes_eq command (codes "destroy") then destroy_of operands
-    else if bytes_eq command (codes "slice") then slice_of operands
+    else if bytes_eq command (codes "slice") then number_request_of Slice operands
     else if bytes_eq command (codes "sync") then bare Sync operands
+    else if bytes_eq command (codes "view") then target_request_of OpenView operands
+    else if bytes_eq command (codes "unview") then number_request_of CloseView operands
     else Faulty BadLine
 
 -- by the words (profile)

@@ -7,7 +7,7 @@ use Rattle.base.specs.Refusals.{number_of, name_of}
 use Rattle.model.specs.declared.reply.Value.{Value}
 use Rattle.model.specs.declared.reply.Value.TheVariants.{Size, Number, NotApplicable}
 use Rattle.model.specs.declared.reply.Reply.{Reply}
-use Rattle.model.specs.declared.reply.Reply.TheVariants.{Done, Refused, Data, Value as ValueIs, Group, Names, Count}
+use Rattle.model.specs.declared.reply.Reply.TheVariants.{Done, Refused, Data, Value as ValueIs, Group, Names, Count, Opened}
 
 -- a property's value (profile)
 abbrev pub value_text : Value → List ℕ
@@ -34,6 +34,7 @@ text_of (ValueIs v) = value_text v
 text_of (Group group) = decimal group
 text_of (Names names) = names_text names
 text_of (Count count) = decimal count
+text_of (Opened view sight) = decimal view
 
 -- a reply's line (profile)
 abbrev pub line_of : Reply → List ℕ

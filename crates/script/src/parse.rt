@@ -5,9 +5,10 @@ ghost use Rattle.std.specs.Option.{option_map, option_copied};
 ghost use Rattle.std.specs.List.{list_all};
 ghost use Rattle.hex.specs.Hex.{decode_of};
 ghost use Rattle.name.specs.Reading.{Reads};
+ghost use Rattle.model.specs.declared.request.Request.{Request};
 ghost use Rattle.script.specs.Words.{is_printable, is_word, words_of, number_of_word, number_without_zero, number_from, block_of_word, filled, property_of_word, pool_property_of_word};
-ghost use Rattle.script.specs.Meaning.{request_of, command_of, create_of, write_of, block_request_of, free_object_of, snap_names_of, snapshots_of, snapshot_of, get_of, rollback_of, destroyed_of, destroy_of, slice_of, pool_get_of, has_option, after_option, bare, one_of, two_of, three_of, four_of};
-ghost use Rattle.script.specs.Reading.{words_left, Means, MeansBlock, MeansTarget};
+ghost use Rattle.script.specs.Meaning.{request_of, command_of, create_of, write_of, block_request_of, free_object_of, snap_names_of, snapshots_of, snapshot_of, get_of, rollback_of, destroyed_of, destroy_of, number_request_of, target_request_of, pool_get_of, has_option, after_option, bare, one_of, two_of, three_of, four_of};
+ghost use Rattle.script.specs.Reading.{words_left, Means, MeansBlock, MeansTarget, MeansNumber};
 
 use crate::lines::LINE_LIMIT;
 use base::data::Data;
@@ -154,6 +155,10 @@ fn command_at(alloc: Global, command: &[u8], operands: Option<&[u8]>) -> Result<
         slice(operands)
     } else if command == b"sync".as_slice() {
         bare(Request::Sync, operands)
+    } else if command == b"view".as_slice() {
+        open_view(alloc, operands)
+    } else if command == b"unview".as_slice() {
+        close_view(operands)
     } else {
         Err(Refusal::BadLine)
     }
@@ -334,20 +339,42 @@ fn destroyed(alloc: Global, operands: Option<&[u8]>, recursive: bool) -> Result<
     })
 }
 
-#[inline(never)]
-#[tactic(auto, unfolding(crate::specs::Meaning::slice_of))]
-fn slice(operands: Option<&[u8]>) -> Result<Request, Refusal>
-    ensures { Means result (slice_of (words_left (option_copied operands.entry))) }
+// The number that is the one operand of a request.
+#[tactic(auto, unfolding(crate::specs::Meaning::number_request_of))]
+fn lone_number(operands: Option<&[u8]>) -> Result<u64, Refusal>
+    ensures { (request : ℕ → Request) → MeansNumber result (words_left (option_copied operands.entry)) request }
 {
-    let Some(count) = one(operands) else {
+    let Some(word) = one(operands) else {
         return Err(Refusal::BadLine);
     };
-    let Some(count) = number(count) else {
+    let Some(number) = number(word) else {
         return Err(Refusal::BadLine);
     };
-    Ok(Request::Slice {
-        count: u64::from(count),
-    })
+    Ok(u64::from(number))
+}
+
+#[inline(never)]
+fn slice(operands: Option<&[u8]>) -> Result<Request, Refusal>
+    ensures { Means result (number_request_of Request.Slice (words_left (option_copied operands.entry))) }
+{
+    let count = lone_number(operands)?;
+    Ok(Request::Slice { count })
+}
+
+#[inline(never)]
+fn open_view(alloc: Global, operands: Option<&[u8]>) -> Result<Request, Refusal>
+    ensures { Means result (target_request_of Request.OpenView (words_left (option_copied operands.entry))) }
+{
+    let target = lone_target(alloc, operands)?;
+    Ok(Request::OpenView { target })
+}
+
+#[inline(never)]
+fn close_view(operands: Option<&[u8]>) -> Result<Request, Refusal>
+    ensures { Means result (number_request_of Request.CloseView (words_left (option_copied operands.entry))) }
+{
+    let view = lone_number(operands)?;
+    Ok(Request::CloseView { view })
 }
 
 #[inline(never)]

@@ -32,6 +32,10 @@ pub(crate) fn write_reply<W: Write>(writer: &mut W, reply: &Reply) -> io::Result
             let group = *group;
             writeln!(writer, "{group}")
         }
+        Reply::Opened(view, _) => {
+            let view = *view;
+            writeln!(writer, "{view}")
+        }
         Reply::Count(count) => {
             let count = *count;
             writeln!(writer, "{count}")

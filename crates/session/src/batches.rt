@@ -1,12 +1,14 @@
 //! Several requests in one hold of the lock.
-ghost use Rattle.std.specs.Prelude.{◌≡◌, ◌+◌, ◌≤◌, ◌∷◌, length, IfOk, IfErr, IsOkAnd, OnErr, vec_len, vec_capacity, []};
+ghost use Rattle.std.specs.Prelude.{◌≡◌, ◌+◌, ◌≤◌, ◌∷◌, ◌⊎◌, true, Err, length, IfOk, IfErr, IsOkAnd, OnErr, vec_len, vec_capacity, []};
+ghost use Rattle.std.specs.List.{list_any};
 ghost use Rattle.std.specs.Vec.Iter.{into_iter_items};
 ghost use Rattle.book.specs.Calls.{Ran, IsFullOrNoMemory};
 ghost use Rattle.book.specs.Receipts.{Kept};
 ghost use Rattle.session.specs.Calls.{IsBatch, IsPaced, IsAdded, IsBegun, FollowOn};
+ghost use Rattle.session.specs.ViewCalls.{is_of_views};
 
 use crate::gate::Gate;
-use crate::shared::Session;
+use crate::shared::{Session, is_of_views};
 use base::refusal::Refusal;
 use book::{Book, Opening, Receipt, Seat, enter};
 use model::request::Request;
@@ -17,8 +19,9 @@ use std::vec::IntoIter;
 impl<K: Opening> Session<K> {
     /// Applies requests one right after another, in one hold of the lock, and gives their receipts. Between two the gate is asked. The
     /// batch stops early where the gate says no, or where there is no memory for the next entry; the receipts then are those of
-    /// the first requests. At `Err` nothing ran: SessionFull where not all requests would have room, NoMemory where there is none for
-    /// the receipts or the first entry. A batch of no requests always ends well, with no receipts.
+    /// the first requests. At `Err` nothing ran: NoView where one of them opens or closes a view, SessionFull where not all would have
+    /// room, NoMemory where there is none for the receipts or the first entry. A batch of no requests always ends well, with no
+    /// receipts.
     pub fn batch<R: Wait, G: Gate>(
         &self,
         alloc: Global,
@@ -31,8 +34,13 @@ impl<K: Opening> Session<K> {
         ensures empty { requests.items ≡ [] → IsOkAnd result (λ rs. rs.items ≡ []) }
         ensures paced { IfOk result (λ rs. IsPaced (vec_len requests) (G.left gate.old) (vec_len rs) (G.left gate.new) (G.stopped gate.new)) }
         ensures err { OnErr result ((seat.new ≡ seat.old) × (gate.new ≡ gate.old)) }
-        ensures refusal { IfErr result (λ r. IsFullOrNoMemory r) }
+        ensures views { list_any is_of_views requests.items ≡ true → result ≡ Err Refusal.NoView }
+        ensures refusal { IfErr result (λ r. IsFullOrNoMemory r ⊎ ((r ≡ Refusal.NoView) × (list_any is_of_views requests.items ≡ true))) }
     {
+        if any_of_views(&requests) {
+            drop(requests);
+            return Err(Refusal::NoView);
+        }
         let asked = requests.len();
         let mut rest = requests.into_iter();
         let Some(first) = rest.next() else {
@@ -57,6 +65,13 @@ impl<K: Opening> Session<K> {
             }
         }
     }
+}
+
+// Whether one of these opens or closes a view.
+fn any_of_views(requests: &[Request]) -> bool
+    ensures { result ≡ list_any is_of_views requests.now }
+{
+    requests.iter().any(|request| is_of_views(request))
 }
 
 // Enters the requests after the first, which was the last to be entered, and asks the gate before each.

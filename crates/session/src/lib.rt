@@ -1,12 +1,15 @@
 //! A pool that callers in threads of their own share under one lock. Each request that runs is an entry of the book that lies under
-//! the lock, and the caller's seat keeps its receipt. Workers make one request again and again. Once the threads have ended, the
+//! the lock, and the caller's seat keeps its receipt. A view of a snapshot is read without the lock. Workers make one request again and again. Once the threads have ended, the
 //! book comes out of the lock and is closed.
 #![tactic(auto)]
 
 mod batches;
 mod gate;
 mod shared;
+mod view;
+mod view_calls;
 mod workers;
 
 pub use gate::Gate;
 pub use shared::Session;
+pub use view::{ClosedView, OpenedView, View};

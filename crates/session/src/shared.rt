@@ -1,10 +1,12 @@
 //! A session, which callers in threads of their own share.
-ghost use Rattle.std.specs.Prelude.{◌≡◌, ◌<◌, ◌≤◌, [], Err, IfOk, IfErr, OnErr};
+ghost use Rattle.std.specs.Prelude.{◌≡◌, ◌<◌, ◌≤◌, ◌⊎◌, true, [], Err, IfOk, IfErr, IfSome, OnErr, is_some};
 ghost use Rattle.book.specs.Calls.{Ran, IsFullOrNoMemory, IsNoLimit, IsUnopened};
+ghost use Rattle.book.specs.Entered.{is_opened};
 ghost use Rattle.book.specs.declared.book.TheConstants.{SEAT_LIMIT};
+ghost use Rattle.session.specs.ViewCalls.{is_of_views};
 
 use base::refusal::Refusal;
-use book::{Book, Call, Opening, Receipt, Seat, enter_call};
+use book::{Book, Call, Entered, Opening, Receipt, Seat, enter_call};
 use model::request::Request;
 use pool::Pool;
 use std::alloc::Global;
@@ -42,8 +44,9 @@ impl<K: Opening> Session<K> {
     }
 
     /// Applies a request, and gives its place in the history. A request that the pool refuses has run, and its entry has the refusal
-    /// as its reply. At `Err` nothing ran: SessionFull once the session has taken all its calls, NoMemory where there is no memory
-    /// for the entry or its receipts. The entry's memory is taken before the lock.
+    /// as its reply. At `Err` nothing ran: NoView for a request that opens or closes a view, which `open_view` and `close_view` do;
+    /// SessionFull once the session has taken all its calls, NoMemory where there is no memory for the entry or its receipts. The
+    /// entry's memory is taken before the lock.
     pub fn call<R: Wait>(
         &self,
         alloc: Global,
@@ -53,6 +56,31 @@ impl<K: Opening> Session<K> {
     ) -> Result<Receipt, Refusal>
         ensures ok { IfOk result (λ r. Ran seat.old request r seat.new) }
         ensures room { IfOk result (λ r. r.number < K.limit) }
+        ensures err { OnErr result (seat.new ≡ seat.old) }
+        ensures views { is_of_views request ≡ true → result ≡ Err Refusal.NoView }
+        ensures refusal { IfErr result (λ r. IsFullOrNoMemory r ⊎ ((r ≡ Refusal.NoView) × (is_of_views request ≡ true))) }
+    {
+        if is_of_views(&request) {
+            drop(request);
+            return Err(Refusal::NoView);
+        }
+        let Entered { receipt, viewed } = self.ask(alloc, rt, seat, request)?;
+        drop(viewed);
+        Ok(receipt)
+    }
+
+    // Applies a request of any kind as `call` does, and gives beside its receipt one more owner of its entry where that opened a view.
+    pub(crate) fn ask<R: Wait>(
+        &self,
+        alloc: Global,
+        rt: &R,
+        seat: &mut Seat<K>,
+        request: Request,
+    ) -> Result<Entered, Refusal>
+        ensures ok { IfOk result (λ r. Ran seat.old request r.receipt seat.new) }
+        ensures room { IfOk result (λ r. r.receipt.number < K.limit) }
+        ensures viewed { IfOk result (λ r. IfSome r.viewed (λ v. v.value ≡ r.receipt.entry)) }
+        ensures opened { IfOk result (λ r. is_some r.viewed ≡ is_opened r.receipt.entry.reply) }
         ensures err { OnErr result (seat.new ≡ seat.old) }
         ensures refusal { IfErr result (λ r. IsFullOrNoMemory r) }
     {
@@ -66,4 +94,14 @@ impl<K: Opening> Session<K> {
         let Session { book } = self;
         book.into_inner()
     }
+}
+
+// Whether the request opens or closes a view.
+pub(crate) fn is_of_views(request: &Request) -> bool
+    ensures { result ≡ is_of_views request.now }
+{
+    matches!(
+        request,
+        Request::OpenView { .. } | Request::CloseView { .. }
+    )
 }

@@ -8,7 +8,7 @@ ghost use Rattle.session.specs.Works.{IsWork, IsWorked, work_request};
 use crate::gate::Gate;
 use crate::shared::Session;
 use base::refusal::Refusal;
-use book::{Opening, Receipt, Seat};
+use book::{Entered, Opening, Receipt, Seat};
 use model::reply::Reply;
 use model::request::Request;
 use std::alloc::Global;
@@ -83,8 +83,9 @@ fn run_work<K: Opening, R: Wait, G: Gate>(
 {
     let mut ran = 0;
     'turns: while gate.turn() {
-        match session.call(alloc, rt, seat, work.request()) {
-            Ok(receipt) => {
+        match session.ask(alloc, rt, seat, work.request()) {
+            Ok(Entered { receipt, viewed }) => {
+                drop(viewed);
                 ran += 1;
                 if lacked_memory(receipt) {
                     return (ran, Some(Refusal::NoMemory));

@@ -3,7 +3,7 @@ ghost use Rattle.std.specs.Prelude.{◌≡◌};
 
 use crate::rig::{Wanted, closes_with, get_of, is_receipt, read_of, write_of};
 use base::refusal::Refusal;
-use book::{Book, Call, Opening, Seat, enter, enter_call};
+use book::{Book, Call, Entered, Opening, Seat, enter, enter_call};
 use model::request::Request;
 use pool::Pool;
 use std::alloc::Global;
@@ -88,9 +88,10 @@ fn is_called<K: Opening>(
 ) -> bool {
     let request = request.expect(rt, "memory");
     let call = Call::new(alloc, seat, request).expect(rt, "memory");
-    let receipt = enter_call(alloc, book, seat, call).expect(rt, "room");
-    let same = is_receipt(&receipt, number, wanted);
+    let Entered { receipt, viewed } = enter_call(alloc, book, seat, call).expect(rt, "room");
+    let same = is_receipt(&receipt, number, wanted) && viewed.is_none();
     drop(receipt);
+    drop(viewed);
     same
 }
 

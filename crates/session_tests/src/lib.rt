@@ -14,4 +14,6 @@ mod rig;
 #[cfg(test)]
 mod threads;
 #[cfg(test)]
+mod viewing;
+#[cfg(test)]
 mod workers;

@@ -1,9 +1,11 @@
 //! Work for the benchmark of sessions: `session_workloads WHO CALLS` writes so many blocks of 512 bytes to a fresh pool, and prints how
 //! many writes were done. WHO is `apply` (the pool alone), `one` (one caller of a session) or `four` (four callers in threads of their
-//! own). Status 2 is a bad command line, 3 want of memory or a failed write.
+//! own). With `views` or `beside` for WHO a snapshot of 100,000 blocks is read so often through a view, by four threads, alone or beside
+//! a fifth that writes as long as they read. Status 2 is a bad command line, 3 want of memory or a failed write.
 #![tactic(auto)]
 
 mod callers;
+mod viewers;
 mod writes;
 
 use base::refusal::Refusal;
@@ -18,11 +20,12 @@ use std::thread::Threads;
 /// How many blocks the pool has.
 const BLOCKS: u32 = 4_194_304;
 
-/// Who writes.
+/// Who writes, or reads.
 #[derive(Clone, Copy)]
 enum Who {
     Apply,
     Session { four: bool },
+    Viewers { beside: bool },
 }
 
 impl Who {
@@ -31,12 +34,14 @@ impl Who {
             "apply" => Some(Who::Apply),
             "one" => Some(Who::Session { four: false }),
             "four" => Some(Who::Session { four: true }),
+            "views" => Some(Who::Viewers { beside: false }),
+            "beside" => Some(Who::Viewers { beside: true }),
             _ => None,
         }
     }
 }
 
-/// How many of so many writes were done.
+/// How many of so many writes or reads were done.
 fn work<R: Threads + Wait + Sync>(
     rt: &R,
     alloc: Global,
@@ -47,6 +52,7 @@ fn work<R: Threads + Wait + Sync>(
     match who {
         Who::Apply => writes::applied(alloc, pool, calls),
         Who::Session { four } => callers::called::<Brand, _>(rt, alloc, pool, calls, four),
+        Who::Viewers { beside } => viewers::viewed::<Brand, _>(rt, alloc, pool, calls, beside),
     }
 }
 

@@ -11,15 +11,21 @@ use std::mem;
 /// How many leaves a tree has.
 const LEAVES: u64 = 1_048_576;
 
+/// The object and the block of the write with this number.
+pub fn place_of(number: u32) -> (u32, u32) {
+    let leaf = (u64::from(number) * 7919 % LEAVES) as u32;
+    (leaf / 4096, leaf % 4096)
+}
+
 /// The write with this number. Writes with numbers next to each other are of leaves far apart.
 pub fn write_of(alloc: Global, number: u32) -> Result<Request, Refusal> {
-    let leaf = (u64::from(number) * 7919 % LEAVES) as u32;
+    let (object, block) = place_of(number);
     let target = Target::read(alloc, b"p")?;
     let bytes = Data::new(alloc, &[(number % 251) as u8; 512])?;
     Ok(Request::Write {
         target,
-        object: leaf / 4096,
-        block: leaf % 4096,
+        object,
+        block,
         bytes,
     })
 }

@@ -120,6 +120,22 @@ impl Line {
         Ok(())
     }
 
+    /// Puts this one in place of the one at that place, counted from 0, which has its name, where each name is one snapshot's. It costs the
+    /// logarithm of their number, a walk over the chunks, and at most a chunk of the list and one of the index, which are changed in place
+    /// where no copy shares them. NoMemory where there is none for it; then all are as they were.
+    pub fn set(&mut self, alloc: Global, place: usize, kept: Kept) -> Result<(), Refusal>
+        requires same { option_map (λ k. k.snapshot.name) (slice_get self.old place) ≡ Some kept.snapshot.name }
+        requires once { AreNamesOnce self.old }
+        ensures ok { OnOk result (self.new ≡ slice_set self.old place kept) }
+        ensures err { OnErr result (self.new ≡ self.old) }
+        ensures only { IfErr result (λ e. e ≡ Refusal.NoMemory) }
+    {
+        let kept = Arc::new(alloc, kept)?;
+        self.kept.set_shared(place, Arc::try_clone(&kept)?)?;
+        replace(&mut self.by_name, kept);
+        Ok(())
+    }
+
     /// Takes out the snapshot at that place, counted from 0, where each name is one snapshot's, and puts this one in place of the one
     /// after it, which has its name. It costs the number of chunks, which is a 32nd of that of the snapshots or less, and at most three
     /// chunks of the list and of the index. NoMemory where there is none for it; then all are as they were.

@@ -1,5 +1,5 @@
 -- A pool as it is created: the root file system alone, empty.
-use Rattle.std.proofs.Common.{◌≡◌, ℕ, zero, suc, ◌<◌, Some, refl, sym, ap, ◌∙◌, replicate, arith}
+use Rattle.std.proofs.Common.{◌≡◌, ℕ, zero, suc, ◌<◌, Some, refl, sym, ap, subst, ◌∙◌, ⊎_elim, replicate, arith}
 use Rattle.std.specs.Prelude.{slice_get}
 use Rattle.std.specs.FinMap.{get-empty}
 use Rattle.std.specs.FinMap as finmap
@@ -10,11 +10,14 @@ use Rattle.name.specs.Names.{root_name, name_cmp}
 use Rattle.base.specs.Map.{Block, BlockSet}
 use Rattle.zalloc.specs.declared.BlockState.{BlockState}
 use Rattle.zalloc.specs.declared.BlockState.TheVariants.{Free}
-use Rattle.model.specs.World.{empty_file_system, reach_of}
+use Rattle.base.specs.Surveys.{IsIn}
+use Rattle.model.specs.World.{FileSystem, empty_file_system, reach_of}
 use Rattle.model.specs.State.{fresh_state, fresh_world, is_number_of}
 use Rattle.model.specs.Hierarchy.{FileSystems}
 use Rattle.model.specs.Numbers.{HasStates}
 use Rattle.world.specs.Sets.{Has}
+use Rattle.world.specs.Worlds.{IsSwept}
+use Rattle.world.proofs.Put.{put_cases}
 use Rattle.world.specs.Blocks.{block_order as o}
 use Rattle.world.proofs.Maps.{no_value}
 use Rattle.world.proofs.SetCounts.{from_difference}
@@ -23,7 +26,7 @@ use Rattle.world.proofs.Slices.{fresh_keeps, none_reached}
 use Rattle.steps.specs.Settles.{state_at, AreStatesOf}
 use Rattle.steps.specs.Steady.{ArePlain, IsSteady}
 use Rattle.steps.proofs.Known.{of_states}
-use Rattle.steps.proofs.Plain.{plain_empty, plain_put, plain_swept}
+use Rattle.steps.proofs.Plain.{plain_empty, plain_put}
 
 -- the root alone
 abbrev first : FileSystems
@@ -33,10 +36,17 @@ first_plain : ArePlain first
 first_plain = plain_put finmap.empty (λ name f at. absurd (no_value f (sym (get-empty name_cmp name) ∙ at))) root_name empty_file_system
     plain_empty
 
+first_swept : (id size : ℕ) → IsSwept (fresh_state id size)
+unfolding fresh_state fresh_world
+first_swept id size q x t at h d = ⊎_elim
+    (λ k. absurd (subst (λ (y : FileSystem). IsIn y.snaps t) k.1 h))
+    (λ k. absurd (no_value x (sym (get-empty name_cmp q) ∙ k.1)))
+    (put_cases finmap.empty root_name empty_file_system q x at)
+
 -- what holds between two steps holds of it
 pub first_steady : (id size : ℕ) → IsSteady (fresh_state id size)
 unfolding fresh_state fresh_world
-first_steady id size = record { good = fresh_keeps id size; swept = plain_swept (fresh_state id size) first_plain; plain = first_plain; unseen = refl }
+first_steady id size = record { good = fresh_keeps id size; swept = first_swept id size; plain = first_plain }
 
 get_replicate : (k n : ℕ) (x : BlockState) → n < k → slice_get (replicate k x) n ≡ Some x
 get_replicate zero n x h = absurd (omega arith)

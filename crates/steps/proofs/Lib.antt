@@ -25,9 +25,10 @@ pub mod Counts
 pub mod Settling
 pub mod Writing
 pub mod Snapping
+pub mod Seeing
 pub mod Losing
+pub mod Viewing
 pub mod Freeing
-pub mod Unneeded
 pub mod Rolling
 pub mod Destroying
 pub mod Slicing

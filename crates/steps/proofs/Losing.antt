@@ -1,27 +1,27 @@
 -- Other datasets in the place of a pool's, and what they have lost to be freed: what holds between two steps holds again, the same
 -- blocks are reached, and no limit is passed.
-use Rattle.std.proofs.Common.{◌≡◌, List, None, refl, sym, ap, subst, ◌∙◌, arith}
-use Rattle.std.specs.FinMap.{get, get-empty}
-use Rattle.std.specs.Ordering.{nat_cmp}
+use Rattle.std.proofs.Common.{◌≡◌, ℕ, List, Some, None, refl, sym, ap, subst, ◌∙◌, arith}
+use Rattle.std.specs.FinMap.{get}
+use Rattle.std.specs.Option.{IsSome}
 use Rattle.zalloc.specs.declared.BlockState.{BlockState}
-use Rattle.model.specs.World.{World, reach_of}
+use Rattle.model.specs.World.{World, SnapId, snap_at, reach_of}
 use Rattle.model.specs.State.{State}
 use Rattle.model.specs.Numbers.{HasStates}
 use Rattle.model.specs.Rule.{first_of}
 use Rattle.model.specs.requests.Change.{limit_row}
 use Rattle.world.specs.Worlds.{AreFileSystems, AreMapsFrom}
 use Rattle.world.specs.Tables.{Datasets}
-use Rattle.world.proofs.Maps.{no_value}
 use Rattle.world.proofs.Kept.{world_losses, pair_losses, losses_reach}
 use Rattle.steps.specs.Settles.{AreStatesOf}
 use Rattle.steps.specs.Steady.{IsSteady, ArePlain}
 use Rattle.steps.specs.Edits.{lose, CanLose}
 use Rattle.steps.proofs.Known.{states_of, of_states}
-use Rattle.steps.proofs.Plain.{plain_swept}
+use Rattle.steps.proofs.Seeing.{AreViewed, viewed_swept}
 use Rattle.steps.proofs.Snapping.{limits_hold}
 
 module _ (s : State) (steady : IsSteady s) (t : Datasets) (good : AreFileSystems t.file_systems t.group) (open_is : t.group ≡ s.now.group)
-    (from : AreMapsFrom s.now.file_systems t.file_systems) (plain : ArePlain t.file_systems) where
+    (from : AreMapsFrom s.now.file_systems t.file_systems) (plain : ArePlain t.file_systems)
+    (seen : (v : ℕ) (id : SnapId) → get s.views v ≡ Some id → IsSome (snap_at (record s.now { file_systems = t.file_systems; group = t.group }) id)) (shown : AreViewed s.views t.file_systems) where
   abbrev new : World
   new = record s.now { file_systems = t.file_systems; group = t.group }
 
@@ -32,11 +32,10 @@ module _ (s : State) (steady : IsSteady s) (t : Datasets) (good : AreFileSystems
         now = world_losses s.size s.now new steady.good.now from good refl;
         last = steady.good.last;
         pair = pair_losses s.size s.now new steady.good.now from good refl s.last (let e = open_is in omega arith) steady.good.pair;
-        views = λ v id e. absurd (no_value id (sym (get-empty nat_cmp v) ∙ ap (λ m. get m v) (sym steady.unseen) ∙ e));
+        views = seen;
       };
-      swept = plain_swept (lose s t) plain;
+      swept = viewed_swept (lose s t) shown;
       plain = plain;
-      unseen = steady.unseen;
     };
     reach = losses_reach s.size s.now new steady.good.now from good refl;
   }

@@ -15,27 +15,31 @@ use Rattle.model.specs.Targets.{has_dataset, has_target}
 use Rattle.model.specs.Hierarchy.{FileSystems}
 use Rattle.world.specs.Shapes.{Name, name_order}
 use Rattle.world.specs.Worlds.{IsSwept, InNow}
-use Rattle.world.proofs.Maps.{same_value, key_cases, get-insert_same, get-insert_other}
+use Rattle.world.proofs.Maps.{same_value, key_cases, no_value, get-insert_same, get-insert_other}
 use Rattle.world.proofs.Bridge.{map_of_live}
+use Rattle.world.proofs.Put.{put_cases}
+use Rattle.world.proofs.StateSteps.{swept_stays}
 use Rattle.accounts.specs.Limits.{IsUnlimited}
+use Rattle.removals.specs.Requests.{AreBare}
+use Rattle.world.specs.Tables.{Datasets}
 use Rattle.steps.specs.Room.{AreKeysOne}
-use Rattle.steps.specs.Steady.{IsPlain, IsPlainSnap, ArePlain, IsSteady, IsAbsent}
+use Rattle.steps.specs.Steady.{IsPlain, ArePlain, IsSteady, IsAbsent}
 
 -- a new one, and one with another live map
 pub plain_empty : IsPlain empty_file_system
-plain_empty = record { snaps = λ t i. absurd i; origin = refl; limits = refl; bookmarks = refl }
+plain_empty = record { tags = λ t i. absurd i; origin = refl; limits = refl; bookmarks = refl }
 
 pub plain_with : (f : FileSystem) → IsPlain f → (m : Map) → IsPlain (record f { live = m })
-plain_with f plain m = record { snaps = plain.snaps; origin = plain.origin; limits = plain.limits; bookmarks = plain.bookmarks }
+plain_with f plain m = record { tags = plain.tags; origin = plain.origin; limits = plain.limits; bookmarks = plain.bookmarks }
 
 -- one with a snapshot more, after its others
-in_appended : (ts : List Snap) (u t : Snap) → IsIn (ts ++ u ∷ []) t → IsIn ts t ⊎ (t ≡ u)
+pub in_appended : (ts : List Snap) (u t : Snap) → IsIn (ts ++ u ∷ []) t → IsIn ts t ⊎ (t ≡ u)
 in_appended [] u t h = ⊎_elim inr (λ i. absurd i) h
 in_appended (x ∷ ts) u t h = ⊎_elim (λ e. inl (inl e)) (λ i. ⊎_elim (λ k. inl (inr k)) inr (in_appended ts u t i)) h
 
-pub plain_snapped : (f : FileSystem) → IsPlain f → (u : Snap) → IsPlainSnap u → IsPlain (record f { snaps = f.snaps ++ u ∷ [] })
+pub plain_snapped : (f : FileSystem) → IsPlain f → (u : Snap) → u.tags ≡ [] → IsPlain (record f { snaps = f.snaps ++ u ∷ [] })
 plain_snapped f plain u is = record {
-  snaps = λ t i. ⊎_elim (plain.snaps t) (λ e. subst IsPlainSnap (sym e) is) (in_appended f.snaps u t i);
+  tags = λ t i. ⊎_elim (plain.tags t) (λ e. ap (λ (v : Snap). v.tags) e ∙ is) (in_appended f.snaps u t i);
   origin = plain.origin;
   limits = plain.limits;
   bookmarks = plain.bookmarks;
@@ -48,9 +52,33 @@ plain_put ss plain name f is q g at = ⊎_elim
     (λ other. plain q g (sym (get-insert_other name_order ss name f q other) ∙ at))
     (key_cases name_order q name)
 
--- nothing is to be swept
-pub plain_swept : (s : State) → ArePlain s.now.file_systems → IsSwept s
-plain_swept s plain name f t at h d = absurd (true≢false (sym d ∙ ((plain name f at).snaps t h).deferred))
+-- ---- what is to be swept
+
+-- a snapshot is one of these, or isn't to be destroyed
+abbrev pub IsKnown : FileSystems → Snap → Type 0
+IsKnown ss t = (t.deferred ≡ false) ⊎ ((p : Name) × (y : FileSystem) × (get ss p ≡ Some y) × IsIn y.snaps t)
+
+-- each of others is so
+abbrev pub AreKnown : FileSystems → FileSystems → Type 0
+AreKnown ss others = (q : Name) (x : FileSystem) (t : Snap) → get others q ≡ Some x → IsIn x.snaps t → IsKnown ss t
+
+pub same_known : (ss : FileSystems) → AreKnown ss ss
+same_known ss q x t at h = inr (q, x, at, h)
+
+-- one more, or another one
+pub put_known : (ss others : FileSystems) → AreKnown ss others → (name : Name) (f : FileSystem) → ((t : Snap) → IsIn f.snaps t → IsKnown ss t) → AreKnown ss (insert others name f)
+put_known ss others known name f own q x t at h = ⊎_elim
+    (λ k. own t (subst (λ (y : FileSystem). IsIn y.snaps t) k.1 h))
+    (λ k. known q x t k.1 h)
+    (put_cases others name f q x at)
+
+-- with such snapshots there is nothing to sweep
+pub plain_swept : (s new : State) → IsSteady s → new.views ≡ s.views → AreKnown s.now.file_systems new.now.file_systems → IsSwept new
+plain_swept s new steady views snaps = swept_stays s new views snaps (λ q x id at o. absurd (no_value id (sym (steady.plain q x at).origin ∙ o))) steady.swept
+
+-- what a removal asks of datasets holds of these
+pub bare : (t : Datasets) → ArePlain t.file_systems → AreBare t.file_systems
+bare t plain name f at = let k = plain name f at in record { tags = k.tags; origin = k.origin; bookmarks = k.bookmarks }
 
 -- no limit is set
 pub plain_unlimited : (ss : FileSystems) → ArePlain ss → IsUnlimited ss

@@ -48,7 +48,7 @@ use Rattle.steps.proofs.States.{state_at-now, not_free}
 use Rattle.steps.proofs.Known.{states_of}
 use Rattle.steps.proofs.Room.{room_of_change, fresh_or_old, dropped_reached}
 use Rattle.steps.proofs.Counts.{count-free, len-young}
-use Rattle.steps.proofs.Plain.{plain_with, plain_put, plain_swept, plain_unlimited, live_once}
+use Rattle.steps.proofs.Plain.{plain_with, plain_put, plain_swept, AreKnown, same_known, put_known, plain_unlimited, live_once}
 use Rattle.steps.proofs.Gives.{gives_way, live_there, union_comes}
 
 -- a bound moved by the same number on both sides
@@ -215,9 +215,9 @@ module _ (s : State) (steady : IsSteady s) (name : Name) (f : FileSystem) (was :
     pub change_steady : IsSteady (with_datasets s after_it)
     change_steady = record {
       good = subst IsPoolState (sym leads_to) (change_before s steady.good name f was ch young late own_late states v is takable);
-      swept = plain_swept (with_datasets s after_it) after_plain;
+      swept = plain_swept s (with_datasets s after_it) steady refl (subst (AreKnown s.now.file_systems) (sym (with_live_is s.now.file_systems name f v.new was))
+          (put_known s.now.file_systems s.now.file_systems (same_known s.now.file_systems) name (record f { live = v.new }) (λ t i. inr (name, f, was, i))));
       plain = after_plain;
-      unseen = steady.unseen;
     }
 
     young_stays : (b : Block) → IsIn v.released b → young ≤ b.birth → IsIn (filter (λ b. nat_lt (base_of s.now (Live name)) b.birth) v.released) b

@@ -1,5 +1,5 @@
 -- A rollback: the datasets after it, why it is refused, and its steps.
-use Rattle.std.proofs.Common.{◌≡◌, ◌⊎◌, Bool, true, false, cond, not, ◌&&◌, ◌||◌, List, [], length, Option, Some, None, refl, sym, ap, subst, ◌∙◌, ⊎_elim}
+use Rattle.std.proofs.Common.{◌≡◌, ◌⊎◌, Bool, true, false, cond, not, ◌&&◌, ◌||◌, List, [], ◌∷◌, ◌++◌, Option, Some, None, refl, sym, ap, subst, ◌∙◌, inl, inr, ⊎_elim}
 use Rattle.std.specs.Prelude.{is_some, nat_le, nat_lt}
 use Rattle.std.specs.List.{filter, find}
 use Rattle.std.specs.Option.{option_map, option_map_or, option_and_then}
@@ -16,12 +16,12 @@ use Rattle.model.specs.declared.reply.Reply.TheVariants.{Done, Refused}
 use Rattle.model.specs.World.{World, FileSystem, Snap, SnapId, Bookmark, id_of, snap_at, snap_named}
 use Rattle.model.specs.State.{State}
 use Rattle.model.specs.Numbers.{HasStates}
-use Rattle.model.specs.Rule.{first_of}
+use Rattle.model.specs.Rule.{Row, first_of}
 use Rattle.model.specs.Refusals.{refusal_of, state_asked}
 use Rattle.model.specs.Edits.{with_now, with_losses, with_file_system}
 use Rattle.model.specs.Step.{Step}
 use Rattle.model.specs.requests.Change.{limit_row}
-use Rattle.model.specs.requests.Rollback.{placed, back_at, after_rollback, rolled_back, newer_snaps, rollback_row, rollback_rule}
+use Rattle.model.specs.requests.Rollback.{placed, back_at, after_rollback, rolled_back, newer_snaps, is_busy, back_row, rollback_rule}
 use Rattle.world.specs.Shapes.{Name}
 use Rattle.world.specs.Worlds.{AreFileSystems, AreMapsFrom}
 use Rattle.world.specs.Tables.{world_of}
@@ -33,9 +33,11 @@ use Rattle.steps.specs.Steady.{IsPlain, ArePlain, IsSteady}
 use Rattle.steps.specs.Edits.{datasets_of, lose, CanLose}
 use Rattle.removals.specs.Requests.{rolled, rollback_refusal}
 use Rattle.steps.proofs.Losing.{can_lose, lose_limits}
-use Rattle.steps.proofs.Plain.{plain_put}
+use Rattle.steps.proofs.Plain.{plain_put, AreKnown, same_known, put_known}
 use Rattle.steps.proofs.Ruled.{no_choice, refused_by, no_memory_by, done_by}
-use Rattle.steps.proofs.Unneeded.{no_entries, not_busy, no_clone_outside, no_newer_bookmark}
+use Rattle.steps.proofs.Seeing.{once, closed, seen_after, known_viewed}
+use Rattle.removals.proofs.Bare.{no_entries}
+use Rattle.world.proofs.ViewedRequests.{row_false, rollback_safe}
 
 -- ---- the world after it
 
@@ -79,7 +81,7 @@ rolled_state s target = ap (λ x. with_now s (with_losses s.now x)) (rolled_worl
 -- a plain file system back at a snapshot
 plain_back : (f : FileSystem) → IsPlain f → (t : Snap) → IsPlain (back_at f t)
 plain_back f plain t = record {
-  snaps = λ u i. plain.snaps u (from_filter (λ (v : Snap). nat_le v.group t.group) f.snaps u i).0;
+  tags = λ u i. plain.tags u (from_filter (λ (v : Snap). nat_le v.group t.group) f.snaps u i).0;
   origin = plain.origin;
   limits = plain.limits;
   bookmarks =
@@ -97,13 +99,23 @@ module _ (s : State) (steady : IsSteady s) where
       at None e = steady.plain
       at (Some f) e = plain_put s.now.file_systems steady.plain name (back_at f t) (plain_back f (steady.plain name f e) t)
 
+  back_known : (name : Name) (t : Snap) → AreKnown s.now.file_systems (with_file_system s.now name (λ f. back_at f t)).file_systems
+  back_known name t = at (get s.now.file_systems name) refl
+    where
+      at : (x : Option FileSystem) → get s.now.file_systems name ≡ x
+          → AreKnown s.now.file_systems (option_map_or (λ (f : FileSystem). record s.now { file_systems = insert s.now.file_systems name (back_at f t) }) x s.now).file_systems
+      at None e = same_known s.now.file_systems
+      at (Some f) e = put_known s.now.file_systems s.now.file_systems (same_known s.now.file_systems) name (back_at f t)
+          (λ u i. inr (name, f, e, (from_filter (λ (v : Snap). nat_le v.group t.group) f.snaps u i).0))
+
   record IsBack (to : World) : Type 0 where
     systems : AreFileSystems to.file_systems s.now.group
     from : AreMapsFrom s.now.file_systems to.file_systems
     plain : ArePlain to.file_systems
+    known : AreKnown s.now.file_systems to.file_systems
 
   same_world : IsBack s.now
-  same_world = record { systems = steady.good.now.systems; from = same_maps s.now.file_systems; plain = steady.plain }
+  same_world = record { systems = steady.good.now.systems; from = same_maps s.now.file_systems; plain = steady.plain; known = same_known s.now.file_systems }
 
   is_back : (id : SnapId) → IsBack (after_rollback s.now id)
   is_back id = at (snap_at s.now id) refl
@@ -114,6 +126,7 @@ module _ (s : State) (steady : IsSteady s) where
         systems = rollback_systems s.size s.now steady.good.now id p e (λ x u was i l q y there o. absurd (no_value _ (sym (steady.plain q y there).origin ∙ o)));
         from = rollback_from s.size s.now steady.good.now id p e (λ x u was i l q y there o. absurd (no_value _ (sym (steady.plain q y there).origin ∙ o)));
         plain = subst (λ x. ArePlain (option_map_or (λ (p : Name × Snap). with_file_system s.now p.0 (λ f. back_at f p.1)) x s.now).file_systems) (sym e) (back_plain p.0 p.1);
+        known = subst (λ x. AreKnown s.now.file_systems (option_map_or (λ (p : Name × Snap). with_file_system s.now p.0 (λ f. back_at f p.1)) x s.now).file_systems) (sym e) (back_known p.0 p.1);
       }
 
   -- a snapshot's that may not be there
@@ -125,61 +138,47 @@ module _ (s : State) (steady : IsSteady s) where
         at None = same_world
         at (Some p) = is_back (id_of p.1)
 
-    -- the datasets after a rollback can be put in place
-    pub rollback_can : CanLose s (rolled (datasets_of s) target)
-    rollback_can = subst (λ ss. CanLose s (record (datasets_of s) { file_systems = ss })) (ap (λ (x : World). x.file_systems) (rolled_world s target))
-        (can_lose s steady (record (datasets_of s) { file_systems = (rolled_back s.now target).file_systems }) is_rolled.systems refl is_rolled.from is_rolled.plain)
+    -- where nothing newer is viewed, the datasets after a rollback can be put in place
+    pub rollback_can : (later : Bool) → rollback_refusal (datasets_of s) s.views target later ≡ None → CanLose s (rolled (datasets_of s) target)
+    rollback_can later none =
+        let idle = row_false (back_row s.now s.views target later) none (is_busy s.now s.views (newer_snaps s.now target), Busy) (inr (inr (inr (inl refl)))) in
+        let safe = rollback_safe s.views s.now target (once s.size s.now steady.good.now) (closed s.size s.now steady.good.now) idle in
+        subst (λ ss. CanLose s (record (datasets_of s) { file_systems = ss })) (ap (λ (x : World). x.file_systems) (rolled_world s target))
+        (can_lose s steady (record (datasets_of s) { file_systems = (rolled_back s.now target).file_systems }) is_rolled.systems refl is_rolled.from is_rolled.plain
+        (λ v id e. seen_after s steady (rolled_back s.now target) safe v id e)
+        (λ n f u at h d. known_viewed s steady u (is_rolled.known n f u at h) d))
 
 -- ---- its refusals
 
-first-back : (snap there at_place late newer mark busy clones : Bool) (limits : Option Refusal) → there ≡ at_place → mark ≡ false → busy ≡ false → clones ≡ false → limits ≡ None
-    → cond {A = Option Refusal} (not snap) (Some NotSnapshot) (cond (not there) (Some NoDataset) (cond (not late && (newer || mark)) (Some NotNewest) (cond busy (Some Busy) (cond clones (Some HasClones) limits))))
-    ≡ cond {A = Option Refusal} (not snap) (Some NotSnapshot) (cond (not at_place) (Some NoDataset) (cond (not late && newer) (Some NotNewest) None))
-first-back snap there at_place late true mark busy clones limits a b c d e = rw (a, c, d, e) refl
-first-back snap there at_place late false mark busy clones limits a b c d e = rw (a, b, c, d, e) refl
-
--- a snapshot of that name is there where its place is
-placed_there : (w : World) (m : Member) → is_some (snap_named w m) ≡ is_some (placed w (OfSnapshot m))
-placed_there w m = at (get w.file_systems m.file_system) refl
+-- a row and then another that refuses nothing
+first_then : (xs ys : Row) → (first_of xs ≡ None → first_of ys ≡ None) → first_of (xs ++ ys) ≡ first_of xs
+first_then [] ys rest = rest refl
+first_then (x ∷ xs) ys rest = by_first x.0 rest (first_then xs ys)
   where
-    by_snap : (f : FileSystem) (y : Option Snap) → is_some y ≡ is_some (option_map {U = FileSystem × Snap} (λ (t : Snap). (f, t)) y)
-    by_snap f None = refl
-    by_snap f (Some t) = refl
+    by_first : (b : Bool) → (cond b (Some x.1) (first_of xs) ≡ None → first_of ys ≡ None) → ((first_of xs ≡ None → first_of ys ≡ None) → first_of (xs ++ ys) ≡ first_of xs)
+        → cond b (Some x.1) (first_of (xs ++ ys)) ≡ cond b (Some x.1) (first_of xs)
+    by_first true k ih = refl
+    by_first false k ih = ih k
 
-    at : (x : Option FileSystem) → get w.file_systems m.file_system ≡ x
-        → is_some (snap_named w m) ≡ is_some (option_and_then {U = FileSystem × Snap} (λ (f : FileSystem). option_map {U = FileSystem × Snap} (λ (t : Snap). (f, t)) (snap_named w m)) x)
-    at None e = ap (λ (x : Option FileSystem). is_some (option_and_then (λ (f : FileSystem). find (λ (t : Snap). same_name t.name m.component) f.snaps) x)) e
-    at (Some f) e = by_snap f (snap_named w m)
-
-module _ (s : State) (steady : IsSteady s) (numbers : List BlockState) (known : HasStates s numbers) (later : Bool) where
+module _ (s : State) (steady : IsSteady s) (numbers : List BlockState) (known : HasStates s numbers) (later : Bool) (target : Target) where
   -- which refusal it gets
-  pub rollback_row_is : (target : Target) → first_of (rollback_row s (with_now s (with_losses s.now (rolled_back s.now target))) target later) ≡ rollback_refusal (datasets_of s) target later
-  rollback_row_is (OfFileSystem name) = refl
-  rollback_row_is (OfBookmark m) = refl
-  rollback_row_is (OfSnapshot m) =
-      first-back true _ (is_some (placed s.now (OfSnapshot m))) later (nat_lt 0 (length (newer_snaps s.now (OfSnapshot m)))) _ _ _ _
-      (placed_there s.now m) (no_newer_bookmark s steady m) (not_busy s steady (newer_snaps s.now (OfSnapshot m)))
-      (no_clone_outside s steady [] (newer_snaps s.now (OfSnapshot m)))
-      (ap (λ x. first_of (limit_row x)) (rolled_state s (OfSnapshot m))
-      ∙ lose_limits s numbers known (rolled (datasets_of s) (OfSnapshot m)) (rollback_can s steady (OfSnapshot m)))
+  row_is : refusal_of s (rollback_rule target later) ≡ rollback_refusal (datasets_of s) s.views target later
+  unfolding refusal_of state_asked
+  row_is = first_then (back_row s.now s.views target later) (limit_row (with_now s (with_losses s.now (rolled_back s.now target)))) (λ none.
+      ap (λ x. first_of (limit_row x)) (rolled_state s target) ∙ lose_limits s numbers known (rolled (datasets_of s) target) (rollback_can s steady target later none))
 
-  module _ (target : Target) where
-    row_is : refusal_of s (rollback_rule target later) ≡ rollback_refusal (datasets_of s) target later
-    unfolding refusal_of state_asked
-    row_is = rollback_row_is target
+  -- ---- steps
 
-    -- ---- steps
+  -- a rollback that is refused, or has no memory
+  pub rollback_refused : (why : Refusal) → (rollback_refusal (datasets_of s) s.views target later ≡ Some why) ⊎ (why ≡ NoMemory) → Step s (Rollback target later) (Refused why) s
+  rollback_refused why which = ⊎_elim
+      (λ e. refused_by (Rollback target later) (rollback_rule target later) refl s why (row_is ∙ e))
+      (λ e. subst (λ z. Step s (Rollback target later) (Refused z) s) (sym e) (no_memory_by (Rollback target later) (rollback_rule target later) refl s refl))
+      which
 
-    -- a rollback that is refused, or has no memory
-    pub rollback_refused : (why : Refusal) → (rollback_refusal (datasets_of s) target later ≡ Some why) ⊎ (why ≡ NoMemory) → Step s (Rollback target later) (Refused why) s
-    rollback_refused why which = ⊎_elim
-        (λ e. refused_by (Rollback target later) (rollback_rule target later) refl s why (row_is ∙ e))
-        (λ e. subst (λ z. Step s (Rollback target later) (Refused z) s) (sym e) (no_memory_by (Rollback target later) (rollback_rule target later) refl s refl))
-        which
-
-    -- and one that nothing refuses
-    pub rollback_done : rollback_refusal (datasets_of s) target later ≡ None
-        → Step s (Rollback target later) Done (lose s (rolled (datasets_of s) target))
-    rollback_done none = done_by (Rollback target later) (rollback_rule target later) refl s no_choice
-        (lose s (rolled (datasets_of s) target)) Done refl refl (row_is ∙ none) refl
-        (sym (rolled_state s target)) (rollback_can s steady target).steady
+  -- and one that nothing refuses
+  pub rollback_done : rollback_refusal (datasets_of s) s.views target later ≡ None
+      → Step s (Rollback target later) Done (lose s (rolled (datasets_of s) target))
+  rollback_done none = done_by (Rollback target later) (rollback_rule target later) refl s no_choice
+      (lose s (rolled (datasets_of s) target)) Done refl refl (row_is ∙ none) refl
+      (sym (rolled_state s target)) (rollback_can s steady target later none).steady

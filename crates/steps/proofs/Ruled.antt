@@ -45,6 +45,19 @@ module _ (q : Request) (rule : Rule) (is : rule_of q None ≡ rule) (s : State) 
     numbered = state_numbered s steady.good;
   }))
 
+  -- what isn't refused is done, and then what nothing needs any more is swept
+  pub swept_by : (c : Choice) (t : State) (r : Reply) → rule.only_reads ≡ false → IsTrue (rule.may s c) → refusal_of s rule ≡ None → r ≡ rule.reply s
+      → t ≡ state_after_sweep (rule.after s c) → IsSteady t → Step s q r t
+  unfolding state_after
+  swept_by c t r reads may none same after steady = by_rule t r (done (record {
+    choice = c;
+    allowed = may;
+    not_refused = none;
+    reply_is = same;
+    new_is = after ∙ (λ i. if sym reads i then s else state_after_sweep (rule.after s c));
+    numbered = state_numbered t steady.good;
+  }))
+
   -- what isn't refused is done; with nothing to sweep, the state after it is the rule's
   pub done_by : (c : Choice) (t : State) (r : Reply) → rule.only_reads ≡ false → IsTrue (rule.may s c) → refusal_of s rule ≡ None → r ≡ rule.reply s
       → t ≡ rule.after s c → IsSteady t → Step s q r t

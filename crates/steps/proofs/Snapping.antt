@@ -1,5 +1,5 @@
 -- Snapshots taken: what nothing refuses can be put in place, and the steps of a request that takes them.
-use Rattle.std.proofs.Common.{◌≡◌, ℕ, ◌+◌, Bool, true, false, cond, not, List, [], ◌∷◌, ◌++◌, Option, Some, None, refl, sym, ap, subst, ◌∙◌, true≢false, ◌⊎◌, ⊎_elim, length, arith}
+use Rattle.std.proofs.Common.{◌≡◌, ℕ, ◌+◌, Bool, true, false, cond, not, List, [], ◌∷◌, ◌++◌, Option, Some, None, refl, sym, ap, subst, ◌∙◌, true≢false, ◌⊎◌, inl, inr, ⊎_elim, length, arith}
 use Rattle.std.specs.Prelude.{nat_lt}
 use Rattle.std.specs.Option.{option_map_or}
 use Rattle.std.specs.FinMap.{get, insert}
@@ -12,7 +12,7 @@ use Rattle.name.specs.declared.member.Member.{Member}
 use Rattle.zalloc.specs.declared.BlockState.{BlockState}
 use Rattle.model.specs.declared.request.Request.{Request}
 use Rattle.model.specs.declared.reply.Reply.TheVariants.{Done, Refused}
-use Rattle.model.specs.World.{World, FileSystem, reach_of}
+use Rattle.model.specs.World.{World, FileSystem, Snap, reach_of}
 use Rattle.model.specs.State.{State}
 use Rattle.model.specs.Edits.{with_now, with_next_group}
 use Rattle.model.specs.Numbers.{HasStates}
@@ -23,7 +23,7 @@ use Rattle.model.specs.requests.Snapshot.{snap_of_live, snapshot_names, with_sna
 use Rattle.model.specs.Refusals.{refusal_of, state_asked}
 use Rattle.model.specs.Step.{Step}
 use Rattle.world.specs.Tables.{Datasets, world_of}
-use Rattle.world.specs.Worlds.{IsPoolState}
+use Rattle.world.specs.Worlds.{FileSystems, IsPoolState}
 use Rattle.world.proofs.Kept.{reach_is}
 use Rattle.world.proofs.SnapshotLists.{snapshots_union}
 use Rattle.world.proofs.StateSteps.{snapshots_before}
@@ -34,7 +34,7 @@ use Rattle.steps.specs.Steady.{ArePlain, IsSteady}
 use Rattle.steps.specs.Edits.{datasets_of, with_datasets, put, CanPut}
 use Rattle.steps.proofs.Known.{states_of}
 use Rattle.steps.proofs.Counts.{count-free}
-use Rattle.steps.proofs.Plain.{plain_put, plain_swept, plain_snapped, plain_unlimited}
+use Rattle.steps.proofs.Plain.{plain_put, plain_swept, AreKnown, same_known, put_known, in_appended, plain_snapped, plain_unlimited}
 use Rattle.steps.proofs.Putting.{kept_states}
 use Rattle.steps.proofs.Ruled.{no_choice, refused_by, no_memory_by, done_by}
 
@@ -51,7 +51,17 @@ snapshots_plain (m ∷ ms) guid w plain = by_name (λ v. snapshots_plain ms (gui
         → (x : Option FileSystem) → get w.file_systems m.file_system ≡ x → ArePlain (with_snapshots (option_map_or (longer w m guid) x w) (guid + 1) ms).file_systems
     by_name rest None e = rest w plain
     by_name rest (Some f) e = rest (longer w m guid f) (plain_put w.file_systems plain m.file_system (record f { snaps = f.snaps ++ snap_of_live w f m.component guid ∷ [] })
-        (plain_snapped f (plain m.file_system f e) (snap_of_live w f m.component guid) (record { tags = refl; deferred = refl })))
+        (plain_snapped f (plain m.file_system f e) (snap_of_live w f m.component guid) refl))
+
+snapshots_known : (ss : FileSystems) (ms : List Member) (guid : ℕ) (w : World) → AreKnown ss w.file_systems → AreKnown ss (with_snapshots w guid ms).file_systems
+snapshots_known ss [] guid w known = known
+snapshots_known ss (m ∷ ms) guid w known = by_name (λ v. snapshots_known ss ms (guid + 1) v) (get w.file_systems m.file_system) refl
+  where
+    by_name : ((v : World) → AreKnown ss v.file_systems → AreKnown ss (with_snapshots v (guid + 1) ms).file_systems)
+        → (x : Option FileSystem) → get w.file_systems m.file_system ≡ x → AreKnown ss (with_snapshots (option_map_or (longer w m guid) x w) (guid + 1) ms).file_systems
+    by_name rest None e = rest w known
+    by_name rest (Some f) e = rest (longer w m guid f) (put_known ss w.file_systems known m.file_system (record f { snaps = f.snaps ++ snap_of_live w f m.component guid ∷ [] })
+        (λ t i. ⊎_elim (λ k. known m.file_system f t e k) (λ k. inl (ap (λ (u : Snap). u.deferred) k)) (in_appended f.snaps (snap_of_live w f m.component guid) t i)))
 
 snapshots_freed : (freeing : BlockSet) (ms : List Member) (guid : ℕ) (w : World)
     → with_snapshots (record w { freeing = freeing }) guid ms ≡ record (with_snapshots w guid ms) { freeing = freeing }
@@ -139,6 +149,9 @@ module _ (s : State) (steady : IsSteady s) (names : List Member) (recursive : Bo
   plain : ArePlain (taken_of (datasets_of s) (guid_by s.pool s.next_guid) (snapshot_names s.now names recursive)).file_systems
   plain = snapshots_plain all (guid_by s.pool s.next_guid) (world_of (datasets_of s)) steady.plain
 
+  known : AreKnown s.now.file_systems (taken_of (datasets_of s) (guid_by s.pool s.next_guid) (snapshot_names s.now names recursive)).file_systems
+  known = snapshots_known s.now.file_systems all (guid_by s.pool s.next_guid) (world_of (datasets_of s)) (same_known s.now.file_systems)
+
   snapshot_reach : reach_of (with_datasets s (taken_of (datasets_of s) (guid_by s.pool s.next_guid) (snapshot_names s.now names recursive))).now ≡ reach_of s.now
   snapshot_reach =
       ap reach_of (now_is s all)
@@ -152,9 +165,8 @@ module _ (s : State) (steady : IsSteady s) (names : List Member) (recursive : Bo
   taking_can = record {
     steady = record {
       good = record { now = good.now; last = good.last; pair = good.pair; views = good.views };
-      swept = plain_swept (put s t (length all)) plain;
+      swept = plain_swept s (put s t (length all)) steady refl known;
       plain = plain;
-      unseen = steady.unseen;
     };
     reach = snapshot_reach;
   }

@@ -3,7 +3,8 @@ use Rattle.std.specs.Prelude.{◌≡◌, ◌<◌, ◌≤◌, ◌⊎◌, ◌+◌,
 use Rattle.base.specs.Map.{Block, BlockSet}
 use Rattle.base.specs.Surveys.{IsIn}
 use Rattle.zalloc.specs.declared.BlockState.TheVariants.{Free}
-use Rattle.model.specs.World.{reach_of}
+use Rattle.std.specs.FinMap.{insert, remove}
+use Rattle.model.specs.World.{SnapId, reach_of}
 use Rattle.model.specs.State.{State, block_state}
 use Rattle.model.specs.Edits.{with_now, with_losses}
 use Rattle.model.specs.Targets.{has_no_next_group}
@@ -66,3 +67,11 @@ pub record CanFree (s : State) (rest : BlockSet) (released : List Block) : Type 
 pub record CanSync (s : State) (t : Datasets) : Type 0 where
   pub is : t ≡ record (datasets_of s) { group = s.now.group + 1 }
   pub next : has_no_next_group s.now ≡ false
+
+-- the state where one more view is open, of the snapshot of this identity (profile)
+abbrev pub viewing : State → SnapId → State
+viewing s id = record s { views = insert s.views s.next_view id; next_view = s.next_view + 1 }
+
+-- the state where the view of this number isn't open (profile)
+abbrev pub closed : State → ℕ → State
+closed s number = record s { views = remove s.views number }

@@ -16,14 +16,9 @@ use Rattle.model.specs.Targets.{dataset_of, has_dataset}
 use Rattle.model.specs.Hierarchy.{FileSystems}
 use Rattle.world.specs.Worlds.{IsPoolState, IsSwept}
 
--- a snapshot without a tag, whose destroy isn't deferred: no request makes another so far (profile)
-pub record IsPlainSnap (t : Snap) : Type 0 where
-  pub tags : t.tags ≡ []
-  pub deferred : t.deferred ≡ false
-
--- a live map and plain snapshots and nothing else: no origin, limit or bookmark, which no request makes so far (profile)
+-- a live map, and snapshots without tags: no origin, limit or bookmark, which no request makes so far (profile)
 pub record IsPlain (f : FileSystem) : Type 0 where
-  pub snaps : (t : Snap) → IsIn f.snaps t → IsPlainSnap t
+  pub tags : (t : Snap) → IsIn f.snaps t → t.tags ≡ []
   pub origin : f.origin ≡ None
   pub limits : f.limits ≡ no_limits
   pub bookmarks : f.bookmarks ≡ finmap.empty
@@ -32,12 +27,11 @@ pub record IsPlain (f : FileSystem) : Type 0 where
 abbrev pub ArePlain : FileSystems → Type 0
 ArePlain ss = (name : List ℕ) (f : FileSystem) → get ss name ≡ Some f → IsPlain f
 
--- The facts of its worlds, with nothing to sweep, and plain file systems; and no view is open, which no request opens so far (profile)
+-- The facts of its worlds and views, with nothing to sweep, and plain file systems (profile)
 pub record IsSteady (s : State) : Type 0 where
   pub good : IsPoolState s
   pub swept : IsSwept s
   pub plain : ArePlain s.now.file_systems
-  pub unseen : s.views ≡ finmap.empty
 
 -- a snapshot by its name, among file systems (zfs(8))
 abbrev pub snap_in : FileSystems → Member → Option Snap

@@ -10,7 +10,7 @@ use Rattle.base.specs.Rewrite.{Changes, rewrite}
 use Rattle.base.specs.Surveys.{IsIn}
 use Rattle.model.specs.requests.Sync.{sync_rule}
 use Rattle.model.specs.World.{World, FileSystem, Snap, SnapId, id_of, same_id, snap_at, clones_of, empty_file_system}
-use Rattle.model.specs.State.{State, has_view}
+use Rattle.model.specs.State.{State, is_viewed}
 use Rattle.model.specs.Rule.{Choice}
 use Rattle.model.specs.Edits.{with_now, with_next_group, after_change, without_snaps, with_losses}
 use Rattle.model.specs.requests.Create.{with_new_file_system, create_rule}
@@ -63,7 +63,7 @@ no_goer false n h = refl
 
 -- with nothing to sweep the state stays
 pub swept_idle : (s : State) → IsSwept s → state_after_sweep s ≡ s
-swept_idle s swept = sweep-idle s (λ q y at. filter_all (λ (t : Snap). not (t.deferred && not (is_needed s t))) y.snaps (λ t h. no_goer t.deferred (is_needed s t) (swept q y t at h)))
+swept_idle s swept = sweep-idle s (λ q y at. filter_all (λ (t : Snap). not (t.deferred && not (is_needed s.now s.views t))) y.snaps (λ t h. no_goer t.deferred (is_needed s.now s.views t) (swept q y t at h)))
 
 some_in : {A : Type 0} (xs : List A) → nat_lt 0 (length xs) ≡ true → (x : A) × IsIn xs x
 some_in [] h = let l = ltb-true 0 0 h in absurd (omega arith)
@@ -81,19 +81,19 @@ from_clones w id q h =
 
 module _ (s : State) where
   abbrev goes : Snap → Bool
-  goes t = t.deferred && not (is_needed s t)
+  goes t = t.deferred && not (is_needed s.now s.views t)
 
   abbrev left : State
   left = with_now s (with_losses s.now (without_snaps s.now goes))
 
   -- what needed a snapshot needs it still
-  needed_still : (t : Snap) → is_needed s t ≡ true → is_needed left t ≡ true
+  needed_still : (t : Snap) → is_needed s.now s.views t ≡ true → is_needed left.now left.views t ≡ true
   needed_still t h = ⊎_elim
       (λ k. or_left (nat_lt 0 (length t.tags)) _ k)
       (λ k. or_right (nat_lt 0 (length t.tags)) _ (⊎_elim
-      (λ i. or_left (has_view s (id_of t)) _ i)
-      (λ i. or_right (has_view s (id_of t)) _ (still i))
-      (or_cases (has_view s (id_of t)) (nat_lt 0 (length (clones_of s.now (id_of t)))) k)))
+      (λ i. or_left (is_viewed s.views (id_of t)) _ i)
+      (λ i. or_right (is_viewed s.views (id_of t)) _ (still i))
+      (or_cases (is_viewed s.views (id_of t)) (nat_lt 0 (length (clones_of s.now (id_of t)))) k)))
       (or_cases (nat_lt 0 (length t.tags)) _ h)
     where
       still : nat_lt 0 (length (clones_of s.now (id_of t))) ≡ true → nat_lt 0 (length (clones_of (with_losses s.now (without_snaps s.now goes)) (id_of t))) ≡ true
@@ -109,7 +109,7 @@ module _ (s : State) where
   sweep_swept q x t at h d =
       let k = from_without s.now goes q x at in
       let i = from_filter (λ t. not (goes t)) k.0.snaps t (subst (λ (y : FileSystem). IsIn y.snaps t) k.2 h) in
-      needed_still t (goes_or_needed t.deferred (is_needed s t) (false_of (goes t) i.1) d)
+      needed_still t (goes_or_needed t.deferred (is_needed s.now s.views t) (false_of (goes t) i.1) d)
     where
       false_of : (b : Bool) → not b ≡ true → b ≡ false
       false_of true e = absurd (true≢false (sym e))
@@ -253,13 +253,13 @@ module _ (s new : State) (views : new.views ≡ s.views)
     → (t.deferred ≡ false) ⊎ ((p : Name) × (y : FileSystem) × (get s.now.file_systems p ≡ Some y) × IsIn y.snaps t))
     (origins : (q : Name) (x : FileSystem) (id : SnapId) → get s.now.file_systems q ≡ Some x → x.origin ≡ Some id
     → (p : Name) × (y : FileSystem) × (get new.now.file_systems p ≡ Some y) × (y.origin ≡ Some id)) where
-  still_needed : (t : Snap) → is_needed s t ≡ true → is_needed new t ≡ true
+  still_needed : (t : Snap) → is_needed s.now s.views t ≡ true → is_needed new.now new.views t ≡ true
   still_needed t h = ⊎_elim
       (λ k. or_left (nat_lt 0 (length t.tags)) _ k)
       (λ k. or_right (nat_lt 0 (length t.tags)) _ (⊎_elim
-      (λ i. or_left (has_view new (id_of t)) _ (ap (λ v. list_any (same_id (id_of t)) (values v)) views ∙ i))
-      (λ i. or_right (has_view new (id_of t)) _ (clone_still i))
-      (or_cases (has_view s (id_of t)) (nat_lt 0 (length (clones_of s.now (id_of t)))) k)))
+      (λ i. or_left (is_viewed new.views (id_of t)) _ (ap (λ v. list_any (same_id (id_of t)) (values v)) views ∙ i))
+      (λ i. or_right (is_viewed new.views (id_of t)) _ (clone_still i))
+      (or_cases (is_viewed s.views (id_of t)) (nat_lt 0 (length (clones_of s.now (id_of t)))) k)))
       (or_cases (nat_lt 0 (length t.tags)) _ h)
     where
       clone_still : nat_lt 0 (length (clones_of s.now (id_of t))) ≡ true → nat_lt 0 (length (clones_of new.now (id_of t))) ≡ true

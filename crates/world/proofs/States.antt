@@ -10,7 +10,7 @@ use Rattle.base.specs.Map.{Block}
 use Rattle.base.specs.Surveys.{IsIn}
 use Rattle.model.specs.World.{World, FileSystem, Snap, SnapId, id_of, same_id, snap_at, clones_of, union_of, reach_of}
 use Rattle.zalloc.specs.declared.BlockState.TheVariants.{Free, Allocated, Waiting}
-use Rattle.model.specs.State.{State, waiting_of, has_view, is_number_of, block_state}
+use Rattle.model.specs.State.{State, waiting_of, is_viewed, is_number_of, block_state}
 use Rattle.model.specs.Numbers.{IsWorldNumbered, IsNumbered}
 use Rattle.model.specs.Outcome.{is_needed, state_after_sweep}
 use Rattle.model.specs.Edits.{without_snaps, with_losses, with_now}
@@ -81,18 +81,18 @@ in_clones w id q x at e =
 
 module _ (s : State) where
   abbrev goes : Snap → Bool
-  goes t = t.deferred && not (is_needed s t)
+  goes t = t.deferred && not (is_needed s.now s.views t)
 
-  needed_stays : (t : Snap) → is_needed s t ≡ true → goes t ≡ true → ⊥
-  needed_stays t n g = let p = and_parts t.deferred (not (is_needed s t)) g in true≢false (sym p.1 ∙ ap not n)
+  needed_stays : (t : Snap) → is_needed s.now s.views t ≡ true → goes t ≡ true → ⊥
+  needed_stays t n g = let p = and_parts t.deferred (not (is_needed s.now s.views t)) g in true≢false (sym p.1 ∙ ap not n)
 
   -- what goes has no clone
   pub swept_bare : (n : Name) (x : FileSystem) (t : Snap) → get s.now.file_systems n ≡ Some x → IsIn x.snaps t → goes t ≡ true → HasNoCloneIn s.now.file_systems (id_of t)
   swept_bare n x t at h g q y e i = needed_stays t
-      (or_right (nat_lt 0 (length t.tags)) _ (or_right (has_view s (id_of t)) _ (positive (clones_of s.now (id_of t)) q (in_clones s.now (id_of t) q y e i)))) g
+      (or_right (nat_lt 0 (length t.tags)) _ (or_right (is_viewed s.views (id_of t)) _ (positive (clones_of s.now (id_of t)) q (in_clones s.now (id_of t) q y e i)))) g
 
-  view_needed : (v : ℕ) (id : SnapId) (t : Snap) → get s.views v ≡ Some id → id_of t ≡ id → is_needed s t ≡ true
-  view_needed v id t e i = or_right (nat_lt 0 (length t.tags)) _ (or_left (has_view s (id_of t)) _ (any_view (values s.views) (in_values v id e)))
+  view_needed : (v : ℕ) (id : SnapId) (t : Snap) → get s.views v ≡ Some id → id_of t ≡ id → is_needed s.now s.views t ≡ true
+  view_needed v id t e i = or_right (nat_lt 0 (length t.tags)) _ (or_left (is_viewed s.views (id_of t)) _ (any_view (values s.views) (in_values v id e)))
     where
       any_view : (ids : List SnapId) → IsIn ids id → list_any (same_id (id_of t)) ids ≡ true
       any_view [] h = absurd h
@@ -138,6 +138,6 @@ states_stay s w e n i = cond (is_number_of (e i) n) Allocated (cond (is_number_o
 -- so a sweep changes none
 pub sweep_states : (s : State) → IsPoolState s → (n : ℕ) → block_state (state_after_sweep s) n ≡ block_state s n
 unfolding state_after_sweep
-sweep_states s good = states_stay s (with_losses s.now (without_snaps s.now (λ t. t.deferred && not (is_needed s t))))
-    (losses_reach s.size s.now (without_snaps s.now (λ t. t.deferred && not (is_needed s t))) good.now (without_from s.now (λ t. t.deferred && not (is_needed s t)))
-    (without_good s.size s.now good.now (λ t. t.deferred && not (is_needed s t)) (swept_bare s)) refl)
+sweep_states s good = states_stay s (with_losses s.now (without_snaps s.now (λ t. t.deferred && not (is_needed s.now s.views t))))
+    (losses_reach s.size s.now (without_snaps s.now (λ t. t.deferred && not (is_needed s.now s.views t))) good.now (without_from s.now (λ t. t.deferred && not (is_needed s.now s.views t)))
+    (without_good s.size s.now good.now (λ t. t.deferred && not (is_needed s.now s.views t)) (swept_bare s)) refl)

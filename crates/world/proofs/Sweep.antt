@@ -58,7 +58,7 @@ with_losses-same w =
 
 -- a step with nothing to sweep leaves the state
 pub sweep-idle : (s : State)
-    → ((q : List ℕ) (y : FileSystem) → get s.now.file_systems q ≡ Some y → filter (λ t. not (t.deferred && not (is_needed s t))) y.snaps ≡ y.snaps)
+    → ((q : List ℕ) (y : FileSystem) → get s.now.file_systems q ≡ Some y → filter (λ t. not (t.deferred && not (is_needed s.now s.views t))) y.snaps ≡ y.snaps)
     → state_after_sweep s ≡ s
 unfolding state_after_sweep
 sweep-idle s h =

@@ -12,6 +12,7 @@ use Rattle.base.specs.Surveys.{IsIn, dead_block}
 use Rattle.model.specs.World.{World, FileSystem, Snap, SnapId, Dataset, Live, id_of, same_id, snap_at, union_of}
 use Rattle.model.specs.Codes.{file_system_code}
 use Rattle.model.specs.Edits.{without_snaps}
+use Rattle.model.specs.requests.Destroy.{with_deferred}
 use Rattle.world.specs.Sets.{Has}
 use Rattle.world.specs.Deadlists.{Lists}
 use Rattle.world.specs.Worlds.{FileSystems, HasParent, AreFileSystems}
@@ -52,6 +53,10 @@ with_system t name s = record t { file_systems = insert t.file_systems name s }
 -- a snapshot gone (zfs-destroy(8))
 abbrev pub without_snap : Datasets → SnapId → Datasets
 without_snap t id = record t { file_systems = (without_snaps (world_of t) (λ u. same_id (id_of u) id)).file_systems }
+
+-- a snapshot that is to go once nothing needs it (zfs-destroy(8), -d)
+abbrev pub deferred_snap : Datasets → SnapId → Datasets
+deferred_snap t id = record t { file_systems = (with_deferred (world_of t) (λ u. same_id (id_of u) id)).file_systems }
 
 -- a file system gone (zfs-destroy(8))
 abbrev pub without_system : Datasets → List ℕ → Datasets

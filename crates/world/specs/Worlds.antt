@@ -108,4 +108,4 @@ pub record IsPoolState (s : State) : Type 0 where
 -- no snapshot waits for a sweep: each whose destroy is deferred has a tag, an open view or a clone (zfs-destroy(8), -d)
 abbrev pub IsSwept : State → Type 0
 IsSwept s =
-    (name : List ℕ) (x : FileSystem) (t : Snap) → get s.now.file_systems name ≡ Some x → IsIn x.snaps t → t.deferred ≡ true → is_needed s t ≡ true
+    (name : List ℕ) (x : FileSystem) (t : Snap) → get s.now.file_systems name ≡ Some x → IsIn x.snaps t → t.deferred ≡ true → is_needed s.now s.views t ≡ true

@@ -1,18 +1,17 @@
 -- Destroy (zfs-destroy(8)).
-use Rattle.std.specs.Prelude.{ℕ, Bool, true, false, not, ◌&&◌, ◌||◌, List, [], ◌∷◌, length, map, nat_lt, if◌then◌else◌}
+use Rattle.std.specs.Prelude.{ℕ, Bool, true, false, not, ◌&&◌, ◌||◌, List, [], ◌∷◌, length, map, is_some, nat_lt, if◌then◌else◌}
 use Rattle.std.specs.List.{flat_map, list_any}
 use Rattle.std.specs.Option.{option_map_or}
-use Rattle.std.specs.FinMap.{remove, retain_keys}
+use Rattle.std.specs.FinMap.{contains_key, remove, retain_keys}
 use Rattle.base.specs.declared.refusal.Refusal.TheVariants.{NoDataset, NotSnapshot, Busy, HasClones, HasChildren, IsRoot}
 use Rattle.name.specs.declared.member.Member.{Member}
 use Rattle.name.specs.declared.target.Target.{Target}
 use Rattle.name.specs.declared.target.Target.TheVariants.{FileSystem as OfFileSystem, Snapshot as OfSnapshot, Bookmark as OfBookmark}
 use Rattle.name.specs.Names.{root_name, same_name}
 use Rattle.model.specs.declared.reply.Reply.TheVariants.{Done}
-use Rattle.model.specs.World.{World, Snap, SnapId, id_of, same_id, file_system_at, snap_named, children_of, family_of}
-use Rattle.model.specs.State.{State}
+use Rattle.model.specs.World.{World, Snap, SnapId, id_of, same_id, file_system_at, snap_named, bookmark_named, children_of, family_of}
+use Rattle.model.specs.State.{State, Views}
 use Rattle.model.specs.Outcome.{is_needed}
-use Rattle.model.specs.Targets.{has_file_system, has_bookmark}
 use Rattle.model.specs.Edits.{with_now, with_file_system, with_file_systems, with_losses, without_snaps}
 use Rattle.model.specs.Rule.{Row, Rule, any_choice}
 use Rattle.model.specs.requests.Snapshot.{named_with}
@@ -58,35 +57,35 @@ after_destroy w needed (OfBookmark m) recursive = with_file_system w m.file_syst
 -- ---- its refusals
 
 -- of a file system; the root stays (zfs-destroy(8); the root is profile)
-abbrev pub destroy_system_row : State → List ℕ → Bool → Bool → Row
-destroy_system_row s name recursive defer =
-    (not (has_file_system s name), NoDataset)
+abbrev pub destroy_system_row : World → Views → List ℕ → Bool → Bool → Row
+destroy_system_row w views name recursive defer =
+    (not (contains_key w.file_systems name), NoDataset)
     ∷ (same_name name root_name, IsRoot)
     ∷ (defer, NotSnapshot)
-    ∷ (not recursive && (nat_lt 0 (length (children_of s.now name)) || nat_lt 0 (length (snaps_within s.now (name ∷ [])))), HasChildren)
-    ∷ (is_busy s (snaps_within s.now (file_systems_named s.now name recursive)), Busy)
-    ∷ (has_clone_outside s.now (file_systems_named s.now name recursive) (snaps_within s.now (file_systems_named s.now name recursive)), HasClones)
+    ∷ (not recursive && (nat_lt 0 (length (children_of w name)) || nat_lt 0 (length (snaps_within w (name ∷ [])))), HasChildren)
+    ∷ (is_busy w views (snaps_within w (file_systems_named w name recursive)), Busy)
+    ∷ (has_clone_outside w (file_systems_named w name recursive) (snaps_within w (file_systems_named w name recursive)), HasClones)
     ∷ []
 
 -- of a snapshot (zfs-destroy(8))
-abbrev pub destroy_snap_row : State → Member → Bool → Bool → Row
-destroy_snap_row s m recursive defer =
-    (not (nat_lt 0 (length (snaps_named s.now m recursive))), NoDataset)
-    ∷ (not defer && is_busy s (snaps_named s.now m recursive), Busy)
-    ∷ (not defer && has_clone_outside s.now [] (snaps_named s.now m recursive), HasClones)
+abbrev pub destroy_snap_row : World → Views → Member → Bool → Bool → Row
+destroy_snap_row w views m recursive defer =
+    (not (nat_lt 0 (length (snaps_named w m recursive))), NoDataset)
+    ∷ (not defer && is_busy w views (snaps_named w m recursive), Busy)
+    ∷ (not defer && has_clone_outside w [] (snaps_named w m recursive), HasClones)
     ∷ []
 
 -- zfs-destroy(8)
-abbrev pub destroy_row : State → Target → Bool → Bool → Row
-destroy_row s (OfFileSystem name) recursive defer = destroy_system_row s name recursive defer
-destroy_row s (OfSnapshot m) recursive defer = destroy_snap_row s m recursive defer
-destroy_row s (OfBookmark m) recursive defer = (not (has_bookmark s m), NoDataset) ∷ []
+abbrev pub destroy_row : World → Views → Target → Bool → Bool → Row
+destroy_row w views (OfFileSystem name) recursive defer = destroy_system_row w views name recursive defer
+destroy_row w views (OfSnapshot m) recursive defer = destroy_snap_row w views m recursive defer
+destroy_row w views (OfBookmark m) recursive defer = (not (is_some (bookmark_named w m)), NoDataset) ∷ []
 
 -- zfs-destroy(8); what all datasets together lose is to be freed (zpool-features(7): async_destroy)
 abbrev pub destroy_rule : Target → Bool → Bool → Rule
 destroy_rule target recursive defer = record {
-  row = λ s asked. destroy_row s target recursive defer;
-  after = λ s c. with_now s (with_losses s.now (after_destroy s.now (λ t. defer && is_needed s t) target recursive));
+  row = λ s asked. destroy_row s.now s.views target recursive defer;
+  after = λ s c. with_now s (with_losses s.now (after_destroy s.now (λ t. defer && is_needed s.now s.views t) target recursive));
   reply = λ s. Done;
   may = any_choice;
   only_reads = false;

@@ -1,5 +1,5 @@
 -- Rollback (zfs-rollback(8)).
-use Rattle.std.specs.Prelude.{ℕ, Bool, true, false, not, ◌&&◌, ◌||◌, List, [], ◌∷◌, Option, None, length, map, nat_lt, nat_le}
+use Rattle.std.specs.Prelude.{ℕ, Bool, true, false, not, ◌&&◌, ◌||◌, List, [], ◌∷◌, ◌++◌, Option, None, is_some, length, map, nat_lt, nat_le}
 use Rattle.std.specs.List.{filter, list_any}
 use Rattle.std.specs.Option.{option_map, option_map_or, option_and_then}
 use Rattle.std.specs.FinMap.{entries, values, from_entries}
@@ -9,8 +9,8 @@ use Rattle.name.specs.declared.target.Target.TheVariants.{FileSystem as OfFileSy
 use Rattle.name.specs.Names.{same_name}
 use Rattle.model.specs.declared.reply.Reply.TheVariants.{Done}
 use Rattle.model.specs.World.{World, FileSystem, Snap, SnapId, id_of, file_system_at, snap_named, snap_at, clones_of}
-use Rattle.model.specs.State.{State, has_view}
-use Rattle.model.specs.Targets.{has_target, is_snapshot_name}
+use Rattle.model.specs.State.{State, Views, is_viewed}
+use Rattle.model.specs.Targets.{is_snapshot_name}
 use Rattle.model.specs.Edits.{with_now, with_file_system, with_losses}
 use Rattle.model.specs.Rule.{Row, Rule, any_choice}
 use Rattle.model.specs.requests.Change.{limit_row}
@@ -58,22 +58,26 @@ abbrev pub has_newer_bookmark : World → Target → Bool
 has_newer_bookmark w target = option_map_or (λ p. list_any (λ b. nat_lt p.1.group b.group) (values p.0.bookmarks)) (placed w target) false
 
 -- one of these has a tag or an open view (zfs-destroy(8); the view is profile)
-abbrev pub is_busy : State → List SnapId → Bool
-is_busy s ids = list_any (λ id. has_view s id || option_map_or (λ p. nat_lt 0 (length p.1.tags)) (snap_at s.now id) false) ids
+abbrev pub is_busy : World → Views → List SnapId → Bool
+is_busy w views ids = list_any (λ id. is_viewed views id || option_map_or (λ p. nat_lt 0 (length p.1.tags)) (snap_at w id) false) ids
 
 -- one of these has a clone that isn't among the file systems that go (zfs-destroy(8))
 abbrev pub has_clone_outside : World → List (List ℕ) → List SnapId → Bool
 has_clone_outside w going ids = list_any (λ id. list_any (λ clone. not (list_any (same_name clone) going)) (clones_of w id)) ids
 
+-- what refuses it whatever the limits (zfs-rollback(8))
+abbrev pub back_row : World → Views → Target → Bool → Row
+back_row w views target later =
+    (not (is_snapshot_name target), NotSnapshot)
+    ∷ (not (is_some (placed w target)), NoDataset)
+    ∷ (not later && (nat_lt 0 (length (newer_snaps w target)) || has_newer_bookmark w target), NotNewest)
+    ∷ (is_busy w views (newer_snaps w target), Busy)
+    ∷ (has_clone_outside w [] (newer_snaps w target), HasClones)
+    ∷ []
+
 -- zfs-rollback(8)
 abbrev pub rollback_row : State → State → Target → Bool → Row
-rollback_row s asked target later =
-    (not (is_snapshot_name target), NotSnapshot)
-    ∷ (not (has_target s target), NoDataset)
-    ∷ (not later && (nat_lt 0 (length (newer_snaps s.now target)) || has_newer_bookmark s.now target), NotNewest)
-    ∷ (is_busy s (newer_snaps s.now target), Busy)
-    ∷ (has_clone_outside s.now [] (newer_snaps s.now target), HasClones)
-    ∷ limit_row asked
+rollback_row s asked target later = back_row s.now s.views target later ++ limit_row asked
 
 -- zfs-rollback(8); what all datasets together lose is to be freed (zpool-features(7): async_destroy)
 abbrev pub rollback_rule : Target → Bool → Rule

@@ -1,5 +1,4 @@
 use Rattle.std.proofs.Common.{ap, subst}
-use Rattle.std.specs.Prelude.{IfOk}
 use Rattle.model.specs.Step.{Step}
 use Rattle.model.specs.declared.request.Request.{Request}
 use Rattle.book.specs.Asked.{Asked}
@@ -14,8 +13,8 @@ returns-in_err-call-clause-legal g c = c.is_full.ensures.legal
 
 pub returns-clause-ran : goal.returns-clause-ran
 returns-clause-ran g c =
-    subst (λ (q : Request). IfOk c.enter_call.result (λ r. Ran c.args.seat.now q r c.enter_call.new.seat)) (ap (λ (a : Asked). a.request) c.in_ok-call.ensures.ok) c.enter_call.ensures.ran
+    subst (λ (q : Request). Ran c.args.seat.now q c.in_ok-receipt.field-0.receipt c.enter_call.new.seat) (ap (λ (a : Asked). a.request) c.in_ok-call.ensures.ok) c.in_ok-receipt.ensures.ran
 
 pub returns-clause-step : goal.returns-clause-step
 returns-clause-step g c =
-    subst (λ (q : Request). IfOk c.enter_call.result (λ r. Step c.args.book.now.pool q r.entry.reply c.enter_call.new.book.pool)) (ap (λ (a : Asked). a.request) c.in_ok-call.ensures.ok) c.enter_call.ensures.step
+    subst (λ (q : Request). Step c.args.book.now.pool q c.in_ok-receipt.field-0.receipt.entry.reply c.enter_call.new.book.pool) (ap (λ (a : Asked). a.request) c.in_ok-call.ensures.ok) c.in_ok-receipt.ensures.step

@@ -18,7 +18,7 @@ room full k limit n f e t = let r = lt_of_not-le (λ h. true≢false (sym (f.1 h
 pub invariant_of-book-2 : goal.invariant_of-book-2
 invariant_of-book-2 g c =
     let w = c.in-Some.ensures.some in
-    let e : Entry = arc_value c.in-Some.kept in
+    let e : Entry = arc_value c.in-Some.owners.kept in
     let step : Step c.book.inside.pool.state e.request e.reply c.entry_of.new.pool.state = subst (λ q. Step c.book.inside.pool.state q e.reply c.entry_of.new.pool.state) (sym w.request_is) w.step in
     let es : List Entry = map arc_value c.book.inside.history.items in
     let more : length es < c.book.inside.limit =
@@ -30,7 +30,7 @@ invariant_of-book-2 g c =
 pub returns-clause-legal : goal.returns-clause-legal
 returns-clause-legal g c =
     let w = c.in-Some.ensures.some in
-    let e : Entry = arc_value c.in-Some.kept in
+    let e : Entry = arc_value c.in-Some.owners.kept in
     let step : Step c.book.inside.pool.state e.request e.reply c.entry_of.new.pool.state = subst (λ q. Step c.book.inside.pool.state q e.reply c.entry_of.new.pool.state) (sym w.request_is) w.step in
     let es : List Entry = map arc_value c.book.inside.history.items in
     rw (c.push_reserved.ensures.items, map-append) (legal_more g.K.Opening.opening c.book.inside.pool.state c.entry_of.new.pool.state es e c.book.invariant.legal step)
@@ -92,7 +92,7 @@ push_reserved-requires-2 g c = search rules
 pub returns-clause-ran : goal.returns-clause-ran
 returns-clause-ran g c =
     let w = c.in-Some.ensures.some in
-    (ap (λ (x : Entry). x.seat) w.third_is ∙ w.seat_is ∙ c.requires.own, ap (λ (x : Entry). x.request) w.third_is ∙ w.request_is, search rules)
+    (ap (λ (x : Entry). x.seat) w.owners.third_is ∙ w.seat_is ∙ c.requires.own, ap (λ (x : Entry). x.request) w.owners.third_is ∙ w.request_is, search rules)
 
 pub returns-clause-number : goal.returns-clause-number
 returns-clause-number g c =
@@ -101,11 +101,11 @@ returns-clause-number g c =
 pub returns-clause-step : goal.returns-clause-step
 returns-clause-step g c =
     let w = c.in-Some.ensures.some in
-    subst (λ (m : State). Step m c.args.call.request (arc_value c.in-Some.theirs).reply c.entry_of.new.pool.state) (ap (λ (p : Pages). p.pool) c.book.view_is)
-    (subst (λ (x : Entry). Step c.book.inside.pool.state c.args.call.request x.reply c.entry_of.new.pool.state) (sym w.third_is) w.step)
+    subst (λ (m : State). Step m c.args.call.request (arc_value c.in-Some.owners.theirs).reply c.entry_of.new.pool.state) (ap (λ (p : Pages). p.pool) c.book.view_is)
+    (subst (λ (x : Entry). Step c.book.inside.pool.state c.args.call.request x.reply c.entry_of.new.pool.state) (sym w.owners.third_is) w.step)
 
 pub returns-clause-book : goal.returns-clause-book
-returns-clause-book g c = let same = c.in-Some.ensures.some.third_is in grind (arith, common_steps, same)
+returns-clause-book g c = let same = c.in-Some.ensures.some.owners.third_is in grind (arith, common_steps, same)
 
 pub returns-clause-full : goal.returns-clause-full
 returns-clause-full g c = grind (arith, common_steps)

@@ -14,7 +14,7 @@ pub returns-in_err-lose_live-clause-err : goal.returns-in_err-lose_live-clause-e
 returns-in_err-lose_live-clause-err c =
     let to : c.lose_newer.new.self.to ≡ without_all c.args.table.now (newer_members c.args.file_system.now c.args.group.0) =
     c.in_ok-lose_newer.ensures.ok ∙ ap (λ t. without_all t (newer_members c.args.file_system.now c.args.group.0)) c.in_ok-edit.ensures.ok.0 in
-    let both = back_of c.args.table.now c.len-count.ensures.good c.args.file_system.now c.requires.there (c.requires.plain c.args.file_system.now.0 c.args.file_system.now.1 c.requires.there)
+    let both = back_of c.args.table.now c.len-count.ensures.good c.args.file_system.now c.requires.there (c.requires.bare c.args.file_system.now.0 c.args.file_system.now.1 c.requires.there).bookmarks
     c.args.component.now c.args.group.0 c.requires.group c.lose_newer.new.self.to to in
     let only : c.in_err-lose_live.field-0.0 ≡ NoMemory = ⊎_elim
     (λ k. absurd (both.0 (ap (λ n. length (snaps_at c.lose_newer.new.self.to.file_systems n)) (sym c.name.ensures) ∙ c.in_err-lose_live.ensures.no_dataset.0 (ap Err k))))
@@ -26,7 +26,7 @@ pub returns-clause-ok : goal.returns-clause-ok
 returns-clause-ok c =
     let to : c.lose_newer.new.self.to ≡ without_all c.args.table.now (newer_members c.args.file_system.now c.args.group.0) =
     c.in_ok-lose_newer.ensures.ok ∙ ap (λ t. without_all t (newer_members c.args.file_system.now c.args.group.0)) c.in_ok-edit.ensures.ok.0 in
-    let both = back_of c.args.table.now c.len-count.ensures.good c.args.file_system.now c.requires.there (c.requires.plain c.args.file_system.now.0 c.args.file_system.now.1 c.requires.there)
+    let both = back_of c.args.table.now c.len-count.ensures.good c.args.file_system.now c.requires.there (c.requires.bare c.args.file_system.now.0 c.args.file_system.now.1 c.requires.there).bookmarks
     c.args.component.now c.args.group.0 c.requires.group c.lose_newer.new.self.to to in
     let u = c.lose_newer.new.self.to in
     c.in_ok-lose_live.ensures.ok ∙ ap (λ n. record u { file_systems = with_live u.file_systems n (newest_map (live_of u.file_systems n) (snaps_at u.file_systems n)) }) c.name.ensures ∙ both.1

@@ -7,4 +7,4 @@ returns-clause-ran g c = λ low.
     let same : c.close.result ≡ c.run_seated-status.result.0 = c.close.ensures.same low in
     let past = c.close.ensures.history low in
     let ran = c.run_seated-status.ensures.ran (subst (λ (n : ℕ). n < 2) same low) in
-    rw same (ran_beside _ _ _ _ _ _ _ past.0 _ c.in-Some.ensures ran past.1)
+    rw same (ran_beside _ _ _ _ _ _ _ past.0 _ c.in-Some.ensures ran.1 past.1)

@@ -7,18 +7,18 @@ use Rattle.session.proofs.workers.run_work.Goals as goal
 pub turns-preserved : goal.turns-preserved
 turns-preserved g c =
     let i = c.turns.invariant in
-    let ran : Ran c.turns.seat (work_request c.args.work) c.in-Ok.receipt c.call.new.seat = rw (← c.request.ensures) c.in-Ok.ensures.ok in
-    let had : HadMemory c.in-Ok.receipt = search rules in
+    let ran : Ran c.turns.seat (work_request c.args.work) c.in-Ok.field-0.receipt c.ask.new.seat = rw (← c.request.ensures) c.in-Ok.ensures.ok in
+    let had : HadMemory c.in-Ok.field-0.receipt = search rules in
     record {
-      work = more_work c.args.seat.now c.turns.seat c.call.new.seat (work_request c.args.work) c.turns.ran c.in-Ok.receipt i.work ran had;
+      work = more_work c.args.seat.now c.turns.seat c.ask.new.seat (work_request c.args.work) c.turns.ran c.in-Ok.field-0.receipt i.work ran had;
       spent = omega (arith, i.spent, c.turns-test.ensures.answer.0);
       few = λ some. few_more _ _ c.turns.ran i.spent c.turn.ensures.few i.few;
     }
 
 pub returns-then-lacked_memory-clause-work : goal.returns-then-lacked_memory-clause-work
 returns-then-lacked_memory-clause-work g c =
-    let ran : Ran c.turns.seat (work_request c.args.work) c.in-Ok.receipt c.call.new.seat = rw (← c.request.ensures) c.in-Ok.ensures.ok in
-    last_work c.args.seat.now c.turns.seat c.call.new.seat (work_request c.args.work) c.turns.ran c.in-Ok.receipt c.turns.invariant.work ran
+    let ran : Ran c.turns.seat (work_request c.args.work) c.in-Ok.field-0.receipt c.ask.new.seat = rw (← c.request.ensures) c.in-Ok.ensures.ok in
+    last_work c.args.seat.now c.turns.seat c.ask.new.seat (work_request c.args.work) c.turns.ran c.in-Ok.field-0.receipt c.turns.invariant.work ran
 
 pub returns-in-Err-clause-work : goal.returns-in-Err-clause-work
 returns-in-Err-clause-work g c = rw (c.in-Err.ensures.err) (steady_work _ _ _ _ _ c.turns.invariant.work)

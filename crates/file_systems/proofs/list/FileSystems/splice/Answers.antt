@@ -11,7 +11,7 @@ use Rattle.name.specs.Names.{name_cmp}
 use Rattle.file_systems.specs.Places.{IsAt, IsGapFor}
 use Rattle.file_systems.specs.Rows.{Row, snaps_at}
 use Rattle.file_systems.specs.Splices.{AreAbove, without_group}
-use Rattle.file_systems.proofs.Rows.{row_of, get_gap, placed_sorted, spliced_is, rule_here, live_is, snaps_are}
+use Rattle.file_systems.proofs.Rows.{row_of, get_gap, placed_sorted, made_is, rule_here, live_is, snaps_are}
 use Rattle.file_systems.proofs.Counts.{set_counted_fewer}
 use Rattle.file_systems.proofs.Stacks.{one_fewer}
 use Rattle.file_systems.proofs.list.FileSystems.splice.Goals as goal
@@ -92,7 +92,7 @@ returns-clause-ok c =
     let row = arc_value c.index_mut.result.now in
     let at : IsAt rows c.args.name.now c.in-Ok.place = rw (← c.deref.ensures.value, ← c.as_bytes.ensures) c.in-Ok.ensures.found in
     let is = row_of arc_value c.self.inside.rows.items c.in-Ok.place c.index_mut.result.now c.index_mut.ensures.value in
-    rw (← c.self.view_is, map-set) (spliced_is rows c.self.invariant.sorted c.args.name.now c.in-Ok.place at row is c.args.group.0 (arc_value c.splice.new.row) c.in_ok-lost.ensures.ok)
+    rw (← c.self.view_is, map-set) (made_is rows c.self.invariant.sorted c.args.name.now c.in-Ok.place at row is (λ f. without_group f c.args.group.0) (arc_value c.splice.new.row) c.in_ok-lost.ensures.ok)
 
 pub returns-clause-lost : goal.returns-clause-lost
 returns-clause-lost c =

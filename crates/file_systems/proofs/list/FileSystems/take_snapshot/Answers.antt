@@ -8,7 +8,7 @@ use Rattle.name.specs.Names.{name_cmp}
 use Rattle.tree.proofs.Options.{not_some}
 use Rattle.file_systems.specs.Places.{IsAt, IsGapFor}
 use Rattle.file_systems.specs.Rows.{Row, plain_snap, with_snap}
-use Rattle.file_systems.proofs.Rows.{row_of, get_gap, placed_sorted, taken_is}
+use Rattle.file_systems.proofs.Rows.{row_of, get_gap, placed_sorted, made_is}
 use Rattle.file_systems.proofs.Counts.{set_counted}
 use Rattle.file_systems.proofs.list.FileSystems.take_snapshot.Goals as goal
 
@@ -57,4 +57,4 @@ returns-clause-ok c =
     let row = arc_value c.index_mut.result.now in
     let at : IsAt rows c.args.name.now c.in-Ok.place = rw (← c.deref.ensures.value, ← c.as_bytes.ensures) c.in-Ok.ensures.found in
     let is = row_of arc_value c.self.inside.rows.items c.in-Ok.place c.index_mut.result.now c.index_mut.ensures.value in
-    rw (← c.self.view_is, map-set) (taken_is rows c.self.invariant.sorted c.args.name.now c.in-Ok.place at row is c.args.component.now c.args.guid.0 c.args.group.0 (arc_value c.take.new.row) c.in_ok-take.ensures.ok)
+    rw (← c.self.view_is, map-set) (made_is rows c.self.invariant.sorted c.args.name.now c.in-Ok.place at row is (λ f. with_snap f c.args.component.now c.args.guid.0 c.args.group.0) (arc_value c.take.new.row) c.in_ok-take.ensures.ok)

@@ -3,14 +3,16 @@ use Rattle.zalloc.specs.declared.BlockState.{BlockState}
 use Rattle.model.specs.Edits.{with_now}
 use Rattle.base.specs.Map.{BlockSet}
 use Rattle.world.specs.Tables.{world_of}
-use Rattle.steps.specs.Edits.{synced}
+use Rattle.model.specs.Ids.{snap_id}
+use Rattle.views.specs.Viewing.{Viewing}
+use Rattle.steps.specs.Edits.{synced, closed}
 use Rattle.steps.proofs.Putting.{release_them, take_them}
 use Rattle.steps.proofs.Slicing.{free_them}
-use Rattle.pool.specs.declared.pool.Plan.TheVariants.{Change, Put, Lose, Free, Sync}
+use Rattle.pool.specs.declared.pool.Plan.TheVariants.{Change, Put, Lose, Free, Sync, Open, Close, Sweep}
 use Rattle.pool.specs.Plans.{CanDo}
 use Rattle.pool.specs.Pools.{state_of, IsSound}
 use Rattle.pool.specs.Shown.{Shown, Leap}
-use Rattle.pool.proofs.Commits.{sound_changed, sound_put, sound_lost, sound_freed, sound_synced, sound_copied}
+use Rattle.pool.proofs.Commits.{sound_changed, sound_put, sound_lost, sound_freed, sound_synced, sound_copied, sound_viewing, sound_closed, sound_swept}
 use Rattle.pool.proofs.pool.Pool.commit.Goals as goal
 
 pub release_all-requires : goal.release_all-requires
@@ -74,3 +76,36 @@ invariant_of-self-in-Sync c =
     (subst (λ plan. CanDo c.ready.inside.from.value.state plan) c.in-Sync.is c.ready.invariant) in
     sound_copied s c.in-Sync.last c.close_group.new.self c.in-Sync.freeing c.end_group.new.self can.1 (can.0.is ∙ sym c.close_group.ensures)
     (subst (λ (st : List BlockState). IsSound (synced s c.in-Sync.last) st) (sym c.end_group.ensures) (sound_synced s c.self.inside.allocator c.self.invariant c.in-Sync.last can.0))
+
+pub open-requires : goal.open-requires
+open-requires c =
+    let same = ap (λ (l : Leap). l.from) c.ready.view_is ∙ c.requires ∙ sym c.self.view_is in
+    (subst (λ (x : Shown). CanDo x.state (Open c.in-Open.snapshot)) same (subst (λ plan. CanDo c.ready.inside.from.value.state plan) c.in-Open.is c.ready.invariant)).room
+
+pub invariant_of-self-in-Open : goal.invariant_of-self-in-Open
+invariant_of-self-in-Open c =
+    let same = ap (λ (l : Leap). l.from) c.ready.view_is ∙ c.requires ∙ sym c.self.view_is in
+    let s = state_of c.self.inside in
+    let can = subst (λ (x : Shown). CanDo x.state (Open c.in-Open.snapshot)) same
+    (subst (λ plan. CanDo c.ready.inside.from.value.state plan) c.in-Open.is c.ready.invariant) in
+    subst (λ (v : Viewing). IsSound (record s { views = v.opened; next_view = v.next }) c.self.inside.allocator) (sym c.open.ensures)
+    (sound_viewing s c.self.inside.allocator c.self.invariant (snap_id c.in-Open.snapshot) can.steady)
+
+pub invariant_of-self-in-Close : goal.invariant_of-self-in-Close
+invariant_of-self-in-Close c =
+    let same = ap (λ (l : Leap). l.from) c.ready.view_is ∙ c.requires ∙ sym c.self.view_is in
+    let s = state_of c.self.inside in
+    let can = subst (λ (x : Shown). CanDo x.state (Close c.in-Close.number)) same
+    (subst (λ plan. CanDo c.ready.inside.from.value.state plan) c.in-Close.is c.ready.invariant) in
+    subst (λ (v : Viewing). IsSound (record s { views = v.opened; next_view = v.next }) c.self.inside.allocator) (sym c.close.ensures)
+    (sound_closed s c.self.inside.allocator c.self.invariant c.in-Close.number can)
+
+pub invariant_of-self-in-Sweep : goal.invariant_of-self-in-Sweep
+invariant_of-self-in-Sweep c =
+    let same = ap (λ (l : Leap). l.from) c.ready.view_is ∙ c.requires ∙ sym c.self.view_is in
+    let s = state_of c.self.inside in
+    let can = subst (λ (x : Shown). CanDo x.state (Sweep c.in-Sweep.number c.in-Sweep.to c.in-Sweep.freeing)) same
+    (subst (λ plan. CanDo c.ready.inside.from.value.state plan) c.in-Sweep.is c.ready.invariant) in
+    subst (λ (v : Viewing). IsSound (record s { now = record (world_of c.in-Sweep.to) { freeing = c.in-Sweep.freeing }; views = v.opened; next_view = v.next }) c.self.inside.allocator) (sym c.close-in-Sweep.ensures)
+    (subst (λ (x : BlockSet). IsSound (with_now (closed s c.in-Sweep.number) (record (world_of c.in-Sweep.to) { freeing = x })) c.self.inside.allocator) (sym can.1)
+    (sound_swept s c.self.inside.allocator c.self.invariant c.in-Sweep.number c.in-Sweep.to can.0))

@@ -18,7 +18,7 @@ returns-in-Ok-enter-clause-ok g c =
     let ran = c.in-Ok-enter.ensures.ran in
     let all : c.args.requests.items ≡ r.entry.request ∷ rest = sym c.into_iter-rest.ensures.rest ∙ c.in-Some.ensures.items ∙ ap (λ (q : Request). q ∷ rest) (sym ran.1) in
     let asked : c.len-asked.result ≡ length c.args.requests.items = omega arith in
-    let at : r.number ≡ length c.deref.result.now.history = c.in-Ok-enter.ensures.number ∙ ap (λ b. length b.history) (c.deref_mut.ensures.value ∙ sym c.deref.ensures) in
+    let at : r.number ≡ length c.deref-2.result.now.history = c.in-Ok-enter.ensures.number ∙ ap (λ b. length b.history) (c.deref_mut.ensures.value ∙ sym c.deref-2.ensures) in
     let enough : c.len-asked.result ≤ c.room.result = omega arith in
     record {
       added = c.enter_rest.ensures.added c.args.seat.now (ran.0, refl, ran.2);

@@ -1,0 +1,31 @@
+use Rattle.std.proofs.Common.{◌+◌, Some, sym, ap, ◌∙◌, map, drop}
+use Rattle.std.specs.Arc.{arc_value}
+use Rattle.std.specs.Option.{option_copied}
+use Rattle.file_systems.specs.Rows.{Row}
+use Rattle.model.specs.Ids.{snap_id}
+use Rattle.datasets.proofs.Placed.{placed_in, in_own, in_others, first_of_left, row_rising}
+use Rattle.datasets.proofs.table.Table.snapshot_of.Goals as goal
+
+pub snapshot_of-requires : goal.snapshot_of-requires
+snapshot_of-requires c = row_rising (arc_value {X = Row}) c.file_systems-file_system-items.result.now c.loop-file_system.file_system-index c.loop-file_system-test.true
+    c.file_system-item.result c.file_system-item.is c.deref.result.now c.deref.ensures c.args.self.now.file_systems c.args.self.now.group c.len-count.ensures.good c.file_systems-file_system-items.ensures
+
+pub returns-in-Some : goal.returns-in-Some
+returns-in-Some c =
+    let id = snap_id c.args.id in
+    let rows = map (arc_value {X = Row}) c.file_systems-file_system-items.result.now in
+    let i = c.loop-file_system.file_system-index in
+    let r : Row = c.deref.result.now in
+    let here = first_of_left (arc_value {X = Row}) c.file_systems-file_system-items.result.now i c.loop-file_system-test.true c.file_system-item.result c.file_system-item.is r c.deref.ensures in
+    ap (λ (x : Row). Some (x.0, c.in-Some.snapshot.now)) (c.deref-in-Some.ensures ∙ sym c.deref.ensures)
+    ∙ sym (in_own id r (drop (i + 1) rows) c.in-Some.snapshot.now (sym c.in-Some.ensures))
+    ∙ sym (ap (placed_in id) here) ∙ c.loop-file_system.invariant
+
+pub loop-file_system-preserved : goal.loop-file_system-preserved
+loop-file_system-preserved c =
+    let id = snap_id c.args.id in
+    let rows = map (arc_value {X = Row}) c.file_systems-file_system-items.result.now in
+    let i = c.loop-file_system.file_system-index in
+    let r : Row = c.deref.result.now in
+    let here = first_of_left (arc_value {X = Row}) c.file_systems-file_system-items.result.now i c.loop-file_system-test.true c.file_system-item.result c.file_system-item.is r c.deref.ensures in
+    sym (in_others id r (drop (i + 1) rows) (sym c.in_default.ensures)) ∙ sym (ap (placed_in id) here) ∙ c.loop-file_system.invariant

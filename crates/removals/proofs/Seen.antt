@@ -1,0 +1,109 @@
+-- Open views and the snapshots that they show.
+use Rattle.std.proofs.Common.{◌≡◌, ◌⊎◌, ℕ, Bool, true, false, cond, ◌&&◌, ◌||◌, List, [], ◌∷◌, ◌++◌, map, Option, Some, None, refl, sym, ap, subst, ◌∙◌, true≢false, inl, inr, ⊎_elim}
+use Rattle.std.specs.Prelude.{nat_lt}
+use Rattle.std.specs.List.{filter, list_any}
+use Rattle.std.specs.Option.{option_map_or}
+use Rattle.std.specs.FinMap.{get, entries, remove, same_map}
+use Rattle.base.specs.Surveys.{IsIn}
+use Rattle.name.specs.declared.member.Member.{Member}
+use Rattle.model.specs.World.{Snap, SnapId, id_of, same_id, snap_named}
+use Rattle.model.specs.State.{Views, is_viewed}
+use Rattle.world.specs.Shapes.{view_order}
+use Rattle.world.specs.Tables.{Datasets, world_of}
+use Rattle.world.specs.Usage.{IsEntry}
+use Rattle.world.proofs.Finding.{same_id_is}
+use Rattle.world.proofs.ViewedSteps.{viewed}
+use Rattle.world.proofs.Maps.{key_cases, at_entry, get-remove_same, get-remove_other, no_value}
+use Rattle.removals.specs.Named.{is_named_viewed, is_viewed_after}
+use Rattle.removals.proofs.Named.{ids_of, id_named}
+
+-- ---- a view of a snapshot
+
+-- one of those that are open shows it
+pub viewed_by : (views : Views) (id : SnapId) → is_viewed views id ≡ true → (v : ℕ) × (get views v ≡ Some id)
+viewed_by views id e = let k = among (entries views) e in (k.0, at_entry view_order views k.0 id k.1)
+  where
+    among : (es : List (ℕ × SnapId)) → list_any (same_id id) (map (λ x. x.1) es) ≡ true → (v : ℕ) × IsEntry es v id
+    among [] h = absurd (true≢false (sym h))
+    among (x ∷ xs) h = by_test (same_id id x.1) refl h (λ k. among xs k)
+      where
+        by_test : (b : Bool) → same_id id x.1 ≡ b → (b || list_any (same_id id) (map (λ y. y.1) xs)) ≡ true
+            → (list_any (same_id id) (map (λ y. y.1) xs) ≡ true → (v : ℕ) × IsEntry xs v id) → (v : ℕ) × IsEntry (x ∷ xs) v id
+        by_test true k h rest = (x.0, inl (refl, same_id_is id x.1 k))
+        by_test false k h rest = let r = rest h in (r.0, inr r.1)
+
+-- where one is closed, what was seen is still, or that one alone showed it
+pub viewed_beside : (views : Views) (number : ℕ) (id : SnapId) → is_viewed views id ≡ true → (is_viewed (remove views number) id ≡ true) ⊎ (get views number ≡ Some id)
+viewed_beside views number id e =
+    let k = viewed_by views id e in
+    ⊎_elim
+    (λ (same : k.0 ≡ number). inr (ap (get views) (sym same) ∙ k.1))
+    (λ other. inl (viewed (remove views number) k.0 id (get-remove_other view_order views number k.0 other ∙ k.1)))
+    (key_cases view_order k.0 number)
+
+-- where none has the number, all stay
+pub none_closed : (views : Views) (number : ℕ) → get views number ≡ None → remove views number ≡ views
+none_closed views number none = same_map view_order.total view_order.exact _ _ (λ q. ⊎_elim
+    (λ (same : q ≡ number). ap (get (remove views number)) same ∙ get-remove_same view_order views number ∙ sym none ∙ ap (get views) (sym same))
+    (λ other. get-remove_other view_order views number q other)
+    (key_cases view_order q number))
+
+-- ---- of some names
+
+pub any_join : (p : SnapId → Bool) (xs ys : List SnapId) → list_any p (xs ++ ys) ≡ (list_any p xs || list_any p ys)
+any_join p [] ys = refl
+any_join p (x ∷ xs) ys = ap (λ b. p x || b) (any_join p xs ys) ∙ assoc (p x) (list_any p xs) (list_any p ys)
+  where
+    assoc : (a b c : Bool) → (a || (b || c)) ≡ ((a || b) || c)
+    assoc true b c = refl
+    assoc false b c = refl
+
+pub any_named : (t : Datasets) (views : Views) (ms : List Member) → list_any (is_viewed views) (ids_of t ms) ≡ list_any (is_named_viewed t views) ms
+any_named t views [] = refl
+any_named t views (m ∷ ms) = any_join (is_viewed views) (id_named t m) (ids_of t ms) ∙ (λ i. one (snap_named (world_of t) m) i || any_named t views ms i)
+  where
+    or_none : (b : Bool) → (b || false) ≡ b
+    or_none true = refl
+    or_none false = refl
+
+    one : (x : Option Snap) → list_any (is_viewed views) (option_map_or (λ (s : Snap). id_of s ∷ []) x []) ≡ option_map_or (λ (s : Snap). is_viewed views (id_of s)) x false
+    one None = refl
+    one (Some s) = or_none (is_viewed views (id_of s))
+
+-- ---- of those in a list
+
+-- one more of them
+pub any_pushed : {A B : Type 0} (p : B → Bool) (value : A → B) (xs : List A) (x : A) → list_any p (map value xs) ≡ false → p (value x) ≡ false → list_any p (map value (xs ++ x ∷ [])) ≡ false
+any_pushed p value [] x none e = ap (λ b. b || false) e
+any_pushed p value (y ∷ ys) x none e = by_test (p (value y)) none (any_pushed p value ys x)
+  where
+    by_test : (b : Bool) → (b || list_any p (map value ys)) ≡ false → (list_any p (map value ys) ≡ false → p (value x) ≡ false → list_any p (map value (ys ++ x ∷ [])) ≡ false)
+        → (b || list_any p (map value (ys ++ x ∷ []))) ≡ false
+    by_test true k ih = absurd (true≢false k)
+    by_test false k ih = ih k e
+
+-- one that is there
+pub any_here : {A : Type 0} (p : A → Bool) (xs : List A) (x : A) (ys : List A) → p x ≡ true → list_any p (xs ++ x ∷ ys) ≡ true
+any_here p [] x ys e = ap (λ b. b || list_any p ys) e
+any_here p (z ∷ xs) x ys e = or_right (p z) (list_any p (xs ++ x ∷ ys)) (any_here p xs x ys e)
+  where
+    or_right : (a b : Bool) → b ≡ true → (a || b) ≡ true
+    or_right true b e = refl
+    or_right false b e = e
+
+-- of those that they stand for
+pub any_value : {A B : Type 0} (value : A → B) (p : B → Bool) (xs : List A) → list_any (λ x. p (value x)) xs ≡ list_any p (map value xs)
+any_value value p [] = refl
+any_value value p (x ∷ xs) = ap (λ b. p (value x) || b) (any_value value p xs)
+
+-- ---- of later groups
+
+pub any_later : (views : Views) (group : ℕ) (us : List Snap) → list_any (is_viewed views) (map id_of (filter (λ (u : Snap). nat_lt group u.group) us)) ≡ list_any (is_viewed_after views group) us
+any_later views group [] = refl
+any_later views group (u ∷ us) = by_test (nat_lt group u.group) (any_later views group us)
+  where
+    by_test : (b : Bool) → list_any (is_viewed views) (map id_of (filter (λ (u : Snap). nat_lt group u.group) us)) ≡ list_any (is_viewed_after views group) us
+        → list_any (is_viewed views) (map id_of (cond b (u ∷ filter (λ (u : Snap). nat_lt group u.group) us) (filter (λ (u : Snap). nat_lt group u.group) us)))
+        ≡ ((b && is_viewed views (id_of u)) || list_any (is_viewed_after views group) us)
+    by_test true ih = ap (λ b. is_viewed views (id_of u) || b) ih
+    by_test false ih = ih

@@ -1,0 +1,13 @@
+use Rattle.std.proofs.Common.{◌≡◌, drop, not}
+use Rattle.std.specs.List.{filter}
+use Rattle.removals.specs.Edits.{HasLost}
+use Rattle.removals.specs.Named.{without_all, is_named_viewed}
+use Rattle.removals.proofs.edit.Edit.lose_unviewed.Given as goal
+
+-- without those that are left and that no view shows it is without all such, and what went so far is to be freed
+abbrev pub invariant-loop-name : goal.invariant-loop-name
+invariant-loop-name l = record {
+  rest : without_all l.self.to (filter (λ m. not (is_named_viewed l.table l.views.opened m)) (drop l.name-index l.all))
+      ≡ without_all l.initial.self.to (filter (λ m. not (is_named_viewed l.table l.views.opened m)) l.all);
+  lost : HasLost l.initial.self.to l.initial.self.freeing l.self.to l.self.freeing;
+}

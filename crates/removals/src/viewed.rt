@@ -1,0 +1,96 @@
+//! What the open views of a pool show.
+ghost use Rattle.std.specs.Prelude.{◌≡◌, ◌&&◌, nat_lt};
+ghost use Rattle.std.specs.List.{list_any};
+ghost use Rattle.std.specs.FinMap.{entries};
+ghost use Rattle.std.specs.Arc.{arc_value};
+ghost use Rattle.file_systems.specs.Rows.{Row};
+ghost use Rattle.model.specs.State.{is_viewed};
+ghost use Rattle.model.specs.World.{id_of};
+ghost use Rattle.snap.specs.Taking.{is_in_family};
+ghost use Rattle.removals.specs.Named.{is_named_viewed, is_viewed_after};
+
+use base::number::Group;
+use datasets::Table;
+use file_systems::{FileSystem, Snapshot};
+use name::{Component, DsName};
+use snap::{Named, is_in_family};
+use std::sync::Arc;
+use views::Views;
+
+// Whether an open view shows it. It costs the number of open views.
+fn is_viewed(views: &Views, snapshot: &Snapshot) -> bool
+    ensures { result ≡ is_viewed views.now.opened (id_of snapshot.now) }
+{
+    views.is_viewed(snapshot.id())
+}
+
+/// Whether an open view shows the snapshot of this name. It costs the logarithm of the number of file systems, that of the number of
+/// snapshots of this one, and the number of open views.
+pub(crate) fn is_named_viewed(
+    table: &Table,
+    views: &Views,
+    file_system: &DsName,
+    component: &Component,
+) -> bool
+    ensures { result ≡ is_named_viewed table.now views.now.opened (record { file_system = file_system.now; component = component.now }) }
+{
+    let Some(file_system) = table.find(file_system) else {
+        return false;
+    };
+    match file_system.snapshot_named(component.as_bytes()) {
+        Some(snapshot) => is_viewed(views, snapshot),
+        None => false,
+    }
+}
+
+// The same of a name that is lent.
+fn shows(table: &Table, views: &Views, name: &Named) -> bool
+    ensures { result ≡ is_named_viewed table.now views.now.opened name.now }
+{
+    is_named_viewed(table, views, name.file_system, name.component)
+}
+
+/// Whether an open view shows the snapshot of one of these names. It costs what `is_named_viewed` does for each.
+pub(crate) fn any_named_viewed(table: &Table, views: &Views, all: &[Named]) -> bool
+    ensures { result ≡ list_any (is_named_viewed table.now views.now.opened) all.now }
+{
+    all.iter().any(|name| shows(table, views, name))
+}
+
+/// Whether an open view shows a snapshot of this file system of a later group. It costs the number of its snapshots, and for each that is
+/// later that of the open views.
+pub(crate) fn any_later_viewed(file_system: &FileSystem, group: Group, views: &Views) -> bool
+    ensures { result ≡ list_any (is_viewed_after views.now.opened group.0) file_system.now.1.snaps }
+{
+    for kept in file_system.snapshots().iter() {
+        if kept.snapshot.group() > group && is_viewed(views, &kept.snapshot) {
+            return true;
+        }
+    }
+    false
+}
+
+// Whether it is the file system of that name or a descendant, and an open view shows a snapshot of it.
+fn is_viewed_within(file_system: &FileSystem, name: &DsName, views: &Views) -> bool
+    ensures { result ≡ (is_in_family name.now file_system.now.0 && list_any (is_viewed_after views.now.opened 0) file_system.now.1.snaps) }
+{
+    is_in_family(name.as_bytes(), file_system.name().as_bytes())
+        && any_later_viewed(file_system, Group(0), views)
+}
+
+// Whether that holds of one of these file systems.
+fn any_viewed_within(file_systems: &[Arc<FileSystem>], name: &DsName, views: &Views) -> bool
+    ensures { result ≡ list_any (λ a. is_in_family name.now (arc_value {X = Row} a).0 && list_any (is_viewed_after views.now.opened 0) (arc_value {X = Row} a).1.snaps) file_systems.now }
+{
+    file_systems
+        .iter()
+        .any(|file_system| is_viewed_within(file_system, name, views))
+}
+
+/// Whether an open view shows a snapshot of the file system of this name or of a descendant. It costs the number of file systems, that of
+/// the snapshots of those, and for each of these that of the open views.
+pub(crate) fn any_of_family_viewed(table: &Table, views: &Views, name: &DsName) -> bool
+    ensures { result ≡ list_any (λ r. is_in_family name.now r.0 && list_any (is_viewed_after views.now.opened 0) r.1.snaps) (entries table.now.file_systems) }
+{
+    any_viewed_within(table.file_systems(), name, views)
+}

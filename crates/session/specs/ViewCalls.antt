@@ -1,0 +1,54 @@
+-- What the calls on views give.
+use Rattle.std.specs.Prelude.{◌≡◌, ◌≢◌, Bool, true, false}
+use Rattle.name.specs.declared.target.Target.{Target}
+use Rattle.model.specs.declared.request.Request.{Request}
+use Rattle.model.specs.declared.request.Request.TheVariants.{Create, Write, Punch, FreeObject, Snapshot, Read, Get, PoolGet, List, Rollback, Destroy, Slice, Sync, OpenView, CloseView}
+use Rattle.model.specs.declared.reply.Reply.TheVariants.{Opened as TheOpened, Done}
+use Rattle.book.specs.Calls.{Ran, IsFullOrNoMemory}
+use Rattle.book.specs.Entered.{is_opened}
+use Rattle.book.specs.Receipts.{Kept, Placed}
+use Rattle.session.specs.Views.{Viewed}
+use Rattle.session.specs.declared.view.OpenedView.{OpenedView}
+use Rattle.session.specs.declared.view.OpenedView.TheVariants.{Opened, Refused}
+use Rattle.session.specs.declared.view.ClosedView.{ClosedView}
+use Rattle.session.specs.declared.view.ClosedView.TheVariants as closed
+
+-- the request opens or closes a view (profile)
+abbrev pub is_of_views : Request → Bool
+is_of_views (Create name) = false
+is_of_views (Write target object block bytes) = false
+is_of_views (Punch target object block) = false
+is_of_views (FreeObject target object) = false
+is_of_views (Snapshot names recursive) = false
+is_of_views (Read target object block) = false
+is_of_views (Get target property) = false
+is_of_views (PoolGet property) = false
+is_of_views List = false
+is_of_views (Rollback target later) = false
+is_of_views (Destroy target recursive defer) = false
+is_of_views (Slice count) = false
+is_of_views Sync = false
+is_of_views (OpenView target) = true
+is_of_views (CloseView view) = true
+
+-- the view shows what the reply says; or the reply opened none (profile)
+abbrev pub IsOpenedBy : {K : Type 0} → Placed → OpenedView K → Type 0
+IsOpenedBy r (Opened v own) = (own ≡ r) × (r.entry.reply ≡ TheOpened v.number v.sight)
+IsOpenedBy r (Refused own) = (own ≡ r) × (is_opened r.entry.reply ≡ false)
+
+-- the request ran, and the view shows what its reply says; or the reply opened none (profile)
+abbrev pub HasOpened : {K : Type 0} → Target → Kept → OpenedView K → Kept → Type 0
+HasOpened target seat (Opened v r) after = Ran seat (OpenView target) r after × (r.entry.reply ≡ TheOpened v.number v.sight)
+HasOpened target seat (Refused r) after = Ran seat (OpenView target) r after × (is_opened r.entry.reply ≡ false)
+
+-- the view is spent where the reply is Done, and else handed back (profile)
+abbrev pub IsClosedBy : {K : Type 0} → Placed → Viewed → ClosedView K → Type 0
+IsClosedBy r view (closed.Closed own) = (own ≡ r) × (r.entry.reply ≡ Done)
+IsClosedBy r view (closed.Refused own v) = (own ≡ r) × (r.entry.reply ≢ Done) × (v ≡ view)
+IsClosedBy r view (closed.NotRun e v) = ⊥
+
+-- the view is spent where the pool closed it; else it is handed back, whether the request ran and was refused or didn't run (profile)
+abbrev pub HasClosed : {K : Type 0} → Kept → Viewed → ClosedView K → Kept → Type 0
+HasClosed seat view (closed.Closed r) after = Ran seat (CloseView view.number) r after × (r.entry.reply ≡ Done)
+HasClosed seat view (closed.Refused r v) after = Ran seat (CloseView view.number) r after × (r.entry.reply ≢ Done) × (v ≡ view)
+HasClosed seat view (closed.NotRun e v) after = (after ≡ seat) × (v ≡ view) × IsFullOrNoMemory e

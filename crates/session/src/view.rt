@@ -1,0 +1,111 @@
+//! Views of snapshots, which are read without the session.
+ghost use Rattle.std.specs.Prelude.{◌≡◌, ◌↔◌, false, Err, IfSome, IfNone, IfOk};
+ghost use Rattle.std.specs.FinMap.{get};
+ghost use Rattle.base.specs.Key.{leaf_index};
+ghost use Rattle.base.specs.Map.{contents};
+ghost use Rattle.model.specs.Targets.{is_block};
+ghost use Rattle.model.specs.declared.reply.Reply.TheVariants.{Opened as TheOpened};
+ghost use Rattle.book.specs.Entered.{is_opened};
+ghost use Rattle.session.specs.Views.{ReadsAs};
+
+use base::meter::Meter;
+use base::refusal::Refusal;
+use book::{Opening, Receipt};
+use model::entry::Entry;
+use model::reply::Reply;
+use std::marker::{Model, PhantomData};
+use std::sync::Arc;
+use toll::Toll;
+
+/// A view of a snapshot: what it was when the view was opened. It is read without the session, by any thread that has it, while others
+/// go on. As long as it is open, a destroy or a rollback that would remove the snapshot answers Busy, and one that is deferred waits for
+/// it (zfs-destroy(8), -d). Contracts see its number and what it shows.
+#[derive(Drop)]
+pub struct View<K: Opening> {
+    number: u64,
+    entry: Arc<Entry>,
+    of: PhantomData<K>,
+}
+
+impl<K: Opening> Model for View<K> {
+    ghost use Rattle.std.specs.Prelude.{◌≡◌};
+    ghost use Rattle.std.specs.Arc.{arc_value};
+    ghost use Rattle.model.specs.declared.reply.Reply.TheVariants.{Opened as TheOpened};
+    ghost use Rattle.session.specs.Views.{Viewed, viewed_code, seen_in};
+
+    ghost Value = { Viewed };
+
+    ghost coded = { viewed_code };
+
+    ghost view = { λ v. record { number = v.number; sight = seen_in (arc_value v.entry).reply } };
+
+    ghost invariant = { λ v. (arc_value v.entry).reply ≡ TheOpened v.number (seen_in (arc_value v.entry).reply) };
+}
+
+/// What `Session::open_view` gives.
+#[derive(Drop)]
+pub enum OpenedView<K: Opening> {
+    /// The view, with the receipt of the request that opened it.
+    Opened(View<K>, Receipt),
+    /// The receipt of a request that the pool refused.
+    Refused(Receipt),
+}
+
+/// What `Session::close_view` gives.
+#[derive(Drop)]
+pub enum ClosedView<K: Opening> {
+    /// The receipt of the request that closed the view.
+    Closed(Receipt),
+    /// The receipt of a request that the pool refused, and the view, which is open still.
+    Refused(Receipt, View<K>),
+    /// Why nothing ran, and the view, which is open still.
+    NotRun(Refusal, View<K>),
+}
+
+impl<K: Opening> View<K> {
+    // The view that this entry opened, if it opened one.
+    pub(crate) fn of(entry: Arc<Entry>) -> Option<View<K>>
+        ensures some { IfSome result (λ v. entry.value.reply ≡ TheOpened v.number v.sight) }
+        ensures none { IfNone result (is_opened entry.value.reply ≡ false) }
+    {
+        let Some(Reply::Opened(number, _)) = entry.reply.other() else {
+            return None;
+        };
+        let number = *number;
+        Some(View {
+            number,
+            entry,
+            of: PhantomData,
+        })
+    }
+
+    /// The number under which the pool knows the view. Constant time.
+    pub fn number(&self) -> u64
+        ensures { result ≡ self.now.number }
+    {
+        self.number
+    }
+
+    /// The 512 bytes of a block of an object of the snapshot, or none where it is a hole: what Read answered right after the request that
+    /// opened the view, whatever others have asked since. BadKey exactly where the object is above 255 or the block above 4095. It takes
+    /// no lock and no memory, and costs the nodes from the root to the block: at most six.
+    pub fn read(&self, object: u32, block: u32) -> Result<Option<[u8; 512]>, Refusal>
+        ensures ok { IfOk result (λ bytes. bytes ≡ get (contents self.now.sight.map) (leaf_index object block)) }
+        ensures bad_key { (result ≡ Err Refusal.BadKey) ↔ (is_block object block ≡ false) }
+        ensures as_read { ReadsAs self.now.sight object block result }
+    {
+        let Some(Reply::Opened(_, sight)) = self.entry.reply.other() else {
+            unreachable!()
+        };
+        let mut meter = Meter::new(Toll::new());
+        let bytes = objset::read(sight.tree(), object, block, &mut meter)?;
+        Ok(bytes.copied())
+    }
+
+    /// Gives the view up, and tells its number. The snapshot stays in use until CloseView is asked of the pool itself. Constant time.
+    pub fn forget(self) -> u64
+        ensures { result ≡ self.number }
+    {
+        self.number
+    }
+}

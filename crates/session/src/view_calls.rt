@@ -1,0 +1,84 @@
+//! Views opened and closed.
+ghost use Rattle.std.specs.Prelude.{◌≡◌, IfOk, IfErr, IfSome, OnErr, is_some};
+ghost use Rattle.book.specs.Calls.{IsFullOrNoMemory};
+ghost use Rattle.book.specs.Entered.{is_opened};
+ghost use Rattle.session.specs.ViewCalls.{HasOpened, HasClosed, IsOpenedBy, IsClosedBy};
+
+use crate::shared::Session;
+use crate::view::{ClosedView, OpenedView, View};
+use base::refusal::Refusal;
+use book::{Entered, Opening, Receipt, Seat};
+use model::entry::Entry;
+use model::reply::Reply;
+use model::request::Request;
+use name::Target;
+use std::alloc::Global;
+use std::sync::{Arc, Wait};
+
+impl<K: Opening> Session<K> {
+    /// Opens a view of a snapshot. One that the pool refuses has run: NotSnapshot, NoDataset, Deferred or TooMany. At `Err` nothing ran:
+    /// SessionFull once the session has taken all its calls, NoMemory where there is no memory for the entry or its receipts. The view
+    /// holds the snapshot's tree by one more owner, so that it costs what the name does.
+    pub fn open_view<R: Wait>(
+        &self,
+        alloc: Global,
+        rt: &R,
+        seat: &mut Seat<K>,
+        target: Target,
+    ) -> Result<OpenedView<K>, Refusal>
+        ensures ok { IfOk result (λ o. HasOpened target seat.old o seat.new) }
+        ensures err { OnErr result (seat.new ≡ seat.old) }
+        ensures refusal { IfErr result (λ r. IsFullOrNoMemory r) }
+    {
+        let Entered { receipt, viewed } = self.ask(alloc, rt, seat, Request::OpenView { target })?;
+        Ok(opened(receipt, viewed))
+    }
+
+    /// Closes a view, which is spent then; or hands it back with the receipt of a request that the pool refused, NoView or NoMemory, or
+    /// with the refusal where nothing ran, SessionFull or NoMemory. What a destroy left for this view alone is to be freed then
+    /// (zfs-destroy(8), -d). It costs what the pool's step does.
+    pub fn close_view<R: Wait>(
+        &self,
+        alloc: Global,
+        rt: &R,
+        seat: &mut Seat<K>,
+        view: View<K>,
+    ) -> ClosedView<K>
+        ensures { HasClosed seat.old view result seat.new }
+    {
+        let number = view.number();
+        match self.ask(alloc, rt, seat, Request::CloseView { view: number }) {
+            Ok(Entered { receipt, viewed }) => {
+                drop(viewed);
+                closed(receipt, view)
+            }
+            Err(refusal) => ClosedView::NotRun(refusal, view),
+        }
+    }
+}
+
+// What a request for a view came to, from its receipt and the owner that the view has of its entry.
+fn opened<K: Opening>(receipt: Receipt, viewed: Option<Arc<Entry>>) -> OpenedView<K>
+    requires viewed { IfSome viewed (λ v. v.value ≡ receipt.entry) }
+    requires opened { is_some viewed ≡ is_opened receipt.entry.reply }
+    ensures { IsOpenedBy receipt result }
+{
+    let Some(entry) = viewed else {
+        return OpenedView::Refused(receipt);
+    };
+    match View::of(entry) {
+        Some(view) => OpenedView::Opened(view, receipt),
+        None => OpenedView::Refused(receipt),
+    }
+}
+
+// What a request to close this view came to, from its receipt.
+fn closed<K: Opening>(receipt: Receipt, view: View<K>) -> ClosedView<K>
+    ensures { IsClosedBy receipt view result }
+{
+    if receipt.entry.reply.is(&Reply::Done) {
+        ClosedView::Closed(receipt)
+    } else {
+        ClosedView::Refused(receipt, view)
+    }
+}

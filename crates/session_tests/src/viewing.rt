@@ -1,0 +1,547 @@
+//! Views of snapshots, which are read without the session.
+ghost use Rattle.std.specs.Prelude.{◌≡◌};
+
+use crate::rig::{Wanted, closes, finds_no_room, opened, read_of, runs, seat_of, write_of};
+use base::refusal::Refusal;
+use book::{Book, Closed, Opening, Receipt, Seat};
+use model::reply::Reply;
+use model::request::Request;
+use model::snap_names::SnapNames;
+use name::{SnapName, Target};
+use pool::Pool;
+use session::{ClosedView, Gate, OpenedView, Session, View};
+use std::alloc::Global;
+use std::marker::Brand;
+use std::process::Abort;
+use std::sync::Wait;
+use std::sync::atomic::{AtomicBool, Ordering};
+use std::thread::{Threads, join, map_vec, yield_now};
+
+fn snapshot_of(alloc: Global, name: &[u8]) -> Result<Request, Refusal> {
+    let name = SnapName::read(alloc, name)?;
+    Ok(Request::Snapshot {
+        names: SnapNames::from(vec![in alloc; name]?),
+        recursive: false,
+    })
+}
+
+fn destroy_of(alloc: Global, name: &[u8]) -> Result<Request, Refusal> {
+    let target = Target::read(alloc, name)?;
+    Ok(Request::Destroy {
+        target,
+        recursive: false,
+        defer: false,
+    })
+}
+
+fn view_of(alloc: Global, name: &[u8]) -> Result<Request, Refusal> {
+    let target = Target::read(alloc, name)?;
+    Ok(Request::OpenView { target })
+}
+
+// Writes a block of 97s into p, and takes the snapshot p@s: the first two calls of a session. Tells whether both are done.
+fn takes_a_snapshot<K: Opening, R: Wait + Abort>(
+    rt: &R,
+    alloc: Global,
+    session: &Session<K>,
+    seat: &mut Seat<K>,
+) -> bool {
+    let write = write_of(alloc, 0, 0, 97);
+    let written = runs(rt, alloc, session, seat, write, 0, Wanted::Done);
+    let snapshot = snapshot_of(alloc, b"p@s");
+    written && runs(rt, alloc, session, seat, snapshot, 1, Wanted::Done)
+}
+
+// Opens a view of p@s.
+fn view<K: Opening, R: Wait + Abort>(
+    rt: &R,
+    alloc: Global,
+    session: &Session<K>,
+    seat: &mut Seat<K>,
+) -> View<K> {
+    let target = Target::read(alloc, b"p@s").expect(rt, "memory");
+    let opened = session.open_view(alloc, rt, seat, target);
+    viewed(opened).expect(rt, "a view")
+}
+
+fn viewed<K: Opening>(opened: Result<OpenedView<K>, Refusal>) -> Option<View<K>> {
+    match opened {
+        Ok(OpenedView::Opened(view, receipt)) => {
+            drop(receipt);
+            Some(view)
+        }
+        Ok(OpenedView::Refused(receipt)) => {
+            drop(receipt);
+            None
+        }
+        Err(_) => None,
+    }
+}
+
+// Whether the view shows a block of 97s, a hole beside it, and no object 256.
+fn shows_the_snapshot<K: Opening>(view: &View<K>) -> bool {
+    view.read(0, 0) == Ok(Some([97; 512]))
+        && view.read(0, 1) == Ok(None)
+        && view.read(256, 0) == Err(Refusal::BadKey)
+}
+
+// Whether a destroy of p@s has this number and this reply.
+fn destroys<K: Opening, R: Wait + Abort>(
+    rt: &R,
+    alloc: Global,
+    session: &Session<K>,
+    seat: &mut Seat<K>,
+    number: u64,
+    wanted: Wanted,
+) -> bool {
+    let destroy = destroy_of(alloc, b"p@s");
+    runs(rt, alloc, session, seat, destroy, number, wanted)
+}
+
+// Whether a view is closed by the request with this number.
+fn closes_view<K: Opening, R: Wait>(
+    rt: &R,
+    alloc: Global,
+    session: &Session<K>,
+    seat: &mut Seat<K>,
+    view: View<K>,
+    number: u64,
+) -> bool {
+    match session.close_view(alloc, rt, seat, view) {
+        ClosedView::Closed(receipt) => receipt.number == number,
+        ClosedView::Refused(receipt, view) => {
+            drop(receipt);
+            drop(view);
+            false
+        }
+        ClosedView::NotRun(_, view) => {
+            drop(view);
+            false
+        }
+    }
+}
+
+// ---- a view is read while another thread holds the lock
+
+/// A gate that stands until a flag is set, for at most a million turns of its own, and tells whether it was set.
+#[derive(Drop)]
+struct Standing<'f> {
+    flag: &'f AtomicBool,
+    was_set: bool,
+    turns: u64,
+    stopped: bool,
+}
+
+impl Gate for Standing<'_> {
+    ghost left = { λ g. g.turns };
+
+    ghost stopped = { λ g. g.stopped };
+
+    fn turn(&mut self) -> bool {
+        if self.turns == 0 || self.stopped {
+            self.stopped = true;
+            return false;
+        }
+        self.was_set = comes_to_be_set(self.flag);
+        self.turns -= 1;
+        true
+    }
+}
+
+fn comes_to_be_set(flag: &AtomicBool) -> bool {
+    for _ in 0..1_000_000u32 {
+        if flag.load(Ordering::SeqCst) {
+            return true;
+        }
+        yield_now();
+    }
+    false
+}
+
+#[test]
+fn a_view_is_read_while_the_lock_is_held(rt: HostRuntime) {
+    let pool = Pool::create(rt.alloc(), 1, 1000).expect(&rt, "memory");
+    reads_while_a_batch_stands::<Brand, _>(&rt, rt.alloc(), pool)
+}
+
+fn reads_while_a_batch_stands<K: Opening + Send + Sync, R: Threads + Wait + Abort + Sync>(
+    rt: &R,
+    alloc: Global,
+    pool: Pool,
+)
+    requires opening { pool.state ≡ K.opening }
+    requires limit { 20 ≡ K.limit }
+{
+    let session: Session<K> = opened(rt, alloc, pool, 20);
+    let mut seat = seat_of(rt, alloc, &session);
+    let taken = takes_a_snapshot(rt, alloc, &session, &mut seat);
+    let view = view(rt, alloc, &session, &mut seat);
+    let flag = AtomicBool::new(false);
+    let (shared, flag, shown) = (&session, &flag, &view);
+    let ((mut seat, stood), read) = join(
+        rt,
+        || stands_in_a_batch(rt, alloc, shared, seat, flag),
+        || reads_and_tells(shown, flag),
+    );
+    let busy = destroys(
+        rt,
+        alloc,
+        &session,
+        &mut seat,
+        5,
+        Wanted::Refused(Refusal::Busy),
+    );
+    let closed = closes_view(rt, alloc, &session, &mut seat, view, 6);
+    let gone = destroys(rt, alloc, &session, &mut seat, 7, Wanted::Done);
+    let ended = closes(rt, alloc, session.end(), seat, 8);
+    assert!(rt; taken && stood && read && busy && closed && gone && ended);
+}
+
+// Makes two writes in one hold of the lock, and stands between them until the flag is set. Tells whether it was.
+fn stands_in_a_batch<K: Opening, R: Wait + Abort>(
+    rt: &R,
+    alloc: Global,
+    session: &Session<K>,
+    mut seat: Seat<K>,
+    flag: &AtomicBool,
+) -> (Seat<K>, bool) {
+    let mut gate = Standing {
+        flag,
+        was_set: false,
+        turns: 2,
+        stopped: false,
+    };
+    let ran = makes_two_writes(rt, alloc, session, &mut seat, &mut gate);
+    (seat, ran && gate.was_set)
+}
+
+fn makes_two_writes<K: Opening, R: Wait + Abort, G: Gate>(
+    rt: &R,
+    alloc: Global,
+    session: &Session<K>,
+    seat: &mut Seat<K>,
+    gate: &mut G,
+) -> bool {
+    let one = write_of(alloc, 0, 0, 98).expect(rt, "memory");
+    let other = write_of(alloc, 0, 1, 98).expect(rt, "memory");
+    let writes = vec![in alloc; one, other].expect(rt, "memory");
+    let receipts = session
+        .batch(alloc, rt, seat, writes, gate)
+        .expect(rt, "room");
+    receipts.len() == 2
+}
+
+fn reads_and_tells<K: Opening>(view: &View<K>, flag: &AtomicBool) -> bool {
+    let read = shows_the_snapshot(view);
+    flag.store(true, Ordering::SeqCst);
+    read
+}
+
+// ---- four read while a fifth changes the pool
+
+#[test]
+fn four_readers_beside_a_writer(rt: HostRuntime) {
+    let pool = Pool::create(rt.alloc(), 1, 4000).expect(&rt, "memory");
+    reads_beside_a_writer::<Brand, _>(&rt, rt.alloc(), pool)
+}
+
+fn reads_beside_a_writer<K: Opening + Send + Sync, R: Threads + Wait + Abort + Sync>(
+    rt: &R,
+    alloc: Global,
+    pool: Pool,
+)
+    requires opening { pool.state ≡ K.opening }
+    requires limit { 1000 ≡ K.limit }
+{
+    let session: Session<K> = opened(rt, alloc, pool, 1000);
+    let mut seat = seat_of(rt, alloc, &session);
+    let taken = takes_a_snapshot(rt, alloc, &session, &mut seat);
+    let view = view(rt, alloc, &session, &mut seat);
+    let (shared, shown) = (&session, &view);
+    let ((mut seat, wrote), read) = join(
+        rt,
+        || changes_the_pool(rt, alloc, shared, seat),
+        || four_read(rt, alloc, shown),
+    );
+    let still = shows_the_snapshot(&view);
+    let closed = closes_view(rt, alloc, &session, &mut seat, view, 403);
+    let ended = closes(rt, alloc, session.end(), seat, 404);
+    assert!(rt; taken && wrote && read && still && closed && ended);
+}
+
+// A hundred times: a write, a snapshot of p@t, its destroy, and a sync.
+fn changes_the_pool<K: Opening, R: Wait + Abort>(
+    rt: &R,
+    alloc: Global,
+    session: &Session<K>,
+    mut seat: Seat<K>,
+) -> (Seat<K>, bool) {
+    let mut done = true;
+    for turn in 0..100u32 {
+        let byte = (turn % 90) as u8;
+        done &= asks(
+            rt,
+            alloc,
+            session,
+            &mut seat,
+            write_of(alloc, 0, turn % 2, byte),
+        );
+        done &= asks(rt, alloc, session, &mut seat, snapshot_of(alloc, b"p@t"));
+        done &= asks(rt, alloc, session, &mut seat, destroy_of(alloc, b"p@t"));
+        done &= asks(rt, alloc, session, &mut seat, Ok(Request::Sync));
+    }
+    (seat, done)
+}
+
+// Whether a request runs and isn't refused.
+fn asks<K: Opening, R: Wait + Abort>(
+    rt: &R,
+    alloc: Global,
+    session: &Session<K>,
+    seat: &mut Seat<K>,
+    request: Result<Request, Refusal>,
+) -> bool {
+    let request = request.expect(rt, "memory");
+    let receipt = session.call(alloc, rt, seat, request).expect(rt, "room");
+    isnt_refused(receipt)
+}
+
+fn isnt_refused(receipt: Receipt) -> bool {
+    match receipt.entry.reply.other() {
+        Some(Reply::Refused(_)) => false,
+        _ => true,
+    }
+}
+
+fn four_read<K: Opening + Send + Sync, R: Threads + Wait + Abort + Sync>(
+    rt: &R,
+    alloc: Global,
+    view: &View<K>,
+) -> bool {
+    let readers = vec![in alloc; 0u32, 1u32, 2u32, 3u32].expect(rt, "memory");
+    let read = map_vec(rt, readers, &|_reader: u32| reads_on(view)).expect(rt, "memory");
+    read.iter().all(|all| *all)
+}
+
+fn reads_on<K: Opening>(view: &View<K>) -> bool {
+    for _ in 0..10_000u32 {
+        if !shows_the_snapshot(view) {
+            return false;
+        }
+    }
+    true
+}
+
+// ---- what no view is opened or closed by
+
+#[test]
+fn views_by_themselves(rt: HostRuntime) {
+    let pool = Pool::create(rt.alloc(), 1, 1000).expect(&rt, "memory");
+    opens_and_forgets::<Brand, _>(&rt, rt.alloc(), pool)
+}
+
+// A view is opened by `open_view` alone. One that is forgotten leaves the snapshot busy, until the pool itself closes it.
+fn opens_and_forgets<K: Opening, R: Wait + Abort>(rt: &R, alloc: Global, pool: Pool)
+    requires opening { pool.state ≡ K.opening }
+    requires limit { 5 ≡ K.limit }
+{
+    let session: Session<K> = opened(rt, alloc, pool, 5);
+    let mut seat = seat_of(rt, alloc, &session);
+    let taken = takes_a_snapshot(rt, alloc, &session, &mut seat);
+    let none = runs_nothing(rt, alloc, &session, &mut seat);
+    let refused = is_refused_a_view(rt, alloc, &session, &mut seat);
+    let view = view(rt, alloc, &session, &mut seat);
+    let busy = destroys(
+        rt,
+        alloc,
+        &session,
+        &mut seat,
+        4,
+        Wanted::Refused(Refusal::Busy),
+    );
+    let full = finds_no_room(rt, alloc, &session, &mut seat);
+    let kept = is_handed_back(rt, alloc, &session, &mut seat, view);
+    let ended = ends_by_itself(rt, alloc, session.end(), seat);
+    assert!(rt; taken && none && refused && busy && full && kept && ended);
+}
+
+// Whether a call and a batch of requests on views run nothing.
+fn runs_nothing<K: Opening, R: Wait + Abort>(
+    rt: &R,
+    alloc: Global,
+    session: &Session<K>,
+    seat: &mut Seat<K>,
+) -> bool {
+    let open = view_of(alloc, b"p@s").expect(rt, "memory");
+    let opened = session.call(alloc, rt, seat, open).err();
+    let closed = session
+        .call(alloc, rt, seat, Request::CloseView { view: 1 })
+        .err();
+    let read = read_of(alloc, 0, 0).expect(rt, "memory");
+    let batch = vec![in alloc; read, Request::CloseView { view: 1 }].expect(rt, "memory");
+    let batched = session
+        .batch(alloc, rt, seat, batch, &mut crate::rig::gate_of(9))
+        .err();
+    opened == Some(Refusal::NoView)
+        && closed == Some(Refusal::NoView)
+        && batched == Some(Refusal::NoView)
+}
+
+// Whether a view of what is no snapshot runs, as the call with number 2, and is refused.
+fn is_refused_a_view<K: Opening, R: Wait + Abort>(
+    rt: &R,
+    alloc: Global,
+    session: &Session<K>,
+    seat: &mut Seat<K>,
+) -> bool {
+    let target = Target::read(alloc, b"p").expect(rt, "memory");
+    match session.open_view(alloc, rt, seat, target) {
+        Ok(OpenedView::Refused(receipt)) => {
+            crate::rig::is_receipt(&receipt, 2, Wanted::Refused(Refusal::NotSnapshot))
+        }
+        Ok(OpenedView::Opened(view, receipt)) => {
+            drop(view);
+            drop(receipt);
+            false
+        }
+        Err(_) => false,
+    }
+}
+
+// Whether a full session hands a view back, which still shows its snapshot and is number 1.
+fn is_handed_back<K: Opening, R: Wait>(
+    rt: &R,
+    alloc: Global,
+    session: &Session<K>,
+    seat: &mut Seat<K>,
+    view: View<K>,
+) -> bool {
+    match session.close_view(alloc, rt, seat, view) {
+        ClosedView::NotRun(refusal, view) => {
+            refusal == Refusal::SessionFull && shows_the_snapshot(&view) && view.forget() == 1
+        }
+        ClosedView::Closed(receipt) => {
+            drop(receipt);
+            false
+        }
+        ClosedView::Refused(receipt, view) => {
+            drop(receipt);
+            drop(view);
+            false
+        }
+    }
+}
+
+// Whether the pool itself closes view 1 once the session has ended, and then destroys its snapshot.
+fn ends_by_itself<K: Opening>(
+    rt: &impl Abort,
+    alloc: Global,
+    book: Book<K>,
+    seat: Seat<K>,
+) -> bool {
+    let seats = vec![in alloc; seat].expect(rt, "memory");
+    match book.close(seats) {
+        Ok(Closed { mut pool, history }) => {
+            drop(history);
+            closes_and_destroys(rt, alloc, &mut pool)
+        }
+        Err(_) => false,
+    }
+}
+
+fn closes_and_destroys(rt: &impl Abort, alloc: Global, pool: &mut Pool) -> bool {
+    let destroy = destroy_of(alloc, b"p@s").expect(rt, "memory");
+    let busy = pool.apply(alloc, &destroy);
+    let closed = pool.apply(alloc, &Request::CloseView { view: 1 });
+    let gone = pool.apply(alloc, &destroy);
+    drop(destroy);
+    let same = busy.same(&Reply::Refused(Refusal::Busy))
+        && closed.same(&Reply::Done)
+        && gone.same(&Reply::Done);
+    drop(busy);
+    drop(closed);
+    drop(gone);
+    same
+}
+
+// ---- memory that is refused
+
+#[test]
+fn views_without_memory(rt: HostRuntime) {
+    let Ok(pool) = Pool::create(rt.alloc(), 1, 1000) else {
+        return;
+    };
+    opens_unless_refused::<Brand, _>(&rt, rt.alloc(), pool)
+}
+
+// Run it with each allocation refused in turn: a view is opened and shows its snapshot, or is refused NoMemory; and it is closed, or
+// comes back and shows what it showed.
+fn opens_unless_refused<K: Opening, R: Wait + Abort>(rt: &R, alloc: Global, pool: Pool)
+    requires opening { pool.state ≡ K.opening }
+    requires limit { 20 ≡ K.limit }
+{
+    let Ok(session) = Session::<K>::open(alloc, pool, 20) else {
+        return;
+    };
+    let Ok(mut seat) = session.seat(alloc, rt) else {
+        return;
+    };
+    let asked = asks_unless_refused(rt, alloc, &session, &mut seat, snapshot_of(alloc, b"p@s"));
+    let viewed = views_unless_refused(rt, alloc, &session, &mut seat);
+    assert!(rt; viewed || !asked);
+}
+
+fn asks_unless_refused<K: Opening, R: Wait>(
+    rt: &R,
+    alloc: Global,
+    session: &Session<K>,
+    seat: &mut Seat<K>,
+    request: Result<Request, Refusal>,
+) -> bool {
+    let Ok(request) = request else {
+        return false;
+    };
+    match session.call(alloc, rt, seat, request) {
+        Ok(receipt) => isnt_refused(receipt),
+        Err(_) => false,
+    }
+}
+
+// Whether a view of p@s, which has no block, is opened, or refused for want of memory; and closed, or handed back as it was.
+fn views_unless_refused<K: Opening, R: Wait>(
+    rt: &R,
+    alloc: Global,
+    session: &Session<K>,
+    seat: &mut Seat<K>,
+) -> bool {
+    let Ok(target) = Target::read(alloc, b"p@s") else {
+        return true;
+    };
+    match session.open_view(alloc, rt, seat, target) {
+        Ok(OpenedView::Opened(view, receipt)) => {
+            drop(receipt);
+            let closed = session.close_view(alloc, rt, seat, view);
+            is_closed_or_no_memory(closed)
+        }
+        Ok(OpenedView::Refused(receipt)) => {
+            let wanted = Reply::Refused(Refusal::NoMemory);
+            let same = receipt.entry.reply.is(&wanted);
+            drop(wanted);
+            same
+        }
+        Err(refusal) => refusal == Refusal::NoMemory,
+    }
+}
+
+fn is_closed_or_no_memory<K: Opening>(closed: ClosedView<K>) -> bool {
+    match closed {
+        ClosedView::Closed(receipt) => isnt_refused(receipt),
+        ClosedView::Refused(receipt, view) => {
+            drop(receipt);
+            view.read(0, 0) == Ok(None)
+        }
+        ClosedView::NotRun(refusal, view) => {
+            refusal == Refusal::NoMemory && view.read(0, 0) == Ok(None)
+        }
+    }
+}

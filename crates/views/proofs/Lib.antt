@@ -1,0 +1,3 @@
+pub mod Numbered
+pub mod Rows
+pub mod Kept

@@ -1,0 +1,3 @@
+pub mod Viewing
+pub mod Entries
+pub mod Sound

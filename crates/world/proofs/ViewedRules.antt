@@ -1,0 +1,88 @@
+-- Each request, one by one: where it isn't refused, the views that it doesn't close keep their snapshots. So every step does.
+use Rattle.std.proofs.Common.{◌≡◌, ◌+◌, Bool, true, false, ◌&&◌, List, [], ◌∷◌, length, None, refl, sym, subst}
+use Rattle.std.specs.Prelude.{if◌then◌else◌}
+use Rattle.std.specs.FinMap.{remove}
+use Rattle.std.specs.FinSet.{difference}
+use Rattle.name.specs.declared.member.Member.{Member}
+use Rattle.name.specs.declared.target.Target.{Target}
+use Rattle.name.specs.declared.target.Target.TheVariants.{FileSystem as OfFileSystem, Snapshot as OfSnapshot, Bookmark as OfBookmark}
+use Rattle.base.specs.Rewrite.{Changes, rewrite}
+use Rattle.model.specs.declared.request.Request.{Request}
+use Rattle.model.specs.declared.request.Request.TheVariants.{Create as ToCreate, Write as ToWrite, Punch as ToPunch, FreeObject as ToFreeObject, Snapshot as ToSnapshot, Read as ToRead, Get as ToGet, PoolGet as ToPoolGet, List as ToList, Rollback as ToRollback, Destroy as ToDestroy, Slice as ToSlice, Sync as ToSync, OpenView as ToOpenView, CloseView as ToCloseView}
+use Rattle.model.specs.declared.reply.Reply.{Reply}
+use Rattle.model.specs.State.{State}
+use Rattle.model.specs.Rule.{Choice, Rule}
+use Rattle.model.specs.Refusals.{refusal_of}
+use Rattle.model.specs.Outcome.{is_needed, state_after_sweep, state_after}
+use Rattle.model.specs.Edits.{with_losses, with_next_group, after_change}
+use Rattle.model.specs.Step.{Step, Follows, done, refused, out_of_memory}
+use Rattle.model.specs.requests.{rule_of}
+use Rattle.model.specs.requests.Change.{state_after_change}
+use Rattle.model.specs.requests.Create.{with_new_file_system}
+use Rattle.model.specs.requests.Snapshot.{snapshots_taken, snapshot_names, with_snapshots, guid_by}
+use Rattle.model.specs.requests.Rollback.{rolled_back}
+use Rattle.model.specs.requests.Destroy.{after_destroy}
+use Rattle.world.specs.RunLaws.{IsViewing}
+use Rattle.world.proofs.Viewed.{IsSafe, one_changed}
+use Rattle.world.proofs.ViewedTakes.{taken_safe}
+use Rattle.world.proofs.ViewedRequests.{create_asked, rollback_asked, destroy_asked}
+use Rattle.world.proofs.ViewedSteps.{IsKeeping, keeping_swept, views_stay, state_stays, view_opened, view_closed}
+
+-- a change of a live map
+changed : (q : Request) (r : Reply) (s : State) (target : Target) (changes : Changes) (c : Choice) → IsViewing s → IsKeeping q r s (state_after_change s target changes c)
+changed q r s (OfFileSystem name) changes c v =
+    views_stay q r s (after_change s.now name changes c.number) s.last s.next_guid v
+    (one_changed s.views s.now name (λ f. record f { live = rewrite f.live changes s.now.group c.number }) v.once v.closed (λ f t e h. h) (λ f t e h seen. h))
+changed q r s (OfSnapshot m) changes c v = state_stays q r s v
+changed q r s (OfBookmark m) changes c v = state_stays q r s v
+
+-- another group is open
+sync_safe : (s : State) → IsViewing s → IsSafe s.views s.now (with_next_group s.now)
+sync_safe s v = taken_safe s.views s.now 0 [] v.once v.closed
+
+-- what is to be freed is no matter
+sliced : (s : State) (c : Choice) → IsViewing s → IsSafe s.views s.now (record s.now { freeing = difference s.now.freeing c.taken })
+sliced s c v = record { once = v.once; closed = v.closed; stands = λ name t h seen. (t, h, refl) }
+
+-- snapshots taken
+took : (q : Request) (r : Reply) (s : State) (ms : List Member) → IsViewing s → IsKeeping q r s (snapshots_taken s ms)
+took q r s [] v = state_stays q r s v
+took q r s (m ∷ ms) v =
+    views_stay q r s (with_next_group (with_snapshots s.now (guid_by s.pool s.next_guid) (m ∷ ms))) s.last (s.next_guid + length (m ∷ ms)) v
+    (taken_safe s.views s.now (guid_by s.pool s.next_guid) (m ∷ ms) v.once v.closed)
+
+-- a rule that isn't refused
+followed : (q : Request) (r : Reply) (s new : State) (rule : Rule) → IsViewing s → ((c : Choice) → refusal_of s rule ≡ None → r ≡ rule.reply s → IsKeeping q r s (rule.after s c))
+    → Follows s rule r new → IsKeeping q r s new
+unfolding state_after
+followed q r s new rule v keeps (done h) = subst (IsKeeping q r s) (sym h.new_is) (by_reading rule.only_reads (keeping_swept q r s (rule.after s h.choice) (keeps h.choice h.not_refused h.reply_is)))
+  where
+    by_reading : (b : Bool) → IsKeeping q r s (state_after_sweep (rule.after s h.choice)) → IsKeeping q r s (if b then s else state_after_sweep (rule.after s h.choice))
+    by_reading true k = state_stays q r s v
+    by_reading false k = k
+followed q r s new rule v keeps (refused h) = subst (IsKeeping q r s) (sym h.unchanged) (state_stays q r s v)
+followed q r s new rule v keeps (out_of_memory h) = subst (IsKeeping q r s) (sym h.unchanged) (state_stays q r s v)
+
+-- every step
+pub step_keeps : (q : Request) (r : Reply) (s new : State) → IsViewing s → Step s q r new → IsKeeping q r s new
+step_keeps q r s new v step = followed q r s new (rule_of q step.reading) v (by_request q) step.follows
+  where
+    by_request : (q : Request) (c : Choice) → refusal_of s (rule_of q step.reading) ≡ None → r ≡ (rule_of q step.reading).reply s → IsKeeping q r s ((rule_of q step.reading).after s c)
+    by_request (ToCreate name) c none is = views_stay (ToCreate name) r s (with_new_file_system s.now name) s.last s.next_guid v (create_asked s name v.once v.closed none)
+    by_request (ToWrite target object block bytes) c none is = changed (ToWrite target object block bytes) r s target _ c v
+    by_request (ToPunch target object block) c none is = changed (ToPunch target object block) r s target _ c v
+    by_request (ToFreeObject target object) c none is = changed (ToFreeObject target object) r s target _ c v
+    by_request (ToSnapshot names recursive) c none is = took (ToSnapshot names recursive) r s (snapshot_names s.now names recursive) v
+    by_request (ToRead target object block) c none is = state_stays (ToRead target object block) r s v
+    by_request (ToGet target property) c none is = state_stays (ToGet target property) r s v
+    by_request (ToPoolGet property) c none is = state_stays (ToPoolGet property) r s v
+    by_request ToList c none is = state_stays ToList r s v
+    by_request (ToRollback target later) c none is =
+        views_stay (ToRollback target later) r s (with_losses s.now (rolled_back s.now target)) s.last s.next_guid v (rollback_asked s target later v.once v.closed none)
+    by_request (ToDestroy target recursive defer) c none is =
+        views_stay (ToDestroy target recursive defer) r s (with_losses s.now (after_destroy s.now (λ t. defer && is_needed s.now s.views t) target recursive)) s.last s.next_guid v
+        (destroy_asked s target recursive defer v.once v.closed none)
+    by_request (ToSlice count) c none is = views_stay (ToSlice count) r s (record s.now { freeing = difference s.now.freeing c.taken }) s.last s.next_guid v (sliced s c v)
+    by_request ToSync c none is = views_stay ToSync r s (with_next_group s.now) (with_next_group s.now) s.next_guid v (sync_safe s v)
+    by_request (ToOpenView target) c none is = view_opened (ToOpenView target) r s target v
+    by_request (ToCloseView view) c none is = subst (λ x. IsKeeping (ToCloseView view) x s (record s { views = remove s.views view })) (sym is) (view_closed s view v)
