@@ -32,7 +32,9 @@ const FREEING: &[u8] =
 #[test]
 fn each_line_is_answered_once(rt: HostRuntime) {
     let ran = run_script(&rt, rt.alloc(), beside(false, 1000), FREEING);
-    assert!(rt; answers_each_once(&ran));
+    let is_right = answers_each_once(&ran);
+    drop(ran);
+    assert!(rt; is_right);
 }
 
 fn answers_each_once(ran: &Ran) -> bool {
@@ -65,16 +67,19 @@ fn stops_at_the_first_refused_line(rt: HostRuntime) {
     let alloc = rt.alloc();
     let bad: &[u8] = b"read p 0 0\nfrob\nread p 0 0\n";
     let refused: &[u8] = b"create p/a\ncreate p/a\nread p 0 0\n";
-    assert!(rt; prints(&rt, alloc, true, bad, b"hole\nerror 28 BadLine\n", 1));
-    assert!(rt; prints(&rt, alloc, true, refused, b"ok\nerror 3 Exists\n", 1));
-    assert!(rt; prints(&rt, alloc, true, b"", b"", 0));
+    let are_right = prints(&rt, alloc, true, bad, b"hole\nerror 28 BadLine\n", 1)
+        && prints(&rt, alloc, true, refused, b"ok\nerror 3 Exists\n", 1)
+        && prints(&rt, alloc, true, b"", b"", 0);
+    assert!(rt; are_right);
 }
 
 #[test]
 fn bad_numbers(rt: HostRuntime) {
     let usage: &[u8] = b"usage: zfsp [-e] [-w] BLOCKS POOLID [SCRIPT]\n";
     let empty = run_script(&rt, rt.alloc(), beside(false, 0), FREEING);
-    assert!(rt; empty.output.is_empty() && empty.failed(usage, 2));
+    let is_usage = empty.output.is_empty() && empty.failed(usage, 2);
+    drop(empty);
+    assert!(rt; is_usage);
 }
 
 /// A reader that fails after so many reads.
@@ -101,7 +106,9 @@ fn a_reader_that_fails(rt: HostRuntime) {
         reads: 5,
     };
     let ran = run(&rt, rt.alloc(), Some(&beside(false, 1000)), source);
-    assert!(rt; ran.failed(b"zfsp: input or output failed\n", 3));
+    let is_told = ran.failed(b"zfsp: input or output failed\n", 3);
+    drop(ran);
+    assert!(rt; is_told);
 }
 
 /// Run it with each allocation refused in turn: each line has an answer, or the run says that memory was wanting where there is
@@ -112,7 +119,9 @@ fn refused_memory_is_told(rt: HostRuntime) {
         return;
     };
     let ran = run_from(&rt, rt.alloc(), Some(&beside(false, 1000)), reader);
-    assert!(rt; is_told(&ran));
+    let is_told = is_told(&ran);
+    drop(ran);
+    assert!(rt; is_told);
 }
 
 fn is_told(ran: &Ran) -> bool {

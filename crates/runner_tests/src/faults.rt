@@ -80,20 +80,34 @@ fn run_failing(
     )
 }
 
+/// Whether a run fails whose reader does, at its read number `at`.
+fn read_fails(rt: &(impl Threads + Wait + Abort + Sync), alloc: Global, at: u32) -> bool {
+    let ran = run_failing(rt, alloc, at, ErrorKind::Other);
+    let fails = ran.failed(FAULT, 3);
+    drop(ran);
+    fails
+}
+
 #[test]
 fn a_reader_that_fails_once(rt: HostRuntime) {
     // Each read gives at most 7 of the 22 bytes, and the fifth finds the end.
     for at in 1..6 {
-        let ran = run_failing(&rt, rt.alloc(), at, ErrorKind::Other);
-        assert!(rt; ran.failed(FAULT, 3), "at read {at}");
+        assert!(rt; read_fails(&rt, rt.alloc(), at), "at read {at}");
     }
+}
+
+/// Whether a run goes on whose reader is interrupted, at its read number `at`.
+fn reads_on(rt: &(impl Threads + Wait + Abort + Sync), alloc: Global, at: u32) -> bool {
+    let ran = run_failing(rt, alloc, at, ErrorKind::Interrupted);
+    let reads_on = ran.is(b"hole\nhole\n", 0);
+    drop(ran);
+    reads_on
 }
 
 #[test]
 fn a_reader_that_is_interrupted(rt: HostRuntime) {
     for at in 1..6 {
-        let ran = run_failing(&rt, rt.alloc(), at, ErrorKind::Interrupted);
-        assert!(rt; ran.is(b"hole\nhole\n", 0), "at read {at}");
+        assert!(rt; reads_on(&rt, rt.alloc(), at), "at read {at}");
     }
 }
 
@@ -156,30 +170,45 @@ fn run_untold(rt: &(impl Threads + Wait + Abort + Sync), alloc: Global) -> (u8, 
 #[test]
 fn a_failure_that_is_not_told(rt: HostRuntime) {
     let (status, errors) = run_untold(&rt, rt.alloc());
-    assert!(rt; status == 3);
-    assert!(rt; errors.as_slice() == NO_MEMORY);
+    let is_told = errors.as_slice() == NO_MEMORY;
+    drop(errors);
+    assert!(rt; status == 3 && is_told);
 }
 
-/// Run it with each allocation refused in turn: a run ends well, or says that memory was wanting where there is memory to say so.
-#[test]
-fn refused_memory_is_told(rt: HostRuntime) {
-    let alloc = rt.alloc();
+/// A run of a reader without a buffer.
+fn run_unbuffered(rt: &(impl Threads + Wait + Abort + Sync), alloc: Global) -> Ran {
     let mut reader = Counted::new(SCRIPT);
     let mut output = Counted::new(Vec::new(alloc));
     let mut errors = Counted::new(Vec::new(alloc));
     let args = args_of(false, 1000);
-    match run_args(
-        &rt,
+    let status = run_args(
+        rt,
         alloc,
         Some(&args),
         &mut reader,
         &mut output,
         &mut errors,
-    ) {
-        0 => assert!(rt; output.inner.as_slice() == b"hole\nhole\n".as_slice()),
-        status => {
-            assert!(rt; status == 3);
-            assert!(rt; errors.inner.is_empty() || errors.inner.as_slice() == NO_MEMORY);
-        }
+    );
+    Ran {
+        output: output.inner,
+        errors: errors.inner,
+        status,
     }
+}
+
+fn is_told(ran: &Ran) -> bool {
+    match ran.status {
+        0 => ran.output.as_slice() == b"hole\nhole\n".as_slice(),
+        3 => ran.errors.is_empty() || ran.errors.as_slice() == NO_MEMORY,
+        _ => false,
+    }
+}
+
+/// Run it with each allocation refused in turn: a run ends well, or says that memory was wanting where there is memory to say so.
+#[test]
+fn refused_memory_is_told(rt: HostRuntime) {
+    let ran = run_unbuffered(&rt, rt.alloc());
+    let is_told = is_told(&ran);
+    drop(ran);
+    assert!(rt; is_told);
 }

@@ -9,9 +9,15 @@ use std::process::Abort;
 fn words_of(alloc: Global, line: &str) -> Result<Vec<String>, AllocError> {
     let mut words = Vec::new(alloc);
     for word in line.split(' ') {
-        words.push(String::from_str(alloc, word)?)?;
+        add_word(alloc, &mut words, word)?;
     }
     Ok(words)
+}
+
+fn add_word(alloc: Global, words: &mut Vec<String>, word: &str) -> Result<(), AllocError> {
+    let word = String::from_str(alloc, word)?;
+    words.push(word)?;
+    Ok(())
 }
 
 /// Whether the words of a line, joined by spaces, are a good command line.
@@ -22,28 +28,16 @@ fn is_good(rt: &impl Abort, alloc: Global, line: &str) -> bool {
 
 #[test]
 fn good_command_lines(rt: HostRuntime) {
-    for line in ["4194304 4294967295", "5 1 -e", "-e 5 1 x", "-e -w 5 1 x"] {
+    for line in "4194304 4294967295,5 1 -e,-e 5 1 x,-e -w 5 1 x".split(',') {
         assert!(rt; is_good(&rt, rt.alloc(), line), "{line}");
     }
 }
 
 #[test]
 fn bad_command_lines(rt: HostRuntime) {
-    for line in [
-        "0 1",
-        "5 0",
-        "4194305 1",
-        "5 4294967296",
-        "05 1",
-        "+5 1",
-        "5",
-        "-e",
-        "-w",
-        "-e -e 5 1",
-        "-w -w 5 1",
-        "-w -e 5 1",
-        "5 1 x y",
-    ] {
+    let lines =
+        "0 1,5 0,4194305 1,5 4294967296,05 1,+5 1,5,-e,-w,-e -e 5 1,-w -w 5 1,-w -e 5 1,5 1 x y";
+    for line in lines.split(',') {
         assert!(rt; !is_good(&rt, rt.alloc(), line), "{line}");
     }
 }
@@ -57,7 +51,9 @@ fn says(
     script: Option<usize>,
 ) -> bool {
     let words = words_of(alloc, line).expect(rt, "memory for words");
-    match read_args(words.as_slice()) {
+    let args = read_args(words.as_slice());
+    drop(words);
+    match args {
         Some(args) => {
             (args.stop, args.workers) == options
                 && args.blocks == 5
@@ -71,23 +67,25 @@ fn says(
 #[test]
 fn what_command_lines_say(rt: HostRuntime) {
     let alloc = rt.alloc();
-    assert!(rt; says(&rt, alloc, "5 1", (false, false), None));
-    assert!(rt; says(&rt, alloc, "-e 5 1", (true, false), None));
-    assert!(rt; says(&rt, alloc, "-w 5 1", (false, true), None));
-    assert!(rt; says(&rt, alloc, "5 1 -w", (false, false), Some(2)));
-    assert!(rt; says(&rt, alloc, "-e 5 1 x", (true, false), Some(3)));
-    assert!(rt; says(&rt, alloc, "-w 5 1 x", (false, true), Some(3)));
-    assert!(rt; says(&rt, alloc, "-e -w 5 1 x", (true, true), Some(4)));
+    let without_script = says(&rt, alloc, "5 1", (false, false), None)
+        && says(&rt, alloc, "-e 5 1", (true, false), None)
+        && says(&rt, alloc, "-w 5 1", (false, true), None);
+    let with_script = says(&rt, alloc, "5 1 -w", (false, false), Some(2))
+        && says(&rt, alloc, "-e 5 1 x", (true, false), Some(3))
+        && says(&rt, alloc, "-w 5 1 x", (false, true), Some(3))
+        && says(&rt, alloc, "-e -w 5 1 x", (true, true), Some(4));
+    assert!(rt; without_script && with_script);
 }
 
 #[test]
 fn numbers_and_laws(rt: HostRuntime) {
-    assert!(rt; number(b"4294967295") == Some(4294967295));
-    assert!(rt; number(b"4294967296") == None);
-    assert!(rt; number(b"0") == Some(0));
-    assert!(rt; ScriptFault::of_counts(1, 2) == ScriptFault::Device);
-    assert!(rt; ScriptFault::of_counts(2, 2) == ScriptFault::NoMemory);
-    assert!(rt; ScriptFault::of_counts(u64::MAX, u64::MAX) == ScriptFault::Device);
+    let are_read = number(b"4294967295") == Some(4294967295)
+        && number(b"4294967296") == None
+        && number(b"0") == Some(0);
+    let are_faults = ScriptFault::of_counts(1, 2) == ScriptFault::Device
+        && ScriptFault::of_counts(2, 2) == ScriptFault::NoMemory
+        && ScriptFault::of_counts(u64::MAX, u64::MAX) == ScriptFault::Device;
+    assert!(rt; are_read && are_faults);
     worked_lines();
     one_spelling();
 }
