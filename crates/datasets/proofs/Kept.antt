@@ -1,32 +1,35 @@
 -- What a table keeps: at first, once a file system is made, once a snapshot is taken, and once the group is closed.
 use Rattle.std.proofs.Common.{◌≡◌, ◌<◌, ◌≤◌, ◌++◌, ◌∷◌, [], ℕ, Bool, true, false, Option, Some, None, Result, Ok, Err, refl, sym, ap, subst, ◌∙◌, inl, inr, ⊎_elim, if◌then◌else◌, map, arith}
 use Rattle.std.specs.Prelude.{IsTrue, OnOk, OnErr, is_some, nat_le, not}
+use Rattle.std.specs.List.{find}
 use Rattle.std.specs.Option.{option_map_or}
 use Rattle.std.specs.FinMap as finmap
-use Rattle.std.specs.FinMap.{get, insert, len, contains_key, get-empty}
+use Rattle.std.specs.FinMap.{get, insert, len, contains_key, entries}
 use Rattle.std.proofs.lemmas.Bool.Decides.{nat_tests}
 use Rattle.base.specs.declared.refusal.Refusal.{Refusal}
 use Rattle.base.specs.declared.refusal.Refusal.TheVariants.{Exists, NoParent, TooMany}
-use Rattle.name.specs.Names.{name_cmp, root_name}
-use Rattle.model.specs.World.{FileSystem, Snap, Live, empty_file_system, map_of}
+use Rattle.name.specs.Names.{root_name}
+use Rattle.model.specs.World.{FileSystem, Snap, Live, id_of, same_id, empty_file_system, map_of}
 use Rattle.model.specs.State.{fresh_world, fresh_state}
 use Rattle.model.specs.Hierarchy.{has_parent, file_system_limit}
 use Rattle.model.specs.requests.Create.{create_refusal}
-use Rattle.file_systems.specs.Rows.{live_of, plain_snap, with_snap}
-use Rattle.world.specs.Shapes.{Name, before_live, nothing_before}
+use Rattle.file_systems.specs.Clones.{all_snaps}
+use Rattle.file_system.specs.Rows.{live_of, plain_snap, with_snap}
+use Rattle.world.specs.Shapes.{Name, name_order, before_live, nothing_before}
 use Rattle.world.specs.Worlds.{FileSystems, snap_shape, AreFileSystems, AreMapsFrom, InNow, maps_of_both}
 use Rattle.world.specs.Tables.{Datasets, world_of, CanSnap}
-use Rattle.world.proofs.Maps.{no_value}
-use Rattle.world.proofs.Bridge.{no_block, start, live_row, live_there}
+use Rattle.world.proofs.Maps.{at_entry}
+use Rattle.world.proofs.Finding.{find_none, from_flat, same_id_is}
+use Rattle.world.proofs.Bridge.{no_block, from_entries, start, live_row, live_there}
 use Rattle.world.proofs.Drawn.{cells_from, drawn}
-use Rattle.world.proofs.Put.{put_cases, put_maps}
+use Rattle.world.proofs.Put.{put_maps}
 use Rattle.world.proofs.Creations.{make_systems}
 use Rattle.world.proofs.StateSteps.{begun}
 use Rattle.world.proofs.Slices.{fresh_keeps}
 use Rattle.world.proofs.Groups.{raise_systems, same_maps}
 use Rattle.world.proofs.Snapshots.{take_systems, taken_from}
 use Rattle.world.proofs.Dead.{row_base}
-use Rattle.datasets.specs.Table.{HaveNoOrigin, AreNumbersOne, IsTable}
+use Rattle.datasets.specs.Table.{AreNumbersOne, IsTable}
 
 none_from : {A : Type 0} (x : Option A) → is_some x ≡ false → x ≡ None
 none_from None h = refl
@@ -54,19 +57,11 @@ can_add ss name e = from (contains_key ss name) (has_parent ss name) (nat_le fil
     from false true false p q r is = record { absent = none_from _ p; parent = q; room = grind (arith, nat_tests) }
     from false false c p q r is = absurd (cc)
 
--- one more file system that isn't a clone, or another one under its name
-pub plain_put : (ss : FileSystems) → HaveNoOrigin ss → (name : Name) (f : FileSystem) → f.origin ≡ None → HaveNoOrigin (insert ss name f)
-plain_put ss plain name f is q g at = ⊎_elim
-    (λ same. ap (λ (x : FileSystem). x.origin) same.1 ∙ is)
-    (λ other. plain q g other.1)
-    (put_cases ss name f q g at)
-
 -- the same file systems in a later group
 pub later_table : (t : Datasets) (h : ℕ) → t.group ≤ h → IsTable t → IsTable (record t { group = h })
 later_table t h up sound = record {
   systems = raise_systems t.file_systems t.group h sound.systems up;
   numbers = numbers_from t (record t { group = h }) sound.systems (same_maps t.file_systems) sound.numbers;
-  plain = sound.plain;
 }
 
 first : IsTable (record { file_systems = insert finmap.empty root_name empty_file_system; group = 1 })
@@ -76,7 +71,6 @@ first =
     record {
       systems = fresh.now.systems;
       numbers = cells_from (maps_of_both (fresh_state 0 0).now (fresh_state 0 0).last) (map_of (fresh_state 0 0).now) (λ d. inr (InNow d, refl)) fresh.pair.cells;
-      plain = plain_put finmap.empty (λ name f at. absurd (no_value f (sym (get-empty name_cmp name) ∙ at))) root_name empty_file_system refl;
     }
 
 -- the root alone, whichever group is open
@@ -91,7 +85,6 @@ created_table t sound name can =
       systems = make_systems t.file_systems t.group sound.systems name c.absent c.parent c.room finmap.empty None nothing_before refl (begun t.file_systems t.group sound.systems) (λ b h. absurd (no_block b h));
       numbers = numbers_from t (record t { file_systems = insert t.file_systems name empty_file_system }) sound.systems
           (put_maps t.file_systems name empty_file_system (λ m h. ⊎_elim (λ e. inl e) (λ k. absurd k) h)) sound.numbers;
-      plain = plain_put t.file_systems sound.plain name empty_file_system refl;
     }
 
 -- a snapshot of a live map
@@ -115,12 +108,18 @@ module _ (t : Datasets) (sound : IsTable t) (name component : Name) (guid group 
       let l = can.above in
       omega arith
 
+  -- no snapshot has its identity
+  pub fresh_in : find (λ (u : Snap). same_id (id_of u) (record { group = group; guid = guid })) (all_snaps t.file_systems) ≡ None
+  fresh_in = find_none (λ (u : Snap). same_id (id_of u) (record { group = group; guid = guid })) (all_snaps t.file_systems) (λ u h is.
+      let r = from_flat (λ (e : Name × FileSystem). e.1.snaps) (entries t.file_systems) u h in
+      can.fresh r.0.0 r.0.1 u (at_entry name_order t.file_systems r.0.0 r.0.1 (from_entries (entries t.file_systems) r.0 r.1)) r.2
+      (same_id_is (id_of u) (record { group = group; guid = guid }) is))
+
   longer_table : IsTable (record t { file_systems = insert t.file_systems name longer })
   longer_table = record {
     systems = take_systems t.file_systems t.group sound.systems name can.system can.there s can.map_is can.fresh can.new_name can.closed above can.opens;
     numbers = numbers_from t (record t { file_systems = insert t.file_systems name longer }) sound.systems
         (taken_from t.file_systems t.group sound.systems name can.system can.there s can.map_is can.fresh can.new_name can.closed above can.opens) sound.numbers;
-    plain = plain_put t.file_systems sound.plain name longer (sound.plain name can.system can.there);
   }
 
   pub snapped_table : {T E : Type 0} (r : Result T E) (new : FileSystems)

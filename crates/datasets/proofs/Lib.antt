@@ -5,6 +5,10 @@ pub mod Above
 pub mod Removed
 pub mod RolledBack
 pub mod SystemGone
+pub mod Emptied
 pub mod Children
 pub mod Marked
 pub mod Placed
+pub mod Cloned
+pub mod Promoted
+pub mod ClonesOf

@@ -9,7 +9,7 @@ use Rattle.base.specs.Surveys.{IsIn}
 use Rattle.base.specs.declared.refusal.Refusal.{Refusal}
 use Rattle.name.specs.declared.member.Member.{Member}
 use Rattle.model.specs.World.{FileSystem, Snap, SnapId, id_of, same_id, snap_named, maps_of}
-use Rattle.file_systems.specs.Deferred.{deferred_if, deferred_at, deferred_of}
+use Rattle.file_system.specs.Deferred.{deferred_if, deferred_at, deferred_of}
 use Rattle.world.specs.Shapes.{Name, name_order}
 use Rattle.world.specs.Worlds.{FileSystems, AreRising, IsTidy, snap_shape, shape_of}
 use Rattle.world.specs.Tables.{Datasets, world_of, deferred_snap}
@@ -22,7 +22,7 @@ use Rattle.world.proofs.Put.{put_here, put_other}
 use Rattle.world.proofs.Sweep.{get-with_file_systems}
 use Rattle.world.proofs.Views.{label_systems, label_from, same_shapes_mapped, same_maps_mapped}
 use Rattle.datasets.specs.Table.{IsTable}
-use Rattle.datasets.proofs.Kept.{numbers_from, plain_put}
+use Rattle.datasets.proofs.Kept.{numbers_from}
 use Rattle.datasets.proofs.Removed.{IsOf, of, older_differ, newer_differ, rising_at}
 
 -- ---- what stays of each snapshot
@@ -100,7 +100,6 @@ module _ (t : Datasets) (sound : IsTable t) (name : Name) (f : FileSystem) (at :
     systems = label_systems t.file_systems t.group sound.systems name f marked at shape maps tidy;
     numbers = numbers_from t (record t { file_systems = insert t.file_systems name marked }) sound.systems
         (label_from t.file_systems t.group sound.systems name f marked at shape maps tidy) sound.numbers;
-    plain = plain_put t.file_systems sound.plain name marked (sound.plain name f at);
   }
 
   -- the snapshot of its group is the one of its identity

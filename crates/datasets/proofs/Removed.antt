@@ -5,7 +5,7 @@ use Rattle.std.specs.List.{find, filter}
 use Rattle.std.specs.Option.{option_map, option_map_or, option_and_then}
 use Rattle.std.specs.FinMap as finmap
 use Rattle.std.specs.FinMap.{get, insert}
-use Rattle.std.specs.FinSet.{empty, difference}
+use Rattle.std.specs.FinSet.{difference}
 use Rattle.std.proofs.lemmas.Bool.{eqb-true, eq-eqb, cases_lt}
 use Rattle.base.specs.declared.refusal.Refusal.{Refusal}
 use Rattle.base.specs.Map.{Map, Block, BlockSet, blocks}
@@ -14,10 +14,12 @@ use Rattle.deadlist.specs.declared.deadlist.Deadlist.{Deadlist}
 use Rattle.name.specs.declared.member.Member.{Member}
 use Rattle.name.specs.Names.{same_name}
 use Rattle.model.specs.World.{FileSystem, Snap, Live, Snapped, id_of, newest_or_origin, previous_of, map_of, snap_named}
-use Rattle.file_systems.specs.Dead.{newest_blocks, newest_from}
-use Rattle.file_systems.specs.Rows.{live_of, snaps_at}
-use Rattle.file_systems.specs.Splices.{oldest_blocks, lost_from, without_group, without_snap_of, AreAbove}
-use Rattle.file_systems.specs.Writes.{newest_group}
+use Rattle.file_systems.specs.Clones.{below_in, below_at}
+use Rattle.file_system.specs.Dead.{newest_blocks}
+use Rattle.file_system.specs.Origins.{origin_group}
+use Rattle.file_system.specs.Rows.{live_of, snaps_at}
+use Rattle.file_system.specs.Splices.{oldest_blocks, lost_from, without_group, without_snap_of, AreAbove}
+use Rattle.file_system.specs.Writes.{newest_group}
 use Rattle.world.specs.Sets.{Has}
 use Rattle.world.specs.Blocks.{block_order as o, after}
 use Rattle.world.specs.Deadlists.{Lists}
@@ -31,10 +33,10 @@ use Rattle.world.proofs.Maps.{same_value, no_value}
 use Rattle.world.proofs.Finding.{from_find, in_left, filter_all, filter_join}
 use Rattle.world.proofs.Promotions.{split_at, append_assoc}
 use Rattle.world.proofs.WithoutSnaps.{dropped}
-use Rattle.world.proofs.Bridge.{start, in_middle, rising, rising_above, rising_below, rising_after, map_of_live, map_of_kept, previous_of_live, previous_of_kept}
+use Rattle.world.proofs.Bridge.{start, starts, start_is, in_middle, rising, rising_once, rising_above, rising_below, rising_after, map_of_live, map_of_kept, previous_of_live, previous_of_kept}
 use Rattle.world.proofs.Removals.{dropped_from, drop_systems, drop_loses}
 use Rattle.datasets.specs.Table.{IsTable}
-use Rattle.datasets.proofs.Kept.{numbers_from, plain_put}
+use Rattle.datasets.proofs.Kept.{numbers_from}
 use Rattle.datasets.proofs.Above.{below_is, base_at, closed, kept, live_above, snap_above}
 
 -- ---- one snapshot among others
@@ -70,14 +72,14 @@ module _ (low : ℕ) (older : List Snap) (u : Snap) (newer : List Snap) (up : Ar
 
 -- what is lost, where the snapshot stands between these
 lost_is : (bs : BlockSet) (live : Map) (older : List Snap) (u : Snap) (newer : List Snap) → ((v : Snap) → IsIn older v → (v.group == u.group) ≡ false)
-    → lost_from bs (older ++ u ∷ newer) live u.group ≡ difference (difference (blocks u.map) (newest_from bs older)) (oldest_blocks live newer)
+    → lost_from bs (older ++ u ∷ newer) live u.group ≡ difference (difference (blocks u.map) (newest_blocks bs older)) (oldest_blocks live newer)
 lost_is bs live [] u newer differ =
     ap (λ b. cond b (difference (difference (blocks u.map) bs) (oldest_blocks live newer)) (lost_from (blocks u.map) newer live u.group)) (eq-eqb u.group u.group refl)
 lost_is bs live (v ∷ vs) u newer differ =
     ap (λ b. cond b (difference (difference (blocks v.map) bs) (oldest_blocks live (vs ++ u ∷ newer))) (lost_from (blocks v.map) (vs ++ u ∷ newer) live u.group)) (differ v (inl refl))
     ∙ lost_is (blocks v.map) live vs u newer (λ w h. differ w (inr h))
 
-newest_joined : (bs : BlockSet) (older : List Snap) (u : Snap) → newest_from bs (older ++ u ∷ []) ≡ blocks u.map
+newest_joined : (bs : BlockSet) (older : List Snap) (u : Snap) → newest_blocks bs (older ++ u ∷ []) ≡ blocks u.map
 newest_joined bs [] u = refl
 newest_joined bs (v ∷ vs) u = newest_joined (blocks v.map) vs u
 
@@ -96,24 +98,33 @@ module _ (t : Datasets) (sound : IsTable t) (name : Name) (f : FileSystem) (at :
   pub rising_at : AreRising 0 f.snaps
   rising_at = from_zero (start t.file_systems t.group sound.systems.lines name f at).base f.snaps (rising t.file_systems t.group sound.systems.lines name f at)
 
-  are_above : AreAbove f
+  -- and above the group of the origin
+  rising_above_origin : AreRising (origin_group f.origin) f.snaps
+  rising_above_origin = subst (λ n. AreRising n f.snaps)
+      (start_is (world_of t) t.group sound.systems.lines f.origin (start t.file_systems t.group sound.systems.lines name f at) (starts t.file_systems t.group sound.systems.lines name f at)).1
+      (rising t.file_systems t.group sound.systems.lines name f at)
+
+  pub are_above : AreAbove (below_in t.file_systems f.origin) f
   are_above = record {
-    rising = rising_at;
+    rising = rising_above_origin;
     names = (sound.systems.tidy name f at).names;
     each = snap_above t sound name f at;
     live = live_above t sound name f at;
   }
 
-  module _ (older : List Snap) (u : Snap) (newer : List Snap) (is : f.snaps ≡ older ++ u ∷ newer) where
-    no_clone : HasNoCloneIn t.file_systems (id_of u)
-    no_clone q x here e = no_value _ (sym (sound.plain q x here) ∙ e)
+  -- the blocks of what stands below its snapshots, and its group
+  abbrev bs : BlockSet
+  bs = blocks (below_in t.file_systems f.origin)
 
+  abbrev base : ℕ
+  base = origin_group f.origin
+
+  module _ (older : List Snap) (u : Snap) (newer : List Snap) (is : f.snaps ≡ older ++ u ∷ newer) (no_clone : HasNoCloneIn t.file_systems (id_of u)) where
     spliced : IsTable (record t { file_systems = insert t.file_systems name (record f { snaps = older ++ newer }) })
     spliced = record {
       systems = drop_systems t.file_systems t.group sound.systems name f at older u newer is no_clone;
       numbers = numbers_from t (record t { file_systems = insert t.file_systems name (record f { snaps = older ++ newer }) }) sound.systems
           (dropped_from t.file_systems t.group sound.systems name f at older u newer is no_clone) sound.numbers;
-      plain = plain_put t.file_systems sound.plain name (record f { snaps = older ++ newer }) (sound.plain name f at);
     }
 
     in_snaps : (v : Snap) → IsIn (older ++ u ∷ newer) v → IsIn f.snaps v
@@ -144,45 +155,45 @@ module _ (t : Datasets) (sound : IsTable t) (name : Name) (f : FileSystem) (at :
             → difference (below_of (world_of t) (next_in name ns)) (blocks (map_of (world_of t) (next_in name ns))) ≡ difference (blocks u.map) (oldest_blocks f.live ns)
         by_newer [] e = λ i. difference
             ((below_is t sound name f at (Live name) (f, at) (older ++ u ∷ []) (upto [] e) (previous_of_live (world_of t) t.group sound.systems.lines name f at ∙ ap (newest_or_origin f) e)
-            ∙ newest_joined empty older u) i)
+            ∙ newest_joined bs older u) i)
             (blocks (map_of_live (world_of t) name f at i))
         by_newer (n ∷ ns) e =
             let split : f.snaps ≡ (older ++ u ∷ []) ++ n ∷ ns = e ∙ sym (append_assoc older (u ∷ []) (n ∷ ns)) in
             let there : IsIn f.snaps n = subst (λ l. IsIn l n) (sym split) (in_middle (older ++ u ∷ []) n ns) in
             λ i. difference
             ((below_is t sound name f at (Snapped (id_of n)) (name, f, n, at, there, refl) (older ++ u ∷ []) (upto (n ∷ ns) e)
-            (previous_of_kept (world_of t) t.group sound.systems.lines name f (older ++ u ∷ []) n ns at split) ∙ newest_joined empty older u) i)
+            (previous_of_kept (world_of t) t.group sound.systems.lines name f (older ++ u ∷ []) n ns at split) ∙ newest_joined bs older u) i)
             (blocks (map_of_kept (world_of t) t.group sound.systems.lines name f n (id_of n) at there refl i))
 
     -- its blocks that were born after what stands before it are those that this hasn't
-    born_after : after (newest_group older) (difference (blocks u.map) (oldest_blocks f.live newer)) ≡ difference (difference (blocks u.map) (newest_blocks older)) (oldest_blocks f.live newer)
+    born_after : after (newest_group base older) (difference (blocks u.map) (oldest_blocks f.live newer)) ≡ difference (difference (blocks u.map) (newest_blocks bs older)) (oldest_blocks f.live newer)
     born_after = same_members o _ _
         (λ b h.
-        let x = from_after (newest_group older) (difference (blocks u.map) (oldest_blocks f.live newer)) b h in
+        let x = from_after (newest_group base older) (difference (blocks u.map) (oldest_blocks f.live newer)) b h in
         let y = from_difference o (blocks u.map) (oldest_blocks f.live newer) b x.0 in
-        in_difference o (difference (blocks u.map) (newest_blocks older)) (oldest_blocks f.live newer) b
-        (in_difference o (blocks u.map) (newest_blocks older) b y.0 (λ k. let l = closed t sound name f at (Snapped (id_of u)) here older before previous b k in let m = x.1 in omega arith)) y.1)
+        in_difference o (difference (blocks u.map) (newest_blocks bs older)) (oldest_blocks f.live newer) b
+        (in_difference o (blocks u.map) (newest_blocks bs older) b y.0 (λ k. let l = closed t sound name f at (Snapped (id_of u)) here older before previous b k in let m = x.1 in omega arith)) y.1)
         (λ b h.
-        let x = from_difference o (difference (blocks u.map) (newest_blocks older)) (oldest_blocks f.live newer) b h in
-        let y = from_difference o (blocks u.map) (newest_blocks older) b x.0 in
-        in_after (newest_group older) (difference (blocks u.map) (oldest_blocks f.live newer)) b (in_difference o (blocks u.map) (oldest_blocks f.live newer) b y.0 x.1)
+        let x = from_difference o (difference (blocks u.map) (newest_blocks bs older)) (oldest_blocks f.live newer) b h in
+        let y = from_difference o (blocks u.map) (newest_blocks bs older) b x.0 in
+        in_after (newest_group base older) (difference (blocks u.map) (oldest_blocks f.live newer)) b (in_difference o (blocks u.map) (oldest_blocks f.live newer) b y.0 x.1)
         (late b y.0 y.1))
       where
         own : map_of (world_of t) (Snapped (id_of u)) ≡ u.map
         own = map_of_kept (world_of t) t.group sound.systems.lines name f u (id_of u) at (in_snaps u (in_middle older u newer)) refl
 
-        late : (b : Block) → Has (blocks u.map) b → ¬ (Has (newest_blocks older) b) → newest_group older < b.birth
+        late : (b : Block) → Has (blocks u.map) b → ¬ (Has (newest_blocks bs older) b) → newest_group base older < b.birth
         late b h out = ⊎_elim
             (λ l. l)
             (λ l. absurd (out (kept t sound name f at (Snapped (id_of u)) here older before previous b (subst (λ m. Has (blocks m) b) (sym own) h) l)))
-            (cases_lt (newest_group older) b.birth)
+            (cases_lt (newest_group base older) b.birth)
 
-    spliced_loses : lost_between t (record t { file_systems = insert t.file_systems name (record f { snaps = older ++ newer }) }) ≡ lost_from empty (older ++ u ∷ newer) f.live u.group
+    spliced_loses : lost_between t (record t { file_systems = insert t.file_systems name (record f { snaps = older ++ newer }) }) ≡ lost_from (blocks (below_in t.file_systems f.origin)) (older ++ u ∷ newer) f.live u.group
     spliced_loses =
         drop_loses (world_of t) sound.systems name f at older u newer is no_clone
         ∙ (λ i. after (base_at t sound name f at (Snapped (id_of u)) here older before previous i) (next_dead i))
         ∙ born_after
-        ∙ sym (lost_is empty f.live older u newer (older_differ 0 older u newer (subst (AreRising 0) is rising_at)))
+        ∙ sym (lost_is bs f.live older u newer (older_differ 0 older u newer (subst (AreRising 0) is rising_at)))
 
 group_told : (x : Option Snap) (g : ℕ) → Some g ≡ option_map (λ (u : Snap). u.group) x → (u : Snap) × (x ≡ Some u) × (u.group ≡ g)
 group_told None g e = absurd (no_value g (sym e))
@@ -224,60 +235,74 @@ module _ (t : Datasets) (sound : IsTable t) (m : Member) (g : ℕ) (told : Some 
       (subst (λ l. IsSome (find (λ (v : Snap). v.group == g) l)) (sym of.snaps_are)
       (subst (λ n. IsSome (find (λ (v : Snap). v.group == n) (of.older ++ of.it ∷ of.newer))) of.group_is (found_there of.older of.it of.newer)))
 
-  after_is : without_snap_of t.file_systems m.file_system g ≡ insert t.file_systems m.file_system (record of.system { snaps = of.older ++ of.newer })
-  after_is =
-      ap (λ x. option_map_or (λ (f : FileSystem). insert t.file_systems m.file_system (without_group f g)) x t.file_systems) of.at
-      ∙ ap (λ l. insert t.file_systems m.file_system (record of.system { snaps = l }))
-      (ap (λ n. filter (λ (v : Snap). not (v.group == n)) of.system.snaps) (sym of.group_is)
-      ∙ ap (filter (λ (v : Snap). not (v.group == of.it.group))) of.snaps_are
-      ∙ others_stay 0 of.older of.it of.newer up)
+  -- the snapshots of its group are it
+  pub told_once : (u : Snap) → IsIn (snaps_at t.file_systems m.file_system) u → u.group ≡ g → u ≡ of.it
+  told_once u h e = rising_once 0 of.system.snaps u of.it (rising_at t sound m.file_system of.system of.at)
+      (subst (λ (x : Option FileSystem). IsIn (option_map_or (λ (f : FileSystem). f.snaps) x []) u) of.at h)
+      (subst (λ l. IsIn l of.it) (sym of.snaps_are) (in_middle of.older of.it of.newer)) (e ∙ sym of.group_is)
 
-  gone_table : IsTable (record t { file_systems = without_snap_of t.file_systems m.file_system g })
-  gone_table = subst (λ ss. IsTable (record t { file_systems = ss })) (sym after_is) (spliced t sound m.file_system of.system of.at of.older of.it of.newer of.snaps_are)
+  -- of which no file system is a clone
+  module _ (no_clone : IfSome (snap_named (world_of t) m) (λ u. HasNoCloneIn t.file_systems (id_of u))) where
+    none : HasNoCloneIn t.file_systems (id_of of.it)
+    none = subst (λ (x : Option Snap). IfSome x (λ u. HasNoCloneIn t.file_systems (id_of u))) of.found no_clone
 
-  gone_is : record t { file_systems = without_snap_of t.file_systems m.file_system g } ≡ without_snap t (id_of of.it)
-  gone_is = ap (λ ss. record t { file_systems = ss }) (after_is
-      ∙ sym (dropped (world_of t) t.group sound.systems (id_of of.it) (no_clone t sound m.file_system of.system of.at of.older of.it of.newer of.snaps_are)
-      m.file_system of.system of.at of.older of.it of.newer of.snaps_are refl))
+    pub told_unused : (u : Snap) → IsIn (snaps_at t.file_systems m.file_system) u → u.group ≡ g → HasNoCloneIn t.file_systems (id_of u)
+    told_unused u h e = subst (λ (x : Snap). HasNoCloneIn t.file_systems (id_of x)) (sym (told_once u h e)) none
 
-  gone_loses : lost_from empty (snaps_at t.file_systems m.file_system) (live_of t.file_systems m.file_system) g ≡ lost_between t (record t { file_systems = without_snap_of t.file_systems m.file_system g })
-  gone_loses =
-      ap (λ x. lost_from empty (option_map_or (λ (f : FileSystem). f.snaps) x []) (option_map_or (λ (f : FileSystem). f.live) x finmap.empty) g) of.at
-      ∙ ap (λ l. lost_from empty l of.system.live g) of.snaps_are
-      ∙ ap (lost_from empty (of.older ++ of.it ∷ of.newer) of.system.live) (sym of.group_is)
-      ∙ sym (spliced_loses t sound m.file_system of.system of.at of.older of.it of.newer of.snaps_are)
-      ∙ ap (λ ss. lost_between t (record t { file_systems = ss })) (sym after_is)
+    after_is : without_snap_of t.file_systems m.file_system g ≡ insert t.file_systems m.file_system (record of.system { snaps = of.older ++ of.newer })
+    after_is =
+        ap (λ x. option_map_or (λ (f : FileSystem). insert t.file_systems m.file_system (without_group f g)) x t.file_systems) of.at
+        ∙ ap (λ l. insert t.file_systems m.file_system (record of.system { snaps = l }))
+        (ap (λ n. filter (λ (v : Snap). not (v.group == n)) of.system.snaps) (sym of.group_is)
+        ∙ ap (filter (λ (v : Snap). not (v.group == of.it.group))) of.snaps_are
+        ∙ others_stay 0 of.older of.it of.newer up)
 
-  -- what the file systems answer
-  module _ (r : Result Deadlist Refusal) (new : FileSystems) (ok : OnOk r (new ≡ without_snap_of t.file_systems m.file_system g)) where
-    pub removed_table : OnErr r (new ≡ t.file_systems) → IsTable (record t { file_systems = new })
-    removed_table err = by_result r ok err
-      where
-        by_result : (x : Result Deadlist Refusal) → OnOk x (new ≡ without_snap_of t.file_systems m.file_system g) → OnErr x (new ≡ t.file_systems) → IsTable (record t { file_systems = new })
-        by_result (Ok d) is e = subst (λ ss. IsTable (record t { file_systems = ss })) (sym is) gone_table
-        by_result (Err w) is e = subst (λ ss. IsTable (record t { file_systems = ss })) (sym e) sound
+    gone_table : IsTable (record t { file_systems = without_snap_of t.file_systems m.file_system g })
+    gone_table = subst (λ ss. IsTable (record t { file_systems = ss })) (sym after_is) (spliced t sound m.file_system of.system of.at of.older of.it of.newer of.snaps_are none)
 
-    pub removed_is : IfSome (snap_named (world_of t) m) (λ u. OnOk r (record t { file_systems = new } ≡ without_snap t (id_of u)))
-    removed_is = subst (λ x. IfSome x (λ u. OnOk r (record t { file_systems = new } ≡ without_snap t (id_of u)))) (sym of.found) (by_result r ok)
-      where
-        by_result : (x : Result Deadlist Refusal) → OnOk x (new ≡ without_snap_of t.file_systems m.file_system g) → OnOk x (record t { file_systems = new } ≡ without_snap t (id_of of.it))
-        by_result (Ok d) is = ap (λ ss. record t { file_systems = ss }) is ∙ gone_is
-        by_result (Err w) is = tt
+    gone_is : record t { file_systems = without_snap_of t.file_systems m.file_system g } ≡ without_snap t (id_of of.it)
+    gone_is = ap (λ ss. record t { file_systems = ss }) (after_is
+        ∙ sym (dropped (world_of t) t.group sound.systems (id_of of.it) none
+        m.file_system of.system of.at of.older of.it of.newer of.snaps_are refl))
 
-    pub removed_loses : IfOk r (λ d. Lists (map dead_block d.entries) (lost_from empty (snaps_at t.file_systems m.file_system) (live_of t.file_systems m.file_system) g))
-        → IfOk r (λ d. Lists (map dead_block d.entries) (lost_between t (record t { file_systems = new })))
-    removed_loses = by_result r ok
-      where
-        by_result : (x : Result Deadlist Refusal) → OnOk x (new ≡ without_snap_of t.file_systems m.file_system g)
-            → IfOk x (λ d. Lists (map dead_block d.entries) (lost_from empty (snaps_at t.file_systems m.file_system) (live_of t.file_systems m.file_system) g))
-            → IfOk x (λ d. Lists (map dead_block d.entries) (lost_between t (record t { file_systems = new })))
-        by_result (Ok d) is h = subst (Lists (map dead_block d.entries)) (gone_loses ∙ ap (λ ss. lost_between t (record t { file_systems = ss })) (sym is)) h
-        by_result (Err w) is h = tt
+    gone_loses : lost_from (blocks (below_at t.file_systems m.file_system)) (snaps_at t.file_systems m.file_system) (live_of t.file_systems m.file_system) g ≡ lost_between t (record t { file_systems = without_snap_of t.file_systems m.file_system g })
+    gone_loses =
+        ap (λ x. lost_from (blocks (below_in t.file_systems (option_and_then (λ (f : FileSystem). f.origin) x))) (option_map_or (λ (f : FileSystem). f.snaps) x []) (option_map_or (λ (f : FileSystem). f.live) x finmap.empty) g) of.at
+        ∙ ap (λ l. lost_from (blocks (below_in t.file_systems of.system.origin)) l of.system.live g) of.snaps_are
+        ∙ ap (lost_from (blocks (below_in t.file_systems of.system.origin)) (of.older ++ of.it ∷ of.newer) of.system.live) (sym of.group_is)
+        ∙ sym (spliced_loses t sound m.file_system of.system of.at of.older of.it of.newer of.snaps_are none)
+        ∙ ap (λ ss. lost_between t (record t { file_systems = ss })) (sym after_is)
+
+    -- what the file systems answer
+    module _ (r : Result Deadlist Refusal) (new : FileSystems) (ok : OnOk r (new ≡ without_snap_of t.file_systems m.file_system g)) where
+      pub removed_table : OnErr r (new ≡ t.file_systems) → IsTable (record t { file_systems = new })
+      removed_table err = by_result r ok err
+        where
+          by_result : (x : Result Deadlist Refusal) → OnOk x (new ≡ without_snap_of t.file_systems m.file_system g) → OnErr x (new ≡ t.file_systems) → IsTable (record t { file_systems = new })
+          by_result (Ok d) is e = subst (λ ss. IsTable (record t { file_systems = ss })) (sym is) gone_table
+          by_result (Err w) is e = subst (λ ss. IsTable (record t { file_systems = ss })) (sym e) sound
+
+      pub removed_is : IfSome (snap_named (world_of t) m) (λ u. OnOk r (record t { file_systems = new } ≡ without_snap t (id_of u)))
+      removed_is = subst (λ x. IfSome x (λ u. OnOk r (record t { file_systems = new } ≡ without_snap t (id_of u)))) (sym of.found) (by_result r ok)
+        where
+          by_result : (x : Result Deadlist Refusal) → OnOk x (new ≡ without_snap_of t.file_systems m.file_system g) → OnOk x (record t { file_systems = new } ≡ without_snap t (id_of of.it))
+          by_result (Ok d) is = ap (λ ss. record t { file_systems = ss }) is ∙ gone_is
+          by_result (Err w) is = tt
+
+      pub removed_loses : IfOk r (λ d. Lists (map dead_block d.entries) (lost_from (blocks (below_at t.file_systems m.file_system)) (snaps_at t.file_systems m.file_system) (live_of t.file_systems m.file_system) g))
+          → IfOk r (λ d. Lists (map dead_block d.entries) (lost_between t (record t { file_systems = new })))
+      removed_loses = by_result r ok
+        where
+          by_result : (x : Result Deadlist Refusal) → OnOk x (new ≡ without_snap_of t.file_systems m.file_system g)
+              → IfOk x (λ d. Lists (map dead_block d.entries) (lost_from (blocks (below_at t.file_systems m.file_system)) (snaps_at t.file_systems m.file_system) (live_of t.file_systems m.file_system) g))
+              → IfOk x (λ d. Lists (map dead_block d.entries) (lost_between t (record t { file_systems = new })))
+          by_result (Ok d) is h = subst (Lists (map dead_block d.entries)) (gone_loses ∙ ap (λ ss. lost_between t (record t { file_systems = ss })) (sym is)) h
+          by_result (Err w) is h = tt
 
 -- each stands above those before it
-pub all_above : (t : Datasets) → IsTable t → (name : Name) → IfSome (get t.file_systems name) AreAbove
+pub all_above : (t : Datasets) → IsTable t → (name : Name) → IfSome (get t.file_systems name) (AreAbove (below_at t.file_systems name))
 all_above t sound name = by_system (get t.file_systems name) refl
   where
-    by_system : (x : Option FileSystem) → get t.file_systems name ≡ x → IfSome x AreAbove
+    by_system : (x : Option FileSystem) → get t.file_systems name ≡ x → IfSome x (AreAbove (below_in t.file_systems (option_and_then (λ (f : FileSystem). f.origin) x)))
     by_system None e = tt
     by_system (Some f) e = are_above t sound name f e

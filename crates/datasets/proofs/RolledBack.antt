@@ -1,7 +1,7 @@
 -- A live map gives way to that of the newest snapshot, in a table.
 use Rattle.std.proofs.Common.{◌≡◌, ◌<◌, ◌++◌, ◌∷◌, [], ℕ, List, Option, Some, None, Result, Ok, Err, refl, sym, ap, subst, ◌∙◌, inr, ⊎_elim, map, length, arith}
 use Rattle.std.specs.Prelude.{IfOk, OnOk, OnErr}
-use Rattle.std.specs.Option.{option_map_or}
+use Rattle.std.specs.Option.{option_map_or, option_and_then}
 use Rattle.std.specs.FinMap as finmap
 use Rattle.std.specs.FinMap.{get, insert}
 use Rattle.std.specs.FinSet as set
@@ -10,10 +10,12 @@ use Rattle.base.specs.declared.refusal.Refusal.{Refusal}
 use Rattle.base.specs.Map.{Map, blocks}
 use Rattle.base.specs.Surveys.{IsIn}
 use Rattle.model.specs.World.{FileSystem, Snap, Live}
-use Rattle.file_systems.specs.declared.lost.Lost.{Lost}
-use Rattle.file_systems.specs.Losses.{newest_map, IsLost}
-use Rattle.file_systems.specs.Rows.{live_of, snaps_at, with_live}
-use Rattle.file_systems.specs.Writes.{newest_group}
+use Rattle.file_system.specs.declared.lost.Lost.{Lost}
+use Rattle.file_systems.specs.Clones.{origin_at, below_at}
+use Rattle.file_system.specs.Losses.{newest_map, IsLost}
+use Rattle.file_system.specs.Origins.{origin_group}
+use Rattle.file_system.specs.Rows.{live_of, snaps_at, with_live}
+use Rattle.file_system.specs.Writes.{newest_group}
 use Rattle.world.specs.Blocks.{after}
 use Rattle.world.specs.Shapes.{Name}
 use Rattle.world.specs.Worlds.{FileSystems}
@@ -24,7 +26,7 @@ use Rattle.world.proofs.Put.{put_maps}
 use Rattle.world.proofs.Rollbacks.{back_systems, back_loses}
 use Rattle.datasets.specs.Table.{IsTable}
 use Rattle.datasets.specs.Rollbacks.{Loses}
-use Rattle.datasets.proofs.Kept.{numbers_from, plain_put}
+use Rattle.datasets.proofs.Kept.{numbers_from}
 use Rattle.datasets.proofs.Above.{base_at}
 
 -- there is one where they are counted and aren't none
@@ -58,10 +60,9 @@ module _ (t : Datasets) (sound : IsTable t) (name : Name) (f : FileSystem) (at :
               (λ k. inr k)
               h,
         ))) sound.numbers;
-    plain = plain_put t.file_systems sound.plain name back (sound.plain name f at);
   }
 
-  back_lost : after (newest_group f.snaps) (blocks f.live) ≡ lost_between t (record t { file_systems = insert t.file_systems name (record f { live = u.map }) })
+  back_lost : after (newest_group (origin_group f.origin) f.snaps) (blocks f.live) ≡ lost_between t (record t { file_systems = insert t.file_systems name (record f { live = u.map }) })
   back_lost =
       ap (λ n. after n (blocks f.live)) (sym (base_at t sound name f at (Live name) (f, at) f.snaps (λ v k. k) (previous_of_live (world_of t) t.group sound.systems.lines name f at)))
       ∙ sym (back_loses t.file_systems t.group sound.systems name f at older u is f.bookmarks (λ k b e. e) set.empty t.group)
@@ -73,7 +74,7 @@ module _ (t : Datasets) (sound : IsTable t) (name : Name) (there : 0 < length (s
 
   record IsBack : Type 0 where
     table : IsTable (record t { file_systems = with_live t.file_systems name (newest_map (live_of t.file_systems name) (snaps_at t.file_systems name)) })
-    lost : after (newest_group (snaps_at t.file_systems name)) (blocks (live_of t.file_systems name))
+    lost : after (newest_group (origin_group (origin_at t.file_systems name)) (snaps_at t.file_systems name)) (blocks (live_of t.file_systems name))
         ≡ lost_between t (record t { file_systems = with_live t.file_systems name (newest_map (live_of t.file_systems name) (snaps_at t.file_systems name)) })
 
   is_back : IsBack
@@ -88,6 +89,9 @@ module _ (t : Datasets) (sound : IsTable t) (name : Name) (there : 0 < length (s
       live_is : (f : FileSystem) → get t.file_systems name ≡ Some f → live_of t.file_systems name ≡ f.live
       live_is f e = ap (λ (x : Option FileSystem). option_map_or (λ (f : FileSystem). f.live) x finmap.empty) e
 
+      origin_is : (f : FileSystem) → get t.file_systems name ≡ Some f → origin_at t.file_systems name ≡ f.origin
+      origin_is f e = ap (λ (x : Option FileSystem). option_and_then (λ (f : FileSystem). f.origin) x) e
+
       by_system : (x : Option FileSystem) → get t.file_systems name ≡ x → IsBack
       by_system None e = absurd (no_snap there e)
       by_system (Some f) e =
@@ -98,7 +102,7 @@ module _ (t : Datasets) (sound : IsTable t) (name : Name) (there : 0 < length (s
           (ap (newest_map (live_of t.file_systems name)) (snaps_are f e ∙ parts.2) ∙ newest_is (live_of t.file_systems name) parts.0 parts.1) in
           record {
             table = subst (λ ss. IsTable (record t { file_systems = ss })) (sym to) (back_table t sound name f e parts.0 parts.1 parts.2);
-            lost = (λ i. after (newest_group (snaps_are f e i)) (blocks (live_is f e i))) ∙ back_lost t sound name f e parts.0 parts.1 parts.2
+            lost = (λ i. after (newest_group (origin_group (origin_is f e i)) (snaps_are f e i)) (blocks (live_is f e i))) ∙ back_lost t sound name f e parts.0 parts.1 parts.2
                 ∙ ap (λ ss. lost_between t (record t { file_systems = ss })) (sym to);
           }
 
@@ -112,11 +116,11 @@ module _ (t : Datasets) (sound : IsTable t) (name : Name) (there : 0 < length (s
         by_result (Ok l) to e = subst (λ ss. IsTable (record t { file_systems = ss })) (sym to) is_back.table
         by_result (Err w) to e = subst (λ ss. IsTable (record t { file_systems = ss })) (sym e) sound
 
-    pub rolled_loses : IfOk r (IsLost (live_of t.file_systems name) (snaps_at t.file_systems name)) → IfOk r (Loses t (record t { file_systems = new }))
+    pub rolled_loses : IfOk r (IsLost (blocks (below_at t.file_systems name)) (origin_group (origin_at t.file_systems name)) (live_of t.file_systems name) (snaps_at t.file_systems name)) → IfOk r (Loses t (record t { file_systems = new }))
     rolled_loses = by_result r ok
       where
         by_result : (x : Result Lost Refusal) → OnOk x (new ≡ with_live t.file_systems name (newest_map (live_of t.file_systems name) (snaps_at t.file_systems name)))
-            → IfOk x (IsLost (live_of t.file_systems name) (snaps_at t.file_systems name)) → IfOk x (Loses t (record t { file_systems = new }))
+            → IfOk x (IsLost (blocks (below_at t.file_systems name)) (origin_group (origin_at t.file_systems name)) (live_of t.file_systems name) (snaps_at t.file_systems name)) → IfOk x (Loses t (record t { file_systems = new }))
         by_result (Ok l) to h =
             let whole : after l.after.0 (blocks l.tree) ≡ lost_between t (record t { file_systems = new }) =
             (λ i. after (h.after_is i) (blocks (h.tree_is i))) ∙ is_back.lost ∙ ap (λ ss. lost_between t (record t { file_systems = ss })) (sym to) in

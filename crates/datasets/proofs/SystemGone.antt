@@ -1,24 +1,26 @@
 -- A file system without snapshots goes from a table.
 use Rattle.std.proofs.Common.{◌≡◌, [], Option, Result, Ok, Err, sym, ap, subst, ◌∙◌}
 use Rattle.std.specs.Prelude.{IfOk, OnOk, OnErr, IsSome, is_some}
-use Rattle.std.specs.Option.{option_map_or}
+use Rattle.std.specs.Option.{option_map_or, option_and_then}
 use Rattle.std.specs.FinMap as finmap
 use Rattle.std.specs.FinMap.{get, remove}
 use Rattle.std.specs.FinSet as set
 use Rattle.base.specs.declared.refusal.Refusal.{Refusal}
 use Rattle.base.specs.Map.{blocks}
 use Rattle.model.specs.World.{FileSystem, Live}
-use Rattle.file_systems.specs.declared.lost.Lost.{Lost}
-use Rattle.file_systems.specs.Losses.{IsLost}
-use Rattle.file_systems.specs.Rows.{live_of, snaps_at}
-use Rattle.file_systems.specs.Writes.{newest_group}
+use Rattle.file_system.specs.declared.lost.Lost.{Lost}
+use Rattle.file_systems.specs.Clones.{origin_at, below_at}
+use Rattle.file_system.specs.Losses.{IsLost}
+use Rattle.file_system.specs.Origins.{origin_group}
+use Rattle.file_system.specs.Rows.{live_of, snaps_at}
+use Rattle.file_system.specs.Writes.{newest_group}
 use Rattle.world.specs.Blocks.{after}
 use Rattle.world.specs.Shapes.{Name}
 use Rattle.world.specs.Worlds.{FileSystems}
 use Rattle.world.specs.Dead.{base_of}
 use Rattle.world.specs.Tables.{Datasets, world_of, without_system, lost_between, CanRemove}
 use Rattle.world.proofs.Bridge.{previous_of_live}
-use Rattle.world.proofs.Put.{gone_cases, gone_maps}
+use Rattle.world.proofs.Put.{gone_maps}
 use Rattle.world.proofs.Removals.{unmake_good, unmake_loses}
 use Rattle.datasets.specs.Table.{IsTable}
 use Rattle.datasets.specs.Rollbacks.{Loses}
@@ -35,23 +37,25 @@ module _ (t : Datasets) (sound : IsTable t) (name : Name) (can : CanRemove t nam
   live_is : live_of t.file_systems name ≡ can.system.live
   live_is = ap (λ (x : Option FileSystem). option_map_or (λ (f : FileSystem). f.live) x finmap.empty) can.there
 
-  -- nothing stands before its live map
-  base_none : base_of (world_of t) (Live name) ≡ 0
-  base_none =
+  origin_is : origin_at t.file_systems name ≡ can.system.origin
+  origin_is = ap (λ (x : Option FileSystem). option_and_then (λ (f : FileSystem). f.origin) x) can.there
+
+  -- its origin stands before its live map, or nothing does
+  base_bare : base_of (world_of t) (Live name) ≡ newest_group (origin_group (origin_at t.file_systems name)) []
+  base_bare =
       base_at t sound name can.system can.there (Live name) (can.system, can.there) can.system.snaps (λ v k. k)
       (previous_of_live (world_of t) t.group sound.systems.lines name can.system can.there)
-      ∙ ap newest_group can.bare
+      ∙ ap (newest_group (origin_group can.system.origin)) can.bare ∙ ap (λ x. newest_group (origin_group x) []) (sym origin_is)
 
   left_table : IsTable (without_system t name)
   left_table = record {
     systems = unmake_good (world_of t) sound.systems name can.system can.there can.bare can.not_root can.childless;
     numbers = numbers_from t (without_system t name) sound.systems (gone_maps t.file_systems name) sound.numbers;
-    plain = λ q f at. sound.plain q f (gone_cases t.file_systems name q f at).1;
   }
 
-  left_lost : after 0 (blocks (live_of t.file_systems name)) ≡ lost_between t (without_system t name)
+  left_lost : after (newest_group (origin_group (origin_at t.file_systems name)) []) (blocks (live_of t.file_systems name)) ≡ lost_between t (without_system t name)
   left_lost =
-      (λ i. after (sym base_none i) (blocks (live_is i)))
+      (λ i. after (sym base_bare i) (blocks (live_is i)))
       ∙ sym (unmake_loses (world_of t) sound.systems name can.system can.there can.bare can.not_root can.childless)
 
   -- what the file systems answer
@@ -63,10 +67,10 @@ module _ (t : Datasets) (sound : IsTable t) (name : Name) (can : CanRemove t nam
         by_result (Ok l) to e = subst (λ ss. IsTable (record t { file_systems = ss })) (sym to) left_table
         by_result (Err w) to e = subst (λ ss. IsTable (record t { file_systems = ss })) (sym e) sound
 
-    pub system_gone_loses : IfOk r (IsLost (live_of t.file_systems name) []) → IfOk r (Loses t (record t { file_systems = new }))
+    pub system_gone_loses : IfOk r (IsLost (blocks (below_at t.file_systems name)) (origin_group (origin_at t.file_systems name)) (live_of t.file_systems name) []) → IfOk r (Loses t (record t { file_systems = new }))
     system_gone_loses = by_result r ok
       where
-        by_result : (x : Result Lost Refusal) → OnOk x (new ≡ remove t.file_systems name) → IfOk x (IsLost (live_of t.file_systems name) []) → IfOk x (Loses t (record t { file_systems = new }))
+        by_result : (x : Result Lost Refusal) → OnOk x (new ≡ remove t.file_systems name) → IfOk x (IsLost (blocks (below_at t.file_systems name)) (origin_group (origin_at t.file_systems name)) (live_of t.file_systems name) []) → IfOk x (Loses t (record t { file_systems = new }))
         by_result (Ok l) to h =
             let whole : after l.after.0 (blocks l.tree) ≡ lost_between t (record t { file_systems = new }) =
             (λ i. after (h.after_is i) (blocks (h.tree_is i))) ∙ left_lost ∙ ap (λ ss. lost_between t (record t { file_systems = ss })) (sym to) in

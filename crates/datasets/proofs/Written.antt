@@ -2,7 +2,7 @@
 use Rattle.std.proofs.Common.{◌≡◌, ◌<◌, ◌≤◌, ◌+◌, ◌⊎◌, ◌↔◌, ℕ, true, List, [], Option, Some, None, Result, Ok, Err, refl, sym, ap, subst, ◌∙◌, inl, inr, ⊎_elim, arith}
 use Rattle.std.specs.Prelude.{IfOk, IfSome, OnOk, OnErr, max, nat_lt, slice_get}
 use Rattle.std.specs.List.{filter, last_or}
-use Rattle.std.specs.Option.{option_map, option_map_or, option_and_then, option_or}
+use Rattle.std.specs.Option.{option_map_or, option_and_then}
 use Rattle.std.specs.FinMap as finmap
 use Rattle.std.specs.FinMap.{get, insert, get-empty}
 use Rattle.base.specs.declared.number.Key.{Key}
@@ -15,12 +15,14 @@ use Rattle.base.specs.Surveys.{IsIn}
 use Rattle.batch.specs.declared.update.Update.{Update}
 use Rattle.zalloc.specs.declared.BlockState.{BlockState}
 use Rattle.zalloc.specs.declared.BlockState.TheVariants.{Free, Allocated}
-use Rattle.model.specs.World.{FileSystem, Snap, SnapId, Dataset, Live, id_of, newest_or_origin, previous_of, map_of, union_of}
+use Rattle.model.specs.World.{FileSystem, SnapId, Dataset, Live, newest_or_origin, previous_of, map_of, union_of}
 use Rattle.tree.specs.Asking.{AllowsChange}
 use Rattle.tree.specs.Change.{Shown, IsChange}
 use Rattle.tree.specs.declared.change.Changed.{Changed}
-use Rattle.file_systems.specs.Rows.{live_of, snaps_at, with_live}
-use Rattle.file_systems.specs.Writes.{newest_group, young_after, IsWritten}
+use Rattle.file_systems.specs.Clones.{origin_at}
+use Rattle.file_system.specs.Origins.{origin_group}
+use Rattle.file_system.specs.Rows.{live_of, snaps_at, with_live}
+use Rattle.file_system.specs.Writes.{newest_group, young_after, IsWritten}
 use Rattle.world.specs.Sets.{Has}
 use Rattle.world.specs.Blocks.{block_order as o}
 use Rattle.world.specs.Shapes.{Name}
@@ -39,7 +41,7 @@ use Rattle.world.proofs.LiveMaps.{live_alone, live_new, live_rest}
 use Rattle.world.proofs.TableWrites.{live_systems}
 use Rattle.datasets.specs.Table.{IsTable}
 use Rattle.datasets.specs.Writes.{young_of, AllowsWrite, HasWritten}
-use Rattle.datasets.proofs.Kept.{plain_put}
+use Rattle.datasets.proofs.Above.{newest_alone}
 
 if_some : {A : Type 0} {P : A → Type 0} (x : Option A) → ((y : A) → x ≡ Some y → P y) → IfSome x P
 if_some None h = tt
@@ -48,28 +50,23 @@ if_some (Some y) h = h y refl
 not_both : Some Free ≡ Some Allocated → ⊥
 not_both e = cc
 
--- the group of the newest snapshot, where there is no origin
-newest_alone : (x : Option Snap) (y : Option SnapId) → y ≡ None → option_map_or (λ (i : SnapId). i.group) (option_or (option_map id_of x) y) 0 ≡ option_map_or (λ (t : Snap). t.group) x 0
-newest_alone None y e = ap (λ z. option_map_or (λ (i : SnapId). i.group) z 0) e
-newest_alone (Some t) y e = refl
-
 module _ (t : Datasets) (sound : IsTable t) (name : Name) where
   abbrev ss : FileSystems
   ss = t.file_systems
 
-  -- what stands before the live map is its newest snapshot
-  pub base_is : base_of (world_of t) (Live name) ≡ newest_group (snaps_at t.file_systems name)
+  -- what stands before the live map is its newest snapshot, or else its origin
+  pub base_is : base_of (world_of t) (Live name) ≡ newest_group (origin_group (origin_at t.file_systems name)) (snaps_at t.file_systems name)
   unfolding base_of previous_of
   base_is = at (get t.file_systems name) refl
     where
       at : (x : Option FileSystem) → get t.file_systems name ≡ x
           → option_map_or (λ (i : SnapId). i.group) (option_and_then (λ (f : FileSystem). newest_or_origin f f.snaps) x) 0
-          ≡ option_map_or (λ (u : Snap). u.group) (last_or None (option_map_or (λ (f : FileSystem). f.snaps) x [])) 0
+          ≡ newest_group (origin_group (option_and_then (λ (f : FileSystem). f.origin) x)) (option_map_or (λ (f : FileSystem). f.snaps) x [])
       at None e = refl
-      at (Some f) e = newest_alone (last_or None f.snaps) f.origin (sound.plain name f e)
+      at (Some f) e = newest_alone (last_or None f.snaps) f.origin
 
   -- so the same blocks are young
-  pub young_is : (synced : ℕ) → young_of t name synced ≡ young_after (snaps_at t.file_systems name) synced
+  pub young_is : (synced : ℕ) → young_of t name synced ≡ young_after (origin_group (origin_at t.file_systems name)) (snaps_at t.file_systems name) synced
   young_is synced = ap (λ n. max synced (n + 1)) base_is
 
   live_is : map_of (world_of t) (Live name) ≡ live_of t.file_systems name
@@ -89,7 +86,8 @@ module _ (t : Datasets) (sound : IsTable t) (name : Name) where
         at : (x : Option FileSystem) → get t.file_systems name ≡ x → base_of (world_of t) (Live name) < t.group
         at None e =
             let l = begun t.file_systems t.group sound.systems in
-            let b : newest_group (snaps_at t.file_systems name) ≡ 0 = ap (λ x. option_map_or (λ (u : Snap). u.group) (last_or None (option_map_or (λ (f : FileSystem). f.snaps) x [])) 0) e in
+            let b : newest_group (origin_group (origin_at t.file_systems name)) (snaps_at t.file_systems name) ≡ 0 =
+            ap (λ x. newest_group (origin_group (option_and_then (λ (f : FileSystem). f.origin) x)) (option_map_or (λ (f : FileSystem). f.snaps) x [])) e in
             let i = base_is in omega arith
         at (Some f) e = (in_line (world_of t) t.group sound.systems.lines refl (Live name) (f, e)).falls
 
@@ -101,7 +99,7 @@ module _ (t : Datasets) (sound : IsTable t) (name : Name) where
         at (Some f) e = (in_line (world_of t) t.group sound.systems.lines refl (Live name) (f, e)).open_group (block_of x)
             (subst (λ m. Has (blocks m) (block_of x)) (sym live_is) (in_blocks (live_of t.file_systems name) k x h))
 
-    pub asks : (since : ℕ) → since ≤ t.group → AllowsChange (live_of t.file_systems name) us t.group (young_after (snaps_at t.file_systems name) since) states
+    pub asks : (since : ℕ) → since ≤ t.group → AllowsChange (live_of t.file_systems name) us t.group (young_after (origin_group (origin_at t.file_systems name)) (snaps_at t.file_systems name) since) states
     asks since not_after = record {
       batch = allows.batch;
       young = let l = low in let b = base_is in omega arith;
@@ -161,7 +159,6 @@ module _ (t : Datasets) (sound : IsTable t) (name : Name) where
         numbers = cells_after maps (Live name) sound.numbers m live_is c t.group young states v is held alone
             (map_of (world_of (record t { file_systems = insert t.file_systems name (record f { live = v.new }) })))
             (live_new (world_of t) sound.systems name f at v.new systems.lines ∙ is.new_is) (live_rest (world_of t) sound.systems name f at v.new systems.lines);
-        plain = plain_put t.file_systems sound.plain name (record f { live = v.new }) (sound.plain name f at);
       }
 
       pub written_table : IsTable (record t { file_systems = with_live t.file_systems name v.new })
@@ -183,13 +180,13 @@ done_not_refused done e = cc
 module _ (t : Datasets) (sound : IsTable t) (name : Name)
     (us : List Update) (synced : ℕ) (states : List BlockState) (allows : AllowsWrite t us synced states) (c : Changes) (new : FileSystems) (since : ℕ) where
   abbrev IsDone : Changed → Type 0
-  IsDone = IsWritten (live_of t.file_systems name) (live_of new name) (snaps_at t.file_systems name) c t.group since states
+  IsDone = IsWritten (live_of t.file_systems name) (live_of new name) (origin_group (origin_at t.file_systems name)) (snaps_at t.file_systems name) c t.group since states
 
   to_is : (v : Shown) → live_of new name ≡ v.new → new ≡ with_live t.file_systems name (live_of new name) → new ≡ with_live t.file_systems name v.new
   to_is v e is = is ∙ ap (with_live t.file_systems name) e
 
   -- the file systems as they come, and their group
-  module _ (r : Result Changed Refusal) (ok : IfOk r (IsWritten (live_of t.file_systems name) (live_of new name) (snaps_at t.file_systems name) c t.group since states))
+  module _ (r : Result Changed Refusal) (ok : IfOk r (IsWritten (live_of t.file_systems name) (live_of new name) (origin_group (origin_at t.file_systems name)) (snaps_at t.file_systems name) c t.group since states))
       (others : OnOk r (new ≡ with_live t.file_systems name (live_of new name))) where
     pub has_written : IfOk r (HasWritten t (record { file_systems = new; group = t.group }) name c since states)
     has_written = at r ok others
@@ -215,7 +212,7 @@ module _ (t : Datasets) (sound : IsTable t) (name : Name)
             (λ there.
             let late = base_is t sound name in
             subst (λ ss. IsTable (record t { file_systems = ss })) (sym (to_is w.change w.new_is is))
-            (written_table t sound name us synced states allows c (young_after (snaps_at t.file_systems name) since) (omega arith) w.change w.is there.0 there.1))
+            (written_table t sound name us synced states allows c (young_after (origin_group (origin_at t.file_systems name)) (snaps_at t.file_systems name) since) (omega arith) w.change w.is there.0 there.1))
             (λ gone. absurd (done_not_refused done (none.1 gone)))
             (there_or_not t.file_systems name)
         at (Err e) w is same none = subst (λ ss. IsTable (record t { file_systems = ss })) (sym same) sound

@@ -2,3 +2,4 @@ pub mod Table
 pub mod Writes
 pub mod Snapshots
 pub mod Rollbacks
+pub mod Clones

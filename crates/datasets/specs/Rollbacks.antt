@@ -2,7 +2,7 @@
 use Rattle.std.specs.Prelude.{◌≡◌}
 use Rattle.std.specs.FinSet as set
 use Rattle.base.specs.Map.{blocks}
-use Rattle.file_systems.specs.declared.lost.Lost.{Lost}
+use Rattle.file_system.specs.declared.lost.Lost.{Lost}
 use Rattle.world.specs.Blocks.{after}
 use Rattle.world.specs.Tables.{Datasets, lost_between}
 

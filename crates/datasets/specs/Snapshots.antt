@@ -5,7 +5,7 @@ use Rattle.std.specs.FinMap.{get}
 use Rattle.name.specs.declared.member.Member.{Member}
 use Rattle.model.specs.requests.Snapshot.{with_snapshots}
 use Rattle.world.specs.Tables.{Datasets, world_of, with_system}
-use Rattle.file_systems.specs.Rows.{with_snap}
+use Rattle.file_system.specs.Rows.{with_snap}
 
 -- a snapshot of the live map of this file system after its others (zfs-snapshot(8))
 abbrev pub with_snap_at : Datasets → List ℕ → List ℕ → ℕ → ℕ → Datasets

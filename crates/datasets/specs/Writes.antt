@@ -12,7 +12,7 @@ use Rattle.model.specs.World.{Live, union_of}
 use Rattle.tree.specs.declared.change.Changed.{Changed}
 use Rattle.tree.specs.Change.{Shown, IsChange}
 use Rattle.tree.specs.ChangeParts.{made_pair}
-use Rattle.file_systems.specs.Rows.{live_of, with_live}
+use Rattle.file_system.specs.Rows.{live_of, with_live}
 use Rattle.world.specs.Sets.{Has}
 use Rattle.world.specs.Dead.{base_of}
 use Rattle.world.specs.Tables.{Datasets, world_of}

@@ -1,5 +1,5 @@
 //! The datasets of a pool.
-ghost use Rattle.std.specs.Prelude.{◌≡◌, ◌⊎◌, ◌↔◌, ◌≤◌, ◌+◌, ◌<◌, ◌^◌, false, Some, None, IfSome, IfOk, IfErr, OnOk, OnErr, map, length, nat_lt};
+ghost use Rattle.std.specs.Prelude.{[], ◌≡◌, ◌⊎◌, ◌↔◌, ◌≤◌, ◌+◌, ◌<◌, ◌^◌, false, Some, None, IsSome, IfSome, IfOk, IfErr, OnOk, OnErr, map, length, nat_lt};
 ghost use Rattle.std.specs.List.{list_any};
 ghost use Rattle.std.specs.Arc.{arc_value};
 ghost use Rattle.std.specs.Option.{option_map, option_map_or, option_copied};
@@ -8,7 +8,7 @@ ghost use Rattle.std.specs.FinMap.{get, insert, entries, len};
 ghost use Rattle.base.specs.declared.refusal.Refusal.{Refusal};
 ghost use Rattle.name.specs.Names.{root_name, same_name, parent_of};
 ghost use Rattle.base.specs.Surveys.{dead_block};
-ghost use Rattle.model.specs.World.{empty_file_system, id_of, snap_at, snap_named, children_of};
+ghost use Rattle.model.specs.World.{empty_file_system, id_of, snap_at, snap_named, children_of, clones_of};
 ghost use Rattle.model.specs.Ids.{snap_id};
 ghost use Rattle.model.specs.Hierarchy.{has_parent};
 ghost use Rattle.model.specs.requests.Create.{create_refusal};
@@ -16,10 +16,15 @@ ghost use Rattle.tree.specs.Asking.{IsNoSpaceOrNoMemory};
 ghost use Rattle.tree.specs.Change.{HasRoom, LacksRoom, CountsDropped};
 ghost use Rattle.tree.specs.Updates.{changes_of};
 ghost use Rattle.world.specs.Worlds.{AreFileSystems};
+ghost use Rattle.world.specs.Dead.{HasNoCloneIn};
 ghost use Rattle.world.specs.Deadlists.{Lists};
-ghost use Rattle.world.specs.Tables.{world_of, with_system, without_snap, deferred_snap, without_system, lost_between, CanSnap, CanRemove};
-ghost use Rattle.file_systems.specs.Losses.{newest_map};
-ghost use Rattle.file_systems.specs.Rows.{Row, live_of, snaps_at, with_live, snap_count, plain_snap};
+ghost use Rattle.world.specs.Outcomes.{promotion_of};
+ghost use Rattle.world.specs.Tables.{world_of, with_system, without_snap, deferred_snap, without_system, lost_between, CanSnap, CanRemove, CanPromote};
+ghost use Rattle.file_systems.specs.CloneNames.{name_of};
+ghost use Rattle.file_systems.specs.Clones.{row_in};
+ghost use Rattle.file_system.specs.Losses.{newest_map};
+ghost use Rattle.file_system.specs.Rows.{Row, live_of, snaps_at, with_live, snap_count, plain_snap};
+ghost use Rattle.datasets.specs.Clones.{with_clone_of, with_promoted};
 ghost use Rattle.datasets.specs.Rollbacks.{Loses};
 ghost use Rattle.datasets.specs.Table.{AreNumbersOne};
 ghost use Rattle.datasets.specs.Writes.{young_of, AllowsWrite, HasWritten};
@@ -30,7 +35,7 @@ use base::meter::{Meter, SegMeter};
 use base::number::{Group, Guid};
 use base::refusal::Refusal;
 use deadlist::deadlist::Deadlist;
-use file_systems::{FileSystem, FileSystems, Lost, Snapshot};
+use file_systems::{CloneName, FileSystem, FileSystems, Lost, Snapshot};
 use model::snapshot_id::SnapshotId;
 use name::{Component, DsName, Member};
 use std::alloc::Global;
@@ -115,14 +120,14 @@ impl Table {
 
     /// All file systems, in byte order of their names. Constant time.
     pub fn file_systems(&self) -> &[Arc<FileSystem>]
-        ensures { map arc_value result.now ≡ entries self.now.file_systems }
+        ensures { map arc_value result.now ≡ map (row_in self.now.file_systems) (entries self.now.file_systems) }
     {
         self.systems.as_slice()
     }
 
     /// The file system of this name, or none. It costs the logarithm of their number.
     pub fn find(&self, name: &DsName) -> Option<&FileSystem>
-        ensures { option_copied result ≡ option_map (λ f. (name.now, f)) (get self.now.file_systems name.now) }
+        ensures { option_copied result ≡ option_map (λ f. row_in self.now.file_systems (name.now, f)) (get self.now.file_systems name.now) }
     {
         self.systems.find(name)
     }
@@ -130,7 +135,7 @@ impl Table {
     /// The snapshot of this identity with its file system, or none (On-Disk Specification, chapter 4: ds_creation_txg, ds_guid). It costs
     /// the number of file systems times the logarithm of that of the snapshots of one.
     pub fn snapshot_of(&self, id: SnapshotId) -> Option<(&FileSystem, &Snapshot)>
-        ensures { option_map (λ p. (p.0.now.0, p.1.now)) result ≡ snap_at (world_of self.now) (snap_id id) }
+        ensures { option_map (λ p. (p.0.now.name, p.1.now)) result ≡ snap_at (world_of self.now) (snap_id id) }
     {
         // It tells of the snapshots that their groups rise.
         let _count = self.len();
@@ -174,6 +179,41 @@ impl Table {
             return Err(refusal);
         }
         self.with_new(name)
+    }
+
+    /// A table with a clone of this snapshot more, which is there, under this name, which nothing refuses (zfs-clone(8)): its live map is
+    /// the snapshot's, by one more owner of its tree, and the snapshot is its origin; and with one more owner of each other file system.
+    /// This table stays as it is. NoMemory where there is none for the name, the rows or an owner. It costs the number of file systems,
+    /// the logarithm of the number of snapshots of the snapshot's own, and the length of the name.
+    pub fn with_clone(&self, name: &DsName, snapshot: &Member) -> Result<Table, Refusal>
+        requires can { create_refusal self.now.file_systems name.now ≡ None }
+        requires there { IsSome (snap_named (world_of self.now) snapshot.now) }
+        ensures ok { IfSome (snap_named (world_of self.now) snapshot.now) (λ t. IfOk result (λ u. u ≡ with_clone_of self.now (id_of t) name.now)) }
+        ensures err { IfErr result (λ e. e ≡ Refusal.NoMemory) }
+    {
+        let Some(origin) = self.snapshot_named(snapshot) else {
+            unreachable!()
+        };
+        let systems = self.systems.with_clone(name, origin)?;
+        Ok(Table {
+            systems,
+            group: self.group,
+        })
+    }
+
+    /// Promotes the clone of this name (zfs-promote(8)): it gets the snapshots of the file system of its origin up to the origin, and the
+    /// other's origin; the other keeps its newer snapshots, and has the clone's origin as its own. No block is visited, and none is lost.
+    /// NoMemory where there is none for it, and then the table is as it was. It costs for each file system the logarithm of the number of
+    /// its snapshots, the chunks of the snapshots of both, and for each snapshot that changes its file system the logarithm of their
+    /// number and at most three chunks of an index.
+    pub fn promote(&mut self, alloc: Global, name: &DsName) -> Result<(), Refusal>
+        requires there { IsSome (promotion_of (world_of self.old) name.now) }
+        requires can { IfSome (promotion_of (world_of self.old) name.now) (CanPromote self.old name.now) }
+        ensures ok { IfSome (promotion_of (world_of self.old) name.now) (λ p. OnOk result (self.new ≡ with_promoted self.old name.now p)) }
+        ensures err { OnErr result (self.new ≡ self.old) }
+        ensures only { IfErr result (λ e. e ≡ Refusal.NoMemory) }
+    {
+        self.systems.promote(alloc, name)
     }
 
     /// Puts a batch of changes of the live tree of this file system in force at once, where the last sync left group `synced` open:
@@ -258,16 +298,18 @@ impl Table {
         Ok(())
     }
 
-    /// Takes a snapshot out (zfs-destroy(8)): what comes after it keeps its blocks, and the answer lists the blocks that no dataset has
-    /// any more, each once; nobody has walked them. NoDataset exactly where there is no snapshot of this name; else NoMemory where
-    /// there is none for it. At `Err` the table is as it was. It costs the logarithms of the numbers of file systems and of snapshots,
-    /// the segments of two dead lists with the entries of at most one of them, and a 32nd of the number of snapshots of its file system.
+    /// Takes a snapshot out that no file system is a clone of, as `has_clone` tells (zfs-destroy(8)): what comes after it keeps its blocks,
+    /// and the answer lists the blocks that no dataset has any more, each once; nobody has walked them. NoDataset exactly where there is no
+    /// snapshot of this name; else NoMemory where there is none for it. At `Err` the table is as it was. It costs the logarithms of the
+    /// numbers of file systems and of snapshots, the segments of two dead lists with the entries of at most one of them, and a 32nd of the
+    /// number of snapshots of its file system.
     pub fn destroy_snapshot(
         &mut self,
         alloc: Global,
         name: &Member,
         segments: &mut SegMeter,
     ) -> Result<Deadlist, Refusal>
+        requires no_clone { IfSome (snap_named (world_of self.old) name.now) (λ t. HasNoCloneIn self.old.file_systems (id_of t)) }
         ensures ok { IfSome (snap_named (world_of self.old) name.now) (λ t. OnOk result (self.new ≡ without_snap self.old (id_of t))) }
         ensures lost { IfOk result (λ d. Lists (map dead_block d.entries) (lost_between self.old self.new)) }
         ensures no_dataset { (result ≡ Err Refusal.NoDataset) ↔ (snap_named (world_of self.old) name.now ≡ None) }
@@ -326,6 +368,20 @@ impl Table {
         self.systems.remove(name)
     }
 
+    /// Empties this file system, which is there and has no snapshot: no block, no origin, no limit, no bookmark is left to it
+    /// (zfs-destroy(8)); and answers what is lost with that: the blocks of its live tree. Nobody has walked them. NoMemory where there is none
+    /// for it, and then the table is as it was. It costs the logarithm of the number of file systems and the length of the name.
+    pub fn vacate(&mut self, alloc: Global, name: &DsName) -> Result<Lost, Refusal>
+        requires there { IsSome (get self.old.file_systems name.now) }
+        requires bare { snaps_at self.old.file_systems name.now ≡ [] }
+        ensures ok { OnOk result (self.new ≡ with_system self.old name.now empty_file_system) }
+        ensures lost { IfOk result (Loses self.old self.new) }
+        ensures err { OnErr result (self.new ≡ self.old) }
+        ensures only { IfErr result (λ e. e ≡ Refusal.NoMemory) }
+    {
+        self.systems.vacate(alloc, name)
+    }
+
     // How many snapshots the file system of this name has, and none where it isn't there.
     fn snapshots_of(&self, name: &DsName) -> usize
         ensures { result ≡ length (snaps_at self.now.file_systems name.now) }
@@ -336,12 +392,19 @@ impl Table {
         }
     }
 
+    // The snapshot of this name, or none.
+    fn snapshot_named(&self, name: &Member) -> Option<&Snapshot>
+        ensures { option_copied result ≡ snap_named (world_of self.now) name.now }
+    {
+        let file_system = self.systems.find(&name.file_system)?;
+        file_system.snapshot_named(name.component.as_bytes())
+    }
+
     // The creation group of the snapshot of this name, or none.
     fn group_of(&self, name: &Member) -> Option<Group>
         ensures { option_map (λ g. g.0) result ≡ option_map (λ t. t.group) (snap_named (world_of self.now) name.now) }
     {
-        let file_system = self.systems.find(&name.file_system)?;
-        let snapshot = file_system.snapshot_named(name.component.as_bytes())?;
+        let snapshot = self.snapshot_named(name)?;
         Some(snapshot.group())
     }
 
@@ -365,6 +428,23 @@ impl Table {
         any_child(self.file_systems(), name)
     }
 
+    /// Whether a file system is a clone of the snapshot of this identity (zfsprops(7): clones). It costs the logarithm of the number of
+    /// clones.
+    pub fn has_clone(&self, snapshot: SnapshotId) -> bool
+        ensures clones { result ≡ nat_lt 0 (length (clones_of (world_of self.now) (snap_id snapshot))) }
+        ensures no_clone { result ≡ false → HasNoCloneIn self.now.file_systems (snap_id snapshot) }
+    {
+        self.clones_of(snapshot).len() > 0
+    }
+
+    /// The clones of the snapshot of this identity, in byte order of their names (zfsprops(7): clones). It costs the logarithm of the number
+    /// of clones.
+    pub fn clones_of(&self, id: SnapshotId) -> &[CloneName]
+        ensures { map name_of result.now ≡ clones_of (world_of self.now) (snap_id id) }
+    {
+        self.systems.clones_of(id)
+    }
+
     // Whether the parent of a file system of this name is there.
     fn has_parent(&self, name: &[u8]) -> bool
         ensures { result ≡ has_parent self.now.file_systems name.now }
@@ -378,7 +458,7 @@ impl Table {
 
 // Whether the name of this file system's parent is that one.
 fn is_child(file_system: &FileSystem, parent: &DsName) -> bool
-    ensures { result ≡ option_map_or (same_name parent.now) (parent_of file_system.now.0) false }
+    ensures { result ≡ option_map_or (same_name parent.now) (parent_of file_system.now.name) false }
 {
     let Some(name) = parent_of(file_system.name().as_bytes()) else {
         return false;
@@ -388,7 +468,7 @@ fn is_child(file_system: &FileSystem, parent: &DsName) -> bool
 
 // Whether one of these file systems is a child of that one.
 fn any_child(file_systems: &[Arc<FileSystem>], parent: &DsName) -> bool
-    ensures { result ≡ list_any (λ a. option_map_or (same_name parent.now) (parent_of (arc_value {X = Row} a).0) false) file_systems.now }
+    ensures { result ≡ list_any (λ a. option_map_or (same_name parent.now) (parent_of (arc_value {X = Row} a).name) false) file_systems.now }
 {
     file_systems
         .iter()

@@ -1,10 +1,16 @@
-//! Tests of `file_systems`, `datasets` and `snap` from outside.
+//! Tests of `file_systems`, `datasets`, `snap`, `clones` and `removals` from outside.
 #![tactic(auto)]
 
 #[cfg(test)]
-mod lists;
+mod cloned;
 #[cfg(test)]
-mod removals;
+mod edits;
+#[cfg(test)]
+mod free;
+#[cfg(test)]
+mod gone;
+#[cfg(test)]
+mod lists;
 #[cfg(test)]
 mod tables;
 #[cfg(test)]

@@ -1,11 +1,10 @@
 pub mod Sorted
 pub mod Rows
 pub mod Counts
-pub mod Newest
-pub mod Releases
-pub mod Accounts
-pub mod Splices
-pub mod Stacks
 pub mod Removed
-pub mod Losses
-pub mod Deferred
+pub mod Emptied
+pub mod CloneKeys
+pub mod CloneRanges
+pub mod Listing
+pub mod Ties
+pub mod Promoting

@@ -12,12 +12,12 @@ use Rattle.std.specs.FinMap.{find, is_sorted, from_sorted, get-from_sorted, get-
 use Rattle.std.specs.FinMap.Entries.{below_all}
 use Rattle.name.specs.Names.{name_cmp}
 use Rattle.file_systems.specs.Places.{IsAt}
-use Rattle.file_systems.specs.Rows.{Row, snap_count}
+use Rattle.file_system.specs.Rows.{Entry, snap_count}
 use Rattle.file_systems.proofs.Rows.{same_name, true_from}
 use Rattle.file_systems.proofs.Counts.{counted, snaps_in}
 use Rattle.file_systems.proofs.Sorted.{sorted_at, less_from, T_left, T_right}
 
-T_both : (a b : Bool) → T a → T b → T (a && b)
+pub T_both : (a b : Bool) → T a → T b → T (a && b)
 T_both true b h k = k
 T_both false b h k = h
 
@@ -50,7 +50,7 @@ module _ {K X : Type 0} {R : K → K → Ordering} (o : IsTotalOrder R) where
   left_sorted (e ∷ es) (suc i) h = T_both (below_all R e.0 (remove es i)) (is_sorted R (remove es i)) (below_left e.0 es i (T_left (below_all R e.0 es) (is_sorted R es) h)) (left_sorted es i (T_right (below_all R e.0 es) (is_sorted R es) h))
 
   -- a key that is below all is found nowhere among them
-  none_below : (q k : K) (es : List (K × X)) → R q k ≡ Equal → T (below_all R k es) → find R q es ≡ None
+  pub none_below : (q k : K) (es : List (K × X)) → R q k ≡ Equal → T (below_all R k es) → find R q es ≡ None
   none_below q k [] e h = refl
   none_below q k (x ∷ es) e h =
       let less : R q x.0 ≡ Less = o.congr q k x.0 e ∙ less_from (R k x.0) (T_left (is_lt (R k x.0)) (below_all R k es) h) in
@@ -70,7 +70,7 @@ module _ {K X : Type 0} {R : K → K → Ordering} (o : IsTotalOrder R) where
       true≢false (sym b ∙ ap is_eq first))
 
 -- a row gone from its place is its name gone from the map
-module _ (es : List Row) (sorted : IsTrue (is_sorted name_cmp es)) (q : List ℕ) (i : ℕ) (at : IsAt es q i) where
+module _ (es : List Entry) (sorted : IsTrue (is_sorted name_cmp es)) (q : List ℕ) (i : ℕ) (at : IsAt es q i) where
   in_order : T (is_sorted name_cmp es)
   in_order = passes (is_sorted name_cmp es) sorted
 
@@ -80,7 +80,7 @@ module _ (es : List Row) (sorted : IsTrue (is_sorted name_cmp es)) (q : List ℕ
   pub removed_sorted : IsTrue (is_sorted name_cmp (remove es i))
   removed_sorted = true_from (is_sorted name_cmp (remove es i)) still_in_order
 
-  pub removed_is : (d : Row) → from_sorted {R = name_cmp} (remove es i) ≡ finmap.remove (from_sorted {R = name_cmp} es) q
+  pub removed_is : (d : Entry) → from_sorted {R = name_cmp} (remove es i) ≡ finmap.remove (from_sorted {R = name_cmp} es) q
   removed_is d = same_map nat_list_cmp_total same_name _ _ (λ k.
       get-from_sorted name_cmp (remove es i) k still_in_order
       ∙ find_left nat_list_cmp_total es i d in_order at.within k
@@ -89,20 +89,20 @@ module _ (es : List Row) (sorted : IsTrue (is_sorted name_cmp es)) (q : List ℕ
       ∙ sym (get-remove nat_list_cmp_total (from_sorted {R = name_cmp} es) q k))
 
 -- one without snapshots takes none away
-fewer_rows : (es : List Row) (i : ℕ) (d : Row) → i < length es → length (get_or es i d).1.snaps ≡ 0 → length (snaps_in (remove es i)) ≡ length (snaps_in es)
+fewer_rows : (es : List Entry) (i : ℕ) (d : Entry) → i < length es → length (get_or es i d).1.snaps ≡ 0 → length (snaps_in (remove es i)) ≡ length (snaps_in es)
 fewer_rows [] i d lt bare = absurd (omega arith)
 fewer_rows (e ∷ es) zero d lt bare = let l = length-append e.1.snaps (snaps_in es) in omega arith
 fewer_rows (e ∷ es) (suc i) d lt bare =
     let rest = fewer_rows es i d (omega arith) bare in
     omega (arith, length-append e.1.snaps (snaps_in (remove es i)), length-append e.1.snaps (snaps_in es))
 
-pub removed_counted : (es : List Row) (i : ℕ) (d : Row) (count : ℕ) → IsTrue (is_sorted name_cmp es) → IsTrue (is_sorted name_cmp (remove es i)) → i < length es → length (get_or es i d).1.snaps ≡ 0
+pub removed_counted : (es : List Entry) (i : ℕ) (d : Entry) (count : ℕ) → IsTrue (is_sorted name_cmp es) → IsTrue (is_sorted name_cmp (remove es i)) → i < length es → length (get_or es i d).1.snaps ≡ 0
     → count ≡ snap_count (from_sorted {R = name_cmp} es) → count ≡ snap_count (from_sorted {R = name_cmp} (remove es i))
 removed_counted es i d count sorted after lt bare counts = counts ∙ counted es sorted ∙ sym (fewer_rows es i d lt bare) ∙ sym (counted (remove es i) after)
 
 -- the rows of elements of which one is gone
-pub map_removed : {A : Type 0} (g : A → Row) (xs ys : List A) (i : ℕ) → ys ≡ remove xs i → map g ys ≡ remove (map g xs) i
-map_removed {A} g xs ys i e = ap (map g) e ∙ by xs i
+pub map_removed : {A B : Type 0} (g : A → B) (xs ys : List A) (i : ℕ) → ys ≡ remove xs i → map g ys ≡ remove (map g xs) i
+map_removed {A} {B} g xs ys i e = ap (map g) e ∙ by xs i
   where
     by : (xs : List A) (i : ℕ) → map g (remove xs i) ≡ remove (map g xs) i
     by [] zero = refl

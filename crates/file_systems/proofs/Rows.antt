@@ -2,7 +2,7 @@
 use Rattle.std.proofs.Common.{◌≡◌, ℕ, ◌<◌, Bool, true, false, cond, T, List, [], ◌∷◌, length, get_or, set, map, Option, Some, None, is_some, refl, sym, ap, subst, ◌∙◌, arith, true≢false}
 use Rattle.std.specs.Prelude.{IsSome, IfSome, IsTrue}
 use Rattle.std.specs.Bool.{passes}
-use Rattle.std.specs.Option.{option_map, option_map_or}
+use Rattle.std.specs.Option.{option_map_or}
 use Rattle.std.specs.Ordering.{is_eq, ordering_index}
 use Rattle.std.specs.declared.cmp.Ordering.TheVariants.{Less, Greater}
 use Rattle.std.proofs.lemmas.List.{length-map, get_or-map}
@@ -18,9 +18,8 @@ use Rattle.std.specs.FinMap.Entries.{is_sorted-put}
 use Rattle.name.specs.Names.{name_cmp}
 use Rattle.base.specs.Map.{Map}
 use Rattle.model.specs.World.{FileSystem, empty_file_system}
-use Rattle.file_systems.specs.Rows.{Row, FileSystems, live_of, snaps_at, with_live, with_snap}
+use Rattle.file_system.specs.Rows.{Entry, FileSystems, live_of, snaps_at, with_live}
 use Rattle.file_systems.specs.Places.{IsAt, IsGapFor}
-use Rattle.file_systems.specs.Splices.{without_group, without_snap_of}
 use Rattle.file_systems.proofs.Sorted.{comparisons_rise, find_at, put_at, find_gap, put_gap}
 
 -- only equal names tie
@@ -35,7 +34,7 @@ none_from : {A : Type 0} (o : Option A) → is_some o ≡ false → o ≡ None
 none_from None h = refl
 none_from (Some a) h = absurd (true≢false h)
 
-module _ (es : List Row) (sorted : IsTrue (is_sorted name_cmp es)) where
+module _ (es : List Entry) (sorted : IsTrue (is_sorted name_cmp es)) where
   in_order : T (is_sorted name_cmp es)
   in_order = passes (is_sorted name_cmp es) sorted
 
@@ -48,7 +47,7 @@ module _ (es : List Row) (sorted : IsTrue (is_sorted name_cmp es)) where
   len_is = len-entries (from_sorted {R = name_cmp} es) ∙ ap length entries_are
 
   -- a name at a place is found there
-  pub get_at : (q : List ℕ) (i : ℕ) → IsAt es q i → (d : Row) → get (from_sorted {R = name_cmp} es) q ≡ Some (get_or es i d).1
+  pub get_at : (q : List ℕ) (i : ℕ) → IsAt es q i → (d : Entry) → get (from_sorted {R = name_cmp} es) q ≡ Some (get_or es i d).1
   get_at q i at d =
       get-from_sorted name_cmp es q in_order
       ∙ ap (λ k. find name_cmp k es) (sym (at.named d))
@@ -59,15 +58,15 @@ module _ (es : List Row) (sorted : IsTrue (is_sorted name_cmp es)) where
   get_gap q i gap = get-from_sorted name_cmp es q in_order ∙ find_gap nat_list_cmp_total es q i gap.below gap.above
 
   -- rows with an entry put among them are the map with it inserted
-  put_is : (fs : List Row) (q : List ℕ) (v : FileSystem) → put name_cmp q v es ≡ fs → from_sorted {R = name_cmp} fs ≡ finmap.insert (from_sorted {R = name_cmp} es) q v
+  put_is : (fs : List Entry) (q : List ℕ) (v : FileSystem) → put name_cmp q v es ≡ fs → from_sorted {R = name_cmp} fs ≡ finmap.insert (from_sorted {R = name_cmp} es) q v
   put_is fs q v e =
       let ordered : T (is_sorted name_cmp fs) = subst (λ xs. T (is_sorted name_cmp xs)) e (is_sorted-put name_cmp nat_list_cmp_total q v es in_order) in
       same_entries_map _ _ (entries-from_sorted name_cmp fs ordered ∙ sym e ∙ ap (put name_cmp q v) (sym entries_are) ∙ sym (entries-insert nat_list_cmp_total (from_sorted {R = name_cmp} es) q v))
 
-  put_sorted : (fs : List Row) (q : List ℕ) (v : FileSystem) → put name_cmp q v es ≡ fs → IsTrue (is_sorted name_cmp fs)
+  put_sorted : (fs : List Entry) (q : List ℕ) (v : FileSystem) → put name_cmp q v es ≡ fs → IsTrue (is_sorted name_cmp fs)
   put_sorted fs q v e = true_from _ (subst (λ xs. T (is_sorted name_cmp xs)) e (is_sorted-put name_cmp nat_list_cmp_total q v es in_order))
 
-  put_here : (q : List ℕ) (v : FileSystem) (i : ℕ) → IsAt es q i → (d : Row) → put name_cmp q v es ≡ set es i (q, v)
+  put_here : (q : List ℕ) (v : FileSystem) (i : ℕ) → IsAt es q i → (d : Entry) → put name_cmp q v es ≡ set es i (q, v)
   put_here q v i at d = subst (λ k. put name_cmp k v es ≡ set es i (k, v)) (at.named d) (put_at nat_list_cmp_total es in_order i d v at.within)
 
   -- another file system under a name that is there
@@ -90,16 +89,16 @@ module _ (es : List Row) (sorted : IsTrue (is_sorted name_cmp es)) where
   found_is q (Err i) at gap = ap is_some (sym (get_gap q i gap))
 
 -- what holds of the row that the element at a place makes holds of the row at that place
-at_row : {A : Type 0} (g : A → Row) (P : Row → Type 0) (xs : List A) (i : ℕ) → i < length xs → ((d : A) → P (g (get_or xs i d))) → (e : Row) → P (get_or (map g xs) i e)
+at_row : {A : Type 0} (g : A → Entry) (P : Entry → Type 0) (xs : List A) (i : ℕ) → i < length xs → ((d : A) → P (g (get_or xs i d))) → (e : Entry) → P (get_or (map g xs) i e)
 at_row g P [] i lt h e = absurd (omega arith)
 at_row g P (x ∷ xs) i lt h e = subst P (sym (get_or-map g (x ∷ xs) i x e lt)) (h x)
 
 -- the element at a place makes the row at that place
-pub row_of : {A : Type 0} (g : A → Row) (xs : List A) (i : ℕ) (a : A) → a ≡ get_or xs i a → g a ≡ get_or (map g xs) i (g a)
+pub row_of : {A B : Type 0} (g : A → B) (xs : List A) (i : ℕ) (a : A) → a ≡ get_or xs i a → g a ≡ get_or (map g xs) i (g a)
 row_of g xs i a is = ap g is ∙ sym (get_or-map_same g xs i a)
 
 -- a binary search among elements that make rows ends at the name, or at the gap for it
-module _ {A : Type 0} (g : A → Row) (xs : List A) (sorted : IsTrue (is_sorted name_cmp (map g xs))) where
+module _ {A : Type 0} (g : A → Entry) (xs : List A) (sorted : IsTrue (is_sorted name_cmp (map g xs))) where
   risen : (q : List ℕ) → IsNonDecreasingBy (λ (a : A). ordering_index (name_cmp (g a).0 q)) xs
   risen q i j d le within =
       let rows = comparisons_rise nat_list_cmp_total (map g xs) (passes (is_sorted name_cmp (map g xs)) sorted) q in
@@ -129,16 +128,12 @@ live_changed m k s was live =
     (get-insert nat_list_cmp_total m k (record s { live = live }) k ∙ ap (λ t. cond (is_eq t) (Some (record s { live = live })) (get m k)) (tied_itself nat_list_cmp_total k))
 
 -- the row at a place
-module _ (es : List Row) (sorted : IsTrue (is_sorted name_cmp es)) (q : List ℕ) (i : ℕ) (at : IsAt es q i) (e : Row) (is : e ≡ get_or es i e) where
-  its_name : e.0 ≡ q
-  its_name = ap (λ (r : Row). r.0) is ∙ at.named e
+module _ (es : List Entry) (sorted : IsTrue (is_sorted name_cmp es)) (q : List ℕ) (i : ℕ) (at : IsAt es q i) (e : Entry) (is : e ≡ get_or es i e) where
+  pub its_name : e.0 ≡ q
+  its_name = ap (λ (r : Entry). r.0) is ∙ at.named e
 
-  got : get (from_sorted {R = name_cmp} es) q ≡ Some e.1
-  got = get_at es sorted q i at e ∙ ap (λ (r : Row). Some r.1) (sym is)
-
-  -- it is what the map has
-  pub find_here : Some e ≡ option_map (λ f. (q, f)) (get (from_sorted {R = name_cmp} es) q)
-  find_here = sym (ap (option_map (λ f. (q, f))) got ∙ ap (λ n. Some (n, e.1)) (sym its_name))
+  pub got : get (from_sorted {R = name_cmp} es) q ≡ Some e.1
+  got = get_at es sorted q i at e ∙ ap (λ (r : Entry). Some r.1) (sym is)
 
   pub is_there : IsSome (get (from_sorted {R = name_cmp} es) q)
   is_there = ap is_some got
@@ -152,7 +147,7 @@ module _ (es : List Row) (sorted : IsTrue (is_sorted name_cmp es)) (q : List ℕ
   snaps_are = ap (λ o. option_map_or (λ (f : FileSystem). f.snaps) o []) got
 
   -- another file system at its place
-  module _ (v : FileSystem) (r : Row) (others : r ≡ (e.0, v)) where
+  module _ (v : FileSystem) (r : Entry) (others : r ≡ (e.0, v)) where
     placed : set es i r ≡ set es i (q, v)
     placed = ap (set es i) (others ∙ ap (λ n. (n, v)) its_name)
 
@@ -163,7 +158,7 @@ module _ (es : List Row) (sorted : IsTrue (is_sorted name_cmp es)) (q : List ℕ
     placed_is = ap (from_sorted {R = name_cmp}) placed ∙ set_is es sorted q v i at
 
   -- changed by a function of its file system, as the map tells it
-  pub made_is : (change : FileSystem → FileSystem) (r : Row) → r ≡ (e.0, change e.1)
+  pub made_is : (change : FileSystem → FileSystem) (r : Entry) → r ≡ (e.0, change e.1)
       → from_sorted {R = name_cmp} (set es i r) ≡ option_map_or (λ f. finmap.insert (from_sorted {R = name_cmp} es) q (change f)) (get (from_sorted {R = name_cmp} es) q) (from_sorted {R = name_cmp} es)
   made_is change r others =
       placed_is (change e.1) r others
@@ -174,7 +169,7 @@ module _ (es : List Row) (sorted : IsTrue (is_sorted name_cmp es)) (q : List ℕ
   rule_here P h = subst (λ o. IfSome o P) got h
 
   module _ (live : Map) where
-    abbrev changed : List Row
+    abbrev changed : List Entry
     changed = set es i (e.0, record e.1 { live = live })
 
     renamed : changed ≡ set es i (q, record e.1 { live = live })
@@ -190,7 +185,7 @@ module _ (es : List Row) (sorted : IsTrue (is_sorted name_cmp es)) (q : List ℕ
     changed_sorted : IsTrue (is_sorted name_cmp changed)
     changed_sorted = subst (λ fs. IsTrue (is_sorted name_cmp fs)) (sym renamed) (set_sorted es sorted q (record e.1 { live = live }) i at)
 
-entries_empty : (es : List Row) → length es ≡ 0 → es ≡ []
+entries_empty : (es : List Entry) → length es ≡ 0 → es ≡ []
 entries_empty [] e = refl
 entries_empty (x ∷ es) e = absurd (omega arith)
 
@@ -202,8 +197,8 @@ fresh_is name v = put_is [] refl ((name, v) ∷ []) name v refl ∙ ap (λ m. fi
     none = same_entries_map (from_sorted {R = name_cmp} []) (empty {X = FileSystem} {R = name_cmp}) (entries-from_sorted name_cmp [] tt ∙ sym (entries_empty _ (sym (len-entries (empty {X = FileSystem} {R = name_cmp})) ∙ len-empty name_cmp FileSystem)))
 
 -- what is told of the row that comes to its place, which differs in its live map alone
-module _ (es : List Row) (sorted : IsTrue (is_sorted name_cmp es)) (q : List ℕ) (i : ℕ) (at : IsAt es q i) (e : Row) (is : e ≡ get_or es i e)
-    (r : Row) (others : r ≡ (e.0, record e.1 { live = r.1.live })) where
+module _ (es : List Entry) (sorted : IsTrue (is_sorted name_cmp es)) (q : List ℕ) (i : ℕ) (at : IsAt es q i) (e : Entry) (is : e ≡ get_or es i e)
+    (r : Entry) (others : r ≡ (e.0, record e.1 { live = r.1.live })) where
   pub row_sorted : IsTrue (is_sorted name_cmp (set es i r))
   row_sorted = subst (λ x. IsTrue (is_sorted name_cmp (set es i x))) (sym others) (changed_sorted es sorted q i at e is r.1.live)
 

@@ -1,8 +1,5 @@
-pub mod Rows
+pub mod Clones
+pub mod CloneNames
 pub mod Places
-pub mod Writes
-pub mod Dead
 pub mod Sorted
-pub mod Splices
-pub mod Losses
-pub mod Deferred
+pub mod Promotions

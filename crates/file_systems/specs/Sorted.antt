@@ -3,10 +3,15 @@ use Rattle.std.specs.Prelude.{◌≡◌, IsTrue, map}
 use Rattle.std.specs.Arc.{arc_value}
 use Rattle.std.specs.FinMap.{is_sorted, from_sorted}
 use Rattle.name.specs.Names.{name_cmp}
-use Rattle.file_systems.specs.Rows.{snap_count}
+use Rattle.file_systems.specs.CloneNames.{IsListed}
+use Rattle.file_systems.specs.Clones.{AreTied}
+use Rattle.file_system.specs.Rows.{entry_in, snap_count}
 use Rattle.file_systems.specs.declared.list.FileSystems.TheInside.{Inside}
 
--- the names rise, and the snapshots are counted (profile)
+-- the names rise, the snapshots are counted, each clone stands above its origin, which is a snapshot of one of them, and the clones are listed
+-- (profile)
 pub record IsSorted (t : Inside) : Type 0 where
-  pub sorted : IsTrue (is_sorted name_cmp (map arc_value t.rows.items))
-  pub counted : t.snapshot_count ≡ snap_count (from_sorted (map arc_value t.rows.items))
+  pub sorted : IsTrue (is_sorted name_cmp (map entry_in t.rows.items))
+  pub counted : t.snapshot_count ≡ snap_count (from_sorted (map entry_in t.rows.items))
+  pub tied : AreTied (map arc_value t.rows.items)
+  pub listed : IsListed (from_sorted (map entry_in t.rows.items)) t.clones

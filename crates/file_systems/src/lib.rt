@@ -1,17 +1,11 @@
 //! File systems and their snapshots, by name.
 #![tactic(auto)]
 
-mod dead;
-mod file_system;
+mod clones;
 mod list;
-mod lost;
-mod mark;
 mod place;
 mod row;
-mod splice;
-mod written;
 
-pub use file_system::FileSystem;
+pub use clones::CloneName;
+pub use file_system::{FileSystem, Kept, Lost, Snapshot};
 pub use list::FileSystems;
-pub use lost::Lost;
-pub use snapshots::{Kept, Snapshot};

@@ -4,31 +4,42 @@ ghost use Rattle.std.specs.Arc.{arc_value};
 ghost use Rattle.std.specs.Option.{option_map, option_map_or, option_copied};
 ghost use Rattle.std.specs.FinMap as finmap;
 ghost use Rattle.std.specs.FinMap.{get, insert, entries, len};
-ghost use Rattle.std.specs.FinSet.{empty};
 ghost use Rattle.std.specs.List.{find};
+ghost use Rattle.base.specs.Map.{blocks};
 ghost use Rattle.base.specs.Surveys.{dead_block};
 ghost use Rattle.base.specs.declared.refusal.Refusal.{Refusal};
-ghost use Rattle.model.specs.World.{empty_file_system};
-ghost use Rattle.file_systems.specs.Dead.{AllowsLive, IsAbove};
-ghost use Rattle.file_systems.specs.Losses.{newest_map, IsLost};
-ghost use Rattle.file_systems.specs.Rows.{live_of, snaps_at, with_live, with_snap, snap_count};
-ghost use Rattle.file_systems.specs.Splices.{lost_from, without_snap_of, AreAbove};
-ghost use Rattle.file_systems.specs.Deferred.{deferred_of};
-ghost use Rattle.file_systems.specs.Writes.{young_after, IsWritten};
+ghost use Rattle.model.specs.World.{empty_file_system, Snap, id_of, same_id};
+ghost use Rattle.base.specs.Surveys.{IsIn};
+ghost use Rattle.world.specs.Dead.{HasNoCloneIn};
+ghost use Rattle.model.specs.Ids.{snap_id};
+ghost use Rattle.file_systems.specs.CloneNames.{name_of, clones_in};
+ghost use Rattle.file_systems.specs.Clones.{all_snaps, snap_in, origin_at, below_at, row_in};
+ghost use Rattle.file_system.specs.Dead.{AllowsLive, IsAbove};
+ghost use Rattle.file_system.specs.Losses.{newest_map, IsLost};
+ghost use Rattle.file_system.specs.Origins.{origin_group};
+ghost use Rattle.file_system.specs.Promotions.{clone_system};
+ghost use Rattle.file_systems.specs.Promotions.{promoted_in, IsPromotion, CanPromoteIn};
+ghost use Rattle.world.specs.Outcomes.{Promotion};
+ghost use Rattle.file_system.specs.Rows.{live_of, snaps_at, with_live, with_snap, snap_count};
+ghost use Rattle.file_system.specs.Splices.{lost_from, without_snap_of, AreAbove};
+ghost use Rattle.file_system.specs.Deferred.{deferred_of};
+ghost use Rattle.file_system.specs.Writes.{young_after, IsWritten};
 ghost use Rattle.world.specs.Deadlists.{Lists};
 ghost use Rattle.tree.specs.Asking.{IsNoSpaceOrNoMemory};
 ghost use Rattle.tree.specs.Change.{HasRoom, LacksRoom, CountsDropped};
 ghost use Rattle.tree.specs.Updates.{changes_of};
 
-use crate::file_system::FileSystem;
-use crate::lost::Lost;
+use crate::clones::{CloneIndex, CloneName};
 use crate::place::{gap, place};
-use crate::row::{apply, defer, rollback, shared, splice, take, with_added};
+use crate::row::{apply, defer, owner_place, promoted, rollback, shared, splice, take, with_added};
 use base::meter::{Meter, SegMeter};
 use base::number::{Group, Guid};
 use base::refusal::Refusal;
 use deadlist::deadlist::Deadlist;
+use file_system::{FileSystem, Lost};
+use model::snapshot_id::SnapshotId;
 use name::{Component, DsName};
+use snapshots::Snapshot;
 use std::alloc::Global;
 use std::marker::Model;
 use std::sync::Arc;
@@ -43,20 +54,21 @@ use zalloc::Allocator;
 pub struct FileSystems {
     rows: Vec<Arc<FileSystem>>,
     snapshot_count: usize,
+    clones: CloneIndex,
 }
 
 impl Model for FileSystems {
-    ghost use Rattle.std.specs.Arc.{arc_value};
     ghost use Rattle.std.specs.FinMap.{from_sorted};
     ghost use Rattle.std.specs.Prelude.{map};
-    ghost use Rattle.file_systems.specs.Rows.{FileSystems, file_systems_code};
+    ghost use Rattle.file_system.specs.Origins.{origin_group};
+    ghost use Rattle.file_system.specs.Rows.{FileSystems, entry_in, file_systems_code};
     ghost use Rattle.file_systems.specs.Sorted.{IsSorted};
 
     ghost Value = { FileSystems };
 
     ghost coded = { file_systems_code };
 
-    ghost view = { λ t. from_sorted (map arc_value t.rows.items) };
+    ghost view = { λ t. from_sorted (map entry_in t.rows.items) };
 
     ghost invariant = { IsSorted };
 }
@@ -73,19 +85,22 @@ impl FileSystems {
         Ok(FileSystems {
             rows,
             snapshot_count: 0,
+            clones: CloneIndex::new(alloc),
         })
     }
 
     /// Equal file systems, by one more owner of each: no name, tree, snapshot or block is visited. NoMemory where there is none for
-    /// as many rows as there are, or for an owner. It costs the number of file systems.
+    /// as many rows as there are, or for an owner. It costs the number of file systems, and that of clones.
     pub fn copy(&self) -> Result<FileSystems, Refusal>
         ensures ok { IfOk result (λ t. t ≡ self.now) }
         ensures err { IfErr result (λ e. e ≡ Refusal.NoMemory) }
     {
         let rows = shared(*self.rows.allocator(), &self.rows)?;
+        let clones = self.clones.copy()?;
         Ok(FileSystems {
             rows,
             snapshot_count: self.snapshot_count,
+            clones,
         })
     }
 
@@ -106,19 +121,27 @@ impl FileSystems {
 
     /// All of them, in byte order of their names. Constant time.
     pub fn as_slice(&self) -> &[Arc<FileSystem>]
-        ensures { map arc_value result.now ≡ entries self.now }
+        ensures { map arc_value result.now ≡ map (row_in self.now) (entries self.now) }
     {
         &self.rows
     }
 
     /// The file system of this name, or none. It costs the logarithm of their number.
     pub fn find(&self, name: &DsName) -> Option<&FileSystem>
-        ensures { option_copied result ≡ option_map (λ f. (name.now, f)) (get self.now name.now) }
+        ensures { option_copied result ≡ option_map (λ f. row_in self.now (name.now, f)) (get self.now name.now) }
     {
         match place(&self.rows, name.as_bytes()) {
             Ok(place) => Some(&*self.rows[place]),
             Err(_) => None,
         }
+    }
+
+    /// The clones of the snapshot of this identity, in byte order of their names (zfsprops(7): clones). It costs the logarithm of the number
+    /// of clones.
+    pub fn clones_of(&self, id: SnapshotId) -> &[CloneName]
+        ensures { map name_of result.now ≡ clones_in self.now (snap_id id) }
+    {
+        self.clones.of(id)
     }
 
     /// Whether there is a file system of this name. It costs the logarithm of their number.
@@ -140,11 +163,64 @@ impl FileSystems {
         let alloc = *self.rows.allocator();
         let place = gap(rows, name.as_bytes());
         let added = Arc::new(alloc, FileSystem::new(alloc, name)?)?;
+        let clones = self.clones.copy()?;
         let rows = with_added(alloc, rows, place, added)?;
         Ok(FileSystems {
             rows,
             snapshot_count: self.snapshot_count,
+            clones,
         })
+    }
+
+    /// These file systems and a clone of that snapshot, which one of them has (zfs-clone(8)), under this name, and one more owner of each other
+    /// one. These stay as they are. NoMemory where there is none for the name, the rows or an owner. It costs the number of file systems and
+    /// the length of the name.
+    pub fn with_clone(&self, name: &DsName, snapshot: &Snapshot) -> Result<FileSystems, Refusal>
+        requires absent { get self.now name.now ≡ None }
+        requires origin { snap_in self.now (id_of snapshot.now) ≡ Some snapshot.now }
+        ensures ok { IfOk result (λ t. t ≡ insert self.now name.now (clone_system snapshot.now)) }
+        ensures err { IfErr result (λ e. e ≡ Refusal.NoMemory) }
+    {
+        let rows: &[Arc<FileSystem>] = &self.rows;
+        let alloc = *self.rows.allocator();
+        let place = gap(rows, name.as_bytes());
+        let added = Arc::new(alloc, FileSystem::clone_of(alloc, name, snapshot)?)?;
+        let clones = self.clones.with_clone(snapshot.id(), &added)?;
+        let rows = with_added(alloc, rows, place, added)?;
+        Ok(FileSystems {
+            rows,
+            snapshot_count: self.snapshot_count,
+            clones,
+        })
+    }
+
+    /// Promotes the clone of this name (zfs-promote(8)): it has the snapshots of the file system of its origin up to that before its own, and
+    /// the other's origin; the other has its newer snapshots, and the origin of the clone as its own. No block is visited. NoMemory where there
+    /// is none for it; then all are as they were. It costs for each file system the logarithm of the number of its snapshots, the chunks of the
+    /// snapshots of both, and for each snapshot that changes its file system the logarithm of their number and at most three chunks of an index.
+    pub fn promote(&mut self, alloc: Global, name: &DsName) -> Result<(), Refusal>
+        requires { CanPromoteIn self.old name.now }
+        ensures ok { OnOk result ((p : Promotion) → IsPromotion self.old name.now p → self.new ≡ promoted_in self.old name.now p) }
+        ensures err { OnErr result (self.new ≡ self.old) }
+        ensures only { IfErr result (λ e. e ≡ Refusal.NoMemory) }
+    {
+        let Ok(place) = place(&self.rows, name.as_bytes()) else {
+            unreachable!()
+        };
+        let Some(origin) = self.rows[place].origin() else {
+            unreachable!()
+        };
+        let Some(other) = owner_place(&self.rows, origin) else {
+            unreachable!()
+        };
+        let (clone, owner) = promoted(alloc, &self.rows[place], &self.rows[other], origin)?;
+        let clones = self
+            .clones
+            .promoted(origin, &self.rows[place], &self.rows[other])?;
+        self.rows[other] = owner;
+        self.rows[place] = clone;
+        self.clones = clones;
+        Ok(())
     }
 
     /// Puts a batch of changes of the live tree of this file system in force at once, where the last sync left group `synced` open:
@@ -164,13 +240,13 @@ impl FileSystems {
         meter: &mut Meter,
         segments: &mut SegMeter,
     ) -> Result<Changed, Refusal>
-        requires { AllowsLive (live_of self.old name.now) (snaps_at self.old name.now) updates.now group.0 synced.0 allocator.now }
-        ensures ok { IfOk result (IsWritten (live_of self.old name.now) (live_of self.new name.now) (snaps_at self.old name.now) (changes_of updates.now) group.0 synced.0 allocator.now) }
+        requires { AllowsLive (blocks (below_at self.old name.now)) (origin_group (origin_at self.old name.now)) (live_of self.old name.now) (snaps_at self.old name.now) updates.now group.0 synced.0 allocator.now }
+        ensures ok { IfOk result (IsWritten (live_of self.old name.now) (live_of self.new name.now) (origin_group (origin_at self.old name.now)) (snaps_at self.old name.now) (changes_of updates.now) group.0 synced.0 allocator.now) }
         ensures others { OnOk result (self.new ≡ with_live self.old name.now (live_of self.new name.now)) }
-        ensures room { OnOk result (HasRoom (live_of self.old name.now) (changes_of updates.now) (young_after (snaps_at self.old name.now) synced.0) allocator.now) }
+        ensures room { OnOk result (HasRoom (live_of self.old name.now) (changes_of updates.now) (young_after (origin_group (origin_at self.old name.now)) (snaps_at self.old name.now) synced.0) allocator.now) }
         ensures err { OnErr result (self.new ≡ self.old) }
         ensures no_dataset { (result ≡ Err Refusal.NoDataset) ↔ (get self.old name.now ≡ None) }
-        ensures no_space { result ≡ Err Refusal.NoSpace → LacksRoom (live_of self.old name.now) (changes_of updates.now) (young_after (snaps_at self.old name.now) synced.0) allocator.now }
+        ensures no_space { result ≡ Err Refusal.NoSpace → LacksRoom (live_of self.old name.now) (changes_of updates.now) (young_after (origin_group (origin_at self.old name.now)) (snaps_at self.old name.now) synced.0) allocator.now }
         ensures only { IfErr result (λ e. (e ≡ Refusal.NoDataset) ⊎ IsNoSpaceOrNoMemory e) }
         ensures metered { OnOk result (CountsDropped (live_of self.old name.now) (changes_of updates.now) meter.old meter.new) }
         ensures never_lower { meter.old ≤ meter.new }
@@ -184,8 +260,8 @@ impl FileSystems {
         )
     }
 
-    /// A snapshot of the live map of this file system after its others, with this name within it, this guid and this creation group
-    /// (zfs-snapshot(8)). NoMemory where there is none for it, or there are as many snapshots as a usize counts; then all are as
+    /// A snapshot of the live map of this file system after its others, with this name within it, this guid and this creation group, which
+    /// no other snapshot has together (zfs-snapshot(8)). NoMemory where there is none for it, or there are as many snapshots as a usize counts; then all are as
     /// they were. Where others share the file system, a copy of it takes its place. It costs the logarithm of the number of file
     /// systems and that of the number of its snapshots; and where others share its snapshots, a 32nd of their number.
     pub fn take_snapshot(
@@ -196,7 +272,8 @@ impl FileSystems {
         guid: Guid,
         group: Group,
     ) -> Result<(), Refusal>
-        requires { IsSome (get self.old name.now) }
+        requires there { IsSome (get self.old name.now) }
+        requires fresh { find (λ t. same_id (id_of t) (record { group = group.0; guid = guid.0 })) (all_snaps self.old) ≡ None }
         ensures ok { OnOk result (self.new ≡ option_map_or (λ f. insert self.old name.now (with_snap f component.now guid.0 group.0)) (get self.old name.now) self.old) }
         ensures err { OnErr result (self.new ≡ self.old) }
         ensures only { IfErr result (λ e. e ≡ Refusal.NoMemory) }
@@ -212,7 +289,7 @@ impl FileSystems {
         Ok(())
     }
 
-    /// Takes the snapshot of this group, which is there, out of this file system (zfs-destroy(8)), and answers the blocks that are lost with
+    /// Takes the snapshot of this group, which is there and no clone's origin, out of this file system (zfs-destroy(8)), and answers the blocks that are lost with
     /// it, which neither what stands before it has nor what comes after it: nobody has to walk them. NoMemory where there is none for it;
     /// then all are as they were. Where others share the file system, a copy of it takes its place. It costs the logarithm of the number of
     /// file systems and that of the number of its snapshots, a 32nd of their number, the segments of two dead lists, and where none of them
@@ -225,9 +302,10 @@ impl FileSystems {
         segments: &mut SegMeter,
     ) -> Result<Deadlist, Refusal>
         requires there { IsSome (find (λ t. t.group == group.0) (snaps_at self.old name.now)) }
-        requires above { IfSome (get self.old name.now) AreAbove }
+        requires above { IfSome (get self.old name.now) (AreAbove (below_at self.old name.now)) }
+        requires unused { (t : Snap) → IsIn (snaps_at self.old name.now) t → t.group ≡ group.0 → HasNoCloneIn self.old (id_of t) }
         ensures ok { OnOk result (self.new ≡ without_snap_of self.old name.now group.0) }
-        ensures lost { IfOk result (λ d. Lists (map dead_block d.entries) (lost_from empty (snaps_at self.old name.now) (live_of self.old name.now) group.0)) }
+        ensures lost { IfOk result (λ d. Lists (map dead_block d.entries) (lost_from (blocks (below_at self.old name.now)) (snaps_at self.old name.now) (live_of self.old name.now) group.0)) }
         ensures err { OnErr result (self.new ≡ self.old) }
         ensures only { IfErr result (λ e. e ≡ Refusal.NoMemory) }
     {
@@ -244,7 +322,7 @@ impl FileSystems {
     /// the logarithm of the number of file systems and that of the number of its snapshots, and a walk over the chunks of them.
     pub fn defer(&mut self, alloc: Global, name: &DsName, group: Group) -> Result<(), Refusal>
         requires there { IsSome (find (λ t. t.group == group.0) (snaps_at self.old name.now)) }
-        requires above { IfSome (get self.old name.now) AreAbove }
+        requires above { IfSome (get self.old name.now) (AreAbove (below_at self.old name.now)) }
         ensures ok { OnOk result (self.new ≡ deferred_of self.old name.now group.0) }
         ensures err { OnErr result (self.new ≡ self.old) }
         ensures only { IfErr result (λ e. e ≡ Refusal.NoMemory) }
@@ -262,9 +340,9 @@ impl FileSystems {
     /// file systems.
     pub fn rollback(&mut self, alloc: Global, name: &DsName) -> Result<Lost, Refusal>
         requires there { 0 < length (snaps_at self.old name.now) }
-        requires above { IsAbove (live_of self.old name.now) (snaps_at self.old name.now) }
+        requires above { IsAbove (blocks (below_at self.old name.now)) (origin_group (origin_at self.old name.now)) (live_of self.old name.now) (snaps_at self.old name.now) }
         ensures ok { OnOk result (self.new ≡ with_live self.old name.now (newest_map (live_of self.old name.now) (snaps_at self.old name.now))) }
-        ensures lost { IfOk result (IsLost (live_of self.old name.now) (snaps_at self.old name.now)) }
+        ensures lost { IfOk result (IsLost (blocks (below_at self.old name.now)) (origin_group (origin_at self.old name.now)) (live_of self.old name.now) (snaps_at self.old name.now)) }
         ensures err { OnErr result (self.new ≡ self.old) }
         ensures only { IfErr result (λ e. e ≡ Refusal.NoMemory) }
     {
@@ -280,9 +358,9 @@ impl FileSystems {
     pub fn remove(&mut self, name: &DsName) -> Result<Lost, Refusal>
         requires there { IsSome (get self.old name.now) }
         requires bare { snaps_at self.old name.now ≡ [] }
-        requires above { IsAbove (live_of self.old name.now) (snaps_at self.old name.now) }
+        requires above { IsAbove (blocks (below_at self.old name.now)) (origin_group (origin_at self.old name.now)) (live_of self.old name.now) (snaps_at self.old name.now) }
         ensures ok { OnOk result (self.new ≡ finmap.remove self.old name.now) }
-        ensures lost { IfOk result (IsLost (live_of self.old name.now) []) }
+        ensures lost { IfOk result (IsLost (blocks (below_at self.old name.now)) (origin_group (origin_at self.old name.now)) (live_of self.old name.now) []) }
         ensures err { OnErr result (self.new ≡ self.old) }
         ensures only { IfErr result (λ e. e ≡ Refusal.NoMemory) }
     {
@@ -290,7 +368,32 @@ impl FileSystems {
             unreachable!()
         };
         let lost = self.rows[place].lost()?;
+        let origin = self.rows[place].origin();
+        self.clones.leave(origin, name);
         let _gone = self.rows.remove(place);
+        Ok(lost)
+    }
+
+    /// Empties this file system, which is there and has no snapshot: no block and no origin is left to it (zfs-destroy(8)); and answers what is
+    /// lost with that: the blocks of its live tree. NoMemory where there is none for it; then all are as they were. It costs the logarithm of
+    /// the number of file systems, the length of the name, and where it is a clone, the number of clones.
+    pub fn vacate(&mut self, alloc: Global, name: &DsName) -> Result<Lost, Refusal>
+        requires there { IsSome (get self.old name.now) }
+        requires bare { snaps_at self.old name.now ≡ [] }
+        requires above { IsAbove (blocks (below_at self.old name.now)) (origin_group (origin_at self.old name.now)) (live_of self.old name.now) (snaps_at self.old name.now) }
+        ensures ok { OnOk result (self.new ≡ insert self.old name.now empty_file_system) }
+        ensures lost { IfOk result (IsLost (blocks (below_at self.old name.now)) (origin_group (origin_at self.old name.now)) (live_of self.old name.now) []) }
+        ensures err { OnErr result (self.new ≡ self.old) }
+        ensures only { IfErr result (λ e. e ≡ Refusal.NoMemory) }
+    {
+        let Ok(place) = place(&self.rows, name.as_bytes()) else {
+            unreachable!()
+        };
+        let lost = self.rows[place].lost()?;
+        let empty = Arc::new(alloc, FileSystem::new(alloc, name)?)?;
+        let origin = self.rows[place].origin();
+        self.clones.leave(origin, name);
+        self.rows[place] = empty;
         Ok(lost)
     }
 }

@@ -1,27 +1,32 @@
 //! The rows of a list of file systems, each of which other lists may own too.
-ghost use Rattle.std.specs.Prelude.{◌≡◌, ◌+◌, ◌<◌, ◌≤◌, ◌++◌, ◌==◌, IsSome, IfOk, IfErr, OnOk, OnErr, map, length, vec_len, vec_capacity};
+ghost use Rattle.std.specs.Prelude.{◌≡◌, ◌+◌, ◌<◌, ◌≤◌, ◌++◌, ◌==◌, Some, None, IsSome, IfSome, IfNone, slice_get, IfOk, IfErr, OnOk, OnErr, map, length, vec_len, vec_capacity};
 ghost use Rattle.std.specs.Arc.{arc_value};
-ghost use Rattle.std.specs.FinSet.{empty};
 ghost use Rattle.std.specs.List.{find, insert};
-ghost use Rattle.base.specs.Surveys.{dead_block};
+ghost use Rattle.base.specs.Map.{blocks};
+ghost use Rattle.base.specs.Surveys.{IsIn, dead_block};
+ghost use Rattle.model.specs.World.{id_of, same_id};
+ghost use Rattle.model.specs.Ids.{snap_id};
+ghost use Rattle.world.specs.Worlds.{AreRising};
+ghost use Rattle.file_system.specs.Promotions.{promoted_row, demoted_row, CanPromote};
 ghost use Rattle.base.specs.declared.refusal.Refusal.{Refusal};
 ghost use Rattle.tree.specs.Asking.{IsNoSpaceOrNoMemory};
 ghost use Rattle.tree.specs.Change.{HasRoom, LacksRoom, CountsDropped};
 ghost use Rattle.tree.specs.Updates.{changes_of};
-ghost use Rattle.file_systems.specs.Dead.{AllowsLive, IsAbove};
-ghost use Rattle.file_systems.specs.Losses.{newest_map, IsLost};
-ghost use Rattle.file_systems.specs.Rows.{with_snap};
-ghost use Rattle.file_systems.specs.Splices.{lost_from, without_group, AreAbove};
-ghost use Rattle.file_systems.specs.Deferred.{deferred_at};
+ghost use Rattle.file_system.specs.Dead.{AllowsLive, IsAbove};
+ghost use Rattle.file_system.specs.Losses.{newest_map, IsLost};
+ghost use Rattle.file_system.specs.Origins.{origin_group};
+ghost use Rattle.file_system.specs.Rows.{Row, with_system, with_snap};
+ghost use Rattle.file_system.specs.Splices.{lost_from, without_group, AreAbove};
+ghost use Rattle.file_system.specs.Deferred.{deferred_at};
 ghost use Rattle.world.specs.Deadlists.{Lists};
-ghost use Rattle.file_systems.specs.Writes.{young_after, IsWritten};
+ghost use Rattle.file_system.specs.Writes.{young_after, IsWritten};
 
-use crate::file_system::FileSystem;
-use crate::lost::Lost;
 use base::meter::{Meter, SegMeter};
 use base::number::{Group, Guid};
 use base::refusal::Refusal;
 use deadlist::deadlist::Deadlist;
+use file_system::{FileSystem, Lost};
+use model::snapshot_id::SnapshotId;
 use name::Component;
 use std::alloc::Global;
 use std::sync::Arc;
@@ -86,14 +91,14 @@ pub fn apply(
     meter: &mut Meter,
     segments: &mut SegMeter,
 ) -> Result<Changed, Refusal>
-    requires { AllowsLive (arc_value row.old).1.live (arc_value row.old).1.snaps updates.now group.0 synced.0 allocator.now }
-    ensures ok { IfOk result (IsWritten (arc_value row.old).1.live (arc_value row.new).1.live (arc_value row.old).1.snaps (changes_of updates.now) group.0 synced.0 allocator.now) }
-    ensures others { arc_value row.new ≡ ((arc_value row.old).0, record (arc_value row.old).1 { live = (arc_value row.new).1.live }) }
-    ensures room { OnOk result (HasRoom (arc_value row.old).1.live (changes_of updates.now) (young_after (arc_value row.old).1.snaps synced.0) allocator.now) }
+    requires { AllowsLive (blocks (arc_value row.old).below) (origin_group (arc_value row.old).system.origin) (arc_value row.old).system.live (arc_value row.old).system.snaps updates.now group.0 synced.0 allocator.now }
+    ensures ok { IfOk result (IsWritten (arc_value row.old).system.live (arc_value row.new).system.live (origin_group (arc_value row.old).system.origin) (arc_value row.old).system.snaps (changes_of updates.now) group.0 synced.0 allocator.now) }
+    ensures others { arc_value row.new ≡ with_system (arc_value row.old) (record (arc_value row.old).system { live = (arc_value row.new).system.live }) }
+    ensures room { OnOk result (HasRoom (arc_value row.old).system.live (changes_of updates.now) (young_after (origin_group (arc_value row.old).system.origin) (arc_value row.old).system.snaps synced.0) allocator.now) }
     ensures err { OnErr result (arc_value row.new ≡ arc_value row.old) }
-    ensures no_space { result ≡ Err Refusal.NoSpace → LacksRoom (arc_value row.old).1.live (changes_of updates.now) (young_after (arc_value row.old).1.snaps synced.0) allocator.now }
+    ensures no_space { result ≡ Err Refusal.NoSpace → LacksRoom (arc_value row.old).system.live (changes_of updates.now) (young_after (origin_group (arc_value row.old).system.origin) (arc_value row.old).system.snaps synced.0) allocator.now }
     ensures only { IfErr result IsNoSpaceOrNoMemory }
-    ensures metered { OnOk result (CountsDropped (arc_value row.old).1.live (changes_of updates.now) meter.old meter.new) }
+    ensures metered { OnOk result (CountsDropped (arc_value row.old).system.live (changes_of updates.now) meter.old meter.new) }
     ensures never_lower { meter.old ≤ meter.new }
 {
     if let Some(file_system) = Arc::get_mut(row) {
@@ -115,7 +120,7 @@ pub fn take(
     guid: Guid,
     group: Group,
 ) -> Result<(), Refusal>
-    ensures ok { OnOk result (arc_value row.new ≡ ((arc_value row.old).0, with_snap (arc_value row.old).1 name.now guid.0 group.0)) }
+    ensures ok { OnOk result (arc_value row.new ≡ with_system (arc_value row.old) (with_snap (arc_value row.old).system name.now guid.0 group.0)) }
     ensures err { OnErr result (arc_value row.new ≡ arc_value row.old) }
     ensures only { IfErr result (λ e. e ≡ Refusal.NoMemory) }
 {
@@ -136,10 +141,10 @@ pub fn splice(
     group: Group,
     segments: &mut SegMeter,
 ) -> Result<Deadlist, Refusal>
-    requires there { IsSome (find (λ t. t.group == group.0) (arc_value row.old).1.snaps) }
-    requires above { AreAbove (arc_value row.old).1 }
-    ensures ok { OnOk result (arc_value row.new ≡ ((arc_value row.old).0, without_group (arc_value row.old).1 group.0)) }
-    ensures lost { IfOk result (λ d. Lists (map dead_block d.entries) (lost_from empty (arc_value row.old).1.snaps (arc_value row.old).1.live group.0)) }
+    requires there { IsSome (find (λ t. t.group == group.0) (arc_value row.old).system.snaps) }
+    requires above { AreAbove (arc_value row.old).below (arc_value row.old).system }
+    ensures ok { OnOk result (arc_value row.new ≡ with_system (arc_value row.old) (without_group (arc_value row.old).system group.0)) }
+    ensures lost { IfOk result (λ d. Lists (map dead_block d.entries) (lost_from (blocks (arc_value row.old).below) (arc_value row.old).system.snaps (arc_value row.old).system.live group.0)) }
     ensures err { OnErr result (arc_value row.new ≡ arc_value row.old) }
     ensures only { IfErr result (λ e. e ≡ Refusal.NoMemory) }
 {
@@ -155,10 +160,10 @@ pub fn splice(
 /// Makes the map of its newest snapshot a row's live map, as `FileSystem::rollback` does: in the row, if it has no other owner, and else in
 /// a copy of it, which comes to its place.
 pub fn rollback(row: &mut Arc<FileSystem>, alloc: Global) -> Result<Lost, Refusal>
-    requires there { 0 < length (arc_value row.old).1.snaps }
-    requires above { IsAbove (arc_value row.old).1.live (arc_value row.old).1.snaps }
-    ensures ok { OnOk result (arc_value row.new ≡ ((arc_value row.old).0, record (arc_value row.old).1 { live = newest_map (arc_value row.old).1.live (arc_value row.old).1.snaps })) }
-    ensures lost { IfOk result (IsLost (arc_value row.old).1.live (arc_value row.old).1.snaps) }
+    requires there { 0 < length (arc_value row.old).system.snaps }
+    requires above { IsAbove (blocks (arc_value row.old).below) (origin_group (arc_value row.old).system.origin) (arc_value row.old).system.live (arc_value row.old).system.snaps }
+    ensures ok { OnOk result (arc_value row.new ≡ with_system (arc_value row.old) (record (arc_value row.old).system { live = newest_map (arc_value row.old).system.live (arc_value row.old).system.snaps })) }
+    ensures lost { IfOk result (IsLost (blocks (arc_value row.old).below) (origin_group (arc_value row.old).system.origin) (arc_value row.old).system.live (arc_value row.old).system.snaps) }
     ensures err { OnErr result (arc_value row.new ≡ arc_value row.old) }
     ensures only { IfErr result (λ e. e ≡ Refusal.NoMemory) }
 {
@@ -174,9 +179,9 @@ pub fn rollback(row: &mut Arc<FileSystem>, alloc: Global) -> Result<Lost, Refusa
 /// Defers the destroy of the snapshot of this group of a row, as `FileSystem::defer` does: in the row, if it has no other owner, and else in
 /// a copy of it, which comes to its place.
 pub fn defer(row: &mut Arc<FileSystem>, alloc: Global, group: Group) -> Result<(), Refusal>
-    requires there { IsSome (find (λ t. t.group == group.0) (arc_value row.old).1.snaps) }
-    requires above { AreAbove (arc_value row.old).1 }
-    ensures ok { OnOk result (arc_value row.new ≡ ((arc_value row.old).0, deferred_at (arc_value row.old).1 group.0)) }
+    requires there { IsSome (find (λ t. t.group == group.0) (arc_value row.old).system.snaps) }
+    requires above { AreAbove (arc_value row.old).below (arc_value row.old).system }
+    ensures ok { OnOk result (arc_value row.new ≡ with_system (arc_value row.old) (deferred_at (arc_value row.old).system group.0)) }
     ensures err { OnErr result (arc_value row.new ≡ arc_value row.old) }
     ensures only { IfErr result (λ e. e ≡ Refusal.NoMemory) }
 {
@@ -187,4 +192,38 @@ pub fn defer(row: &mut Arc<FileSystem>, alloc: Global, group: Group) -> Result<(
     file_system.defer(alloc, group)?;
     *row = Arc::new(alloc, file_system)?;
     Ok(())
+}
+
+/// A clone and the file system that has its origin, as rows, after a promote, as `FileSystem::promoted` makes them.
+pub fn promoted(
+    alloc: Global,
+    clone: &FileSystem,
+    owner: &FileSystem,
+    origin: SnapshotId,
+) -> Result<(Arc<FileSystem>, Arc<FileSystem>), Refusal>
+    requires { CanPromote clone.now owner.now (snap_id origin) }
+    ensures promoted { IfOk result (λ both. arc_value both.0 ≡ promoted_row clone.now owner.now (snap_id origin)) }
+    ensures demoted { IfOk result (λ both. arc_value both.1 ≡ demoted_row clone.now owner.now (snap_id origin)) }
+    ensures err { IfErr result (λ e. e ≡ Refusal.NoMemory) }
+{
+    let (clone, owner) = clone.promoted(alloc, owner, origin)?;
+    let clone = Arc::new(alloc, clone)?;
+    let owner = Arc::new(alloc, owner)?;
+    Ok((clone, owner))
+}
+
+/// Where the first row stands that has the snapshot of this identity, or None where no row has it. It costs for each row the logarithm of
+/// the number of its snapshots.
+pub fn owner_place(rows: &[Arc<FileSystem>], id: SnapshotId) -> Option<usize>
+    requires { (r : Row) → IsIn (map arc_value rows.now) r → AreRising 0 r.system.snaps }
+    ensures within { IfSome result (λ place. place < length rows.now) }
+    ensures is { IfSome result (λ place. (r : Row) → slice_get (map arc_value rows.now) place ≡ Some r → IsSome (find (λ t. same_id (id_of t) (snap_id id)) r.system.snaps)) }
+    ensures none { IfNone result ((r : Row) → IsIn (map arc_value rows.now) r → find (λ t. same_id (id_of t) (snap_id id)) r.system.snaps ≡ None) }
+{
+    for (place, row) in rows.iter().enumerate() {
+        if row.snapshot_of(id).is_some() {
+            return Some(place);
+        }
+    }
+    None
 }

@@ -1,20 +1,20 @@
 -- The values of properties, in bytes where they are sizes (zfsprops(7), zpoolprops(7)).
-use Rattle.std.specs.Prelude.{ℕ, ◌*◌, List, ◌∷◌, ◌++◌, map}
-use Rattle.std.specs.List.{flat_map}
+use Rattle.std.specs.Prelude.{ℕ, ◌*◌, List, [], ◌∷◌, ◌++◌, map, Option}
+use Rattle.std.specs.List.{flat_map, join_with_byte}
 use Rattle.std.specs.declared.cmp.Ordering.{Ordering}
 use Rattle.std.specs.Ordering.{nat_cmp, ordering_then}
 use Rattle.std.specs.FinMap.{entries, keys, from_entries}
-use Rattle.std.specs.Option.{option_map_or}
+use Rattle.std.specs.Option.{option_map_or, option_and_then}
 use Rattle.name.specs.declared.target.Target.{Target}
 use Rattle.name.specs.declared.target.Target.TheVariants.{FileSystem as OfFileSystem, Snapshot as OfSnapshot, Bookmark as OfBookmark}
 use Rattle.model.specs.declared.request.Property.{Property}
-use Rattle.model.specs.declared.request.Property.TheVariants.{Referenced, Written, Guid, CreateTxg}
+use Rattle.model.specs.declared.request.Property.TheVariants.{Referenced, Written, Guid, CreateTxg, Origin, Clones}
 use Rattle.model.specs.declared.request.PoolProperty.{PoolProperty}
 use Rattle.model.specs.declared.request.PoolProperty.TheVariants.{Size as PoolSize, Allocated, Free, Freeing, Waiting, Group}
 use Rattle.model.specs.declared.reply.Value.{Value}
-use Rattle.model.specs.declared.reply.Value.TheVariants.{Size, Number, NotApplicable}
+use Rattle.model.specs.declared.reply.Value.TheVariants.{Size, Number, Named, NotApplicable}
 use Rattle.name.specs.Names.{name_cmp, snap_text, mark_text}
-use Rattle.model.specs.World.{World, FileSystem, Snap, Bookmark, Live, Snapped, id_of, file_system_at, snap_named, bookmark_named}
+use Rattle.model.specs.World.{World, FileSystem, Snap, SnapId, Bookmark, Live, Snapped, id_of, file_system_at, snap_at, snap_named, bookmark_named, clones_of}
 use Rattle.model.specs.State.{State}
 use Rattle.model.specs.Sums.{referenced_of, written_of, allocated_of, free_of, freeing_of, waiting_count}
 
@@ -22,12 +22,22 @@ use Rattle.model.specs.Sums.{referenced_of, written_of, allocated_of, free_of, f
 abbrev pub in_bytes : ℕ → Value
 in_bytes n = Size (512 * n)
 
+-- the origin of the file system of this name, where it has one (zfsprops(7): origin)
+abbrev pub origin_of : World → List ℕ → Option SnapId
+origin_of w name = option_and_then (λ f. f.origin) (file_system_at w name)
+
+-- a snapshot's name in print, by its identity; empty where there is none (zfs(8))
+abbrev pub text_of_snap : World → SnapId → List ℕ
+text_of_snap w id = option_map_or (λ p. snap_text (record { file_system = p.0; component = p.1.name })) (snap_at w id) []
+
 -- a property of a file system (zfsprops(7))
 unfoldable pub file_system_value : World → List ℕ → Property → Value
 file_system_value w name Referenced = in_bytes (referenced_of w (Live name))
 file_system_value w name Written = in_bytes (written_of w (Live name))
 file_system_value w name Guid = NotApplicable
 file_system_value w name CreateTxg = NotApplicable
+file_system_value w name Origin = option_map_or (λ id. Named (text_of_snap w id)) (origin_of w name) NotApplicable
+file_system_value w name Clones = NotApplicable
 
 -- a property of a snapshot (zfsprops(7))
 unfoldable pub snap_value : World → Snap → Property → Value
@@ -35,6 +45,8 @@ snap_value w t Referenced = in_bytes (referenced_of w (Snapped (id_of t)))
 snap_value w t Written = in_bytes (written_of w (Snapped (id_of t)))
 snap_value w t Guid = Number t.guid
 snap_value w t CreateTxg = Number t.group
+snap_value w t Origin = NotApplicable
+snap_value w t Clones = Named (join_with_byte 44 (clones_of w (id_of t)))
 
 -- a property of a bookmark, which keeps its snapshot's guid and creation group (zfsprops(7), zfs-bookmark(8))
 unfoldable pub bookmark_value : Bookmark → Property → Value
@@ -42,6 +54,8 @@ bookmark_value b Referenced = NotApplicable
 bookmark_value b Written = NotApplicable
 bookmark_value b Guid = Number b.guid
 bookmark_value b CreateTxg = Number b.group
+bookmark_value b Origin = NotApplicable
+bookmark_value b Clones = NotApplicable
 
 -- a property of what the name stands for (zfs-get(8))
 unfoldable pub property_value : State → Target → Property → Value

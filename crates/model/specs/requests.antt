@@ -2,7 +2,7 @@
 use Rattle.std.specs.Prelude.{◌≡◌, Option, None}
 use Rattle.stream.specs.Spelling.{Sending}
 use Rattle.model.specs.declared.request.Request.{Request}
-use Rattle.model.specs.declared.request.Request.TheVariants.{Create as ToCreate, Write as ToWrite, Punch as ToPunch, FreeObject as ToFreeObject, Snapshot as ToSnapshot, Read as ToRead, Get as ToGet, PoolGet as ToPoolGet, List as ToList, Rollback as ToRollback, Destroy as ToDestroy, Slice as ToSlice, Sync as ToSync, OpenView as ToOpenView, CloseView as ToCloseView}
+use Rattle.model.specs.declared.request.Request.TheVariants.{Create as ToCreate, Write as ToWrite, Punch as ToPunch, FreeObject as ToFreeObject, Snapshot as ToSnapshot, Read as ToRead, Get as ToGet, PoolGet as ToPoolGet, List as ToList, Rollback as ToRollback, Destroy as ToDestroy, Slice as ToSlice, Sync as ToSync, OpenView as ToOpenView, CloseView as ToCloseView, Clone as ToClone, Promote as ToPromote}
 use Rattle.model.specs.declared.reply.Reply.TheVariants.{Done}
 use Rattle.model.specs.State.{State}
 use Rattle.model.specs.Rule.{Rule}
@@ -21,6 +21,8 @@ use Rattle.model.specs.requests.Slice.{slice_rule}
 use Rattle.model.specs.requests.Sync.{sync_rule}
 use Rattle.model.specs.requests.OpenView.{open_view_rule}
 use Rattle.model.specs.requests.CloseView.{close_view_rule}
+use Rattle.model.specs.requests.Clone.{clone_rule}
+use Rattle.model.specs.requests.Promote.{promote_rule}
 pub mod Create
 pub mod Change
 pub mod Write
@@ -37,6 +39,8 @@ pub mod Slice
 pub mod Sync
 pub mod OpenView
 pub mod CloseView
+pub mod Clone
+pub mod Promote
 
 -- what the bytes of a request say; no request has any yet (zfs-receive(8))
 abbrev pub IsReadingOf : Request → Option Sending → Type 0
@@ -59,6 +63,8 @@ rule_of (ToSlice count) reading = slice_rule count
 rule_of ToSync reading = sync_rule
 rule_of (ToOpenView target) reading = open_view_rule target
 rule_of (ToCloseView view) reading = close_view_rule view
+rule_of (ToClone target name) reading = clone_rule target name
+rule_of (ToPromote name) reading = promote_rule name
 
 -- where it isn't refused, the reply is Done (profile)
 abbrev pub AnswersDone : Request → Type 0

@@ -4,16 +4,34 @@ ghost use Rattle.std.specs.Prelude.{◌≡◌, ◌↔◌, IsTrue};
 use crate::names::Names;
 use crate::sight::Sight;
 use base::refusal::Refusal;
+use base::text::Bytes;
 
 /// The value of a property.
-#[derive(Clone, Copy, PartialEq, Eq, Debug)]
+#[derive(Drop)]
 pub enum Value {
     /// In bytes.
     Size(u64),
     /// A number that is no size.
     Number(u64),
+    /// A text, perhaps an empty one.
+    Named(Bytes),
     /// What was asked about has no such property.
     NotApplicable,
+}
+
+impl Value {
+    /// Whether the other is the same value.
+    pub fn same(&self, other: &Value) -> bool
+        ensures { IsTrue result ↔ (self.now ≡ other.now) }
+    {
+        match (self, other) {
+            (Value::Size(a), Value::Size(b)) => *a == *b,
+            (Value::Number(a), Value::Number(b)) => *a == *b,
+            (Value::Named(a), Value::Named(b)) => a.same(b),
+            (Value::NotApplicable, Value::NotApplicable) => true,
+            _ => false,
+        }
+    }
 }
 
 /// The answer to one request.
@@ -46,7 +64,7 @@ impl Reply {
             (Reply::Done, Reply::Done) => true,
             (Reply::Refused(a), Reply::Refused(b)) => a.same(*b),
             (Reply::Data(a), Reply::Data(b)) => are_same_data(a, b),
-            (Reply::Value(a), Reply::Value(b)) => *a == *b,
+            (Reply::Value(a), Reply::Value(b)) => a.same(b),
             (Reply::Group(a), Reply::Group(b)) => *a == *b,
             (Reply::Names(a), Reply::Names(b)) => a.same(b),
             (Reply::Count(a), Reply::Count(b)) => *a == *b,

@@ -16,6 +16,10 @@ pub enum Property {
     Guid,
     /// A snapshot's creation group, a number; also a bookmark's, which is its snapshot's.
     CreateTxg,
+    /// The name of the snapshot that a file system is a clone of, a text; not applicable where it is none.
+    Origin,
+    /// The names of a snapshot's clones in byte order, joined by commas, a text; empty where it has none.
+    Clones,
 }
 
 /// What `PoolGet` may ask of a pool (zpoolprops(7); `Waiting` and `Group` are profile).
@@ -133,6 +137,21 @@ pub enum Request {
     CloseView {
         view: u64,
     },
+    /// Makes a file system with the map of a snapshot, which is its origin from then on (zfs-clone(8)). The reply is Done. It is refused
+    /// NotSnapshot where the target is no snapshot's name, NoDataset where no snapshot has it, Deferred where the snapshot's destroy is
+    /// deferred, and then as Create is, Exists, NoParent or TooMany: the first of these, or NoMemory.
+    Clone {
+        target: Target,
+        name: DsName,
+    },
+    /// Makes a clone the owner of its origin (zfs-promote(8)): it gets that snapshot, and all older ones of the file system that has it,
+    /// before its own, and the origin of that file system, which from then on is a clone of that snapshot. Maps, limits and bookmarks stay.
+    /// The reply is Done. It is refused NoDataset where no file system has the name, NotClone where it has no origin, BadName where a
+    /// snapshot's whole name would have more than 255 bytes, NameClash where the clone has a snapshot of the name of one that it would get,
+    /// and then Quota, RefQuota or NoSpace as a write is: the first of these, or NoMemory.
+    Promote {
+        name: DsName,
+    },
 }
 
 impl Request {
@@ -237,6 +256,10 @@ impl Request {
             (Request::List, Request::List) => true,
             (Request::Sync, Request::Sync) => true,
             (Request::OpenView { target: t }, Request::OpenView { target: u }) => t.same(u),
+            (Request::Clone { target: t, name: a }, Request::Clone { target: u, name: b }) => {
+                t.same(u) && a.same(b)
+            }
+            (Request::Promote { name: a }, Request::Promote { name: b }) => a.same(b),
             (Request::CloseView { view: v }, Request::CloseView { view: w }) => *v == *w,
             _ => false,
         }

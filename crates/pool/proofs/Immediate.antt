@@ -23,7 +23,7 @@ use Rattle.model.specs.Rule.{first_of}
 use Rattle.model.specs.requests.Snapshot.{taking_row, guid_by}
 use Rattle.model.specs.State.{State}
 use Rattle.world.specs.Tables.{Datasets}
-use Rattle.file_systems.specs.Rows.{live_of}
+use Rattle.file_system.specs.Rows.{live_of}
 use Rattle.datasets.specs.Writes.{young_of, AllowsWrite, HasWritten}
 use Rattle.snap.specs.Taking.{after_taking}
 use Rattle.steps.specs.Edits.{datasets_of, with_datasets, put, CanChange, CanPut}

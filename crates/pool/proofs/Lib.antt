@@ -9,3 +9,5 @@ pub mod Removing
 pub mod Asking
 pub mod Immediate
 pub mod Sights
+pub mod Cloned
+pub mod Joined

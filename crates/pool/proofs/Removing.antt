@@ -15,7 +15,7 @@ use Rattle.world.specs.Tables.{Datasets, world_of}
 use Rattle.world.proofs.Kept.{union-fields}
 use Rattle.world.specs.Worlds.{AreFileSystems}
 use Rattle.removals.specs.Edits.{HasLost}
-use Rattle.removals.specs.Requests.{AreBare, rolled, rollback_refusal, destroyed, destroy_refusal}
+use Rattle.removals.specs.Requests.{AreBare, rolled, rollback_refusal, destroyed, destroy_refusal, swept}
 use Rattle.steps.specs.Edits.{datasets_of, lose, CanLose}
 use Rattle.steps.proofs.Freeing.{joined_losses}
 use Rattle.steps.proofs.Plain.{bare}
@@ -54,9 +54,9 @@ module _ (seen : Shown) (s : State) (numbers : List BlockState) (view : shown s 
     destroy_refused why which = subst (λ (x : Shown). Step x.state (Destroy target recursive defer) (Refused why) x.state) view
         (destroying.destroy_refused s sound.steady target recursive defer why which)
 
-    module _ (none : destroy_refusal (datasets_of s) s.views target recursive defer ≡ None) (to : Datasets) (is : to ≡ destroyed (datasets_of s) s.views target recursive defer)
+    module _ (none : destroy_refusal (datasets_of s) s.views target recursive defer ≡ None) (to : Datasets) (is : to ≡ swept (destroyed (datasets_of s) s.views target recursive defer) s.views)
         (good : AreFileSystems to.file_systems to.group) where
-      can : CanLose s (destroyed (datasets_of s) s.views target recursive defer)
+      can : CanLose s (swept (destroyed (datasets_of s) s.views target recursive defer) s.views)
       can = destroying.destroy_can s sound.steady target recursive defer none (subst (λ (t : Datasets). AreFileSystems t.file_systems t.group) is good)
 
       pub destroy_can : (freeing : BlockSet) → HasLost (datasets_of s) s.now.freeing to freeing → CanLose seen.state to × (freeing ≡ (lose seen.state to).now.freeing)

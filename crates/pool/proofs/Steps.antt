@@ -6,7 +6,6 @@ use Rattle.std.specs.FinMap.{get, entries}
 use Rattle.std.proofs.lemmas.Bool.{ltb-false, le-ltb, lt-ltb}
 use Rattle.name.specs.declared.member.Member.{Member}
 use Rattle.name.specs.declared.target.Target.{Target}
-use Rattle.name.specs.declared.target.Target.TheVariants.{FileSystem as OfFileSystem, Snapshot as OfSnapshot, Bookmark as OfBookmark}
 use Rattle.base.specs.declared.refusal.Refusal.{Refusal}
 use Rattle.base.specs.declared.refusal.Refusal.TheVariants.{NoDataset, BadKey, TooMany, NoMemory}
 use Rattle.base.specs.Key.{leaf_index}
@@ -23,22 +22,22 @@ use Rattle.model.specs.declared.reply.Reply.TheVariants.{Done, Refused, Data, Va
 use Rattle.model.specs.declared.reply.Value.{Value}
 use Rattle.model.specs.declared.reply.Value.TheVariants.{Size, Number}
 use Rattle.std.specs.FinSet as set
-use Rattle.model.specs.World.{World, FileSystem, empty_file_system, snaps_of}
+use Rattle.model.specs.World.{World, empty_file_system, snaps_of}
 use Rattle.model.specs.Targets.{is_block, number_limit, guid_limit, snap_limit, has_no_next_group}
 use Rattle.model.specs.Rule.{first_of}
 use Rattle.model.specs.Step.{Step}
 use Rattle.model.specs.Sums.{IsBalanced}
 use Rattle.model.specs.Numbers.{IsNumbered, HasStates}
 use Rattle.model.specs.requests.Create.{create_refusal}
+use Rattle.model.specs.requests.Get.{is_text}
 use Rattle.model.specs.requests.Snapshot.{snapshot_names, taking_row, guid_by}
 use Rattle.model.specs.State.{State}
 use Rattle.world.specs.Tables.{Datasets, with_system}
 use Rattle.world.proofs.States.{state_numbered}
 use Rattle.world.proofs.Takings.{may_take}
-use Rattle.file_systems.specs.Rows.{Row}
+use Rattle.file_system.specs.Rows.{Entry}
 use Rattle.datasets.specs.Snapshots.{taken_of}
 use Rattle.snap.specs.Taking.{after_taking}
-use Rattle.steps.specs.Steady.{IsAbsent}
 use Rattle.steps.specs.Edits.{datasets_of, put, synced, CanPut, CanSync}
 use Rattle.steps.specs.Listed.{own_names}
 use Rattle.steps.proofs.Creating as creates
@@ -46,13 +45,14 @@ use Rattle.steps.proofs.Snapping as snaps
 use Rattle.steps.proofs.Questions as reads
 use Rattle.steps.proofs.Listing.{list_no_memory, list_done}
 use Rattle.steps.proofs.Properties as properties
+use Rattle.steps.proofs.Texts.{get_no_memory}
 use Rattle.steps.proofs.Syncing as sync
-use Rattle.pool.specs.Named.{map_named, live_value, value_in}
+use Rattle.pool.specs.Named.{map_named, value_named}
 use Rattle.pool.specs.Pools.{IsSound}
 use Rattle.pool.specs.Shown.{Shown, shown}
 use Rattle.pool.proofs.Changes.{not_false, block_tells}
 use Rattle.pool.proofs.Names.{found, absent}
-use Rattle.pool.proofs.Values.{live_told, snapshot_told, no_snapshot}
+use Rattle.pool.proofs.Values.{nothing_named, value_told}
 
 -- a read that was refused
 abbrev no_bytes : (B : Type 0) → Refusal → Result B Refusal
@@ -114,29 +114,15 @@ module _ (seen : Shown) (s : State) (numbers : List BlockState) (view : shown s 
 
   -- ---- properties
 
-  get_absent : (t : Target) (property : Property) → IsAbsent s.now.file_systems t → Step seen.state (Get t property) (Refused NoDataset) seen.state
-  get_absent t property none = at _ _ (reads.get_no_dataset s sound.steady t property none)
+  module _ (t : Target) (property : Property) where
+    pub get_absent : None ≡ value_named (datasets_of s) t property → Step seen.state (Get t property) (Refused NoDataset) seen.state
+    get_absent none = at _ _ (reads.get_no_dataset s sound.steady t property (nothing_named (datasets_of s) t property none))
 
-  pub get_absent_live : (t : Target) (property : Property) (name : List ℕ) → t ≡ OfFileSystem name → get s.now.file_systems name ≡ None → Step seen.state (Get t property) (Refused NoDataset) seen.state
-  get_absent_live t property name named none = get_absent t property (subst (λ x. IsAbsent s.now.file_systems x) (sym named) none)
+    pub get_told : (v : Value) → Some v ≡ value_named (datasets_of s) t property → Step seen.state (Get t property) (ValueIs v) seen.state
+    get_told v is = at _ _ (value_told s sound.steady t property v is)
 
-  pub get_absent_snapshot : (t : Target) (property : Property) (m : Member) → t ≡ OfSnapshot m → None ≡ value_in s.now.file_systems m property
-      → Step seen.state (Get t property) (Refused NoDataset) seen.state
-  get_absent_snapshot t property m named none = get_absent t property (subst (λ x. IsAbsent s.now.file_systems x) (sym named) (no_snapshot s.now.file_systems m property none))
-
-  pub get_absent_bookmark : (t : Target) (property : Property) (m : Member) → t ≡ OfBookmark m → Step seen.state (Get t property) (Refused NoDataset) seen.state
-  get_absent_bookmark t property m named = get_absent t property (subst (λ x. IsAbsent s.now.file_systems x) (sym named) tt)
-
-  pub get_of_live : (t : Target) (name : List ℕ) → t ≡ OfFileSystem name → (f : FileSystem) → get s.now.file_systems name ≡ Some f → (property : Property) (v : Value) → v ≡ live_value f property
-      → Step seen.state (Get t property) (ValueIs v) seen.state
-  get_of_live t name named f was property v is =
-      subst (λ x. Step seen.state (Get x property) (ValueIs v) seen.state) (sym named)
-      (subst (λ x. Step seen.state (Get (OfFileSystem name) property) (ValueIs x) seen.state) (sym is) (at _ _ (live_told s sound.steady name f was property)))
-
-  pub get_of_snapshot : (t : Target) (m : Member) → t ≡ OfSnapshot m → (property : Property) (v : Value) → Some v ≡ value_in s.now.file_systems m property
-      → Step seen.state (Get t property) (ValueIs v) seen.state
-  get_of_snapshot t m named property v is =
-      subst (λ y. Step seen.state (Get y property) (ValueIs v) seen.state) (sym named) (at _ _ (snapshot_told s sound.steady m property v is))
+    pub get_wanting : (why : Refusal) → (is_text property ≡ true) × (why ≡ NoMemory) → Step seen.state (Get t property) (Refused why) seen.state
+    get_wanting why is = refused_for (Get t property) why NoMemory is.1 (get_no_memory s sound.steady t property is.0)
 
   -- each block is allocated, free or waiting
   pub balanced : IsBalanced seen.state
@@ -178,7 +164,7 @@ module _ (seen : Shown) (s : State) (numbers : List BlockState) (view : shown s 
 
   -- ---- names
 
-  pub names_listed : (names : List (List ℕ)) (rows : List Row) → rows ≡ entries s.now.file_systems → names ≡ flat_map own_names rows
+  pub names_listed : (names : List (List ℕ)) (rows : List Entry) → rows ≡ entries s.now.file_systems → names ≡ flat_map own_names rows
       → (told : List (List ℕ)) → told ≡ names → Step seen.state ListNames (NamesAre told) seen.state
   names_listed names rows all e told same = at _ _ (list_done s sound.steady told (same ∙ e ∙ ap (flat_map own_names) all))
 

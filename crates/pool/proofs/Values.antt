@@ -4,53 +4,76 @@ use Rattle.std.specs.List.{find}
 use Rattle.std.specs.Option.{option_and_then}
 use Rattle.std.specs.FinMap.{get}
 use Rattle.std.specs.FinMap.{len as map_len}
-use Rattle.std.specs.FinSet.{empty}
 use Rattle.base.specs.Map.{blocks}
 use Rattle.name.specs.Names.{same_name}
 use Rattle.name.specs.declared.member.Member.{Member}
-use Rattle.name.specs.declared.target.Target.TheVariants.{FileSystem as OfFileSystem, Snapshot as OfSnapshot}
+use Rattle.name.specs.declared.target.Target.{Target}
+use Rattle.name.specs.declared.target.Target.TheVariants.{FileSystem as OfFileSystem, Snapshot as OfSnapshot, Bookmark as OfBookmark}
 use Rattle.model.specs.declared.request.Request.TheVariants.{Get}
 use Rattle.model.specs.declared.request.Property.{Property}
-use Rattle.model.specs.declared.request.Property.TheVariants.{Referenced, Written, Guid, CreateTxg}
+use Rattle.model.specs.declared.request.Property.TheVariants.{Referenced, Written, Guid, CreateTxg, Origin, Clones}
 use Rattle.model.specs.declared.reply.Reply.TheVariants.{Value as ValueIs}
 use Rattle.model.specs.declared.reply.Value.{Value}
-use Rattle.model.specs.declared.reply.Value.TheVariants.{Size, Number}
-use Rattle.model.specs.World.{FileSystem, Snap}
-use Rattle.model.specs.Hierarchy.{FileSystems}
+use Rattle.model.specs.declared.reply.Value.TheVariants.{Size}
+use Rattle.model.specs.World.{FileSystem, Snap, SnapId, id_of, clones_of}
+use Rattle.std.specs.List.{join_with_byte}
+use Rattle.model.specs.Properties.{text_of_snap}
 use Rattle.model.specs.Sums.{size_without}
 use Rattle.model.specs.State.{State}
 use Rattle.model.specs.Step.{Step}
-use Rattle.world.proofs.Maps.{no_value}
-use Rattle.file_systems.specs.Dead.{newest_blocks}
-use Rattle.steps.specs.Steady.{IsSteady, snap_in}
+use Rattle.world.proofs.Maps.{same_value, no_value}
+use Rattle.world.specs.Tables.{Datasets}
+use Rattle.file_systems.specs.Clones.{row_in, below_in}
+use Rattle.file_system.specs.Dead.{newest_blocks}
+use Rattle.steps.specs.Edits.{datasets_of}
+use Rattle.steps.specs.Steady.{IsSteady, IsAbsent, snap_in}
 use Rattle.steps.proofs.Named.{named_live, named_snap, snap_there, snap_absent, system_absent}
 use Rattle.steps.proofs.Questions.{get_referenced}
 use Rattle.steps.proofs.Identities.{get_guid_of_live, get_group_of_live, get_guid_of_snap, get_group_of_snap}
 use Rattle.steps.proofs.WrittenBy.{get_written_live, get_written_snap, none_counted}
-use Rattle.pool.specs.Named.{live_value, snapshot_value, value_in}
+use Rattle.steps.proofs.Texts.{get_origin, get_no_origin, get_no_clones, get_no_origin_of_snap, get_clones}
+use Rattle.pool.specs.Named.{origin_value, live_value, kept_value, snapshot_value, value_in, value_named}
 use Rattle.pool.proofs.Names.{mapped, unmapped}
 
--- no snapshot has the name where it has no value
-pub no_snapshot : (ss : FileSystems) (m : Member) (property : Property) → None ≡ value_in ss m property → snap_in ss m ≡ None
-no_snapshot ss m property none = at (get ss m.file_system) refl none
+-- nothing has the name where it has no value
+pub nothing_named : (t : Datasets) (target : Target) (property : Property) → None ≡ value_named t target property → IsAbsent t.file_systems target
+nothing_named t (OfFileSystem name) property none = unmapped (λ (f : FileSystem). live_value t (row_in t.file_systems (name, f)) property) (get t.file_systems name) none
+nothing_named t (OfSnapshot m) property none = at (get t.file_systems m.file_system) refl none
   where
-    within : (f : FileSystem) (p : Property) → None ≡ snapshot_value f m.component p → find (λ t. same_name t.name m.component) f.snaps ≡ None
-    within f Referenced e = unmapped (λ (t : Snap). Size (512 * map_len t.map)) _ e
-    within f Written e = none_counted m.component empty f.snaps (unmapped (λ n. Size (512 * n)) _ e)
-    within f Guid e = unmapped (λ (t : Snap). Number t.guid) _ e
-    within f CreateTxg e = unmapped (λ (t : Snap). Number t.group) _ e
+    kept : (f : FileSystem) → get t.file_systems m.file_system ≡ Some f → (u : Snap) (p : Property) → None ≡ kept_value t (row_in t.file_systems (m.file_system, f)) m.component u p
+        → snap_in t.file_systems m ≡ None
+    kept f was u Referenced e = absurd (no_value _ e)
+    kept f was u Written e = snap_absent t.file_systems m f was (none_counted m.component (blocks (below_in t.file_systems f.origin)) f.snaps (unmapped (λ n. Size (512 * n)) _ e))
+    kept f was u Guid e = absurd (no_value _ e)
+    kept f was u CreateTxg e = absurd (no_value _ e)
+    kept f was u Origin e = absurd (no_value _ e)
+    kept f was u Clones e = absurd (no_value _ e)
 
-    at : (x : Option FileSystem) → get ss m.file_system ≡ x → None ≡ option_and_then (λ f. snapshot_value f m.component property) x → snap_in ss m ≡ None
-    at None was e = system_absent ss m was
-    at (Some f) was e = snap_absent ss m f was (within f property e)
+    within : (f : FileSystem) → get t.file_systems m.file_system ≡ Some f → (x : Option Snap) → find (λ (u : Snap). same_name u.name m.component) f.snaps ≡ x
+        → None ≡ option_and_then (λ u. kept_value t (row_in t.file_systems (m.file_system, f)) m.component u property) x → snap_in t.file_systems m ≡ None
+    within f was None found e = snap_absent t.file_systems m f was found
+    within f was (Some u) found e = kept f was u property e
+
+    at : (x : Option FileSystem) → get t.file_systems m.file_system ≡ x
+        → None ≡ option_and_then (λ f. snapshot_value t (row_in t.file_systems (m.file_system, f)) m.component property) x → snap_in t.file_systems m ≡ None
+    at None was e = system_absent t.file_systems m was
+    at (Some f) was e = within f was (find (λ (u : Snap). same_name u.name m.component) f.snaps) refl e
+nothing_named t (OfBookmark m) property none = tt
 
 module _ (s : State) (steady : IsSteady s) where
-  -- a file system's, of its live map
-  pub live_told : (name : List ℕ) (f : FileSystem) → get s.now.file_systems name ≡ Some f → (property : Property) → Step s (Get (OfFileSystem name) property) (ValueIs (live_value f property)) s
+  -- a file system's, of its live map or its origin
+  live_told : (name : List ℕ) (f : FileSystem) → get s.now.file_systems name ≡ Some f → (property : Property)
+      → Step s (Get (OfFileSystem name) property) (ValueIs (live_value (datasets_of s) (row_in s.now.file_systems (name, f)) property)) s
   live_told name f was Referenced = get_referenced s steady (OfFileSystem name) f.live (named_live s name f was) (map_len f.live) refl
-  live_told name f was Written = get_written_live s steady name f was (size_without (blocks f.live) (newest_blocks f.snaps)) refl
+  live_told name f was Written = get_written_live s steady name f was (size_without (blocks f.live) (newest_blocks (blocks (below_in s.now.file_systems f.origin)) f.snaps)) refl
   live_told name f was Guid = get_guid_of_live s steady name f was
   live_told name f was CreateTxg = get_group_of_live s steady name f was
+  live_told name f was Origin = by_origin f.origin refl
+    where
+      by_origin : (x : Option SnapId) → f.origin ≡ x → Step s (Get (OfFileSystem name) Origin) (ValueIs (origin_value (datasets_of s) x)) s
+      by_origin None e = get_no_origin s steady name f was e
+      by_origin (Some id) e = get_origin s steady name f was id e (text_of_snap s.now id) refl
+  live_told name f was Clones = get_no_clones s steady name f was
 
   module _ (m : Member) where
     -- as a value that it is told as
@@ -58,26 +81,37 @@ module _ (s : State) (steady : IsSteady s) where
     told p u v e step = subst (λ x. Step s (Get (OfSnapshot m) p) (ValueIs x) s) e step
 
     -- a snapshot's, within its file system
-    told_within : (f : FileSystem) → get s.now.file_systems m.file_system ≡ Some f → (p : Property) (v : Value) → Some v ≡ snapshot_value f m.component p
-        → Step s (Get (OfSnapshot m) p) (ValueIs v) s
-    told_within f was Referenced v e =
-        let t = mapped (λ (t : Snap). Size (512 * map_len t.map)) _ v e in
-        told Referenced _ v t.2 (get_referenced s steady (OfSnapshot m) t.0.map (named_snap s steady m t.0 (snap_there s.now.file_systems m f t.0 was t.1)) (map_len t.0.map) refl)
-    told_within f was Written v e =
+    told_kept : (f : FileSystem) → get s.now.file_systems m.file_system ≡ Some f → (u : Snap) → find (λ (u : Snap). same_name u.name m.component) f.snaps ≡ Some u → (p : Property) (v : Value)
+        → Some v ≡ kept_value (datasets_of s) (row_in s.now.file_systems (m.file_system, f)) m.component u p → Step s (Get (OfSnapshot m) p) (ValueIs v) s
+    told_kept f was u found Referenced v e =
+        told Referenced _ v (same_value _ v (sym e)) (get_referenced s steady (OfSnapshot m) u.map (named_snap s steady m u (snap_there s.now.file_systems m f u was found)) (map_len u.map) refl)
+    told_kept f was u found Written v e =
         let n = mapped (λ n. Size (512 * n)) _ v e in
         told Written _ v n.2 (get_written_snap s steady m f was n.0 n.1)
-    told_within f was Guid v e =
-        let t = mapped (λ (t : Snap). Number t.guid) _ v e in
-        told Guid _ v t.2 (get_guid_of_snap s steady m t.0 (snap_there s.now.file_systems m f t.0 was t.1) t.0.guid refl)
-    told_within f was CreateTxg v e =
-        let t = mapped (λ (t : Snap). Number t.group) _ v e in
-        told CreateTxg _ v t.2 (get_group_of_snap s steady m t.0 (snap_there s.now.file_systems m f t.0 was t.1) t.0.group refl)
+    told_kept f was u found Guid v e = told Guid _ v (same_value _ v (sym e)) (get_guid_of_snap s steady m u (snap_there s.now.file_systems m f u was found) u.guid refl)
+    told_kept f was u found CreateTxg v e = told CreateTxg _ v (same_value _ v (sym e)) (get_group_of_snap s steady m u (snap_there s.now.file_systems m f u was found) u.group refl)
+    told_kept f was u found Origin v e = told Origin _ v (same_value _ v (sym e)) (get_no_origin_of_snap s steady m u (snap_there s.now.file_systems m f u was found))
+    told_kept f was u found Clones v e =
+        told Clones _ v (same_value _ v (sym e)) (get_clones s steady m u (snap_there s.now.file_systems m f u was found) (join_with_byte 44 (clones_of s.now (id_of u))) refl)
 
     -- a snapshot's, among file systems
-    pub snapshot_told : (property : Property) (v : Value) → Some v ≡ value_in s.now.file_systems m property → Step s (Get (OfSnapshot m) property) (ValueIs v) s
+    snapshot_told : (property : Property) (v : Value) → Some v ≡ value_in (datasets_of s) m property → Step s (Get (OfSnapshot m) property) (ValueIs v) s
     snapshot_told property v is = at (get s.now.file_systems m.file_system) refl is
       where
-        at : (x : Option FileSystem) → get s.now.file_systems m.file_system ≡ x → Some v ≡ option_and_then (λ f. snapshot_value f m.component property) x
-            → Step s (Get (OfSnapshot m) property) (ValueIs v) s
+        within : (f : FileSystem) → get s.now.file_systems m.file_system ≡ Some f → (x : Option Snap) → find (λ (u : Snap). same_name u.name m.component) f.snaps ≡ x
+            → Some v ≡ option_and_then (λ u. kept_value (datasets_of s) (row_in s.now.file_systems (m.file_system, f)) m.component u property) x → Step s (Get (OfSnapshot m) property) (ValueIs v) s
+        within f was None found e = absurd (no_value v (sym e))
+        within f was (Some u) found e = told_kept f was u found property v e
+
+        at : (x : Option FileSystem) → get s.now.file_systems m.file_system ≡ x
+            → Some v ≡ option_and_then (λ f. snapshot_value (datasets_of s) (row_in s.now.file_systems (m.file_system, f)) m.component property) x → Step s (Get (OfSnapshot m) property) (ValueIs v) s
         at None was e = absurd (no_value v (sym e))
-        at (Some f) was e = told_within f was property v e
+        at (Some f) was e = within f was (find (λ (u : Snap). same_name u.name m.component) f.snaps) refl e
+
+  -- of what has the name
+  pub value_told : (target : Target) (property : Property) (v : Value) → Some v ≡ value_named (datasets_of s) target property → Step s (Get target property) (ValueIs v) s
+  value_told (OfFileSystem name) property v e =
+      let f = mapped (λ (f : FileSystem). live_value (datasets_of s) (row_in s.now.file_systems (name, f)) property) (get s.now.file_systems name) v e in
+      subst (λ x. Step s (Get (OfFileSystem name) property) (ValueIs x) s) f.2 (live_told name f.0 f.1 property)
+  value_told (OfSnapshot m) property v e = snapshot_told m property v e
+  value_told (OfBookmark m) property v e = absurd (no_value v (sym e))

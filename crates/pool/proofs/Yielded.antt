@@ -5,7 +5,7 @@ use Rattle.std.proofs.lemmas.List.{append_assoc}
 use Rattle.name.specs.Names.{snap_text}
 use Rattle.model.specs.World.{FileSystem}
 use Rattle.snapshots.specs.declared.kept.Kept.{Kept}
-use Rattle.file_systems.specs.Dead.{snaps_in}
+use Rattle.file_system.specs.Dead.{snaps_in}
 use Rattle.steps.specs.Listed.{own_names}
 use Rattle.world.proofs.Finding.{append_none}
 use Rattle.std.specs.Iterator.{Yields, YieldsFirstRef}

@@ -1,9 +1,8 @@
 -- What a name stands for among file systems.
 use Rattle.std.specs.Prelude.{◌≡◌, ◌⊎◌, ◌*◌, ℕ, List, Option, None, Some}
-use Rattle.std.specs.List.{find}
-use Rattle.std.specs.Option.{option_map, option_and_then}
+use Rattle.std.specs.List.{find, join_with_byte}
+use Rattle.std.specs.Option.{option_map, option_map_or, option_and_then}
 use Rattle.std.specs.FinMap.{get, len}
-use Rattle.std.specs.FinSet.{empty}
 use Rattle.base.specs.Map.{Map, blocks}
 use Rattle.base.specs.declared.refusal.Refusal.{Refusal}
 use Rattle.base.specs.declared.refusal.Refusal.TheVariants.{NoDataset, ReadOnly}
@@ -12,13 +11,17 @@ use Rattle.name.specs.declared.member.Member.{Member}
 use Rattle.name.specs.declared.target.Target.{Target}
 use Rattle.name.specs.declared.target.Target.TheVariants.{FileSystem as OfFileSystem, Snapshot as OfSnapshot, Bookmark as OfBookmark}
 use Rattle.model.specs.Hierarchy.{FileSystems}
-use Rattle.model.specs.World.{FileSystem}
+use Rattle.model.specs.World.{Snap, SnapId, id_of, clones_of}
+use Rattle.model.specs.Properties.{text_of_snap}
 use Rattle.model.specs.Sums.{size_without}
 use Rattle.model.specs.declared.request.Property.{Property}
-use Rattle.model.specs.declared.request.Property.TheVariants.{Referenced, Written, Guid, CreateTxg}
+use Rattle.model.specs.declared.request.Property.TheVariants.{Referenced, Written, Guid, CreateTxg, Origin, Clones}
 use Rattle.model.specs.declared.reply.Value.{Value}
-use Rattle.model.specs.declared.reply.Value.TheVariants.{Size, Number, NotApplicable}
-use Rattle.file_systems.specs.Dead.{newest_blocks, written_from}
+use Rattle.model.specs.declared.reply.Value.TheVariants.{Size, Number, Named, NotApplicable}
+use Rattle.world.specs.Tables.{Datasets, world_of}
+use Rattle.file_systems.specs.Clones.{row_in}
+use Rattle.file_system.specs.Dead.{newest_blocks, written_from}
+use Rattle.file_system.specs.Rows.{Row}
 use Rattle.steps.specs.Steady.{snap_in}
 
 -- the map of the dataset of a name: a file system's live map, or a snapshot's (zfs(8))
@@ -32,21 +35,38 @@ pub record IsNoLive (ss : FileSystems) (target : Target) (why : Refusal) : Type 
   pub never : (name : List ℕ) → target ≡ OfFileSystem name → ⊥
   pub which : ((why ≡ ReadOnly) × (m : Map) × (Some m ≡ map_named ss target)) ⊎ ((why ≡ NoDataset) × (None ≡ map_named ss target))
 
--- a property of a file system's live dataset, which has neither a guid nor a creation group (zfsprops(7))
-abbrev pub live_value : FileSystem → Property → Value
-live_value f Referenced = Size (512 * len f.live)
-live_value f Written = Size (512 * size_without (blocks f.live) (newest_blocks f.snaps))
-live_value f Guid = NotApplicable
-live_value f CreateTxg = NotApplicable
+-- the origin of a file system, where it is a clone (zfsprops(7): origin)
+abbrev pub origin_value : Datasets → Option SnapId → Value
+origin_value t origin = option_map_or (λ id. Named (text_of_snap (world_of t) id)) origin NotApplicable
 
--- a property of the snapshot of this name within a file system, none where there is no such snapshot (zfsprops(7): referenced,
--- written, guid, createtxg)
-abbrev pub snapshot_value : FileSystem → List ℕ → Property → Option Value
-snapshot_value f name Referenced = option_map (λ t. Size (512 * len t.map)) (find (λ t. same_name t.name name) f.snaps)
-snapshot_value f name Written = option_map (λ n. Size (512 * n)) (written_from empty f.snaps name)
-snapshot_value f name Guid = option_map (λ t. Number t.guid) (find (λ t. same_name t.name name) f.snaps)
-snapshot_value f name CreateTxg = option_map (λ t. Number t.group) (find (λ t. same_name t.name name) f.snaps)
+-- a property of a file system: of its live dataset, or its origin; it has neither a guid, nor a creation group, nor clones (zfsprops(7))
+abbrev pub live_value : Datasets → Row → Property → Value
+live_value t r Referenced = Size (512 * len r.system.live)
+live_value t r Written = Size (512 * size_without (blocks r.system.live) (newest_blocks (blocks r.below) r.system.snaps))
+live_value t r Guid = NotApplicable
+live_value t r CreateTxg = NotApplicable
+live_value t r Origin = origin_value t r.system.origin
+live_value t r Clones = NotApplicable
 
--- a property of the snapshot of this name among file systems, none where there is no such snapshot (zfs-get(8))
-abbrev pub value_in : FileSystems → Member → Property → Option Value
-value_in ss m property = option_and_then (λ f. snapshot_value f m.component property) (get ss m.file_system)
+-- a property of a snapshot of a file system, which has this name within it (zfsprops(7))
+abbrev pub kept_value : Datasets → Row → List ℕ → Snap → Property → Option Value
+kept_value t r name u Referenced = Some (Size (512 * len u.map))
+kept_value t r name u Written = option_map (λ n. Size (512 * n)) (written_from (blocks r.below) r.system.snaps name)
+kept_value t r name u Guid = Some (Number u.guid)
+kept_value t r name u CreateTxg = Some (Number u.group)
+kept_value t r name u Origin = Some NotApplicable
+kept_value t r name u Clones = Some (Named (join_with_byte 44 (clones_of (world_of t) (id_of u))))
+
+-- a property of the snapshot of this name within a file system, none where there is no such snapshot (zfs-get(8))
+abbrev pub snapshot_value : Datasets → Row → List ℕ → Property → Option Value
+snapshot_value t r name property = option_and_then (λ u. kept_value t r name u property) (find (λ u. same_name u.name name) r.system.snaps)
+
+-- a property of the snapshot of this name, none where there is no such snapshot (zfs-get(8))
+abbrev pub value_in : Datasets → Member → Property → Option Value
+value_in t m property = option_and_then (λ f. snapshot_value t (row_in t.file_systems (m.file_system, f)) m.component property) (get t.file_systems m.file_system)
+
+-- a property of what has the name, none where nothing has it (zfs-get(8))
+abbrev pub value_named : Datasets → Target → Property → Option Value
+value_named t (OfFileSystem name) property = option_map (λ f. live_value t (row_in t.file_systems (name, f)) property) (get t.file_systems name)
+value_named t (OfSnapshot m) property = value_in t m property
+value_named t (OfBookmark m) property = None

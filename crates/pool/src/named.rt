@@ -1,18 +1,27 @@
 //! File systems by a name of any kind, and what is told of them.
-ghost use Rattle.std.specs.Prelude.{◌≡◌, ◌*◌, ◌++◌, IfOk, IfErr, OnOk, map, codes};
+ghost use Rattle.std.specs.Prelude.{◌≡◌, ◌*◌, ◌++◌, true, IfOk, IfErr, OnOk, map, codes};
 ghost use Rattle.std.specs.Arc.{arc_value};
-ghost use Rattle.std.specs.Option.{option_copied};
-ghost use Rattle.std.specs.List.{flat_map};
+ghost use Rattle.std.specs.Option.{option_copied, option_map_or};
+ghost use Rattle.std.specs.List.{flat_map, join_with_byte};
+ghost use Rattle.base.specs.declared.refusal.Refusal.{Refusal};
+ghost use Rattle.file_systems.specs.CloneNames.{name_of};
+ghost use Rattle.file_system.specs.Rows.{entry_of, entry_in};
+ghost use Rattle.model.specs.Ids.{snap_id};
+ghost use Rattle.model.specs.Properties.{text_of_snap};
+ghost use Rattle.model.specs.World.{clones_of};
+ghost use Rattle.model.specs.requests.Get.{is_text};
 ghost use Rattle.steps.specs.Steady.{snap_in};
 ghost use Rattle.steps.specs.Listed.{own_names};
-ghost use Rattle.pool.specs.Named.{map_named, live_value, snapshot_value, value_in};
+ghost use Rattle.world.specs.Tables.{world_of};
+ghost use Rattle.pool.specs.Named.{map_named, live_value, origin_value, snapshot_value, value_in, value_named};
 
 use base::refusal::Refusal;
 use base::text::Bytes;
 use datasets::Table;
-use file_systems::{FileSystem, Snapshot};
+use file_systems::{CloneName, FileSystem, Snapshot};
 use model::reply::Value;
 use model::request::Property;
+use model::snapshot_id::SnapshotId;
 use name::{Member, Target};
 use std::alloc::Global;
 use std::sync::Arc;
@@ -42,7 +51,7 @@ pub(crate) fn snapshot_named<'a>(table: &'a Table, member: &Member) -> Option<&'
 /// Copies of the names of file systems, each with those of its snapshots after it. NoMemory where there is none for them. It costs
 /// the names.
 pub fn names_of(alloc: Global, file_systems: &[Arc<FileSystem>]) -> Result<Vec<Bytes>, Refusal>
-    ensures ok { IfOk result (λ names. names.items ≡ flat_map own_names (map arc_value file_systems.now)) }
+    ensures ok { IfOk result (λ names. names.items ≡ flat_map own_names (map entry_in file_systems.now)) }
     ensures err { IfErr result (λ e. e ≡ Refusal.NoMemory) }
 {
     let mut names = Vec::new(alloc);
@@ -58,7 +67,7 @@ fn push_names(
     names: &mut Vec<Bytes>,
     file_system: &FileSystem,
 ) -> Result<(), Refusal>
-    ensures ok { OnOk result (names.new.items ≡ names.old.items ++ own_names file_system.now) }
+    ensures ok { OnOk result (names.new.items ≡ names.old.items ++ own_names (entry_of file_system.now)) }
     ensures err { IfErr result (λ e. e ≡ Refusal.NoMemory) }
 {
     let name = file_system.name().as_bytes();
@@ -90,39 +99,148 @@ fn snapshot_text(alloc: Global, file_system: &[u8], component: &[u8]) -> Result<
     Ok(Bytes::from(text))
 }
 
-/// A property of a file system: of its live dataset. It has neither a guid nor a creation group. Constant time.
-pub fn value_of_live(file_system: &FileSystem, property: Property) -> Value
-    ensures { result ≡ live_value file_system.now.1 property }
+// The name in print of the snapshot of this identity; empty where there is none. NoMemory where there is none for it. It costs the number
+// of file systems times the logarithm of that of the snapshots of one.
+fn text_of_snapshot(alloc: Global, table: &Table, id: SnapshotId) -> Result<Bytes, Refusal>
+    ensures ok { IfOk result (λ text. text ≡ text_of_snap (world_of table.now) (snap_id id)) }
+    ensures err { IfErr result (λ e. e ≡ Refusal.NoMemory) }
 {
-    match property {
-        Property::Referenced => in_bytes(file_system.live().node_count()),
-        Property::Written => in_bytes(file_system.written()),
-        Property::Guid | Property::CreateTxg => Value::NotApplicable,
+    match table.snapshot_of(id) {
+        Some((file_system, snapshot)) => snapshot_text(
+            alloc,
+            file_system.name().as_bytes(),
+            snapshot.name().as_bytes(),
+        ),
+        None => Ok(Bytes::from(Vec::new(alloc))),
     }
 }
 
-/// A property of the snapshot of this name, or none where there is no such snapshot. It costs the logarithm of the number of file
-/// systems, and that of the number of its file system's snapshots.
-pub fn value_of_snapshot(table: &Table, member: &Member, property: Property) -> Option<Value>
-    ensures { result ≡ value_in table.now.file_systems member.now property }
+// The names of these clones, joined by commas. NoMemory where there is none for them. It costs the names.
+fn joined_names(alloc: Global, clones: &[CloneName]) -> Result<Bytes, Refusal>
+    ensures ok { IfOk result (λ text. text ≡ join_with_byte 44 (map name_of clones.now)) }
+    ensures err { IfErr result (λ e. e ≡ Refusal.NoMemory) }
 {
-    let file_system = table.find(&member.file_system)?;
-    value_within(file_system, member.component.as_bytes(), property)
+    let mut text = Vec::new(alloc);
+    let Some((first, others)) = clones.split_first() else {
+        return Ok(Bytes::from(text));
+    };
+    text.extend_from_slice(first.name().as_bytes())?;
+    for clone in others {
+        text.push(b',')?;
+        text.extend_from_slice(clone.name().as_bytes())?;
+    }
+    Ok(Bytes::from(text))
 }
 
-// A property of the snapshot of this name within its file system, or none where there is no such snapshot.
-fn value_within(file_system: &FileSystem, component: &[u8], property: Property) -> Option<Value>
-    ensures { result ≡ snapshot_value file_system.now.1 component.now property }
+// The names of the clones of the snapshot of this identity in byte order, joined by commas (zfsprops(7): clones); empty where it has none.
+// NoMemory where there is none for them. It costs the logarithm of the number of clones, and the names.
+fn clones_text(alloc: Global, table: &Table, id: SnapshotId) -> Result<Bytes, Refusal>
+    ensures ok { IfOk result (λ text. text ≡ join_with_byte 44 (clones_of (world_of table.now) (snap_id id))) }
+    ensures err { IfErr result (λ e. e ≡ Refusal.NoMemory) }
 {
-    let value = match property {
-        Property::Referenced => in_bytes(
-            file_system.snapshot_named(component)?.tree().node_count(),
-        ),
-        Property::Written => in_bytes(file_system.written_at(component)?),
-        Property::Guid => Value::Number(file_system.snapshot_named(component)?.guid().0),
-        Property::CreateTxg => Value::Number(file_system.snapshot_named(component)?.group().0),
+    joined_names(alloc, table.clones_of(id))
+}
+
+// The origin of a file system of the table, where it is a clone. NoMemory where there is none for its text. It costs what
+// `text_of_snapshot` does.
+fn value_of_origin(alloc: Global, table: &Table, file_system: &FileSystem) -> Result<Value, Refusal>
+    ensures ok { IfOk result (λ value. value ≡ origin_value table.now file_system.now.system.origin) }
+    ensures err { IfErr result (λ e. e ≡ Refusal.NoMemory) }
+{
+    match file_system.origin() {
+        Some(origin) => Ok(Value::Named(text_of_snapshot(alloc, table, origin)?)),
+        None => Ok(Value::NotApplicable),
+    }
+}
+
+// A property of a file system of the table: of its live dataset, or its origin. It has neither a guid, nor a creation group, nor clones.
+// NoMemory where there is none for a text. Constant time, but for the origin what `value_of_origin` costs.
+fn value_of_live(
+    alloc: Global,
+    table: &Table,
+    file_system: &FileSystem,
+    property: Property,
+) -> Result<Value, Refusal>
+    ensures ok { IfOk result (λ value. value ≡ live_value table.now file_system.now property) }
+    ensures err { IfErr result (λ e. (is_text property ≡ true) × (e ≡ Refusal.NoMemory)) }
+{
+    match property {
+        Property::Referenced => Ok(in_bytes(file_system.live().node_count())),
+        Property::Written => Ok(in_bytes(file_system.written())),
+        Property::Origin => value_of_origin(alloc, table, file_system),
+        Property::Guid | Property::CreateTxg | Property::Clones => Ok(Value::NotApplicable),
+    }
+}
+
+// A property of the snapshot of this name within its file system of the table, or none where there is no such snapshot. NoMemory where
+// there is none for a text.
+fn value_within(
+    alloc: Global,
+    table: &Table,
+    file_system: &FileSystem,
+    component: &[u8],
+    property: Property,
+) -> Result<Option<Value>, Refusal>
+    ensures ok { IfOk result (λ value. value ≡ snapshot_value table.now file_system.now component.now property) }
+    ensures err { IfErr result (λ e. (is_text property ≡ true) × (e ≡ Refusal.NoMemory)) }
+{
+    let Some(snapshot) = file_system.snapshot_named(component) else {
+        return Ok(None);
     };
-    Some(value)
+    let value = match property {
+        Property::Referenced => in_bytes(snapshot.tree().node_count()),
+        Property::Written => return Ok(file_system.written_at(component).map(in_bytes)),
+        Property::Guid => Value::Number(snapshot.guid().0),
+        Property::CreateTxg => Value::Number(snapshot.group().0),
+        Property::Origin => Value::NotApplicable,
+        Property::Clones => Value::Named(clones_text(alloc, table, snapshot.id())?),
+    };
+    Ok(Some(value))
+}
+
+// A property of the snapshot of this name, or none where there is no such snapshot. NoMemory where there is none for a text. It costs the
+// logarithm of the number of file systems, that of the number of its file system's snapshots, and for its clones what `clones_text` does.
+fn value_of_snapshot(
+    alloc: Global,
+    table: &Table,
+    member: &Member,
+    property: Property,
+) -> Result<Option<Value>, Refusal>
+    ensures ok { IfOk result (λ value. value ≡ value_in table.now member.now property) }
+    ensures err { IfErr result (λ e. (is_text property ≡ true) × (e ≡ Refusal.NoMemory)) }
+{
+    let Some(file_system) = table.find(&member.file_system) else {
+        return Ok(None);
+    };
+    value_within(
+        alloc,
+        table,
+        file_system,
+        member.component.as_bytes(),
+        property,
+    )
+}
+
+/// A property of what has the name, or none where nothing has it. NoMemory where there is none for a text. It costs the logarithm of the
+/// number of file systems, and for a snapshot that of the number of its file system's; an origin costs the number of file systems times
+/// the logarithm of that of the snapshots of one, and clones their names.
+pub fn value_named(
+    alloc: Global,
+    table: &Table,
+    target: &Target,
+    property: Property,
+) -> Result<Option<Value>, Refusal>
+    ensures ok { IfOk result (λ value. value ≡ value_named table.now target.now property) }
+    ensures err { IfErr result (λ e. (is_text property ≡ true) × (e ≡ Refusal.NoMemory)) }
+{
+    match target {
+        Target::FileSystem(name) => match table.find(name) {
+            Some(file_system) => Ok(Some(value_of_live(alloc, table, file_system, property)?)),
+            None => Ok(None),
+        },
+        Target::Snapshot(name) => value_of_snapshot(alloc, table, name.member(), property),
+        Target::Bookmark(_) => Ok(None),
+    }
 }
 
 /// A number of blocks in bytes, 512 a block.

@@ -16,7 +16,7 @@ ghost use Rattle.pool.specs.Asked.{Asks};
 ghost use Rattle.pool.specs.Named.{IsNoLive};
 ghost use Rattle.pool.specs.Plans.{state_after_plan, CanDo};
 
-use crate::named::{in_bytes, names_of, tree_named, value_of_live, value_of_snapshot};
+use crate::named::{in_bytes, names_of, tree_named, value_named};
 use base::meter::{Meter, SegMeter};
 use base::number::{Dead, Group};
 use base::refusal::Refusal;
@@ -174,9 +174,11 @@ impl Pool {
     /// Makes all growths of a request, and its reply. The state stays as it is until `commit`. A name costs the logarithm of the
     /// number of file systems, and a snapshot's also that of the number of its file system's snapshots. What changes file systems is
     /// made on a copy of them, which costs a count for each: beside it a write or a punch costs the path to its leaf, to free an object
-    /// costs its nodes, and a snapshot costs its names and a 32nd of the snapshots of its file system, but no block. A read costs the path,
-    /// and takes no memory. A list costs the names. To open a view costs what its name does; to close one costs the number of open views and of
-    /// file systems, and where its snapshot goes with it what to destroy that does. Nothing else grows.
+    /// costs its nodes, a snapshot costs its names and a 32nd of the snapshots of its file system, a clone costs its name, and a promote
+    /// the logarithm of the number of each file system's snapshots and of those of the two for each snapshot that changes sides, but no
+    /// block. A read costs the path, and takes no memory. A list costs the names, and so do a snapshot's clones; an origin costs what a
+    /// promote finds it by. To open a view costs what its name does; to close one costs the number of open views and of file systems, and
+    /// where its snapshot goes with it what to destroy that does. Nothing else grows.
     pub fn prepare(&mut self, alloc: Global, request: &Request) -> (Reply, Ready)
         ensures same { self.new ≡ self.old }
         ensures from { result.1.from ≡ self.new }
@@ -220,7 +222,9 @@ impl Pool {
                 object,
                 block,
             } => (self.read(target, *object, *block), Plan::Nothing),
-            Request::Get { target, property } => (self.get(target, *property), Plan::Nothing),
+            Request::Get { target, property } => {
+                (self.get(alloc, target, *property), Plan::Nothing)
+            }
             Request::PoolGet { property } => (self.pool_get(*property), Plan::Nothing),
             Request::List => (self.list(alloc), Plan::Nothing),
             Request::Rollback { target, later } => self.planned_rollback(alloc, target, *later),
@@ -233,6 +237,8 @@ impl Pool {
             Request::Sync => self.planned_sync(),
             Request::OpenView { target } => self.planned_open(target),
             Request::CloseView { view } => self.planned_close(alloc, *view),
+            Request::Clone { target, name } => self.planned_clone(target, name),
+            Request::Promote { name } => self.planned_promote(alloc, name),
         }
     }
 
@@ -396,24 +402,14 @@ impl Pool {
         }
     }
 
-    fn get(&self, target: &Target, property: Property) -> Reply
+    fn get(&self, alloc: Global, target: &Target, property: Property) -> Reply
         ensures { Step self.now.state (Request.Get target.now property) result self.now.state }
     {
         let _size = self.size;
-        match target {
-            Target::FileSystem(name) => match self.present.find(name) {
-                Some(file_system) => Reply::Value(value_of_live(file_system, property)),
-                None => Reply::Refused(Refusal::NoDataset),
-            },
-            Target::Snapshot(name) => match value_of_snapshot(
-                &self.present,
-                name.member(),
-                property,
-            ) {
-                Some(value) => Reply::Value(value),
-                None => Reply::Refused(Refusal::NoDataset),
-            },
-            Target::Bookmark(_) => Reply::Refused(Refusal::NoDataset),
+        match value_named(alloc, &self.present, target, property) {
+            Ok(Some(value)) => Reply::Value(value),
+            Ok(None) => Reply::Refused(Refusal::NoDataset),
+            Err(refusal) => Reply::Refused(refusal),
         }
     }
 
@@ -557,7 +553,7 @@ impl Pool {
                 object,
                 block,
             } => self.read(target, *object, *block),
-            Request::Get { target, property } => self.get(target, *property),
+            Request::Get { target, property } => self.get(alloc, target, *property),
             Request::PoolGet { property } => self.pool_get(*property),
             Request::List => self.list(alloc),
             Request::Slice { count } => self.slice_now(*count),
@@ -574,7 +570,9 @@ impl Pool {
             | Request::Rollback { .. }
             | Request::Destroy { .. }
             | Request::OpenView { .. }
-            | Request::CloseView { .. } => self.answer_prepared(alloc, request),
+            | Request::CloseView { .. }
+            | Request::Clone { .. }
+            | Request::Promote { .. } => self.answer_prepared(alloc, request),
         }
     }
 

@@ -2,6 +2,10 @@
 #![tactic(auto)]
 
 #[cfg(test)]
+mod cloned;
+#[cfg(test)]
+mod families;
+#[cfg(test)]
 mod pools;
 #[cfg(test)]
 mod removed;

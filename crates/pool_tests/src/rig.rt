@@ -143,11 +143,17 @@ fn assert_printed(
     assert!(rt; same, "after {alike} replies");
 }
 
-/// Asserts that a fresh pool of so many blocks, with id 1, gives each line its reply, in both ways. A row is a line, ` => ` and its
-/// reply.
-pub fn assert_rows(rt: &impl Abort, alloc: Global, blocks: u32, rows: &str) {
+/// Asserts that a fresh pool of so many blocks, with id 1, gives each line its reply by `apply`. A row is a line, ` => ` and its reply.
+pub fn assert_rows_at_once(rt: &impl Abort, alloc: Global, blocks: u32, rows: &str) {
     let script = script_of(rt, alloc, rows).expect(rt, "memory for a script");
     let wanted = replies_of(rt, alloc, rows).expect(rt, "memory for replies");
     assert_printed(rt, alloc, blocks, Way::AtOnce, &script, &wanted);
+}
+
+/// The same, in both ways.
+pub fn assert_rows(rt: &impl Abort, alloc: Global, blocks: u32, rows: &str) {
+    assert_rows_at_once(rt, alloc, blocks, rows);
+    let script = script_of(rt, alloc, rows).expect(rt, "memory for a script");
+    let wanted = replies_of(rt, alloc, rows).expect(rt, "memory for replies");
     assert_printed(rt, alloc, blocks, Way::InTwo, &script, &wanted);
 }

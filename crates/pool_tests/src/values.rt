@@ -151,8 +151,9 @@ fn properties_and_values_compared(rt: HostRuntime) {
             && Property::Written != Property::Referenced
             && Property::Guid != Property::CreateTxg
             && PoolProperty::Free != PoolProperty::Freeing
-            && Value::Size(3) == Value::Size(3)
-            && Value::Size(3) != Value::Number(3)
+            && Property::Origin != Property::Clones
+            && Value::Size(3).same(&Value::Size(3))
+            && !Value::Size(3).same(&Value::Number(3))
     );
     run_laws();
 }

@@ -1,23 +1,23 @@
--- Datasets that are no clones, without tags and bookmarks: nothing but an open view needs a snapshot.
-use Rattle.std.proofs.Common.{◌≡◌, ℕ, Bool, true, false, cond, not, ◌&&◌, ◌||◌, List, [], ◌∷◌, length, map, Option, Some, None, refl, sym, ap, ◌∙◌, inl, inr, arith}
+-- Datasets without tags and bookmarks: an open view needs a snapshot, or a clone, and nothing else.
+use Rattle.std.proofs.Common.{◌≡◌, Bool, true, false, cond, ◌||◌, List, [], ◌∷◌, length, map, Option, Some, None, refl, sym, ap, ◌∙◌, inl, inr, arith}
 use Rattle.std.specs.Prelude.{nat_lt}
 use Rattle.std.specs.declared.cmp.Ordering.{Ordering}
 use Rattle.std.specs.List.{filter, list_any}
 use Rattle.std.specs.Option.{option_map, option_map_or, option_and_then}
 use Rattle.std.specs.FinMap as finmap
 use Rattle.std.specs.FinMap.{get, entries, values, get-empty, len-entries, len-empty}
-use Rattle.name.specs.Names.{name_cmp, same_name}
+use Rattle.name.specs.Names.{name_cmp}
 use Rattle.name.specs.declared.member.Member.{Member}
 use Rattle.name.specs.declared.target.Target.TheVariants.{Snapshot as OfSnapshot}
 use Rattle.base.specs.Surveys.{IsIn}
-use Rattle.model.specs.World.{World, FileSystem, Snap, SnapId, Bookmark, id_of, same_id, snap_at, snap_named, bookmark_named, clones_of}
+use Rattle.model.specs.World.{FileSystem, Snap, SnapId, Bookmark, id_of, snap_at, snap_named, bookmark_named}
 use Rattle.model.specs.State.{Views, is_viewed}
 use Rattle.model.specs.Outcome.{is_needed}
-use Rattle.model.specs.requests.Rollback.{is_busy, has_clone_outside, has_newer_bookmark}
-use Rattle.world.specs.Shapes.{Name, name_order}
+use Rattle.model.specs.requests.Rollback.{is_busy, has_newer_bookmark}
+use Rattle.world.specs.Shapes.{Name}
 use Rattle.world.specs.Tables.{Datasets, world_of}
-use Rattle.world.proofs.Maps.{at_entry}
-use Rattle.world.proofs.Bridge.{from_entries, from_snap_at}
+use Rattle.world.proofs.Bridge.{from_snap_at}
+use Rattle.removals.specs.Named.{is_kept}
 use Rattle.removals.specs.Requests.{AreBare}
 
 no_length : {A : Type 0} (xs : List A) → length xs ≡ 0 → xs ≡ []
@@ -28,11 +28,7 @@ no_length (x ∷ xs) e = absurd (omega arith)
 pub no_entries : {K X : Type 0} (R : K → K → Ordering) → entries (finmap.empty {X = X} {R = R}) ≡ []
 no_entries {X = X} R = no_length (entries (finmap.empty {X = X} {R = R})) (sym (len-entries (finmap.empty {X = X} {R = R})) ∙ len-empty R X)
 
-none_any : {A : Type 0} (p : A → Bool) (xs : List A) → ((x : A) → p x ≡ false) → list_any p xs ≡ false
-none_any p [] each = refl
-none_any p (x ∷ xs) each = rw (each x) (none_any p xs each)
-
-none_kept : {A : Type 0} (p : A → Bool) (xs : List A) → ((x : A) → IsIn xs x → p x ≡ false) → filter p xs ≡ []
+pub none_kept : {A : Type 0} (p : A → Bool) (xs : List A) → ((x : A) → IsIn xs x → p x ≡ false) → filter p xs ≡ []
 none_kept p [] each = refl
 none_kept p (x ∷ xs) each = ap (λ b. cond b (x ∷ filter p xs) (filter p xs)) (each x (inl refl)) ∙ none_kept p xs (λ y i. each y (inr i))
 
@@ -45,18 +41,9 @@ or_none true = refl
 or_none false = refl
 
 module _ (t : Datasets) (bare : AreBare t.file_systems) (views : Views) where
-  -- no file system is a clone
-  no_clones : (id : SnapId) → clones_of (world_of t) id ≡ []
-  no_clones id =
-      ap (map (λ (e : Name × FileSystem). e.0)) (none_kept (λ (e : Name × FileSystem). option_map_or (same_id id) e.1.origin false) (entries t.file_systems)
-      (λ e i. ap (λ o. option_map_or (same_id id) o false) (bare e.0 e.1 (at_entry name_order t.file_systems e.0 e.1 (from_entries (entries t.file_systems) e i))).origin))
-
-  -- a snapshot is needed where a view shows it
-  pub needed_is : (name : Name) (f : FileSystem) (u : Snap) → get t.file_systems name ≡ Some f → IsIn f.snaps u → is_needed (world_of t) views u ≡ is_viewed views (id_of u)
-  needed_is name f u at h =
-      let tags = (bare name f at).tags u h in
-      let clones = no_clones (id_of u) in
-      (λ i. nat_lt 0 (length (tags i)) || (is_viewed views (id_of u) || nat_lt 0 (length (clones i)))) ∙ or_none (is_viewed views (id_of u))
+  -- a snapshot is needed where a view shows it or it has a clone
+  pub needed_is : (name : Name) (f : FileSystem) (u : Snap) → get t.file_systems name ≡ Some f → IsIn f.snaps u → is_needed (world_of t) views u ≡ is_kept t views (id_of u)
+  needed_is name f u at h = ap (λ (l : List Name). nat_lt 0 (length l) || is_kept t views (id_of u)) ((bare name f at).tags u h)
 
   no_tags : (id : SnapId) → option_map_or (λ (p : Name × Snap). nat_lt 0 (length p.1.tags)) (snap_at (world_of t) id) false ≡ false
   no_tags id = at (snap_at (world_of t) id) refl
@@ -71,10 +58,6 @@ module _ (t : Datasets) (bare : AreBare t.file_systems) (views : Views) where
   pub busy_is : (ids : List SnapId) → is_busy (world_of t) views ids ≡ list_any (is_viewed views) ids
   busy_is ids = any_alike (λ id. is_viewed views id || option_map_or (λ (p : Name × Snap). nat_lt 0 (length p.1.tags)) (snap_at (world_of t) id) false) (is_viewed views) ids
       (λ id k. ap (λ b. is_viewed views id || b) (no_tags id) ∙ or_none (is_viewed views id))
-
-  pub no_clone_outside : (going : List Name) (ids : List SnapId) → has_clone_outside (world_of t) going ids ≡ false
-  no_clone_outside going ids = none_any (λ id. list_any (λ clone. not (list_any (same_name clone) going)) (clones_of (world_of t) id)) ids
-      (λ id. ap (list_any (λ clone. not (list_any (same_name clone) going))) (no_clones id))
 
   pub no_newer_bookmark : (m : Member) → has_newer_bookmark (world_of t) (OfSnapshot m) ≡ false
   no_newer_bookmark m = at (get t.file_systems m.file_system) refl (snap_named (world_of t) m)

@@ -1,13 +1,12 @@
 -- Snapshots whose destroy is deferred one after another by their names: so is that of their identities at once.
 use Rattle.std.proofs.Common.{◌≡◌, ℕ, Bool, true, false, cond, ◌||◌, List, [], ◌∷◌, ◌++◌, map, Option, Some, None, refl, sym, ap, subst, ◌∙◌}
-use Rattle.std.specs.List.{find, filter, list_any}
+use Rattle.std.specs.List.{find}
 use Rattle.std.specs.Option.{option_map, option_map_or, option_and_then}
 use Rattle.std.specs.FinMap.{get, same_map}
 use Rattle.name.specs.declared.member.Member.{Member}
 use Rattle.name.specs.Names.{same_name}
 use Rattle.base.specs.Surveys.{IsIn}
 use Rattle.model.specs.World.{World, FileSystem, Snap, SnapId, id_of, same_id, snap_named}
-use Rattle.model.specs.Edits.{with_file_systems}
 use Rattle.model.specs.requests.Destroy.{is_one_of, with_deferred}
 use Rattle.world.specs.Shapes.{Name, name_order}
 use Rattle.world.specs.Tables.{Datasets, world_of, deferred_snap}
@@ -22,9 +21,8 @@ use Rattle.world.proofs.SetCounts.{same_members}
 use Rattle.world.proofs.Views.{same_maps_mapped}
 use Rattle.world.proofs.Bridge.{in_union_of, from_union_of}
 use Rattle.removals.specs.Edits.{HasLost}
-use Rattle.removals.specs.Named.{deferred_named, deferred_all}
+use Rattle.removals.specs.Named.{deferred_all}
 use Rattle.removals.proofs.Named.{ids_of, id_named}
-use Rattle.removals.proofs.Seen.{any_join}
 
 -- a snapshot, where it is one of some
 abbrev pub marked_by : (Snap → Bool) → Snap → Snap

@@ -10,7 +10,7 @@ use Rattle.base.specs.declared.refusal.Refusal.{Refusal}
 use Rattle.base.specs.Surveys.{IsIn}
 use Rattle.name.specs.declared.member.Member.{Member}
 use Rattle.name.specs.declared.target.Target.TheVariants.{Snapshot as OfSnapshot}
-use Rattle.model.specs.World.{World, FileSystem, Snap, id_of, same_id, snap_named}
+use Rattle.model.specs.World.{World, FileSystem, Snap, SnapId, id_of, same_id, snap_named}
 use Rattle.model.specs.State.{Views, is_viewed}
 use Rattle.model.specs.Outcome.{is_needed}
 use Rattle.model.specs.Edits.{without_snaps}
@@ -23,9 +23,10 @@ use Rattle.world.proofs.Sweep.{get-with_file_systems}
 use Rattle.world.proofs.Finding.{append_none, any_none, same_id_is}
 use Rattle.world.proofs.WithoutSnaps.{get-without, any_from}
 use Rattle.snap.specs.Taking.{all_of}
-use Rattle.removals.specs.Named.{without_all, deferred_all, is_named_viewed}
+use Rattle.removals.specs.Named.{without_all, deferred_all, has_clone, is_named_viewed, is_named_cloned, is_kept, is_named_kept}
 use Rattle.removals.specs.Requests.{destroyed, destroy_refusal, AreBare}
-use Rattle.removals.proofs.Bare.{needed_is, busy_is, no_clone_outside}
+use Rattle.removals.proofs.Bare.{needed_is, busy_is}
+use Rattle.removals.proofs.Clones.{outside_is}
 use Rattle.removals.proofs.Named.{names_once, ids_of, all_are, ids_left}
 use Rattle.removals.proofs.Seen.{any_named}
 use Rattle.removals.proofs.Deferring.{all_deferred}
@@ -52,52 +53,56 @@ and_false false = refl
 pub refusal_is : (t : Datasets) → AreBare t.file_systems → (views : Views) (m : Member) (recursive defer : Bool)
     → destroy_refusal t views (OfSnapshot m) recursive defer
     ≡ cond (list_any (λ n. is_some (snap_named (world_of t) n)) (all_of t (m ∷ []) recursive))
-    (cond (not defer && list_any (is_named_viewed t views) (all_of t (m ∷ []) recursive)) (Some Busy) None) (Some NoDataset)
+    (cond (not defer && list_any (is_named_viewed t views) (all_of t (m ∷ []) recursive)) (Some Busy)
+    (cond (not defer && list_any (is_named_cloned t) (all_of t (m ∷ []) recursive)) (Some HasClones) None)) (Some NoDataset)
 refusal_is t bare views m recursive defer =
-    first-of (nat_lt 0 (length (snaps_named (world_of t) m recursive))) _ _ _
-    (ap (λ b. not defer && b) (busy_is t bare views (snaps_named (world_of t) m recursive) ∙ any_named t views (named_with (world_of t) recursive m)
+    first-of (nat_lt 0 (length (snaps_named (world_of t) m recursive))) _ _ _ _
+    (ap (λ b. not defer && b) (busy_is t bare views (snaps_named (world_of t) m recursive) ∙ any_named t (is_viewed views) (named_with (world_of t) recursive m)
     ∙ ap (list_any (is_named_viewed t views)) (sym (named_is t m recursive))))
-    (ap (λ b. not defer && b) (no_clone_outside t bare views [] (snaps_named (world_of t) m recursive)) ∙ and_false (not defer))
-    ∙ ap (λ b. cond {A = Option Refusal} b (cond (not defer && list_any (is_named_viewed t views) (all_of t (m ∷ []) recursive)) (Some Busy) None) (Some NoDataset))
+    (ap (λ b. not defer && b) (outside_is t (snaps_named (world_of t) m recursive) ∙ any_named t (has_clone t) (named_with (world_of t) recursive m)
+    ∙ ap (list_any (is_named_cloned t)) (sym (named_is t m recursive))))
+    ∙ ap (λ b. cond {A = Option Refusal} b (cond (not defer && list_any (is_named_viewed t views) (all_of t (m ∷ []) recursive)) (Some Busy)
+    (cond (not defer && list_any (is_named_cloned t) (all_of t (m ∷ []) recursive)) (Some HasClones) None)) (Some NoDataset))
     (sym (any_there t (named_with (world_of t) recursive m)) ∙ ap (list_any (λ n. is_some (snap_named (world_of t) n))) (sym (named_is t m recursive)))
   where
-    first-of : (is_there busy viewed clones : Bool) → busy ≡ viewed → clones ≡ false
-        → cond {A = Option Refusal} (not is_there) (Some NoDataset) (cond busy (Some Busy) (cond clones (Some HasClones) None)) ≡ cond {A = Option Refusal} is_there (cond viewed (Some Busy) None) (Some NoDataset)
-    first-of true busy viewed clones a b = λ i. cond {A = Option Refusal} (a i) (Some Busy) (cond (b i) (Some HasClones) None)
-    first-of false busy viewed clones a b = refl
+    first-of : (is_there busy viewed outside cloned : Bool) → busy ≡ viewed → outside ≡ cloned
+        → cond {A = Option Refusal} (not is_there) (Some NoDataset) (cond busy (Some Busy) (cond outside (Some HasClones) None))
+        ≡ cond {A = Option Refusal} is_there (cond viewed (Some Busy) (cond cloned (Some HasClones) None)) (Some NoDataset)
+    first-of true busy viewed outside cloned a b = λ i. cond {A = Option Refusal} (a i) (Some Busy) (cond (b i) (Some HasClones) None)
+    first-of false busy viewed outside cloned a b = refl
 
 -- ---- what is left
 
 module _ (t : Datasets) (views : Views) where
-  -- of those that no view shows
+  -- of those that are not kept
   unviewed_ids : (ms : List Member) (u : Snap)
-      → is_one_of (ids_of t (filter (λ m. not (is_named_viewed t views m)) ms)) u ≡ (is_one_of (ids_of t ms) u && not (is_viewed views (id_of u)))
+      → is_one_of (ids_of t (filter (λ m. not (is_named_kept t views m)) ms)) u ≡ (is_one_of (ids_of t ms) u && not (is_kept t views (id_of u)))
   unviewed_ids [] u = refl
   unviewed_ids (m ∷ ms) u = by_snap (snap_named (world_of t) m) (unviewed_ids ms u) refl
     where
       rest : List Member
-      rest = filter (λ m. not (is_named_viewed t views m)) ms
+      rest = filter (λ m. not (is_named_kept t views m)) ms
 
       -- the one of the name is this, or another
-      by_same : (s : Snap) (same viewed : Bool) → same_id (id_of u) (id_of s) ≡ same → is_viewed views (id_of s) ≡ viewed
-          → is_one_of (ids_of t rest) u ≡ (is_one_of (ids_of t ms) u && not (is_viewed views (id_of u)))
-          → cond viewed (is_one_of (ids_of t rest) u) (same || is_one_of (ids_of t rest) u) ≡ ((same || is_one_of (ids_of t ms) u) && not (is_viewed views (id_of u)))
+      by_same : (s : Snap) (same viewed : Bool) → same_id (id_of u) (id_of s) ≡ same → is_kept t views (id_of s) ≡ viewed
+          → is_one_of (ids_of t rest) u ≡ (is_one_of (ids_of t ms) u && not (is_kept t views (id_of u)))
+          → cond viewed (is_one_of (ids_of t rest) u) (same || is_one_of (ids_of t rest) u) ≡ ((same || is_one_of (ids_of t ms) u) && not (is_kept t views (id_of u)))
       by_same s true true e v ih =
-          let it : is_viewed views (id_of u) ≡ true = ap (is_viewed views) (same_id_is (id_of u) (id_of s) e) ∙ v in
+          let it : is_kept t views (id_of u) ≡ true = ap (is_kept t views) (same_id_is (id_of u) (id_of s) e) ∙ v in
           ih ∙ ap (λ b. is_one_of (ids_of t ms) u && not b) it ∙ and_false (is_one_of (ids_of t ms) u) ∙ sym (ap not it)
       by_same s true false e v ih =
-          let it : is_viewed views (id_of u) ≡ false = ap (is_viewed views) (same_id_is (id_of u) (id_of s) e) ∙ v in
+          let it : is_kept t views (id_of u) ≡ false = ap (is_kept t views) (same_id_is (id_of u) (id_of s) e) ∙ v in
           sym (ap not it)
       by_same s false true e v ih = ih
       by_same s false false e v ih = ih
 
-      by_snap : (x : Option Snap) → is_one_of (ids_of t rest) u ≡ (is_one_of (ids_of t ms) u && not (is_viewed views (id_of u))) → snap_named (world_of t) m ≡ x
-          → is_one_of (ids_of t (cond (not (option_map_or (λ (s : Snap). is_viewed views (id_of s)) x false)) (m ∷ rest) rest)) u
-          ≡ (is_one_of (option_map_or (λ (s : Snap). id_of s ∷ []) x [] ++ ids_of t ms) u && not (is_viewed views (id_of u)))
+      by_snap : (x : Option Snap) → is_one_of (ids_of t rest) u ≡ (is_one_of (ids_of t ms) u && not (is_kept t views (id_of u))) → snap_named (world_of t) m ≡ x
+          → is_one_of (ids_of t (cond (not (option_map_or (λ (s : Snap). is_viewed views (id_of s)) x false || option_map_or (λ (s : Snap). has_clone t (id_of s)) x false)) (m ∷ rest) rest)) u
+          ≡ (is_one_of (option_map_or (λ (s : Snap). id_of s ∷ []) x [] ++ ids_of t ms) u && not (is_kept t views (id_of u)))
       by_snap None ih e = ap (λ x. is_one_of (option_map_or (λ (s : Snap). id_of s ∷ []) x [] ++ ids_of t rest) u) e ∙ ih
       by_snap (Some s) ih e =
-          by_viewed (is_viewed views (id_of s))
-          ∙ by_same s (same_id (id_of u) (id_of s)) (is_viewed views (id_of s)) refl refl ih
+          by_viewed (is_kept t views (id_of s))
+          ∙ by_same s (same_id (id_of u) (id_of s)) (is_kept t views (id_of s)) refl refl ih
         where
           by_viewed : (v : Bool) → is_one_of (ids_of t (cond (not v) (m ∷ rest) rest)) u ≡ cond v (is_one_of (ids_of t rest) u) (same_id (id_of u) (id_of s) || is_one_of (ids_of t rest) u)
           by_viewed true = refl
@@ -151,7 +156,8 @@ module _ (w : World) (p q : Snap → Bool) (p' q' : Snap → Bool)
 
 -- what the destroy of a name leaves
 module _ (t : Datasets) (good : AreFileSystems t.file_systems t.group) (bare : AreBare t.file_systems) (views : Views) (m : Member) (recursive defer : Bool)
-    (may : (not defer && list_any (is_named_viewed t views) (all_of t (m ∷ []) recursive)) ≡ false) where
+    (may : (not defer && list_any (is_named_viewed t views) (all_of t (m ∷ []) recursive)) ≡ false)
+    (uncloned : (not defer && list_any (is_named_cloned t) (all_of t (m ∷ []) recursive)) ≡ false) where
   abbrev all : List Member
   all = named_with (world_of t) recursive m
 
@@ -159,25 +165,24 @@ module _ (t : Datasets) (good : AreFileSystems t.file_systems t.group) (bare : A
   one u = is_one_of (ids_of t all) u
 
   abbrev gone : List Member
-  gone = filter (λ n. not (is_named_viewed t views n)) all
+  gone = filter (λ n. not (is_named_kept t views n)) all
 
   abbrev needed : Snap → Bool
   needed u = defer && is_needed (world_of t) views u
 
-  -- those of them that a view shows are needed
-  alike : (n : Name) (f : FileSystem) (u : Snap) → get t.file_systems n ≡ Some f → IsIn f.snaps u → one u ≡ true → is_viewed views (id_of u) ≡ needed u
-  alike n f u at i is = by_defer defer may
+  -- those of them that are kept are needed
+  alike : (n : Name) (f : FileSystem) (u : Snap) → get t.file_systems n ≡ Some f → IsIn f.snaps u → one u ≡ true → is_kept t views (id_of u) ≡ needed u
+  alike n f u at i is = by_defer defer may uncloned
     where
-      none_viewed : list_any (is_viewed views) (ids_of t all) ≡ false → is_viewed views (id_of u) ≡ false
-      none_viewed none = by_test (is_viewed views (id_of u)) refl
-        where
-          by_test : (b : Bool) → is_viewed views (id_of u) ≡ b → is_viewed views (id_of u) ≡ false
-          by_test true e = absurd (true≢false (sym (sym (any_none (is_viewed views) (ids_of t all) none (id_of u) (any_from (ids_of t all) (id_of u) is)) ∙ e)))
-          by_test false e = e
+      none_of : (p : SnapId → Bool) → list_any p (ids_of t all) ≡ false → p (id_of u) ≡ false
+      none_of p none = any_none p (ids_of t all) none (id_of u) (any_from (ids_of t all) (id_of u) is)
 
-      by_defer : (d : Bool) → (not d && list_any (is_named_viewed t views) (all_of t (m ∷ []) recursive)) ≡ false → is_viewed views (id_of u) ≡ (d && is_needed (world_of t) views u)
-      by_defer true e = sym (needed_is t bare views n f u at i)
-      by_defer false e = none_viewed (any_named t views all ∙ ap (list_any (is_named_viewed t views)) (sym (named_is t m recursive)) ∙ e)
+      by_defer : (d : Bool) → (not d && list_any (is_named_viewed t views) (all_of t (m ∷ []) recursive)) ≡ false → (not d && list_any (is_named_cloned t) (all_of t (m ∷ []) recursive)) ≡ false
+          → is_kept t views (id_of u) ≡ (d && is_needed (world_of t) views u)
+      by_defer true e k = sym (needed_is t bare views n f u at i)
+      by_defer false e k = λ i.
+          none_of (is_viewed views) (any_named t (is_viewed views) all ∙ ap (list_any (is_named_viewed t views)) (sym (named_is t m recursive)) ∙ e) i
+          || none_of (has_clone t) (any_named t (has_clone t) all ∙ ap (list_any (is_named_cloned t)) (sym (named_is t m recursive)) ∙ k) i
 
   when : (a b c : Bool) → (a ≡ true → b ≡ c) → (a && not b) ≡ (a && not c)
   when true b c e = ap not (e refl)
@@ -185,7 +190,7 @@ module _ (t : Datasets) (good : AreFileSystems t.file_systems t.group) (bare : A
 
   -- the others go
   goes_alike : (n : Name) (f : FileSystem) (u : Snap) → get t.file_systems n ≡ Some f → IsIn f.snaps u → is_one_of (ids_of t gone) u ≡ (one u && not (needed u))
-  goes_alike n f u at i = unviewed_ids t views all u ∙ when (one u) (is_viewed views (id_of u)) (needed u) (alike n f u at i)
+  goes_alike n f u at i = unviewed_ids t views all u ∙ when (one u) (is_kept t views (id_of u)) (needed u) (alike n f u at i)
 
   -- and they are deferred
   marks_alike : (n : Name) (f : FileSystem) (u : Snap) → get t.file_systems n ≡ Some f → IsIn f.snaps u → is_one_of (ids_of t gone) u ≡ false

@@ -8,7 +8,7 @@ use Rattle.std.specs.declared.cmp.Ordering.TheVariants.{Equal, Greater}
 use Rattle.std.proofs.lemmas.Bool.{eqb-true}
 use Rattle.base.specs.Surveys.{IsIn}
 use Rattle.name.specs.Names.{name_cmp, slash, parent_of, before_slash}
-use Rattle.file_systems.specs.Rows.{Row}
+use Rattle.file_system.specs.Rows.{Entry}
 use Rattle.snap.specs.Taking.{is_in_family}
 use Rattle.snap.proofs.Families.{ends_component, begins, begins_not, joined, parted}
 
@@ -73,21 +73,21 @@ and_right : (a b : Bool) → T (a && b) → T b
 and_right true b h = h
 and_right false b h = absurd h
 
-pub below_there : (n : List ℕ) (es : List Row) (e : Row) → T (below_all name_cmp n es) → IsIn es e → T (is_lt (name_cmp n e.0))
+pub below_there : (n : List ℕ) (es : List Entry) (e : Entry) → T (below_all name_cmp n es) → IsIn es e → T (is_lt (name_cmp n e.0))
 below_there n [] e h i = absurd i
 below_there n (x ∷ xs) e h i = ⊎_elim
-    (λ (k : e ≡ x). subst (λ (y : Row). T (is_lt (name_cmp n y.0))) (sym k) (and_left _ _ h))
+    (λ (k : e ≡ x). subst (λ (y : Entry). T (is_lt (name_cmp n y.0))) (sym k) (and_left _ _ h))
     (λ k. below_there n xs e (and_right _ _ h) k)
     i
 
 -- rows before one of these come before it
-pub before_there : (front : List Row) (r : Row) (rest : List Row) → T (is_sorted name_cmp (front ++ r ∷ rest)) → (e : Row) → IsIn front e → T (is_lt (name_cmp e.0 r.0))
+pub before_there : (front : List Entry) (r : Entry) (rest : List Entry) → T (is_sorted name_cmp (front ++ r ∷ rest)) → (e : Entry) → IsIn front e → T (is_lt (name_cmp e.0 r.0))
 before_there [] r rest h e i = absurd i
 before_there (x ∷ xs) r rest h e i = ⊎_elim
-    (λ (k : e ≡ x). subst (λ (y : Row). T (is_lt (name_cmp y.0 r.0))) (sym k) (below_there x.0 (xs ++ r ∷ rest) r (and_left _ _ h) (last_in xs)))
+    (λ (k : e ≡ x). subst (λ (y : Entry). T (is_lt (name_cmp y.0 r.0))) (sym k) (below_there x.0 (xs ++ r ∷ rest) r (and_left _ _ h) (last_in xs)))
     (λ k. before_there xs r rest (and_right _ _ h) e k)
     i
   where
-    last_in : (ys : List Row) → IsIn (ys ++ r ∷ rest) r
+    last_in : (ys : List Entry) → IsIn (ys ++ r ∷ rest) r
     last_in [] = inl refl
     last_in (y ∷ ys) = inr (last_in ys)

@@ -1,15 +1,17 @@
 -- File systems that go, one after another: what is left, and what is lost.
-use Rattle.std.proofs.Common.{◌≡◌, ℕ, zero, suc, ◌+◌, ◌-◌, ◌<◌, ◌≤◌, get_or, true, false, List, [], ◌∷◌, ◌++◌, Some, Result, Ok, Err, refl, sym, ap, subst, ◌∙◌, true≢false, map, length, take, drop, arith}
-use Rattle.std.specs.Prelude.{OnOk, nat_lt}
+use Rattle.std.proofs.Common.{◌≡◌, ℕ, Bool, not, zero, suc, ◌+◌, ◌-◌, ◌<◌, ◌≤◌, get_or, true, false, List, [], ◌∷◌, ◌++◌, Result, Ok, Err, refl, sym, ap, subst, ◌∙◌, true≢false, map, length, take, drop, arith}
+use Rattle.std.specs.Prelude.{OnOk}
 use Rattle.std.specs.FinMap.{get, entries}
 use Rattle.std.specs.FinSet.{union}
-use Rattle.std.proofs.lemmas.Bool.{lt-ltb}
 use Rattle.std.proofs.lemmas.List.{take-append-drop}
 use Rattle.snap.proofs.Rests.{next_left, none_left}
 use Rattle.base.specs.Map.{BlockSet}
-use Rattle.name.specs.Names.{root_name}
-use Rattle.model.specs.World.{Snap, union_of}
-use Rattle.file_systems.specs.Rows.{Row}
+use Rattle.name.specs.Names.{root_name, same_name}
+use Rattle.model.specs.requests.Destroy.{file_systems_named}
+use Rattle.std.specs.List.{list_any}
+use Rattle.world.proofs.Families.{from_retained}
+use Rattle.model.specs.World.{union_of}
+use Rattle.file_system.specs.Rows.{Entry}
 use Rattle.snap.specs.Taking.{is_in_family}
 use Rattle.snap.proofs.Families.{ends_component}
 use Rattle.world.specs.Sets.{IsSubset, AreDisjoint}
@@ -17,16 +19,12 @@ use Rattle.world.specs.Worlds.{AreFileSystems}
 use Rattle.world.specs.Tables.{Datasets, CanRemove, world_of, without_system, lost_between}
 use Rattle.world.proofs.Drawn.{union_from}
 use Rattle.world.proofs.Put.{gone_maps}
-use Rattle.world.proofs.Finding.{filter_all}
-use Rattle.world.proofs.Bridge.{start, rising, rising_above}
 use Rattle.removals.specs.Edits.{HasLost}
-use Rattle.removals.specs.Families.{bare_at}
-use Rattle.removals.specs.Named.{without_all, member_of, newer_members}
+use Rattle.removals.specs.Families.{ArePartOf, IsBareFamily}
 use Rattle.removals.specs.Requests.{without_family}
 use Rattle.removals.proofs.Families.{family_parts}
 use Rattle.removals.proofs.Losses.{has_lost}
-use Rattle.removals.proofs.Rolled.{last_go}
-use Rattle.removals.proofs.SystemsGone.{left_by, none_left_by, other_row, row_left, row_goes, can_go, family_gone}
+use Rattle.removals.proofs.SystemsGone.{left_by, none_left_by, other_row, row_at, row_goes, can_go, family_gone}
 
 -- without a file system the datasets have no other blocks
 fewer_gone : (t : Datasets) → AreFileSystems t.file_systems t.group → (name : List ℕ) → IsSubset (union_of (world_of (without_system t name))) (union_of (world_of t))
@@ -38,14 +36,6 @@ pub lost_gone : {T E : Type 0} (r : Result T E) (t u : Datasets) (freeing after 
 lost_gone (Ok x) t u freeing after lost good apart name to is joined =
     has_lost t u freeing after (subst (λ v. IsSubset (union_of (world_of v)) (union_of (world_of t))) (sym to) (fewer_gone t good name)) apart (joined ∙ ap (union freeing) is)
 lost_gone (Err e) t u freeing after lost good apart name to is joined = tt
-
--- all its snapshots are of a later group than 0
-pub bare_is : (t : Datasets) (good : AreFileSystems t.file_systems t.group) (r : Row) → get t.file_systems r.0 ≡ Some r.1 → without_all t (newer_members r 0) ≡ bare_at t r
-bare_is t good r at =
-    ap (λ l. without_all t (map (member_of r) l)) (filter_all (λ (s : Snap). nat_lt 0 s.group) r.1.snaps (λ u i.
-    let l = rising_above (start t.file_systems t.group good.lines r.0 r.1 at).base r.1.snaps u (rising t.file_systems t.group good.lines r.0 r.1 at) i in
-    lt-ltb 0 u.group (omega (arith, l))))
-    ∙ last_go t good r at [] r.1.snaps refl
 
 -- the root is of no other family
 pub root_alone : (name : List ℕ) → is_in_family name root_name ≡ true → name ≡ root_name
@@ -63,7 +53,7 @@ root_alone name e = let f = family_parts name root_name e in by_parts name f.0 f
 
 -- ---- the loop, from the last row on
 
-module _ (t : Datasets) (name : List ℕ) (rows : List Row) (is : rows ≡ entries t.file_systems) (i : ℕ) (r : Row) (here : drop i rows ≡ r ∷ drop (i + 1) rows) where
+module _ (t : Datasets) (name : List ℕ) (rows : List Entry) (is : rows ≡ entries t.file_systems) (i : ℕ) (r : Entry) (here : drop i rows ≡ r ∷ drop (i + 1) rows) where
   parts : entries t.file_systems ≡ take i rows ++ r ∷ drop (i + 1) rows
   parts = sym is ∙ sym (take-append-drop i rows) ∙ ap (λ l. take i rows ++ l) here
 
@@ -72,24 +62,21 @@ module _ (t : Datasets) (name : List ℕ) (rows : List Row) (is : rows ≡ entri
   turn_stays out u so_far = so_far ∙ sym (other_row t name r (drop (i + 1) rows) out) ∙ ap (left_by t name) (sym here)
 
   module _ (within : is_in_family name r.0 ≡ true) (u : Datasets) (so_far : u ≡ left_by t name (drop (i + 1) rows)) where
-    -- one that is of it is there
-    pub turn_there : get u.file_systems r.0 ≡ Some r.1
-    turn_there = ap (λ (v : Datasets). get v.file_systems r.0) so_far ∙ row_left t name (take i rows) r (drop (i + 1) rows) parts within
-
-    -- it may go without its snapshots
-    pub turn_can : ¬ (name ≡ root_name) → CanRemove (bare_at u r) r.0
-    turn_can not_root = subst (λ v. CanRemove (bare_at v r) r.0) (sym so_far)
-        (can_go t name (take i rows) r (drop (i + 1) rows) parts within (λ e. not_root (root_alone name (ap (is_in_family name) e ∙ within))) (record r.1 { snaps = [] }) refl)
+    -- it may go
+    pub turn_can : ¬ (name ≡ root_name) → IsBareFamily t name → CanRemove u r.0
+    turn_can not_root bare = subst (λ v. CanRemove v r.0) (sym so_far)
+        (can_go t name (take i rows) r (drop (i + 1) rows) parts within (λ e. not_root (root_alone name (ap (is_in_family name) e ∙ within)))
+        (bare r.0 r.1 (row_at t name (take i rows) r (drop (i + 1) rows) parts within) within))
 
     -- and goes
-    pub turn_goes : (v : Datasets) → v ≡ without_system (bare_at u r) r.0 → v ≡ left_by t name (drop i rows)
+    pub turn_goes : (v : Datasets) → v ≡ without_system u r.0 → v ≡ left_by t name (drop i rows)
     turn_goes v to =
-        to ∙ ap (λ w. without_system (bare_at w r) r.0) so_far
-        ∙ ap (λ ss. record t { file_systems = ss }) (row_goes t name (take i rows) r (drop (i + 1) rows) parts within (record r.1 { snaps = [] }))
+        to ∙ ap (λ w. without_system w r.0) so_far
+        ∙ ap (λ ss. record t { file_systems = ss }) (row_goes t name (take i rows) r (drop (i + 1) rows) parts within)
         ∙ ap (left_by t name) (sym here)
 
 -- before the first turn, and after the last
-module _ (t : Datasets) (name : List ℕ) (rows : List Row) (is : rows ≡ entries t.file_systems) where
+module _ (t : Datasets) (name : List ℕ) (rows : List Entry) (is : rows ≡ entries t.file_systems) where
   pub first_turn : (n : ℕ) → n ≡ length rows → (u : Datasets) → u ≡ t → u ≡ left_by t name (drop n rows)
   first_turn n all u same = same ∙ sym (none_left_by t name) ∙ ap (left_by t name) (sym (none_left rows n (omega (arith, all))))
 
@@ -97,8 +84,8 @@ module _ (t : Datasets) (name : List ℕ) (rows : List Row) (is : rows ≡ entri
   last_turn u so_far = so_far ∙ ap (left_by t name) is ∙ family_gone t name
 
 -- the same of shared rows, of which those from `left` on have had their turn
-module _ {A : Type 0} (value : A → Row) (t : Datasets) (name : List ℕ) (xs : List A) (is : map value xs ≡ entries t.file_systems) (left : ℕ) (some : 0 < left) (inside : left ≤ length xs)
-    (a : A) (item : a ≡ get_or xs (left - 1) a) (r : Row) (row_is : r ≡ value a) where
+module _ {A : Type 0} (value : A → Entry) (t : Datasets) (name : List ℕ) (xs : List A) (is : map value xs ≡ entries t.file_systems) (left : ℕ) (some : 0 < left) (inside : left ≤ length xs)
+    (a : A) (item : a ≡ get_or xs (left - 1) a) (r : Entry) (row_is : r ≡ value a) where
   next : left - 1 + 1 ≡ left
   next = omega (arith, some)
 
@@ -120,11 +107,13 @@ module _ {A : Type 0} (value : A → Row) (t : Datasets) (name : List ℕ) (xs :
     stays out = turn_stays t name (map value xs) is (left - 1) r here out u before
 
     module _ (within : is_in_family name r.0 ≡ true) where
-      pub there : get u.file_systems r.0 ≡ Some r.1
-      there = turn_there t name (map value xs) is (left - 1) r here within u before
-
-      pub can : ¬ (name ≡ root_name) → CanRemove (bare_at u r) r.0
+      pub can : ¬ (name ≡ root_name) → IsBareFamily t name → CanRemove u r.0
       can = turn_can t name (map value xs) is (left - 1) r here within u before
 
-      pub goes : (v : Datasets) → v ≡ without_system (bare_at u r) r.0 → v ≡ left_by t name (drop (left - 1) (map value xs))
+      pub goes : (v : Datasets) → v ≡ without_system u r.0 → v ≡ left_by t name (drop (left - 1) (map value xs))
       goes = turn_goes t name (map value xs) is (left - 1) r here within u before
+
+-- what is left was there
+pub family_part : (t : Datasets) (name : List ℕ) (recursive : Bool) (u : Datasets) → u ≡ without_family t name recursive → ArePartOf u t
+family_part t name recursive u is n f at =
+    (from_retained t.file_systems (λ n. not (list_any (same_name n) (file_systems_named (world_of t) name recursive))) n f (ap (λ (v : Datasets). get v.file_systems n) (sym is) ∙ at)).1

@@ -11,3 +11,8 @@ pub mod Bare
 pub mod Seen
 pub mod Deferring
 pub mod Closed
+pub mod Clones
+pub mod Shared
+pub mod Emptying
+pub mod Swept
+pub mod Outside

@@ -37,7 +37,7 @@ is_named m u = same_name u.name m.component
 abbrev stays : SnapId → Snap → Bool
 stays id u = not (same_id (id_of u) id)
 
-once_after : (t : Datasets) (id : SnapId) → AreNamesOnce t.file_systems → AreNamesOnce (without_snap t id).file_systems
+pub once_after : (t : Datasets) (id : SnapId) → AreNamesOnce t.file_systems → AreNamesOnce (without_snap t id).file_systems
 once_after t id once n f at a b i j e =
     let r = from_without (world_of t) (λ u. same_id (id_of u) id) n f at in
     let ka = from_filter (stays id) r.0.snaps a (subst (λ (x : FileSystem). IsIn x.snaps a) r.2 i) in

@@ -5,7 +5,6 @@ use Rattle.std.specs.List.{filter, flat_map, list_any}
 use Rattle.std.specs.Option.{option_map_or}
 use Rattle.std.specs.FinMap.{get, keys, entries}
 use Rattle.std.proofs.lemmas.Bool.{lt-ltb}
-use Rattle.std.proofs.lemmas.List.{append-nil}
 use Rattle.base.specs.Surveys.{IsIn}
 use Rattle.base.specs.declared.refusal.Refusal.{Refusal}
 use Rattle.base.specs.declared.refusal.Refusal.TheVariants.{NoDataset, NotSnapshot, Busy, HasClones, HasChildren, IsRoot}
@@ -14,40 +13,43 @@ use Rattle.name.specs.Names.{root_name, same_name, parent_of}
 use Rattle.model.specs.World.{FileSystem, Snap, SnapId, id_of, children_of, family_of}
 use Rattle.model.specs.State.{Views, is_viewed}
 use Rattle.model.specs.requests.Destroy.{file_systems_named, snaps_within}
-use Rattle.file_systems.specs.Rows.{Row}
+use Rattle.model.specs.requests.Rollback.{has_clone_outside}
+use Rattle.file_system.specs.Rows.{Entry}
 use Rattle.world.specs.Shapes.{name_order}
 use Rattle.world.specs.Tables.{Datasets, CanRemove, world_of}
 use Rattle.world.specs.Worlds.{AreFileSystems}
 use Rattle.world.proofs.Bridge.{start, rising, rising_above, from_entries}
 use Rattle.snap.specs.Taking.{is_in_family}
 use Rattle.world.proofs.Maps.{some_of, entry_of, at_entry}
-use Rattle.world.proofs.Listed.{map_in, length-mapped}
+use Rattle.world.proofs.Listed.{map_in}
 use Rattle.world.proofs.Finding.{in_filter, filter_all, name_itself}
 use Rattle.removals.specs.Named.{is_viewed_after}
+use Rattle.removals.specs.Families.{family_refusal, is_outside_clone, AreClonesInside}
 use Rattle.removals.specs.Requests.{destroy_refusal, AreBare}
-use Rattle.removals.proofs.Bare.{busy_is, no_clone_outside}
+use Rattle.removals.proofs.Bare.{busy_is}
+use Rattle.removals.proofs.Outside.{cloned_outside, clones_inside}
 use Rattle.removals.proofs.Seen.{any_join, any_later}
 use Rattle.removals.proofs.SystemsGone.{in_entries}
 
 -- by the tests of a file system that is there
-abbrev pub refusal_with : Bool → Bool → Bool → Bool → ℕ → Bool → Option Refusal
-refusal_with root recursive defer children snaps viewed =
-    cond root (Some IsRoot) (cond defer (Some NotSnapshot) (cond (not recursive && (children || nat_lt 0 snaps)) (Some HasChildren) (cond (recursive && viewed) (Some Busy) None)))
+abbrev pub refusal_with : Bool → Bool → Bool → Bool → ℕ → Option Refusal → Option Refusal
+refusal_with root recursive defer children snaps family =
+    cond root (Some IsRoot) (cond defer (Some NotSnapshot) (cond recursive family (cond (children || nat_lt 0 snaps) (Some HasChildren) None)))
 
 -- the last of them, and none
-pub is_busy : (root recursive defer children : Bool) (snaps : ℕ) (viewed : Bool) → root ≡ false → defer ≡ false → recursive ≡ true → viewed ≡ true → refusal_with root recursive defer children snaps viewed ≡ Some Busy
-is_busy root recursive defer children snaps viewed a b c d = λ i. refusal_with (a i) (c i) (b i) children snaps (d i)
+pub of_family : (root recursive defer children : Bool) (snaps : ℕ) (family : Option Refusal) → root ≡ false → defer ≡ false → recursive ≡ true → refusal_with root recursive defer children snaps family ≡ family
+of_family root recursive defer children snaps family a b c = λ i. refusal_with (a i) (c i) (b i) children snaps family
 
-pub is_free : (root recursive defer children : Bool) (snaps : ℕ) (viewed : Bool) → root ≡ false → defer ≡ false → (not recursive && (children || nat_lt 0 snaps)) ≡ false → (recursive && viewed) ≡ false
-    → refusal_with root recursive defer children snaps viewed ≡ None
-is_free root recursive defer children snaps viewed a b c d = λ i. cond {A = Option Refusal} (a i) (Some IsRoot) (cond (b i) (Some NotSnapshot) (cond (c i) (Some HasChildren) (cond (d i) (Some Busy) None)))
+pub is_free : (root recursive defer children : Bool) (snaps : ℕ) (family : Option Refusal) → root ≡ false → defer ≡ false → recursive ≡ false → (children || nat_lt 0 snaps) ≡ false
+    → refusal_with root recursive defer children snaps family ≡ None
+is_free root recursive defer children snaps family a b c d = λ i. cond {A = Option Refusal} (a i) (Some IsRoot) (cond (b i) (Some NotSnapshot) (cond (c i) family (cond (d i) (Some HasChildren) None)))
 
 abbrev has_children : Datasets → List ℕ → Bool
 has_children t name = nat_lt 0 (length (children_of (world_of t) name))
 
 -- an open view shows a snapshot of the family
 abbrev pub family_viewed : Datasets → Views → List ℕ → Bool
-family_viewed t views name = list_any (λ (r : Row). is_in_family name r.0 && list_any (is_viewed_after views 0) r.1.snaps) (entries t.file_systems)
+family_viewed t views name = list_any (λ (r : Entry). is_in_family name r.0 && list_any (is_viewed_after views 0) r.1.snaps) (entries t.file_systems)
 
 -- the identities of the snapshots of a file system of this name
 abbrev ids_at : Datasets → List ℕ → List SnapId
@@ -60,18 +62,18 @@ module _ (t : Datasets) (good : AreFileSystems t.file_systems t.group) (views : 
       ap (λ l. list_any (is_viewed views) (map {A = Snap} id_of l)) (sym (filter_all (λ (s : Snap). nat_lt 0 s.group) f.snaps (λ u i.
       let l = rising_above (start t.file_systems t.group good.lines n f at).base f.snaps u (rising t.file_systems t.group good.lines n f at) i in
       lt-ltb 0 u.group (omega (arith, l)))))
-      ∙ any_later views 0 f.snaps
+      ∙ any_later (is_viewed views) 0 f.snaps
 
-  any_within : (p : List ℕ → Bool) (rows : List Row) → ((r : Row) → IsIn rows r → get t.file_systems r.0 ≡ Some r.1)
-      → list_any (is_viewed views) (flat_map (ids_at t) (filter p (map (λ (r : Row). r.0) rows))) ≡ list_any (λ (r : Row). p r.0 && list_any (is_viewed_after views 0) r.1.snaps) rows
+  any_within : (p : List ℕ → Bool) (rows : List Entry) → ((r : Entry) → IsIn rows r → get t.file_systems r.0 ≡ Some r.1)
+      → list_any (is_viewed views) (flat_map (ids_at t) (filter p (map (λ (r : Entry). r.0) rows))) ≡ list_any (λ (r : Entry). p r.0 && list_any (is_viewed_after views 0) r.1.snaps) rows
   any_within p [] each = refl
   any_within p (r ∷ rows) each = by_test (p r.0) (any_within p rows (λ x i. each x (inr i)))
     where
-      by_test : (b : Bool) → list_any (is_viewed views) (flat_map (ids_at t) (filter p (map (λ (r : Row). r.0) rows))) ≡ list_any (λ (r : Row). p r.0 && list_any (is_viewed_after views 0) r.1.snaps) rows
-          → list_any (is_viewed views) (flat_map (ids_at t) (cond b (r.0 ∷ filter p (map (λ (r : Row). r.0) rows)) (filter p (map (λ (r : Row). r.0) rows))))
-          ≡ ((b && list_any (is_viewed_after views 0) r.1.snaps) || list_any (λ (r : Row). p r.0 && list_any (is_viewed_after views 0) r.1.snaps) rows)
+      by_test : (b : Bool) → list_any (is_viewed views) (flat_map (ids_at t) (filter p (map (λ (r : Entry). r.0) rows))) ≡ list_any (λ (r : Entry). p r.0 && list_any (is_viewed_after views 0) r.1.snaps) rows
+          → list_any (is_viewed views) (flat_map (ids_at t) (cond b (r.0 ∷ filter p (map (λ (r : Entry). r.0) rows)) (filter p (map (λ (r : Entry). r.0) rows))))
+          ≡ ((b && list_any (is_viewed_after views 0) r.1.snaps) || list_any (λ (r : Entry). p r.0 && list_any (is_viewed_after views 0) r.1.snaps) rows)
       by_test true ih =
-          any_join (is_viewed views) (ids_at t r.0) (flat_map (ids_at t) (filter p (map (λ (r : Row). r.0) rows)))
+          any_join (is_viewed views) (ids_at t r.0) (flat_map (ids_at t) (filter p (map (λ (r : Entry). r.0) rows)))
           ∙ (λ i. (ap (λ x. list_any (is_viewed views) (option_map_or (λ (f : FileSystem). map {A = Snap} id_of f.snaps) x [])) (each r (inl refl)) ∙ all_later r.0 r.1 (each r (inl refl))) i || ih i)
       by_test false ih = ih
 
@@ -80,58 +82,74 @@ module _ (t : Datasets) (good : AreFileSystems t.file_systems t.group) (views : 
   family_is name = any_within (is_in_family name) (entries t.file_systems) (λ r i. at_entry name_order t.file_systems r.0 r.1 (from_entries (entries t.file_systems) r i))
 
 module _ (t : Datasets) (bare : AreBare t.file_systems) (views : Views) (name : List ℕ) (recursive defer : Bool) where
-  first-of : (there root children snaps busy viewed clones : Bool) → busy ≡ viewed → clones ≡ false
-      → cond {A = Option Refusal} (not there) (Some NoDataset) (cond root (Some IsRoot) (cond defer (Some NotSnapshot) (cond (not recursive && (children || snaps)) (Some HasChildren) (cond busy (Some Busy) (cond clones (Some HasClones) None)))))
-      ≡ cond {A = Option Refusal} (not there) (Some NoDataset) (cond root (Some IsRoot) (cond defer (Some NotSnapshot) (cond (not recursive && (children || snaps)) (Some HasChildren) (cond viewed (Some Busy) None))))
-  first-of there root children snaps busy viewed clones a b = rw (a, b) refl
+  abbrev going : List (List ℕ)
+  going = file_systems_named (world_of t) name recursive
 
-  -- whether the snapshots that go are viewed
+  -- whether the snapshots that go are viewed, or have a clone outside
   abbrev viewed_of : Option FileSystem → Option Refusal
   viewed_of x = cond {A = Option Refusal} (not (is_some x)) (Some NoDataset) (cond (same_name name root_name) (Some IsRoot) (cond defer (Some NotSnapshot)
       (cond (not recursive && (has_children t name || nat_lt 0 (length (option_map_or (λ (f : FileSystem). map {A = Snap} id_of f.snaps) x [] ++ [])))) (Some HasChildren)
-      (cond (list_any (is_viewed views) (snaps_within (world_of t) (file_systems_named (world_of t) name recursive))) (Some Busy) None))))
+      (cond (list_any (is_viewed views) (snaps_within (world_of t) going)) (Some Busy)
+      (cond (has_clone_outside (world_of t) going (snaps_within (world_of t) going)) (Some HasClones) None)))))
+
+  first-of : (there root parts busy viewed clones : Bool) → busy ≡ viewed
+      → cond {A = Option Refusal} (not there) (Some NoDataset) (cond root (Some IsRoot) (cond defer (Some NotSnapshot) (cond parts (Some HasChildren) (cond busy (Some Busy) (cond clones (Some HasClones) None)))))
+      ≡ cond {A = Option Refusal} (not there) (Some NoDataset) (cond root (Some IsRoot) (cond defer (Some NotSnapshot) (cond parts (Some HasChildren) (cond viewed (Some Busy) (cond clones (Some HasClones) None)))))
+  first-of there root parts busy viewed clones e =
+      ap (λ b. cond {A = Option Refusal} (not there) (Some NoDataset) (cond root (Some IsRoot) (cond defer (Some NotSnapshot) (cond parts (Some HasChildren) (cond b (Some Busy) (cond clones (Some HasClones) None)))))) e
 
   refusal_is : destroy_refusal t views (OfFileSystem name) recursive defer ≡ viewed_of (get t.file_systems name)
-  refusal_is = first-of (is_some (get t.file_systems name)) (same_name name root_name) (has_children t name) (nat_lt 0 (length (ids_at t name ++ []))) _
-      (list_any (is_viewed views) (snaps_within (world_of t) (file_systems_named (world_of t) name recursive))) _
-      (busy_is t bare views (snaps_within (world_of t) (file_systems_named (world_of t) name recursive)))
-      (no_clone_outside t bare views (file_systems_named (world_of t) name recursive) (snaps_within (world_of t) (file_systems_named (world_of t) name recursive)))
+  refusal_is = first-of (is_some (get t.file_systems name)) (same_name name root_name) (not recursive && (has_children t name || nat_lt 0 (length (ids_at t name ++ [])))) _
+      (list_any (is_viewed views) (snaps_within (world_of t) going)) (has_clone_outside (world_of t) going (snaps_within (world_of t) going))
+      (busy_is t bare views (snaps_within (world_of t) going))
 
   pub refused_gone : get t.file_systems name ≡ None → destroy_refusal t views (OfFileSystem name) recursive defer ≡ Some NoDataset
   refused_gone at = refusal_is ∙ ap viewed_of at
 
 module _ (t : Datasets) (good : AreFileSystems t.file_systems t.group) (bare : AreBare t.file_systems) (views : Views) (name : List ℕ) (defer : Bool) (f : FileSystem) (at : get t.file_systems name ≡ Some f) where
+  -- of one alone
+  abbrev busy : Bool
+  busy = list_any (is_viewed views) (snaps_within (world_of t) (name ∷ []))
+
+  abbrev cloned : Bool
+  cloned = has_clone_outside (world_of t) (name ∷ []) (snaps_within (world_of t) (name ∷ []))
+
   pub refused_there : (recursive : Bool) → destroy_refusal t views (OfFileSystem name) recursive defer
-      ≡ refusal_with (same_name name root_name) recursive defer (nat_lt 0 (length (children_of (world_of t) name))) (length f.snaps) (family_viewed t views name)
+      ≡ refusal_with (same_name name root_name) recursive defer (nat_lt 0 (length (children_of (world_of t) name))) (length f.snaps) (family_refusal t views name)
   refused_there true = refusal_is t bare views name true defer ∙ ap (viewed_of t bare views name true defer) at
-      ∙ ap (λ b. cond {A = Option Refusal} (same_name name root_name) (Some IsRoot) (cond defer (Some NotSnapshot) (cond b (Some Busy) None))) (family_is t good views name)
+      ∙ (λ i. cond {A = Option Refusal} (same_name name root_name) (Some IsRoot) (cond defer (Some NotSnapshot)
+      (cond (family_is t good views name i) (Some Busy) (cond (cloned_outside t good name i) (Some HasClones) None))))
   refused_there false = refusal_is t bare views name false defer ∙ ap (viewed_of t bare views name false defer) at
       ∙ ap (λ (r : Option Refusal). cond {A = Option Refusal} (same_name name root_name) (Some IsRoot) (cond defer (Some NotSnapshot) r))
       (by_count f.snaps refl (has_children t name))
     where
-      none_viewed : f.snaps ≡ [] → list_any (is_viewed views) (snaps_within (world_of t) (name ∷ [])) ≡ false
+      none_viewed : f.snaps ≡ [] → busy ≡ false
       none_viewed e = ap (λ x. list_any (is_viewed views) (option_map_or (λ (g : FileSystem). map {A = Snap} id_of g.snaps) x [] ++ [])) at ∙ ap (λ l. list_any (is_viewed views) (map {A = Snap} id_of l ++ [])) e
 
+      none_cloned : f.snaps ≡ [] → cloned ≡ false
+      none_cloned e = ap (λ x. has_clone_outside (world_of t) (name ∷ []) (option_map_or (λ (g : FileSystem). map {A = Snap} id_of g.snaps) x [] ++ [])) at
+          ∙ ap (λ l. has_clone_outside (world_of t) (name ∷ []) (map {A = Snap} id_of l ++ [])) e
+
       by_count : (l : List Snap) → f.snaps ≡ l → (children : Bool)
-          → cond {A = Option Refusal} (children || nat_lt 0 (length (map {A = Snap} id_of f.snaps ++ []))) (Some HasChildren) (cond (list_any (is_viewed views) (snaps_within (world_of t) (name ∷ []))) (Some Busy) None)
+          → cond {A = Option Refusal} (children || nat_lt 0 (length (map {A = Snap} id_of f.snaps ++ []))) (Some HasChildren) (cond busy (Some Busy) (cond cloned (Some HasClones) None))
           ≡ cond {A = Option Refusal} (children || nat_lt 0 (length f.snaps)) (Some HasChildren) None
       by_count l e true = refl
       by_count [] e false =
-          (λ i. cond {A = Option Refusal} (nat_lt 0 (length (map {A = Snap} id_of (e i) ++ []))) (Some HasChildren) (cond (none_viewed e i) (Some Busy) None))
+          (λ i. cond {A = Option Refusal} (nat_lt 0 (length (map {A = Snap} id_of (e i) ++ []))) (Some HasChildren) (cond (none_viewed e i) (Some Busy) (cond (none_cloned e i) (Some HasClones) None)))
           ∙ sym (ap (λ (l : List Snap). cond {A = Option Refusal} (nat_lt 0 (length l)) (Some HasChildren) None) e)
       by_count (u ∷ us) e false =
-          ap (λ (l : List Snap). cond {A = Option Refusal} (nat_lt 0 (length (map {A = Snap} id_of l ++ []))) (Some HasChildren) (cond (list_any (is_viewed views) (snaps_within (world_of t) (name ∷ []))) (Some Busy) None)) e
-          ∙ ap (λ b. cond {A = Option Refusal} b (Some HasChildren) (cond (list_any (is_viewed views) (snaps_within (world_of t) (name ∷ []))) (Some Busy) None)) (lt-ltb 0 (length (id_of u ∷ (map {A = Snap} id_of us ++ []))) (omega arith))
+          ap (λ (l : List Snap). cond {A = Option Refusal} (nat_lt 0 (length (map {A = Snap} id_of l ++ []))) (Some HasChildren) (cond busy (Some Busy) (cond cloned (Some HasClones) None))) e
+          ∙ ap (λ b. cond {A = Option Refusal} b (Some HasChildren) (cond busy (Some Busy) (cond cloned (Some HasClones) None))) (lt-ltb 0 (length (id_of u ∷ (map {A = Snap} id_of us ++ []))) (omega arith))
           ∙ sym (ap (λ b. cond {A = Option Refusal} b (Some HasChildren) None) (lt-ltb 0 (length (u ∷ us)) (omega arith)))
           ∙ sym (ap (λ (l : List Snap). cond {A = Option Refusal} (nat_lt 0 (length l)) (Some HasChildren) None) e)
 
-pub any_of : (p : List ℕ → Bool) (rows : List Row) → list_any (λ (r : Row). p r.0) rows ≡ nat_lt 0 (length (filter p (map (λ (r : Row). r.0) rows)))
+pub any_of : (p : List ℕ → Bool) (rows : List Entry) → list_any (λ (r : Entry). p r.0) rows ≡ nat_lt 0 (length (filter p (map (λ (r : Entry). r.0) rows)))
 any_of p [] = refl
 any_of p (r ∷ rows) = by_test (p r.0) (any_of p rows)
   where
-    by_test : (b : Bool) → list_any (λ (r : Row). p r.0) rows ≡ nat_lt 0 (length (filter p (map (λ (r : Row). r.0) rows)))
-        → (b || list_any (λ (r : Row). p r.0) rows) ≡ nat_lt 0 (length (cond b (r.0 ∷ filter p (map (λ (r : Row). r.0) rows)) (filter p (map (λ (r : Row). r.0) rows))))
-    by_test true ih = sym (lt-ltb 0 (length (r.0 ∷ filter p (map (λ (r : Row). r.0) rows))) (omega arith))
+    by_test : (b : Bool) → list_any (λ (r : Entry). p r.0) rows ≡ nat_lt 0 (length (filter p (map (λ (r : Entry). r.0) rows)))
+        → (b || list_any (λ (r : Entry). p r.0) rows) ≡ nat_lt 0 (length (cond b (r.0 ∷ filter p (map (λ (r : Entry). r.0) rows)) (filter p (map (λ (r : Entry). r.0) rows))))
+    by_test true ih = sym (lt-ltb 0 (length (r.0 ∷ filter p (map (λ (r : Entry). r.0) rows))) (omega arith))
     by_test false ih = ih
 
 some_in : {A : Type 0} (xs : List A) (a : A) → IsIn xs a → nat_lt 0 (length xs) ≡ true
@@ -162,7 +180,7 @@ module _ (t : Datasets) (good : AreFileSystems t.file_systems t.group) (bare : A
   pub root_stays : same_name name root_name ≡ false
   root_stays = by_system (get t.file_systems name) refl
     where
-      by_root : (b : Bool) (f : FileSystem) → refusal_with b recursive defer (nat_lt 0 (length (children_of (world_of t) name))) (length f.snaps) (family_viewed t views name) ≡ None → b ≡ false
+      by_root : (b : Bool) (f : FileSystem) → refusal_with b recursive defer (nat_lt 0 (length (children_of (world_of t) name))) (length f.snaps) (family_refusal t views name) ≡ None → b ≡ false
       by_root true f e = absurd (no_refusal IsRoot e)
       by_root false f e = refl
 
@@ -173,10 +191,28 @@ module _ (t : Datasets) (good : AreFileSystems t.file_systems t.group) (bare : A
   pub not_root : ¬ (name ≡ root_name)
   not_root e = other_name name root_stays (sym e)
 
-  pub may_remove : recursive ≡ false → CanRemove t name
-  may_remove alone = by_system (get t.file_systems name) refl
+  -- with -r each clone is inside
+  pub inside : recursive ≡ true → AreClonesInside t name
+  inside all = by_system (get t.file_systems name) refl
     where
-      bare_of : (root d : Bool) (f : FileSystem) → refusal_with root false d (has_children t name) (length f.snaps) (family_viewed t views name) ≡ None → (has_children t name || nat_lt 0 (length f.snaps)) ≡ false
+      by_tests : (root d viewed outside : Bool) (children : Bool) (snaps : ℕ)
+          → refusal_with root true d children snaps (cond {A = Option Refusal} viewed (Some Busy) (cond outside (Some HasClones) None)) ≡ None → outside ≡ false
+      by_tests true d viewed outside children snaps e = absurd (no_refusal IsRoot e)
+      by_tests false true viewed outside children snaps e = absurd (no_refusal NotSnapshot e)
+      by_tests false false true outside children snaps e = absurd (no_refusal Busy e)
+      by_tests false false false true children snaps e = absurd (no_refusal HasClones e)
+      by_tests false false false false children snaps e = refl
+
+      by_system : (x : Option FileSystem) → get t.file_systems name ≡ x → AreClonesInside t name
+      by_system None at = absurd (no_refusal NoDataset (sym (refused_gone t bare views name recursive defer at) ∙ none))
+      by_system (Some f) at = clones_inside t good name (by_tests (same_name name root_name) defer (family_viewed t views name) (list_any (is_outside_clone t name) (entries t.file_systems))
+          (has_children t name) (length f.snaps)
+          (sym (refused_there t good bare views name defer f at true) ∙ subst (λ b. destroy_refusal t views (OfFileSystem name) b defer ≡ None) all none))
+
+  pub may_remove : recursive ≡ false → CanRemove t name
+  may_remove single = by_system (get t.file_systems name) refl
+    where
+      bare_of : (root d : Bool) (f : FileSystem) → refusal_with root false d (has_children t name) (length f.snaps) (family_refusal t views name) ≡ None → (has_children t name || nat_lt 0 (length f.snaps)) ≡ false
       bare_of true d f e = absurd (no_refusal IsRoot e)
       bare_of false true f e = absurd (no_refusal NotSnapshot e)
       bare_of false false f e = by_test (has_children t name || nat_lt 0 (length f.snaps)) e
@@ -188,7 +224,7 @@ module _ (t : Datasets) (good : AreFileSystems t.file_systems t.group) (bare : A
       by_system : (x : Option FileSystem) → get t.file_systems name ≡ x → CanRemove t name
       by_system None at = absurd (no_refusal NoDataset (sym (refused_gone t bare views name recursive defer at) ∙ none))
       by_system (Some f) at =
-          let free = bare_of (same_name name root_name) defer f (sym (refused_there t good bare views name defer f at false) ∙ subst (λ b. destroy_refusal t views (OfFileSystem name) b defer ≡ None) alone none) in
+          let free = bare_of (same_name name root_name) defer f (sym (refused_there t good bare views name defer f at false) ∙ subst (λ b. destroy_refusal t views (OfFileSystem name) b defer ≡ None) single none) in
           record {
             system = f;
             there = at;
@@ -198,6 +234,6 @@ module _ (t : Datasets) (good : AreFileSystems t.file_systems t.group) (bare : A
                 let child : option_map_or (same_name name) (parent_of q) false ≡ true = ap (λ (y : Option (List ℕ)). option_map_or (same_name name) y false) (p.named ∙ ap Some parent) ∙ name_itself name in
                 true≢false (sym (some_in (children_of (world_of t) name) q
                 (in_filter (λ n. option_map_or (same_name name) (parent_of n) false) (keys t.file_systems) q
-                (map_in (λ (r : Row). r.0) (entries t.file_systems) (q, s.0) (in_entries (entries t.file_systems) q s.0 (entry_of name_order t.file_systems q s.0 s.1)))
+                (map_in (λ (r : Entry). r.0) (entries t.file_systems) (q, s.0) (in_entries (entries t.file_systems) q s.0 (entry_of name_order t.file_systems q s.0 s.1)))
                 child)) ∙ or_left (has_children t name) (nat_lt 0 (length f.snaps)) free);
           }

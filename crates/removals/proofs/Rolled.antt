@@ -4,7 +4,7 @@ use Rattle.std.specs.Prelude.{nat_le, nat_lt, is_some, ◌&&◌, ◌||◌}
 use Rattle.base.specs.declared.refusal.Refusal.{Refusal}
 use Rattle.base.specs.declared.refusal.Refusal.TheVariants.{NoDataset, NotNewest, Busy, HasClones}
 use Rattle.std.specs.List.{find, filter, last_or, list_any}
-use Rattle.std.proofs.lemmas.Bool.{lt-ltb, le-ltb, ltb-true}
+use Rattle.std.proofs.lemmas.Bool.{lt-ltb, ltb-true}
 use Rattle.std.specs.Option.{option_map, option_map_or, option_and_then}
 use Rattle.std.specs.FinMap as finmap
 use Rattle.std.specs.FinMap.{get, insert, entries, from_entries, same_map, get-from_entries, get-empty, len-entries, len-empty}
@@ -17,9 +17,10 @@ use Rattle.model.specs.World.{World, FileSystem, Snap, SnapId, Bookmark, id_of, 
 use Rattle.model.specs.Edits.{without_snaps, with_file_system}
 use Rattle.model.specs.State.{Views, is_viewed}
 use Rattle.model.specs.requests.Rollback.{snaps_upto, snaps_after, back_at, after_rollback, placed, newer_snaps}
-use Rattle.file_systems.specs.Losses.{newest_map}
-use Rattle.file_systems.specs.Writes.{newest_group}
-use Rattle.file_systems.specs.Rows.{Row, live_of, snaps_at, with_live}
+use Rattle.file_system.specs.Losses.{newest_map}
+use Rattle.file_system.specs.Origins.{origin_group}
+use Rattle.file_system.specs.Writes.{newest_group}
+use Rattle.file_system.specs.Rows.{Entry, live_of, snaps_at, with_live}
 use Rattle.world.specs.Shapes.{Name, name_order}
 use Rattle.world.specs.Worlds.{FileSystems, AreRising, AreFileSystems}
 use Rattle.world.specs.Outcomes.{is_one_of}
@@ -31,15 +32,16 @@ use Rattle.world.proofs.Promotions.{split_at, upto_is, after_is, append_assoc}
 use Rattle.world.proofs.Put.{put_here, put_other}
 use Rattle.world.proofs.Bridge.{start, rising, rising_above, one_snap, snap_is_at, in_middle}
 use Rattle.world.proofs.WithoutSnaps.{get-without, any_in, any_from}
-use Rattle.removals.specs.Named.{without_all, member_of, newer_members, is_viewed_after}
+use Rattle.removals.specs.Named.{without_all, member_of, newer_members, has_clone, is_named_cloned, is_viewed_after, is_cloned_after}
 use Rattle.removals.specs.Requests.{rolled, rollback_refusal, refusal_at, AreBare}
-use Rattle.removals.proofs.Bare.{busy_is, no_clone_outside, no_newer_bookmark}
+use Rattle.removals.proofs.Bare.{busy_is, no_newer_bookmark}
+use Rattle.removals.proofs.Clones.{outside_is}
 use Rattle.removals.proofs.Seen.{any_later}
 use Rattle.removals.proofs.Named.{AreNamesOnce, names_once, ids_of, all_are}
 
 -- each snapshot of a file system is found by its name
-module _ (t : Datasets) (once : AreNamesOnce t.file_systems) (r : Row) (at : get t.file_systems r.0 ≡ Some r.1) where
-  found_itself : (u : Snap) → IsIn r.1.snaps u → snap_named (world_of t) (member_of r u) ≡ Some u
+module _ (t : Datasets) (once : AreNamesOnce t.file_systems) (r : Entry) (at : get t.file_systems r.0 ≡ Some r.1) where
+  pub found_itself : (u : Snap) → IsIn r.1.snaps u → snap_named (world_of t) (member_of r u) ≡ Some u
   found_itself u h =
       ap (option_and_then (λ (f : FileSystem). find (λ (v : Snap). same_name v.name u.name) f.snaps)) at
       ∙ find_only (λ (v : Snap). same_name v.name u.name) r.1.snaps u h (name_itself u.name) (λ y i n. once r.0 r.1 at y u i h (one_name y.name u.name n))
@@ -50,8 +52,20 @@ module _ (t : Datasets) (once : AreNamesOnce t.file_systems) (r : Row) (at : get
       ap (λ x. option_map_or (λ (s : Snap). id_of s ∷ []) x [] ++ ids_of t (map (member_of r) us)) (found_itself u (each u (inl refl)))
       ∙ ap (λ l. id_of u ∷ l) (ids_are us (λ v i. each v (inr i)))
 
+  -- those of a later group that have a clone
+  pub later_named : (group : ℕ) (us : List Snap) → ((u : Snap) → IsIn us u → IsIn r.1.snaps u)
+      → list_any (is_named_cloned t) (map (member_of r) (filter (λ (u : Snap). nat_lt group u.group) us)) ≡ list_any (is_cloned_after t group) us
+  later_named group [] each = refl
+  later_named group (u ∷ us) each = by_test (nat_lt group u.group) (later_named group us (λ v i. each v (inr i)))
+    where
+      by_test : (b : Bool) → list_any (is_named_cloned t) (map (member_of r) (filter (λ (u : Snap). nat_lt group u.group) us)) ≡ list_any (is_cloned_after t group) us
+          → list_any (is_named_cloned t) (map (member_of r) (cond b (u ∷ filter (λ (u : Snap). nat_lt group u.group) us) (filter (λ (u : Snap). nat_lt group u.group) us)))
+          ≡ ((b && has_clone t (id_of u)) || list_any (is_cloned_after t group) us)
+      by_test true ih = λ i. option_map_or (λ (s : Snap). has_clone t (id_of s)) (found_itself u (each u (inl refl)) i) false || ih i
+      by_test false ih = ih
+
 -- the last snapshots of one file system go
-module _ (t : Datasets) (good : AreFileSystems t.file_systems t.group) (r : Row) (at : get t.file_systems r.0 ≡ Some r.1) (older newer : List Snap) (is : r.1.snaps ≡ older ++ newer) where
+module _ (t : Datasets) (good : AreFileSystems t.file_systems t.group) (r : Entry) (at : get t.file_systems r.0 ≡ Some r.1) (older newer : List Snap) (is : r.1.snaps ≡ older ++ newer) where
   abbrev ids : List SnapId
   ids = map (λ (u : Snap). id_of u) newer
 
@@ -106,7 +120,7 @@ module _ (t : Datasets) (good : AreFileSystems t.file_systems t.group) (r : Row)
       ∙ ap (λ l. record t { file_systems = (without_snaps (world_of t) (is_one_of l)).file_systems }) (ids_are t (names_once t good) r at newer (λ u i. subst (λ l. IsIn l u) (sym is) (in_right older newer u i)))
       ∙ ap (λ ss. record t { file_systems = ss }) shorter
 
-insert_twice : (ss : FileSystems) (name : Name) (a b : FileSystem) → insert (insert ss name a) name b ≡ insert ss name b
+pub insert_twice : (ss : FileSystems) (name : Name) (a b : FileSystem) → insert (insert ss name a) name b ≡ insert ss name b
 insert_twice ss name a b = same_map name_order.total name_order.exact _ _ (λ q. ⊎_elim
     (λ (same : q ≡ name). ap (get (insert (insert ss name a) name b)) same ∙ put_here (insert ss name a) name b ∙ sym (put_here ss name b) ∙ ap (get (insert ss name b)) (sym same))
     (λ (ne : ¬ (q ≡ name)). put_other (insert ss name a) name b q ne ∙ put_other ss name a q ne ∙ sym (put_other ss name b q ne))
@@ -128,7 +142,7 @@ no_entries : entries (finmap.empty {K = List ℕ} {X = Bookmark} {R = name_cmp})
 no_entries = none_of (entries (finmap.empty {K = List ℕ} {X = Bookmark} {R = name_cmp})) (sym (len-entries finmap.empty) ∙ len-empty name_cmp Bookmark)
 
 -- a file system goes back to a snapshot that stands between these
-module _ (t : Datasets) (good : AreFileSystems t.file_systems t.group) (r : Row) (at : get t.file_systems r.0 ≡ Some r.1) (older : List Snap) (s : Snap) (newer : List Snap) (is : r.1.snaps ≡ older ++ s ∷ newer) where
+module _ (t : Datasets) (good : AreFileSystems t.file_systems t.group) (r : Entry) (at : get t.file_systems r.0 ≡ Some r.1) (older : List Snap) (s : Snap) (newer : List Snap) (is : r.1.snaps ≡ older ++ s ∷ newer) where
   rises : AreRising (start t.file_systems t.group good.lines r.0 r.1 at).base (older ++ s ∷ newer)
   rises = subst (AreRising (start t.file_systems t.group good.lines r.0 r.1 at).base) is (rising t.file_systems t.group good.lines r.0 r.1 at)
 
@@ -185,10 +199,11 @@ module _ (t : Datasets) (good : AreFileSystems t.file_systems t.group) (r : Row)
 
 -- ---- whether a snapshot is the newest
 
-newest_high : (ts : List Snap) (t : Snap) → AreRising t.group ts → (t.group ≤ option_map_or (λ (u : Snap). u.group) (last_or (Some t) ts) 0) × ((u : Snap) → IsIn ts u → u.group ≤ option_map_or (λ (u : Snap). u.group) (last_or (Some t) ts) 0)
-newest_high [] t r = (omega arith, λ u i. absurd i)
-newest_high (x ∷ xs) t r =
-    let k = newest_high xs x r.1 in
+newest_high : (base : ℕ) (ts : List Snap) (t : Snap) → AreRising t.group ts
+    → (t.group ≤ option_map_or (λ (u : Snap). u.group) (last_or (Some t) ts) base) × ((u : Snap) → IsIn ts u → u.group ≤ option_map_or (λ (u : Snap). u.group) (last_or (Some t) ts) base)
+newest_high base [] t r = (omega arith, λ u i. absurd i)
+newest_high base (x ∷ xs) t r =
+    let k = newest_high base xs x r.1 in
     let a = k.0 in
     let l = r.0 in
     (omega arith, λ u i. ⊎_elim (λ (e : u ≡ x). let m = ap (λ (y : Snap). y.group) e in omega arith) (λ j. k.1 u j) i)
@@ -197,30 +212,30 @@ newest_there : (ts : List Snap) (t : Snap) → (u : Snap) × ((u ≡ t) ⊎ IsIn
 newest_there [] t = (t, inl refl, refl)
 newest_there (x ∷ xs) t = let k = newest_there xs x in (k.0, inr k.1, k.2)
 
-pub is_newer : (g low : ℕ) (ts : List Snap) → AreRising low ts → nat_lt g (newest_group ts) ≡ nat_lt 0 (length (filter (λ (u : Snap). nat_lt g u.group) ts))
-is_newer g low [] up = le-ltb g 0 (omega arith)
-is_newer g low (t ∷ ts) up = by_list (filter (λ (u : Snap). nat_lt g u.group) (t ∷ ts)) refl
+pub is_newer : (g base low : ℕ) (ts : List Snap) (s : Snap) → IsIn ts s → AreRising low ts → nat_lt g (newest_group base ts) ≡ nat_lt 0 (length (filter (λ (u : Snap). nat_lt g u.group) ts))
+is_newer g base low [] s i up = absurd i
+is_newer g base low (t ∷ ts) s i up = by_list (filter (λ (u : Snap). nat_lt g u.group) (t ∷ ts)) refl
   where
-    by_group : (b : Bool) → nat_lt g (newest_group (t ∷ ts)) ≡ b → filter (λ (u : Snap). nat_lt g u.group) (t ∷ ts) ≡ [] → nat_lt g (newest_group (t ∷ ts)) ≡ false
+    by_group : (b : Bool) → nat_lt g (newest_group base (t ∷ ts)) ≡ b → filter (λ (u : Snap). nat_lt g u.group) (t ∷ ts) ≡ [] → nat_lt g (newest_group base (t ∷ ts)) ≡ false
     by_group false k e = k
     by_group true k e =
         let n = newest_there ts t in
-        let high : nat_lt g n.0.group ≡ true = sym (ap (λ (x : Option Snap). nat_lt g (option_map_or (λ (u : Snap). u.group) x 0)) n.2) ∙ k in
+        let high : nat_lt g n.0.group ≡ true = sym (ap (λ (x : Option Snap). nat_lt g (option_map_or (λ (u : Snap). u.group) x base)) n.2) ∙ k in
         absurd (subst (λ l. IsIn l n.0) e (in_filter (λ (u : Snap). nat_lt g u.group) (t ∷ ts) n.0 n.1 high))
 
-    by_list : (l : List Snap) → filter (λ (u : Snap). nat_lt g u.group) (t ∷ ts) ≡ l → nat_lt g (newest_group (t ∷ ts)) ≡ nat_lt 0 (length (filter (λ (u : Snap). nat_lt g u.group) (t ∷ ts)))
-    by_list [] e = by_group (nat_lt g (newest_group (t ∷ ts))) refl e ∙ sym (ap (λ (l : List Snap). nat_lt 0 (length l)) e)
+    by_list : (l : List Snap) → filter (λ (u : Snap). nat_lt g u.group) (t ∷ ts) ≡ l → nat_lt g (newest_group base (t ∷ ts)) ≡ nat_lt 0 (length (filter (λ (u : Snap). nat_lt g u.group) (t ∷ ts)))
+    by_list [] e = by_group (nat_lt g (newest_group base (t ∷ ts))) refl e ∙ sym (ap (λ (l : List Snap). nat_lt 0 (length l)) e)
     by_list (x ∷ xs) e =
         let k = from_filter (λ (u : Snap). nat_lt g u.group) (t ∷ ts) x (subst (λ l. IsIn l x) (sym e) (inl refl)) in
         let m = ltb-true g x.group k.1 in
-        let h = newest_high ts t up.1 in
+        let h = newest_high base ts t up.1 in
         let a = h.0 in
-        let above : x.group ≤ newest_group (t ∷ ts) = ⊎_elim (λ (i : x ≡ t). let c = ap (λ (y : Snap). y.group) i in omega arith) (λ i. h.1 x i) k.0 in
-        lt-ltb g (newest_group (t ∷ ts)) (omega arith) ∙ sym (lt-ltb 0 (length (x ∷ xs)) (omega arith)) ∙ sym (ap (λ (l : List Snap). nat_lt 0 (length l)) e)
+        let above : x.group ≤ newest_group base (t ∷ ts) = ⊎_elim (λ (i : x ≡ t). let c = ap (λ (y : Snap). y.group) i in omega arith) (λ i. h.1 x i) k.0 in
+        lt-ltb g (newest_group base (t ∷ ts)) (omega arith) ∙ sym (lt-ltb 0 (length (x ∷ xs)) (omega arith)) ∙ sym (ap (λ (l : List Snap). nat_lt 0 (length l)) e)
 
 -- ---- what a rollback finds
 
-pub back_of : (t : Datasets) → AreFileSystems t.file_systems t.group → (r : Row) → get t.file_systems r.0 ≡ Some r.1 → r.1.bookmarks ≡ finmap.empty → (component : List ℕ) (g : ℕ)
+pub back_of : (t : Datasets) → AreFileSystems t.file_systems t.group → (r : Entry) → get t.file_systems r.0 ≡ Some r.1 → r.1.bookmarks ≡ finmap.empty → (component : List ℕ) (g : ℕ)
     → option_map (λ (u : Snap). u.group) (find (λ (v : Snap). same_name v.name component) r.1.snaps) ≡ Some g
     → (u : Datasets) → u ≡ without_all t (newer_members r g)
     → (length (snaps_at u.file_systems r.0) ≡ 0 → ⊥)
@@ -239,23 +254,19 @@ back_of t good r at none component g told u to = by_snap (find (λ (v : Snap). s
 
 -- ---- why it is refused
 
--- what was found under a name
-pub told_of : (n : List ℕ) (r : Row) (x : Option FileSystem) → ◌≡◌ {A = Option Row} (Some r) (option_map (λ (f : FileSystem). (n, f)) x) → (r.0 ≡ n) × (x ≡ Some r.1)
-told_of n r None e = absurd (no_value r (sym e))
-told_of n r (Some f) e = let k = same_value r (n, f) e in (ap (λ (y : Row). y.0) k, ap (λ (y : Row). Some y.1) (sym k))
-
 -- the snapshots newer than the one that was found
 abbrev newer_of : Option (FileSystem × Snap) → List SnapId
 newer_of p = option_map_or (λ (q : FileSystem × Snap). map {A = Snap} id_of (snaps_after q.0 q.1.group)) p []
 
-abbrev refusal_where : Views → Bool → Option (FileSystem × Snap) → Option Refusal
-refusal_where views later p =
-    cond (not (is_some p)) (Some NoDataset) (cond (not later && nat_lt 0 (length (newer_of p))) (Some NotNewest) (cond (list_any (is_viewed views) (newer_of p)) (Some Busy) None))
+abbrev refusal_where : Datasets → Views → Bool → Option (FileSystem × Snap) → Option Refusal
+refusal_where t views later p =
+    cond (not (is_some p)) (Some NoDataset)
+    (cond (not later && nat_lt 0 (length (newer_of p))) (Some NotNewest) (cond (list_any (is_viewed views) (newer_of p)) (Some Busy) (cond (list_any (has_clone t) (newer_of p)) (Some HasClones) None)))
 
-first-back : (is_there late newer mark busy viewed clones : Bool) → mark ≡ false → busy ≡ viewed → clones ≡ false
-    → cond {A = Option Refusal} (not is_there) (Some NoDataset) (cond (not late && (newer || mark)) (Some NotNewest) (cond busy (Some Busy) (cond clones (Some HasClones) None)))
-    ≡ cond {A = Option Refusal} (not is_there) (Some NoDataset) (cond (not late && newer) (Some NotNewest) (cond viewed (Some Busy) None))
-first-back is_there late newer mark busy viewed clones a b c =
+first-back : (is_there late newer mark busy viewed outside cloned : Bool) → mark ≡ false → busy ≡ viewed → outside ≡ cloned
+    → cond {A = Option Refusal} (not is_there) (Some NoDataset) (cond (not late && (newer || mark)) (Some NotNewest) (cond busy (Some Busy) (cond outside (Some HasClones) None)))
+    ≡ cond {A = Option Refusal} (not is_there) (Some NoDataset) (cond (not late && newer) (Some NotNewest) (cond viewed (Some Busy) (cond cloned (Some HasClones) None)))
+first-back is_there late newer mark busy viewed outside cloned a b c =
     λ i. cond {A = Option Refusal} (not is_there) (Some NoDataset) (cond (not late && (ap (λ m. newer || m) a ∙ or_none newer) i) (Some NotNewest) (cond (b i) (Some Busy) (cond (c i) (Some HasClones) None)))
   where
     or_none : (x : Bool) → (x || false) ≡ x
@@ -284,20 +295,32 @@ told_placed t m f s told = by_system (get t.file_systems m.file_system) refl tol
             (at ∙ ap Some system, ap found (sym system) ∙ k ∙ ap (λ (x : FileSystem × Snap). Some x.1) same)
 
 module _ (t : Datasets) (bare : AreBare t.file_systems) (views : Views) (m : Member) (later : Bool) where
-  refusal_is : rollback_refusal t views (OfSnapshot m) later ≡ refusal_where views later (placed (world_of t) (OfSnapshot m))
+  refusal_is : rollback_refusal t views (OfSnapshot m) later ≡ refusal_where t views later (placed (world_of t) (OfSnapshot m))
   refusal_is = first-back (is_some (placed (world_of t) (OfSnapshot m))) later (nat_lt 0 (length (newer_snaps (world_of t) (OfSnapshot m)))) _ _
-      (list_any (is_viewed views) (newer_snaps (world_of t) (OfSnapshot m))) _
-      (no_newer_bookmark t bare views m) (busy_is t bare views (newer_snaps (world_of t) (OfSnapshot m))) (no_clone_outside t bare views [] (newer_snaps (world_of t) (OfSnapshot m)))
+      (list_any (is_viewed views) (newer_snaps (world_of t) (OfSnapshot m))) _ (list_any (has_clone t) (newer_snaps (world_of t) (OfSnapshot m)))
+      (no_newer_bookmark t bare views m) (busy_is t bare views (newer_snaps (world_of t) (OfSnapshot m))) (outside_is t (newer_snaps (world_of t) (OfSnapshot m)))
 
   -- there is no such snapshot
   pub refused_missing : placed (world_of t) (OfSnapshot m) ≡ None → rollback_refusal t views (OfSnapshot m) later ≡ Some NoDataset
-  refused_missing none = refusal_is ∙ ap (refusal_where views later) none
+  refused_missing none = refusal_is ∙ ap (refusal_where t views later) none
 
   -- there is one
-  pub refused_at : AreFileSystems t.file_systems t.group → (name : Name) (f : FileSystem) → get t.file_systems name ≡ Some f → (s : Snap) → placed (world_of t) (OfSnapshot m) ≡ Some (f, s)
-      → rollback_refusal t views (OfSnapshot m) later ≡ refusal_at f s.group views later
-  refused_at good name f at s found =
-      refusal_is ∙ ap (refusal_where views later) found
-      ∙ (λ i. cond (not later && nat_lt 0 (length-mapped id_of (snaps_after f s.group) i)) (Some NotNewest) (cond (any_later views s.group f.snaps i) (Some Busy) None))
-      ∙ ap (λ b. cond (not later && b) (Some NotNewest) (cond (list_any (is_viewed_after views s.group) f.snaps) (Some Busy) None))
-      (sym (is_newer s.group _ f.snaps (rising t.file_systems t.group good.lines name f at)))
+  pub refused_at : AreFileSystems t.file_systems t.group → (name : Name) (f : FileSystem) → get t.file_systems name ≡ Some f → (s : Snap) → IsIn f.snaps s → placed (world_of t) (OfSnapshot m) ≡ Some (f, s)
+      → rollback_refusal t views (OfSnapshot m) later ≡ refusal_at t f s.group views later
+  refused_at good name f at s i found =
+      refusal_is ∙ ap (refusal_where t views later) found
+      ∙ (λ i. cond (not later && nat_lt 0 (length-mapped id_of (snaps_after f s.group) i)) (Some NotNewest)
+      (cond (any_later (is_viewed views) s.group f.snaps i) (Some Busy) (cond (any_later (has_clone t) s.group f.snaps i) (Some HasClones) None)))
+      ∙ ap (λ b. cond (not later && b) (Some NotNewest) (cond (list_any (is_viewed_after views s.group) f.snaps) (Some Busy) (cond (list_any (is_cloned_after t s.group) f.snaps) (Some HasClones) None)))
+      (sym (is_newer s.group (origin_group f.origin) _ f.snaps s i (rising t.file_systems t.group good.lines name f at)))
+
+-- where nothing refuses it, no newer snapshot has a clone
+pub none_cloned : (t : Datasets) (f : FileSystem) (group : ℕ) (views : Views) (later : Bool) → refusal_at t f group views later ≡ None → list_any (is_cloned_after t group) f.snaps ≡ false
+none_cloned t f group views later e =
+    by_tests (not later && nat_lt group (newest_group (origin_group f.origin) f.snaps)) (list_any (is_viewed_after views group) f.snaps) (list_any (is_cloned_after t group) f.snaps) e
+  where
+    by_tests : (newer viewed cloned : Bool) → cond {A = Option Refusal} newer (Some NotNewest) (cond viewed (Some Busy) (cond cloned (Some HasClones) None)) ≡ None → cloned ≡ false
+    by_tests true viewed cloned e = absurd (no_value NotNewest (sym e))
+    by_tests false true cloned e = absurd (no_value Busy (sym e))
+    by_tests false false true e = absurd (no_value HasClones (sym e))
+    by_tests false false false e = refl

@@ -1,10 +1,9 @@
 -- Open views and the snapshots that they show.
-use Rattle.std.proofs.Common.{◌≡◌, ◌⊎◌, ℕ, Bool, true, false, cond, ◌&&◌, ◌||◌, List, [], ◌∷◌, ◌++◌, map, Option, Some, None, refl, sym, ap, subst, ◌∙◌, true≢false, inl, inr, ⊎_elim}
+use Rattle.std.proofs.Common.{◌≡◌, ◌⊎◌, ℕ, Bool, true, false, cond, ◌&&◌, ◌||◌, List, [], ◌∷◌, ◌++◌, map, Option, Some, None, refl, sym, ap, ◌∙◌, true≢false, inl, inr, ⊎_elim}
 use Rattle.std.specs.Prelude.{nat_lt}
 use Rattle.std.specs.List.{filter, list_any}
 use Rattle.std.specs.Option.{option_map_or}
 use Rattle.std.specs.FinMap.{get, entries, remove, same_map}
-use Rattle.base.specs.Surveys.{IsIn}
 use Rattle.name.specs.declared.member.Member.{Member}
 use Rattle.model.specs.World.{Snap, SnapId, id_of, same_id, snap_named}
 use Rattle.model.specs.State.{Views, is_viewed}
@@ -13,8 +12,7 @@ use Rattle.world.specs.Tables.{Datasets, world_of}
 use Rattle.world.specs.Usage.{IsEntry}
 use Rattle.world.proofs.Finding.{same_id_is}
 use Rattle.world.proofs.ViewedSteps.{viewed}
-use Rattle.world.proofs.Maps.{key_cases, at_entry, get-remove_same, get-remove_other, no_value}
-use Rattle.removals.specs.Named.{is_named_viewed, is_viewed_after}
+use Rattle.world.proofs.Maps.{key_cases, at_entry, get-remove_same, get-remove_other}
 use Rattle.removals.proofs.Named.{ids_of, id_named}
 
 -- ---- a view of a snapshot
@@ -58,17 +56,17 @@ any_join p (x ∷ xs) ys = ap (λ b. p x || b) (any_join p xs ys) ∙ assoc (p x
     assoc true b c = refl
     assoc false b c = refl
 
-pub any_named : (t : Datasets) (views : Views) (ms : List Member) → list_any (is_viewed views) (ids_of t ms) ≡ list_any (is_named_viewed t views) ms
-any_named t views [] = refl
-any_named t views (m ∷ ms) = any_join (is_viewed views) (id_named t m) (ids_of t ms) ∙ (λ i. one (snap_named (world_of t) m) i || any_named t views ms i)
+pub any_named : (t : Datasets) (p : SnapId → Bool) (ms : List Member) → list_any p (ids_of t ms) ≡ list_any (λ m. option_map_or (λ (s : Snap). p (id_of s)) (snap_named (world_of t) m) false) ms
+any_named t p [] = refl
+any_named t p (m ∷ ms) = any_join p (id_named t m) (ids_of t ms) ∙ (λ i. one (snap_named (world_of t) m) i || any_named t p ms i)
   where
     or_none : (b : Bool) → (b || false) ≡ b
     or_none true = refl
     or_none false = refl
 
-    one : (x : Option Snap) → list_any (is_viewed views) (option_map_or (λ (s : Snap). id_of s ∷ []) x []) ≡ option_map_or (λ (s : Snap). is_viewed views (id_of s)) x false
+    one : (x : Option Snap) → list_any p (option_map_or (λ (s : Snap). id_of s ∷ []) x []) ≡ option_map_or (λ (s : Snap). p (id_of s)) x false
     one None = refl
-    one (Some s) = or_none (is_viewed views (id_of s))
+    one (Some s) = or_none (p (id_of s))
 
 -- ---- of those in a list
 
@@ -98,12 +96,12 @@ any_value value p (x ∷ xs) = ap (λ b. p (value x) || b) (any_value value p xs
 
 -- ---- of later groups
 
-pub any_later : (views : Views) (group : ℕ) (us : List Snap) → list_any (is_viewed views) (map id_of (filter (λ (u : Snap). nat_lt group u.group) us)) ≡ list_any (is_viewed_after views group) us
-any_later views group [] = refl
-any_later views group (u ∷ us) = by_test (nat_lt group u.group) (any_later views group us)
+pub any_later : (p : SnapId → Bool) (group : ℕ) (us : List Snap) → list_any p (map id_of (filter (λ (u : Snap). nat_lt group u.group) us)) ≡ list_any (λ (u : Snap). nat_lt group u.group && p (id_of u)) us
+any_later p group [] = refl
+any_later p group (u ∷ us) = by_test (nat_lt group u.group) (any_later p group us)
   where
-    by_test : (b : Bool) → list_any (is_viewed views) (map id_of (filter (λ (u : Snap). nat_lt group u.group) us)) ≡ list_any (is_viewed_after views group) us
-        → list_any (is_viewed views) (map id_of (cond b (u ∷ filter (λ (u : Snap). nat_lt group u.group) us) (filter (λ (u : Snap). nat_lt group u.group) us)))
-        ≡ ((b && is_viewed views (id_of u)) || list_any (is_viewed_after views group) us)
-    by_test true ih = ap (λ b. is_viewed views (id_of u) || b) ih
+    by_test : (b : Bool) → list_any p (map id_of (filter (λ (u : Snap). nat_lt group u.group) us)) ≡ list_any (λ (u : Snap). nat_lt group u.group && p (id_of u)) us
+        → list_any p (map id_of (cond b (u ∷ filter (λ (u : Snap). nat_lt group u.group) us) (filter (λ (u : Snap). nat_lt group u.group) us)))
+        ≡ ((b && p (id_of u)) || list_any (λ (u : Snap). nat_lt group u.group && p (id_of u)) us)
+    by_test true ih = ap (λ b. p (id_of u) || b) ih
     by_test false ih = ih

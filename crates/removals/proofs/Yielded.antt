@@ -1,5 +1,5 @@
 -- The names of the newer ones of the snapshots that an iterator has yielded.
-use Rattle.std.proofs.Common.{◌≡◌, ℕ, Bool, true, false, cond, List, [], ◌∷◌, ◌++◌, Bor, map, refl, sym, ap, ◌∙◌, ⊎_elim, is_gt, nat_cmp, arith}
+use Rattle.std.proofs.Common.{◌≡◌, ℕ, Bool, true, false, cond, List, [], ◌∷◌, ◌++◌, Bor, map, refl, sym, ap, subst, ◌∙◌, inl, inr, ⊎_elim, is_gt, nat_cmp, arith}
 use Rattle.std.specs.Cmp.{nat_cmp_is}
 use Rattle.std.specs.declared.cmp.Ordering.TheVariants.{Less, Equal, Greater}
 use Rattle.std.proofs.lemmas.Bool.{cases_lt, lt-ltb, le-ltb}
@@ -9,20 +9,22 @@ use Rattle.std.specs.Iterator.{Yields, YieldsFirstRef}
 use Rattle.name.specs.declared.member.Member.{Member}
 use Rattle.model.specs.World.{Snap}
 use Rattle.snapshots.specs.declared.kept.Kept.{Kept}
-use Rattle.file_systems.specs.Dead.{snaps_in}
-use Rattle.file_systems.specs.Rows.{Row}
+use Rattle.file_system.specs.Dead.{snaps_in}
+use Rattle.file_system.specs.Rows.{Entry}
 use Rattle.world.specs.Tables.{Datasets}
-use Rattle.world.proofs.Finding.{append_none}
+use Rattle.base.specs.Surveys.{IsIn}
+use Rattle.world.proofs.Listed.{map_in}
+use Rattle.world.proofs.Finding.{append_none, in_filter}
 use Rattle.removals.specs.Named.{without_named, without_all, member_of, newer_members}
 use Rattle.removals.proofs.Named.{all_then}
 
-abbrev pub newer_in : Row → ℕ → List Snap → List Member
+abbrev pub newer_in : Entry → ℕ → List Snap → List Member
 newer_in r group us = map (member_of r) (filter (λ u. nat_lt group u.group) us)
 
-abbrev pub newer_yielded : Row → ℕ → List (Bor Kept) → List Member
+abbrev pub newer_yielded : Entry → ℕ → List (Bor Kept) → List Member
 newer_yielded r group xs = newer_in r group (map (λ x. x.now.snapshot) xs)
 
-newer_join : (r : Row) (group : ℕ) (xs : List (Bor Kept)) (x : Bor Kept) → newer_yielded r group (xs ++ x ∷ []) ≡ newer_yielded r group xs ++ newer_in r group (x.now.snapshot ∷ [])
+newer_join : (r : Entry) (group : ℕ) (xs : List (Bor Kept)) (x : Bor Kept) → newer_yielded r group (xs ++ x ∷ []) ≡ newer_yielded r group xs ++ newer_in r group (x.now.snapshot ∷ [])
 newer_join r group [] x = refl
 newer_join r group (y ∷ ys) x = by_test (nat_lt group y.now.snapshot.group) (newer_join r group ys x)
   where
@@ -32,7 +34,7 @@ newer_join r group (y ∷ ys) x = by_test (nat_lt group y.now.snapshot.group) (n
     by_test true ih = ap (λ l. member_of r y.now.snapshot ∷ l) ih
     by_test false ih = ih
 
-module _ (t u : Datasets) (r : Row) (group : ℕ) (xs : List (Bor Kept)) (x : Bor Kept) (so_far : u ≡ without_all t (newer_yielded r group xs)) where
+module _ (t u : Datasets) (r : Entry) (group : ℕ) (xs : List (Bor Kept)) (x : Bor Kept) (so_far : u ≡ without_all t (newer_yielded r group xs)) where
   -- a newer one goes
   pub newer_goes : nat_lt group x.now.snapshot.group ≡ true → (v : Datasets) → v ≡ without_named u (member_of r x.now.snapshot) → v ≡ without_all t (newer_yielded r group (xs ++ x ∷ []))
   newer_goes newer v is =
@@ -62,8 +64,20 @@ snaps_yielded [] = refl
 snaps_yielded (x ∷ xs) = ap (λ l. x.now.snapshot ∷ l) (snaps_yielded xs)
 
 -- all that a file system has
-pub all_yielded : (r : Row) (group : ℕ) (xs : List (Bor Kept)) → r.1.snaps ≡ snaps_in (map (λ x. x.now) xs) → newer_yielded r group xs ≡ newer_members r group
+pub all_yielded : (r : Entry) (group : ℕ) (xs : List (Bor Kept)) → r.1.snaps ≡ snaps_in (map (λ x. x.now) xs) → newer_yielded r group xs ≡ newer_members r group
 all_yielded r group xs is = ap (newer_in r group) (snaps_yielded xs ∙ sym is)
+
+-- a later one is among them
+pub newer_here : (r : Entry) (group : ℕ) (u : Snap) → IsIn r.1.snaps u → nat_lt group u.group ≡ true → IsIn (newer_members r group) (member_of r u)
+newer_here r group u i newer = map_in (member_of r) (filter (λ u. nat_lt group u.group) r.1.snaps) u (in_filter (λ u. nat_lt group u.group) r.1.snaps u i newer)
+
+-- one that is yielded is there
+pub kept_here : (us : List Snap) (xs : List Kept) (x : Kept) (ys : List Kept) → us ≡ snaps_in (xs ++ x ∷ ys) → IsIn us x.snapshot
+kept_here us xs x ys is = subst (λ l. IsIn l x.snapshot) (sym is) (among xs)
+  where
+    among : (zs : List Kept) → IsIn (snaps_in (zs ++ x ∷ ys)) x.snapshot
+    among [] = inl refl
+    among (z ∷ zs) = inr (among zs)
 
 -- a later group
 pub gt_is : (a g : ℕ) → is_gt (nat_cmp a g) ≡ nat_lt g a

@@ -1,11 +1,11 @@
 -- Snapshots that go by their names.
-use Rattle.std.specs.Prelude.{ℕ, Bool, false, ◌&&◌, List, [], ◌∷◌, map, nat_lt}
+use Rattle.std.specs.Prelude.{ℕ, Bool, false, ◌&&◌, ◌||◌, List, [], ◌∷◌, map, length, nat_lt}
 use Rattle.std.specs.List.{filter}
 use Rattle.std.specs.Option.{option_map_or}
 use Rattle.name.specs.declared.member.Member.{Member}
-use Rattle.model.specs.World.{Snap, id_of, snap_named}
+use Rattle.model.specs.World.{Snap, SnapId, id_of, snap_named, clones_of}
 use Rattle.model.specs.State.{Views, is_viewed}
-use Rattle.file_systems.specs.Rows.{Row}
+use Rattle.file_system.specs.Rows.{Entry}
 use Rattle.world.specs.Tables.{Datasets, world_of, without_snap, deferred_snap}
 
 -- the datasets without the snapshot of this name, and the same where there is none (zfs-destroy(8))
@@ -34,10 +34,30 @@ is_named_viewed t views m = option_map_or (λ s. is_viewed views (id_of s)) (sna
 abbrev pub is_viewed_after : Views → ℕ → Snap → Bool
 is_viewed_after views group s = nat_lt group s.group && is_viewed views (id_of s)
 
+-- the snapshot of this identity has a clone (zfsprops(7): clones)
+abbrev pub has_clone : Datasets → SnapId → Bool
+has_clone t id = nat_lt 0 (length (clones_of (world_of t) id))
+
+-- the snapshot of this name has one (zfsprops(7): clones)
+abbrev pub is_named_cloned : Datasets → Member → Bool
+is_named_cloned t m = option_map_or (λ s. has_clone t (id_of s)) (snap_named (world_of t) m) false
+
+-- a snapshot of a later group than this one that has a clone (zfsprops(7): clones)
+abbrev pub is_cloned_after : Datasets → ℕ → Snap → Bool
+is_cloned_after t group s = nat_lt group s.group && has_clone t (id_of s)
+
+-- an open view shows the snapshot of this identity, or it has a clone (zfs-destroy(8), -d; the view is profile)
+abbrev pub is_kept : Datasets → Views → SnapId → Bool
+is_kept t views id = is_viewed views id || has_clone t id
+
+-- the same of the snapshot of this name (zfs-destroy(8), -d; the view is profile)
+abbrev pub is_named_kept : Datasets → Views → Member → Bool
+is_named_kept t views m = is_named_viewed t views m || is_named_cloned t m
+
 -- a snapshot's name, under that of its file system (zfs(8))
-abbrev pub member_of : Row → Snap → Member
+abbrev pub member_of : Entry → Snap → Member
 member_of r s = record { file_system = r.0; component = s.name }
 
 -- the names of a file system's snapshots of a later group than this one (On-Disk Specification, chapter 4: ds_creation_txg)
-abbrev pub newer_members : Row → ℕ → List Member
+abbrev pub newer_members : Entry → ℕ → List Member
 newer_members r group = map (member_of r) (filter (λ s. nat_lt group s.group) r.1.snaps)

@@ -6,11 +6,12 @@ use Rattle.std.specs.FinMap.{get, remove}
 use Rattle.std.specs.Option.{option_and_then}
 use Rattle.base.specs.Surveys.{IsIn}
 use Rattle.base.specs.declared.refusal.Refusal.{Refusal}
-use Rattle.base.specs.declared.refusal.Refusal.TheVariants.{NotNewest, Busy}
+use Rattle.base.specs.declared.refusal.Refusal.TheVariants.{NotNewest, Busy, HasClones}
 use Rattle.name.specs.declared.target.Target.{Target}
-use Rattle.file_systems.specs.Writes.{newest_group}
+use Rattle.file_system.specs.Origins.{origin_group}
+use Rattle.file_system.specs.Writes.{newest_group}
 use Rattle.model.specs.World.{FileSystem, Snap, snap_at}
-use Rattle.model.specs.State.{Views, is_viewed}
+use Rattle.model.specs.State.{Views}
 use Rattle.model.specs.Edits.{without_snaps}
 use Rattle.model.specs.Outcome.{is_needed}
 use Rattle.model.specs.Rule.{first_of}
@@ -18,12 +19,11 @@ use Rattle.model.specs.requests.Rollback.{rolled_back, back_row}
 use Rattle.model.specs.requests.Destroy.{file_systems_named, without_file_systems, after_destroy, destroy_row}
 use Rattle.world.specs.Worlds.{FileSystems}
 use Rattle.world.specs.Tables.{Datasets, world_of}
-use Rattle.removals.specs.Named.{is_viewed_after}
+use Rattle.removals.specs.Named.{is_kept, is_viewed_after, is_cloned_after}
 
--- a file system that isn't a clone, without bookmarks, none of whose snapshots has a tag (profile)
+-- a file system without bookmarks, none of whose snapshots has a tag (profile)
 pub record IsBare (f : FileSystem) : Type 0 where
   pub tags : (t : Snap) → IsIn f.snaps t → t.tags ≡ []
-  pub origin : f.origin ≡ None
   pub bookmarks : f.bookmarks ≡ finmap.empty
 
 -- all of them are so (profile)
@@ -38,10 +38,12 @@ rolled t target = record t { file_systems = (rolled_back (world_of t) target).fi
 abbrev pub rollback_refusal : Datasets → Views → Target → Bool → Option Refusal
 rollback_refusal t views target later = first_of (back_row (world_of t) views target later)
 
--- why a file system can't go back to its snapshot of this group, if it can't (zfs-rollback(8); the view is profile)
-abbrev pub refusal_at : FileSystem → ℕ → Views → Bool → Option Refusal
-refusal_at f group views later =
-    if not later && nat_lt group (newest_group f.snaps) then Some NotNewest else if list_any (is_viewed_after views group) f.snaps then Some Busy else None
+-- why a file system of these datasets can't go back to its snapshot of this group, if it can't (zfs-rollback(8); the view is profile)
+abbrev pub refusal_at : Datasets → FileSystem → ℕ → Views → Bool → Option Refusal
+refusal_at t f group views later =
+    if not later && nat_lt group (newest_group (origin_group f.origin) f.snaps)
+    then Some NotNewest
+    else if list_any (is_viewed_after views group) f.snaps then Some Busy else if list_any (is_cloned_after t group) f.snaps then Some HasClones else None
 
 -- the datasets after a destroy (zfs-destroy(8))
 abbrev pub destroyed : Datasets → Views → Target → Bool → Bool → Datasets
@@ -61,10 +63,10 @@ abbrev pub swept : Datasets → Views → Datasets
 swept t views = record t { file_systems = (without_snaps (world_of t) (λ u. u.deferred && not (is_needed (world_of t) views u))).file_systems }
 
 -- The snapshot that goes with a view of this number, with the name of its file system: the one that it shows, where its destroy is
--- deferred and no other view shows it (zfs-destroy(8), -d)
+-- deferred, no other view shows it and it has no clone (zfs-destroy(8), -d)
 abbrev pub gone_with : Datasets → Views → ℕ → Option (List ℕ × Snap)
 gone_with t views number =
-    option_and_then (λ id. if is_viewed (remove views number) id then None else option_and_then (λ p. if p.1.deferred then Some p else None) (snap_at (world_of t) id))
+    option_and_then (λ id. if is_kept t (remove views number) id then None else option_and_then (λ p. if p.1.deferred then Some p else None) (snap_at (world_of t) id))
     (get views number)
 
 -- each snapshot whose destroy is deferred is needed: there is nothing to sweep (zfs-destroy(8), -d)

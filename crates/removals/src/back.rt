@@ -1,7 +1,7 @@
 //! A file system back at one of its snapshots.
-ghost use Rattle.std.specs.Prelude.{◌≡◌, ◌⊎◌, Some, None, IfSome, IfOk, IfErr, OnOk};
+ghost use Rattle.std.specs.Prelude.{◌≡◌, ◌⊎◌, false, Some, None, IfSome, IfOk, IfErr, OnOk};
 ghost use Rattle.std.specs.Option.{option_map};
-ghost use Rattle.std.specs.List.{find};
+ghost use Rattle.std.specs.List.{find, list_any};
 ghost use Rattle.std.specs.FinMap.{get};
 ghost use Rattle.base.specs.declared.refusal.Refusal.{Refusal};
 ghost use Rattle.name.specs.declared.target.Target.{Target};
@@ -11,8 +11,10 @@ ghost use Rattle.model.specs.requests.Rollback.{placed};
 ghost use Rattle.world.specs.Sets.{AreDisjoint};
 ghost use Rattle.world.specs.Tables.{world_of};
 ghost use Rattle.removals.specs.Edits.{HasLost};
+ghost use Rattle.removals.specs.Named.{is_cloned_after};
 ghost use Rattle.removals.specs.Requests.{rolled, rollback_refusal, refusal_at, AreBare};
 
+use crate::cloned::any_later_cloned;
 use crate::edit::Edit;
 use crate::viewed::any_later_viewed;
 use base::meter::SegMeter;
@@ -25,12 +27,12 @@ use name::{Component, Member, Target};
 use std::alloc::Global;
 use views::Views;
 
-/// The datasets with this file system back at a snapshot: its live map is the snapshot's again, and what is newer goes; what is lost
-/// with that is to be freed. The table and what it has to free stay as they are. Refused are NotSnapshot where the name isn't one of a
-/// snapshot, else NoDataset where there is no such snapshot, else NotNewest where it isn't the newest and not `later`, else Busy where one of
-/// these views shows a newer one; else NoMemory where there is none for it (zfs-rollback(8)). It costs the number of file systems, the chunks
-/// of pieces that are to be freed, the number of the file system's snapshots, and for each newer one what its destroy does and the number of
-/// open views.
+/// The datasets with this file system back at a snapshot: its live map is the snapshot's again, and what is newer goes; what is lost with
+/// that is to be freed. The table and what it has to free stay as they are. Refused are NotSnapshot where the name isn't one of a
+/// snapshot, else NoDataset where there is no such snapshot, else NotNewest where it isn't the newest and not `later`, else Busy where one
+/// of these views shows a newer one, else HasClones where a newer one has a clone; else NoMemory where there is none for it
+/// (zfs-rollback(8)). It costs the number of file systems, the chunks of pieces that are to be freed, the number of the file system's
+/// snapshots, and for each newer one what its destroy does and the number of open views.
 pub fn rollback(
     alloc: Global,
     table: &Table,
@@ -58,7 +60,7 @@ pub fn rollback(
     let group = snapshot.group();
     // It tells of the snapshots that their groups rise.
     let _count = table.len();
-    if let Some(refusal) = refusal_of(file_system, group, views, later) {
+    if let Some(refusal) = refusal_of(table, file_system, group, views, later) {
         return Err(refusal);
     }
     back_to(
@@ -75,17 +77,24 @@ pub fn rollback(
 // The snapshot of this name with its file system, or none. It costs the logarithm of the number of file systems, and that of the number
 // of snapshots of this one.
 fn placed<'a>(table: &'a Table, name: &Member) -> Option<(&'a FileSystem, &'a Snapshot)>
-    ensures found { option_map (λ p. (p.0.now.1, p.1.now)) result ≡ placed (world_of table.now) (Target.Snapshot name.now) }
-    ensures named { IfSome result (λ p. p.0.now.0 ≡ name.now.file_system) }
+    ensures found { option_map (λ p. (p.0.now.system, p.1.now)) result ≡ placed (world_of table.now) (Target.Snapshot name.now) }
+    ensures named { IfSome result (λ p. p.0.now.name ≡ name.now.file_system) }
 {
     let file_system = table.find(&name.file_system)?;
     let snapshot = file_system.snapshot_named(name.component.as_bytes())?;
     Some((file_system, snapshot))
 }
 
-// Why this file system can't go back to its snapshot of this group, if it can't. It costs what `any_later_viewed` does.
-fn refusal_of(file_system: &FileSystem, group: Group, views: &Views, later: bool) -> Option<Refusal>
-    ensures { result ≡ refusal_at file_system.now.1 group.0 views.now.opened later }
+// Why this file system of the table can't go back to its snapshot of this group, if it can't. It costs what `any_later_viewed` and
+// `any_later_cloned` do.
+fn refusal_of(
+    table: &Table,
+    file_system: &FileSystem,
+    group: Group,
+    views: &Views,
+    later: bool,
+) -> Option<Refusal>
+    ensures { result ≡ refusal_at table.now file_system.now.system group.0 views.now.opened later }
 {
     if !later && file_system.newest_group() > group {
         return Some(Refusal::NotNewest);
@@ -93,11 +102,14 @@ fn refusal_of(file_system: &FileSystem, group: Group, views: &Views, later: bool
     if any_later_viewed(file_system, group, views) {
         return Some(Refusal::Busy);
     }
+    if any_later_cloned(table, file_system, group) {
+        return Some(Refusal::HasClones);
+    }
     None
 }
 
-// The datasets with this file system of the table back at its snapshot of this name, which is of this group. NoMemory where there is
-// none for it. It costs what `rollback` does.
+// The datasets with this file system of the table back at its snapshot of this name, which is of this group; no newer one has a clone.
+// NoMemory where there is none for it. It costs what `rollback` does.
 fn back_to(
     alloc: Global,
     table: &Table,
@@ -109,9 +121,10 @@ fn back_to(
 ) -> Result<Edit, Refusal>
     requires apart { AreDisjoint (union_of (world_of table.now)) freeing.now }
     requires bare { AreBare table.now.file_systems }
-    requires there { get table.now.file_systems file_system.now.0 ≡ Some file_system.now.1 }
-    requires group { option_map (λ s. s.group) (find (λ s. same_name s.name component.now) file_system.now.1.snaps) ≡ Some group.0 }
-    ensures ok { IfOk result (λ e. e.to ≡ rolled table.now (Target.Snapshot (record { file_system = file_system.now.0; component = component.now }))) }
+    requires there { get table.now.file_systems file_system.now.name ≡ Some file_system.now.system }
+    requires group { option_map (λ s. s.group) (find (λ s. same_name s.name component.now) file_system.now.system.snaps) ≡ Some group.0 }
+    requires no_clone { list_any (is_cloned_after table.now group.0) file_system.now.system.snaps ≡ false }
+    ensures ok { IfOk result (λ e. e.to ≡ rolled table.now (Target.Snapshot (record { file_system = file_system.now.name; component = component.now }))) }
     ensures lost { IfOk result (λ e. HasLost table.now freeing.now e.to e.freeing) }
     ensures err { IfErr result (λ e. e ≡ Refusal.NoMemory) }
 {

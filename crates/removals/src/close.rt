@@ -18,18 +18,18 @@ use file_systems::{FileSystem, Snapshot};
 use std::alloc::Global;
 use views::Views;
 
-// The snapshot that goes with the view of this number, with its file system: the one that it shows, where its destroy is deferred and no
-// other view shows it. It costs the number of open views, and the number of file systems times the logarithm of that of the snapshots of
-// one.
+// The snapshot that goes with the view of this number, with its file system: the one that it shows, where its destroy is deferred, no
+// other view shows it and it has no clone. It costs the number of open views, and the number of file systems times the logarithm of that
+// of the snapshots of one.
 fn goes_with<'a>(
     table: &'a Table,
     views: &Views,
     number: u64,
 ) -> Option<(&'a FileSystem, &'a Snapshot)>
-    ensures { option_map (λ p. (p.0.now.0, p.1.now)) result ≡ gone_with table.now views.now.opened number }
+    ensures { option_map (λ p. (p.0.now.name, p.1.now)) result ≡ gone_with table.now views.now.opened number }
 {
     let id = views.find(number)?;
-    if views.is_viewed_beside(number, id) {
+    if views.is_viewed_beside(number, id) || table.has_clone(id) {
         return None;
     }
     let (file_system, snapshot) = table.snapshot_of(id)?;
@@ -40,9 +40,10 @@ fn goes_with<'a>(
 }
 
 /// The datasets once the view of this number is closed, where something goes with it: the snapshot that it shows, if its destroy is
-/// deferred and no other view shows it (zfs-destroy(8), -d); what they have no more is to be freed. None where nothing goes. The table and
-/// what it has to free stay as they are. NoMemory where there is none for it. It costs the number of open views and the number of file
-/// systems times the logarithm of that of the snapshots of one; and where a snapshot goes, what `Edit::of` and `Edit::lose_snapshot` do.
+/// deferred, no other view shows it and it has no clone (zfs-destroy(8), -d); what they have no more is to be freed. None where nothing
+/// goes. The table and what it has to free stay as they are. NoMemory where there is none for it. It costs the number of open views and
+/// the number of file systems times the logarithm of that of the snapshots of one; and where a snapshot goes, what `Edit::of` and
+/// `Edit::lose_snapshot` do.
 pub fn close_view(
     alloc: Global,
     table: &Table,

@@ -1,15 +1,16 @@
 //! A table from which datasets go.
-ghost use Rattle.std.specs.Prelude.{◌≡◌, ◌⊎◌, ◌↔◌, not, filter, Some, None, IfSome, IfOk, IfErr, OnOk, is_some, length};
+ghost use Rattle.std.specs.Prelude.{◌≡◌, ◌⊎◌, ◌↔◌, false, not, filter, Some, None, IfSome, IfOk, IfErr, OnOk, is_some, length};
+ghost use Rattle.std.specs.List.{list_any};
 ghost use Rattle.base.specs.declared.refusal.Refusal.{Refusal};
-ghost use Rattle.file_systems.specs.Losses.{newest_map};
-ghost use Rattle.file_systems.specs.Rows.{live_of, snaps_at, with_live};
+ghost use Rattle.file_system.specs.Losses.{newest_map};
+ghost use Rattle.file_system.specs.Rows.{entry_of, live_of, snaps_at, with_live};
 ghost use Rattle.model.specs.World.{id_of, snap_named, union_of};
 ghost use Rattle.world.specs.Sets.{AreDisjoint};
 ghost use Rattle.world.specs.Tables.{world_of, without_snap};
 ghost use Rattle.removals.specs.Edits.{HasLost};
-ghost use Rattle.removals.specs.Named.{without_named, without_all, deferred_named, deferred_all, is_named_viewed, newer_members};
+ghost use Rattle.removals.specs.Named.{without_named, without_all, deferred_named, deferred_all, is_named_cloned, is_named_kept, newer_members};
 
-use crate::viewed::is_named_viewed;
+use crate::cloned::is_named_kept;
 use base::meter::SegMeter;
 use base::number::Group;
 use base::refusal::Refusal;
@@ -41,9 +42,9 @@ impl Edit {
         Ok(Edit { to, freeing })
     }
 
-    /// Lets the snapshot of this name go (zfs-destroy(8)): the blocks that no dataset has any more are to be freed. NoDataset exactly
-    /// where there is none of that name; else NoMemory where there is none for it, and then the edit is of no use. It costs what
-    /// `Table::destroy_snapshot` does.
+    /// Lets the snapshot of this name go, which has no clone (zfs-destroy(8)): the blocks that no dataset has any more are to be freed.
+    /// NoDataset exactly where there is none of that name; else NoMemory where there is none for it, and then the edit is of no use. It
+    /// costs what `Table::destroy_snapshot` does.
     pub fn lose_snapshot(
         &mut self,
         alloc: Global,
@@ -51,6 +52,7 @@ impl Edit {
         segments: &mut SegMeter,
     ) -> Result<(), Refusal>
         requires apart { AreDisjoint (union_of (world_of self.old.to)) self.old.freeing }
+        requires no_clone { is_named_cloned self.old.to name.now ≡ false }
         ensures ok { IfSome (snap_named (world_of self.old.to) name.now) (λ t. OnOk result (self.new.to ≡ without_snap self.old.to (id_of t))) }
         ensures lost { OnOk result (HasLost self.old.to self.old.freeing self.new.to self.new.freeing) }
         ensures no_dataset { (result ≡ Err Refusal.NoDataset) ↔ (snap_named (world_of self.old.to) name.now ≡ None) }
@@ -78,8 +80,8 @@ impl Edit {
             .add_tree(&lost.tree, lost.after, u64::from(lost.count))
     }
 
-    // Lets the snapshot of this name go, and nothing where there is none. NoMemory where there is none for it, and then the edit is of no
-    // use. It costs what `lose_snapshot` does.
+    // Lets the snapshot of this name go, which has no clone, and nothing where there is none. NoMemory where there is none for it, and then
+    // the edit is of no use. It costs what `lose_snapshot` does.
     pub(crate) fn lose_named(
         &mut self,
         alloc: Global,
@@ -88,6 +90,7 @@ impl Edit {
         segments: &mut SegMeter,
     ) -> Result<(), Refusal>
         requires apart { AreDisjoint (union_of (world_of self.old.to)) self.old.freeing }
+        requires no_clone { is_named_cloned self.old.to (record { file_system = file_system.now; component = component.now }) ≡ false }
         ensures ok { OnOk result (self.new.to ≡ without_named self.old.to (record { file_system = file_system.now; component = component.now })) }
         ensures lost { OnOk result (HasLost self.old.to self.old.freeing self.new.to self.new.freeing) }
         ensures err { IfErr result (λ e. e ≡ Refusal.NoMemory) }
@@ -99,10 +102,10 @@ impl Edit {
         self.lose_snapshot(alloc, &name, segments)
     }
 
-    // Lets the snapshots of all these names go that are there, but for those that one of these views shows; the table is the one that the
-    // names are of. NoMemory where there is none for it, and then the edit is of no use. It costs what `lose_snapshot` does for each, and
-    // the number of open views.
-    pub(crate) fn lose_unviewed(
+    // Lets the snapshots of all these names go that are there, but for those that one of these views shows or that have a clone; the table
+    // is the one that the names are of. NoMemory where there is none for it, and then the edit is of no use. It costs what `lose_snapshot`
+    // does for each, and the number of open views.
+    pub(crate) fn lose_unneeded(
         &mut self,
         alloc: Global,
         table: &Table,
@@ -111,13 +114,16 @@ impl Edit {
         segments: &mut SegMeter,
     ) -> Result<(), Refusal>
         requires apart { AreDisjoint (union_of (world_of self.old.to)) self.old.freeing }
-        ensures ok { OnOk result (self.new.to ≡ without_all self.old.to (filter (λ m. not (is_named_viewed table.now views.now.opened m)) all.now)) }
+        requires same { self.old.to ≡ table.now }
+        ensures ok { OnOk result (self.new.to ≡ without_all self.old.to (filter (λ m. not (is_named_kept table.now views.now.opened m)) all.now)) }
         ensures lost { OnOk result (HasLost self.old.to self.old.freeing self.new.to self.new.freeing) }
         ensures err { IfErr result (λ e. e ≡ Refusal.NoMemory) }
     {
+        // It tells of the snapshots that their names are different.
+        let _count = table.len();
         for name in all {
             let (file_system, component) = (name.file_system, name.component);
-            if !is_named_viewed(table, views, file_system, component) {
+            if !is_named_kept(table, views, file_system, component) {
                 self.lose_named(alloc, file_system, component, segments)?;
             }
         }
@@ -156,8 +162,9 @@ impl Edit {
         Ok(())
     }
 
-    // Lets the snapshots go that this file system has of a later group than this one, where they are there. NoMemory where there is none
-    // for it, and then the edit is of no use. It costs what `lose_snapshot` does for each, and the number of the file system's snapshots.
+    // Lets the snapshots go that this file system has of a later group than this one, where they are there; none of them has a clone.
+    // NoMemory where there is none for it, and then the edit is of no use. It costs what `lose_snapshot` does for each, and the number of
+    // the file system's snapshots.
     pub(crate) fn lose_newer(
         &mut self,
         alloc: Global,
@@ -166,10 +173,13 @@ impl Edit {
         segments: &mut SegMeter,
     ) -> Result<(), Refusal>
         requires apart { AreDisjoint (union_of (world_of self.old.to)) self.old.freeing }
-        ensures ok { OnOk result (self.new.to ≡ without_all self.old.to (newer_members file_system.now group.0)) }
+        requires no_clone { list_any (is_named_cloned self.old.to) (newer_members (entry_of file_system.now) group.0) ≡ false }
+        ensures ok { OnOk result (self.new.to ≡ without_all self.old.to (newer_members (entry_of file_system.now) group.0)) }
         ensures lost { OnOk result (HasLost self.old.to self.old.freeing self.new.to self.new.freeing) }
         ensures err { IfErr result (λ e. e ≡ Refusal.NoMemory) }
     {
+        // It tells of the snapshots that their names are different.
+        let _count = self.to.len();
         let name = file_system.name();
         for kept in file_system.snapshots().iter() {
             if kept.snapshot.group() > group {
@@ -191,8 +201,8 @@ fn has_snapshot(table: &Table, file_system: &DsName, component: &Component) -> b
     }
 }
 
-// A copy of a snapshot's name. NoMemory where there is none for it. It costs its length.
-fn member(file_system: &DsName, component: &Component) -> Result<Member, Refusal>
+/// A copy of a snapshot's name. NoMemory where there is none for it. It costs its length.
+pub(crate) fn member(file_system: &DsName, component: &Component) -> Result<Member, Refusal>
     ensures ok { IfOk result (λ m. m ≡ record { file_system = file_system.now; component = component.now }) }
     ensures err { IfErr result (λ e. e ≡ Refusal.NoMemory) }
 {

@@ -1,22 +1,22 @@
 //! File systems that are destroyed.
 ghost use Rattle.std.specs.Prelude.{◌≡◌, ◌⊎◌, ◌||◌, true, false, Some, None, IfSome, IfOk, IfErr, OnOk, length, nat_lt};
-ghost use Rattle.std.specs.FinMap.{get};
 ghost use Rattle.base.specs.declared.refusal.Refusal.{Refusal};
 ghost use Rattle.name.specs.declared.target.Target.{Target};
 ghost use Rattle.name.specs.Names.{root_name};
 ghost use Rattle.model.specs.World.{union_of, children_of};
-ghost use Rattle.snap.specs.Taking.{is_in_family};
 ghost use Rattle.world.specs.Sets.{AreDisjoint};
 ghost use Rattle.world.specs.Tables.{CanRemove, world_of, without_system};
 ghost use Rattle.removals.specs.Edits.{HasLost};
-ghost use Rattle.removals.specs.Families.{bare_at};
-ghost use Rattle.removals.specs.Requests.{destroyed, destroy_refusal, without_family, AreBare};
+ghost use Rattle.removals.specs.Families.{family_refusal, AreClonesInside, IsBareFamily};
+ghost use Rattle.removals.specs.Requests.{destroyed, destroy_refusal, without_family, swept, AreBare, IsSweptBy};
 
+use crate::cloned::any_cloned_outside;
 use crate::edit::Edit;
+use crate::emptied::empty_family;
 use crate::gone::destroy_snapshots;
+use crate::sweep::sweep;
 use crate::viewed::any_of_family_viewed;
 use base::meter::SegMeter;
-use base::number::Group;
 use base::refusal::Refusal;
 use datasets::Table;
 use destroyer::Freeing;
@@ -41,40 +41,13 @@ fn lose_file_system(edit: &mut Edit, name: &DsName) -> Result<(), Refusal>
         .add_tree(&lost.tree, lost.after, u64::from(lost.count))
 }
 
-// Takes out this file system, which has no child and isn't the root, with its snapshots: their blocks are to be freed. NoMemory where
-// there is none for it, and then the edit is of no use. It costs the number of file systems, and what `lose_snapshot` does for each
-// snapshot.
-fn lose_whole(
-    edit: &mut Edit,
-    alloc: Global,
-    file_system: &FileSystem,
-    segments: &mut SegMeter,
-) -> Result<(), Refusal>
-    requires apart { AreDisjoint (union_of (world_of edit.old.to)) edit.old.freeing }
-    requires there { get edit.old.to.file_systems file_system.now.0 ≡ Some file_system.now.1 }
-    requires can { CanRemove (bare_at edit.old.to file_system.now) file_system.now.0 }
-    ensures ok { OnOk result (edit.new.to ≡ without_system (bare_at edit.old.to file_system.now) file_system.now.0) }
-    ensures lost { OnOk result (HasLost edit.old.to edit.old.freeing edit.new.to edit.new.freeing) }
-    ensures err { IfErr result (λ e. e ≡ Refusal.NoMemory) }
-{
-    // It tells of the snapshots that their groups rise.
-    let _count = edit.to.len();
-    edit.lose_newer(alloc, file_system, Group(0), segments)?;
-    lose_file_system(edit, file_system.name())?;
-    Ok(())
-}
-
-// Takes out the file systems of the family of this name, which isn't the root's, children before their parents. NoMemory where there
-// is none for it, and then the edit is of no use. It costs what `lose_whole` does for each, and the number of file systems.
-fn lose_family(
-    edit: &mut Edit,
-    alloc: Global,
-    table: &Table,
-    name: &DsName,
-    segments: &mut SegMeter,
-) -> Result<(), Refusal>
+// Takes out the file systems of the family of this name, which isn't the root's, children before their parents: they are as the table has
+// them, without a snapshot. NoMemory where there is none for it, and then the edit is of no use. It costs the number of file systems, and
+// for each of the family once more.
+fn lose_family(edit: &mut Edit, table: &Table, name: &DsName) -> Result<(), Refusal>
     requires apart { AreDisjoint (union_of (world_of edit.old.to)) edit.old.freeing }
     requires same { edit.old.to ≡ table.now }
+    requires bare { IsBareFamily table.now name.now }
     requires not_root { ¬ (name.now ≡ root_name) }
     ensures ok { OnOk result (edit.new.to ≡ without_family table.now name.now true) }
     ensures lost { OnOk result (HasLost edit.old.to edit.old.freeing edit.new.to edit.new.freeing) }
@@ -86,21 +59,57 @@ fn lose_family(
         left -= 1;
         let file_system: &FileSystem = &rows[left];
         if is_in_family(name.as_bytes(), file_system.name().as_bytes()) {
-            lose_whole(edit, alloc, file_system, segments)?;
+            lose_file_system(edit, file_system.name())?;
         }
     }
     Ok(())
 }
 
+// Takes out the file systems of the family of this name with their snapshots, of whose clones each is of the family. NoMemory where there
+// is none for it, and then the edit is of no use. It costs what `empty_family` and `lose_family` do.
+fn lose_whole(
+    edit: &mut Edit,
+    alloc: Global,
+    table: &Table,
+    name: &DsName,
+    segments: &mut SegMeter,
+) -> Result<(), Refusal>
+    requires apart { AreDisjoint (union_of (world_of edit.old.to)) edit.old.freeing }
+    requires same { edit.old.to ≡ table.now }
+    requires inside { AreClonesInside table.now name.now }
+    requires not_root { ¬ (name.now ≡ root_name) }
+    ensures ok { OnOk result (edit.new.to ≡ without_family table.now name.now true) }
+    ensures lost { OnOk result (HasLost edit.old.to edit.old.freeing edit.new.to edit.new.freeing) }
+    ensures err { IfErr result (λ e. e ≡ Refusal.NoMemory) }
+{
+    empty_family(edit, alloc, table, name, segments)?;
+    // Its rows are read while file systems go from the edit.
+    let emptied = edit.to.copy()?;
+    lose_family(edit, &emptied, name)
+}
+
 // Whether a file system of this name has a child, or this one a snapshot. It costs the number of file systems.
 fn has_parts(table: &Table, file_system: &FileSystem, name: &DsName) -> bool
-    ensures { result ≡ (nat_lt 0 (length (children_of (world_of table.now) name.now)) || nat_lt 0 (length file_system.now.1.snaps)) }
+    ensures { result ≡ (nat_lt 0 (length (children_of (world_of table.now) name.now)) || nat_lt 0 (length file_system.now.system.snaps)) }
 {
     table.has_child(name) || file_system.snapshots().len() > 0
 }
 
-// Why a file system isn't destroyed, if it isn't. It costs the number of file systems, and with `recursive` for each snapshot of the family
-// the number of open views.
+// Why a family isn't destroyed, if it isn't: an open view shows a snapshot of it, or a clone of one is outside. It costs what
+// `any_of_family_viewed` and `any_cloned_outside` do.
+fn family_refusal(table: &Table, views: &Views, name: &DsName) -> Option<Refusal>
+    ensures { result ≡ family_refusal table.now views.now.opened name.now }
+{
+    if any_of_family_viewed(table, views, name) {
+        return Some(Refusal::Busy);
+    }
+    if any_cloned_outside(table, name) {
+        return Some(Refusal::HasClones);
+    }
+    None
+}
+
+// Why a file system isn't destroyed, if it isn't. It costs the number of file systems, and with `recursive` what `family_refusal` does.
 fn refusal_of(
     table: &Table,
     views: &Views,
@@ -108,7 +117,7 @@ fn refusal_of(
     recursive: bool,
     defer: bool,
 ) -> Option<Refusal>
-    requires { AreBare table.now.file_systems }
+    requires bare { AreBare table.now.file_systems }
     ensures { result ≡ destroy_refusal table.now views.now.opened (Target.FileSystem name.now) recursive defer }
 {
     // It tells of the snapshots that none is of group 0.
@@ -122,11 +131,11 @@ fn refusal_of(
     if defer {
         return Some(Refusal::NotSnapshot);
     }
-    if !recursive && has_parts(table, file_system, name) {
-        return Some(Refusal::HasChildren);
+    if recursive {
+        return family_refusal(table, views, name);
     }
-    if recursive && any_of_family_viewed(table, views, name) {
-        return Some(Refusal::Busy);
+    if has_parts(table, file_system, name) {
+        return Some(Refusal::HasChildren);
     }
     None
 }
@@ -143,6 +152,7 @@ fn without_systems(
 ) -> Result<Edit, Refusal>
     requires apart { AreDisjoint (union_of (world_of table.now)) freeing.now }
     requires not_root { ¬ (name.now ≡ root_name) }
+    requires inside { recursive ≡ true → AreClonesInside table.now name.now }
     requires can { recursive ≡ false → CanRemove table.now name.now }
     ensures ok { IfOk result (λ e. e.to ≡ without_family table.now name.now recursive) }
     ensures lost { IfOk result (λ e. HasLost table.now freeing.now e.to e.freeing) }
@@ -150,20 +160,47 @@ fn without_systems(
 {
     let mut edit = Edit::of(table, freeing)?;
     if recursive {
-        lose_family(&mut edit, alloc, table, name, segments)?;
+        lose_whole(&mut edit, alloc, table, name, segments)?;
         return Ok(edit);
     }
     lose_file_system(&mut edit, name)?;
     Ok(edit)
 }
 
+// The same, without the snapshots that nothing needs then. NoMemory where there is none for it. It costs what `destroy` does.
+fn without_systems_swept(
+    alloc: Global,
+    table: &Table,
+    freeing: &Freeing,
+    views: &Views,
+    name: &DsName,
+    recursive: bool,
+    segments: &mut SegMeter,
+) -> Result<Edit, Refusal>
+    requires apart { AreDisjoint (union_of (world_of table.now)) freeing.now }
+    requires bare { AreBare table.now.file_systems }
+    requires swept { IsSweptBy table.now views.now.opened }
+    requires not_root { ¬ (name.now ≡ root_name) }
+    requires inside { recursive ≡ true → AreClonesInside table.now name.now }
+    requires can { recursive ≡ false → CanRemove table.now name.now }
+    ensures ok { IfOk result (λ e. e.to ≡ swept (without_family table.now name.now recursive) views.now.opened) }
+    ensures lost { IfOk result (λ e. HasLost table.now freeing.now e.to e.freeing) }
+    ensures err { IfErr result (λ e. e ≡ Refusal.NoMemory) }
+{
+    let mut edit = without_systems(alloc, table, freeing, name, recursive, segments)?;
+    sweep(&mut edit, alloc, table, views, segments)?;
+    Ok(edit)
+}
+
 /// The datasets without what this name is of (zfs-destroy(8)); what they have no more is to be freed. The table and what it has to free
-/// stay as they are. With `recursive` a file system goes with its descendants and all their snapshots, or with a snapshot those of its
-/// name of each descendant of its file system. With `defer` a snapshot that one of these views shows stays, and goes once nothing needs
-/// it. Refused are NoDataset where nothing has the name; of a file system IsRoot for the root, else NotSnapshot with `defer`, else
-/// HasChildren where it has a child or a snapshot and not `recursive`; else Busy where one of these views shows a snapshot that would go.
-/// NoMemory, where there is none for it, may come before the refusals of a snapshot. It costs the number of file systems, the chunks of
-/// pieces that are to be freed, and for each snapshot that goes what `Edit::lose_snapshot` does and the number of open views.
+/// stay as they are. With `recursive` a file system goes with its descendants and all their snapshots, or with a snapshot those of its name
+/// of each descendant of its file system. With `defer` a snapshot that one of these views shows or that has a clone stays, and goes once
+/// nothing needs it: so with a clone goes its origin, where that waits for it alone. Refused are NoDataset where nothing has the name; of a
+/// file system IsRoot for the root, else NotSnapshot with `defer`, else HasChildren where it has a child or a snapshot and not `recursive`;
+/// else Busy where one of these views shows a snapshot that would go, else HasClones where such a one has a clone that wouldn't. NoMemory,
+/// where there is none for it, may come before the refusals of a snapshot. It costs the number n of file systems times its logarithm, the
+/// chunks of pieces that are to be freed, for each snapshot that goes what `Edit::lose_snapshot` does and the number of open views, for
+/// each clone that goes, and with `recursive` for each that doesn't, n times the logarithm of the number of snapshots of one.
 pub fn destroy(
     alloc: Global,
     table: &Table,
@@ -176,7 +213,8 @@ pub fn destroy(
 ) -> Result<Edit, Refusal>
     requires apart { AreDisjoint (union_of (world_of table.now)) freeing.now }
     requires bare { AreBare table.now.file_systems }
-    ensures ok { IfOk result (λ e. e.to ≡ destroyed table.now views.now.opened target.now recursive defer) }
+    requires swept { IsSweptBy table.now views.now.opened }
+    ensures ok { IfOk result (λ e. e.to ≡ swept (destroyed table.now views.now.opened target.now recursive defer) views.now.opened) }
     ensures lost { IfOk result (λ e. HasLost table.now freeing.now e.to e.freeing) }
     ensures can { OnOk result (destroy_refusal table.now views.now.opened target.now recursive defer ≡ None) }
     ensures refused { IfSome (destroy_refusal table.now views.now.opened target.now recursive defer) (λ e. (result ≡ Err e) ⊎ (result ≡ Err Refusal.NoMemory)) }
@@ -189,7 +227,7 @@ pub fn destroy(
             if let Some(refusal) = refusal_of(table, views, name, recursive, defer) {
                 return Err(refusal);
             }
-            without_systems(alloc, table, freeing, name, recursive, segments)
+            without_systems_swept(alloc, table, freeing, views, name, recursive, segments)
         }
         Target::Snapshot(name) => destroy_snapshots(
             alloc, table, freeing, views, name, recursive, defer, segments,

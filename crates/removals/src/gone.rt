@@ -7,9 +7,10 @@ ghost use Rattle.model.specs.World.{union_of};
 ghost use Rattle.world.specs.Sets.{AreDisjoint};
 ghost use Rattle.world.specs.Tables.{world_of};
 ghost use Rattle.removals.specs.Edits.{HasLost};
-ghost use Rattle.removals.specs.Named.{is_named_viewed};
+ghost use Rattle.removals.specs.Named.{is_named_viewed, is_named_cloned};
 ghost use Rattle.removals.specs.Requests.{destroyed, destroy_refusal, AreBare};
 
+use crate::cloned::any_named_cloned;
 use crate::edit::Edit;
 use crate::viewed::any_named_viewed;
 use base::meter::SegMeter;
@@ -29,12 +30,19 @@ fn any_busy(table: &Table, views: &Views, all: &[Named], defer: bool) -> bool
     !defer && any_named_viewed(table, views, all)
 }
 
+// Whether one of these can't be destroyed, not even later, for it has a clone. It costs what `any_named_cloned` does.
+fn any_cloned(table: &Table, all: &[Named], defer: bool) -> bool
+    ensures { result ≡ (not defer && list_any (is_named_cloned table.now) all.now) }
+{
+    !defer && any_named_cloned(table, all)
+}
+
 /// The datasets without the snapshot of this name, or with `recursive` without those of that name of its file system and of each
-/// descendant; with `defer` those that one of these views shows stay, and go once nothing needs them. The blocks that no dataset has then
-/// are to be freed. The table and what it has to free stay as they are. Refused are NoDataset where there is none of them, else Busy where
-/// one of these views shows one of them and not `defer`; NoMemory, where there is none for it, may come before both (zfs-destroy(8)). It
-/// costs the number of file systems, the chunks of pieces that are to be freed, and for each name what `Edit::lose_snapshot` does and the
-/// number of open views.
+/// descendant; with `defer` those that one of these views shows or that have a clone stay, and go once nothing needs them. The blocks that
+/// no dataset has then are to be freed. The table and what it has to free stay as they are. Refused are NoDataset where there is none of
+/// them; else, where not `defer`, Busy where one of these views shows one of them, else HasClones where one of them has a clone; NoMemory,
+/// where there is none for it, may come before these (zfs-destroy(8)). It costs the number of file systems, the chunks of pieces that are
+/// to be freed, and for each name what `Edit::lose_snapshot` does and the number of open views.
 pub fn destroy_snapshots(
     alloc: Global,
     table: &Table,
@@ -62,8 +70,11 @@ pub fn destroy_snapshots(
     if any_busy(table, views, &all, defer) {
         return Err(Refusal::Busy);
     }
+    if any_cloned(table, &all, defer) {
+        return Err(Refusal::HasClones);
+    }
     let mut edit = Edit::of(table, freeing)?;
-    edit.lose_unviewed(alloc, table, views, &all, segments)?;
+    edit.lose_unneeded(alloc, table, views, &all, segments)?;
     edit.defer_all(alloc, &all)?;
     Ok(edit)
 }

@@ -5,10 +5,13 @@
 #![tactic(auto)]
 
 mod back;
+mod cloned;
 mod close;
 mod edit;
+mod emptied;
 mod family;
 mod gone;
+mod sweep;
 mod viewed;
 
 pub use back::rollback;

@@ -2,8 +2,7 @@
 ghost use Rattle.std.specs.Prelude.{◌≡◌, ◌&&◌, nat_lt};
 ghost use Rattle.std.specs.List.{list_any};
 ghost use Rattle.std.specs.FinMap.{entries};
-ghost use Rattle.std.specs.Arc.{arc_value};
-ghost use Rattle.file_systems.specs.Rows.{Row};
+ghost use Rattle.file_system.specs.Rows.{entry_in};
 ghost use Rattle.model.specs.State.{is_viewed};
 ghost use Rattle.model.specs.World.{id_of};
 ghost use Rattle.snap.specs.Taking.{is_in_family};
@@ -60,7 +59,7 @@ pub(crate) fn any_named_viewed(table: &Table, views: &Views, all: &[Named]) -> b
 /// Whether an open view shows a snapshot of this file system of a later group. It costs the number of its snapshots, and for each that is
 /// later that of the open views.
 pub(crate) fn any_later_viewed(file_system: &FileSystem, group: Group, views: &Views) -> bool
-    ensures { result ≡ list_any (is_viewed_after views.now.opened group.0) file_system.now.1.snaps }
+    ensures { result ≡ list_any (is_viewed_after views.now.opened group.0) file_system.now.system.snaps }
 {
     for kept in file_system.snapshots().iter() {
         if kept.snapshot.group() > group && is_viewed(views, &kept.snapshot) {
@@ -72,7 +71,7 @@ pub(crate) fn any_later_viewed(file_system: &FileSystem, group: Group, views: &V
 
 // Whether it is the file system of that name or a descendant, and an open view shows a snapshot of it.
 fn is_viewed_within(file_system: &FileSystem, name: &DsName, views: &Views) -> bool
-    ensures { result ≡ (is_in_family name.now file_system.now.0 && list_any (is_viewed_after views.now.opened 0) file_system.now.1.snaps) }
+    ensures { result ≡ (is_in_family name.now file_system.now.name && list_any (is_viewed_after views.now.opened 0) file_system.now.system.snaps) }
 {
     is_in_family(name.as_bytes(), file_system.name().as_bytes())
         && any_later_viewed(file_system, Group(0), views)
@@ -80,7 +79,7 @@ fn is_viewed_within(file_system: &FileSystem, name: &DsName, views: &Views) -> b
 
 // Whether that holds of one of these file systems.
 fn any_viewed_within(file_systems: &[Arc<FileSystem>], name: &DsName, views: &Views) -> bool
-    ensures { result ≡ list_any (λ a. is_in_family name.now (arc_value {X = Row} a).0 && list_any (is_viewed_after views.now.opened 0) (arc_value {X = Row} a).1.snaps) file_systems.now }
+    ensures { result ≡ list_any (λ a. is_in_family name.now (entry_in a).0 && list_any (is_viewed_after views.now.opened 0) (entry_in a).1.snaps) file_systems.now }
 {
     file_systems
         .iter()

@@ -5,7 +5,7 @@ use Rattle.std.specs.List.Sorted.{IsPermutation}
 use Rattle.base.specs.declared.refusal.Refusal.{Refusal}
 use Rattle.base.specs.declared.refusal.Refusal.TheVariants.{NoView}
 use Rattle.model.specs.declared.request.Request.{Request}
-use Rattle.model.specs.declared.request.Request.TheVariants.{Create, Write, Punch, FreeObject, Snapshot, Read, Get, PoolGet, List as ToList, Rollback, Destroy, Slice, Sync, OpenView, CloseView}
+use Rattle.model.specs.declared.request.Request.TheVariants.{Create, Write, Punch, FreeObject, Snapshot, Read, Get, PoolGet, List as ToList, Rollback, Destroy, Slice, Sync, OpenView, CloseView, Clone, Promote}
 use Rattle.model.specs.declared.reply.Reply.{Reply}
 use Rattle.model.specs.declared.reply.Reply.TheVariants.{Done, Refused, Data, Value, Group, Names, Count, Opened}
 use Rattle.model.specs.declared.entry.Entry.{Entry}
@@ -56,6 +56,8 @@ opened_by (Slice count) r = []
 opened_by Sync r = []
 opened_by (OpenView target) r = where_opened r
 opened_by (CloseView view) r = []
+opened_by (Clone target name) r = []
+opened_by (Promote name) r = []
 
 -- the view that a request closed with this reply (profile)
 abbrev pub closed_by : Request → Reply → List ℕ
@@ -74,6 +76,8 @@ closed_by (Slice count) r = []
 closed_by Sync r = []
 closed_by (OpenView target) r = []
 closed_by (CloseView view) r = where_done view r
+closed_by (Clone target name) r = []
+closed_by (Promote name) r = []
 
 -- a request to close a view that the seat doesn't hold (profile)
 abbrev pub IsUnheld : Request → List ℕ → Type 0

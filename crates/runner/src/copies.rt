@@ -4,7 +4,7 @@ ghost use Rattle.std.specs.Prelude.{◌≡◌, IfSome};
 use base::text::Bytes;
 use book::Receipt;
 use model::names::Names;
-use model::reply::Reply;
+use model::reply::{Reply, Value};
 use std::alloc::Global;
 
 /// A copy of a receipt's reply. None where there is no memory for it.
@@ -25,11 +25,25 @@ fn copy_of(alloc: Global, reply: &Reply) -> Option<Reply>
         Reply::Done => Some(Reply::Done),
         Reply::Refused(refusal) => Some(Reply::Refused(*refusal)),
         Reply::Data(bytes) => Some(Reply::Data(*bytes)),
-        Reply::Value(value) => Some(Reply::Value(*value)),
+        Reply::Value(value) => Some(Reply::Value(copy_of_value(alloc, value)?)),
         Reply::Group(group) => Some(Reply::Group(*group)),
         Reply::Names(names) => Some(Reply::Names(copy_of_names(alloc, names)?)),
         Reply::Count(count) => Some(Reply::Count(*count)),
         Reply::Opened(number, sight) => Some(Reply::Opened(*number, sight.copy().ok()?)),
+    }
+}
+
+fn copy_of_value(alloc: Global, value: &Value) -> Option<Value>
+    ensures { IfSome result (λ r. r ≡ value.now) }
+{
+    match value {
+        Value::Size(size) => Some(Value::Size(*size)),
+        Value::Number(number) => Some(Value::Number(*number)),
+        Value::Named(text) => {
+            let bytes = Vec::from_slice(alloc, text.as_slice()).ok()?;
+            Some(Value::Named(Bytes::from(bytes)))
+        }
+        Value::NotApplicable => Some(Value::NotApplicable),
     }
 }
 

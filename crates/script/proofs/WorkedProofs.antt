@@ -5,11 +5,11 @@ use Rattle.hex.proofs.OnLiterals.{hex_on_literals}
 use Rattle.name.specs.Reading.{name_of, snap_of, target_of}
 use Rattle.script.specs.Lines.{lines, line_limit}
 use Rattle.script.specs.Words.{number_of_word, block_of_word, property_of_word, pool_property_of_word}
-use Rattle.script.specs.Meaning.{meaning, request_of, words_meaning, command_of, create_of, write_of, block_request_of, free_object_of, snapshots_of, snapshot_of, target_request_of, rollback_of, destroyed_of, destroy_of, number_request_of, get_of, pool_get_of}
+use Rattle.script.specs.Meaning.{meaning, request_of, words_meaning, command_of, name_request_of, clone_of, write_of, block_request_of, free_object_of, snapshots_of, snapshot_of, target_request_of, rollback_of, destroyed_of, destroy_of, number_request_of, get_of, pool_get_of}
 use Rattle.script.specs.Examples.{WorkedLines}
 
 pub worked_lines : WorkedLines
-unfolding lines line_limit meaning request_of words_meaning command_of create_of write_of block_request_of free_object_of snapshots_of snapshot_of target_request_of rollback_of destroyed_of destroy_of number_request_of get_of pool_get_of number_of_word block_of_word property_of_word pool_property_of_word name_of snap_of target_of digits hex_on_literals
+unfolding lines line_limit meaning request_of words_meaning command_of name_request_of clone_of write_of block_request_of free_object_of snapshots_of snapshot_of target_request_of rollback_of destroyed_of destroy_of number_request_of get_of pool_get_of number_of_word block_of_word property_of_word pool_property_of_word name_of snap_of target_of digits hex_on_literals
 worked_lines = record {
   three = refl;
   ended = refl;
@@ -47,6 +47,13 @@ worked_lines = record {
   destroy_turned = refl;
   destroy_two = refl;
   destroy_bad_name = refl;
+  clone = refl;
+  clone_of_none = refl;
+  clone_to_snapshot = refl;
+  promote = refl;
+  promote_snapshot = refl;
+  origin = refl;
+  clones = refl;
   slice = refl;
   slice_of_none = refl;
   slice_greatest = refl;
@@ -76,5 +83,7 @@ worked_lines = record {
   opened = refl;
   no_names = refl;
   names = refl;
+  text = refl;
+  no_text = refl;
   refused = refl;
 }

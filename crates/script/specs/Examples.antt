@@ -4,10 +4,11 @@ use Rattle.std.specs.Fmt.{decimal}
 use Rattle.std.specs.FinMap as finmap
 use Rattle.base.specs.declared.refusal.Refusal.TheVariants.{BadName, NoDataset, BadLine}
 use Rattle.name.specs.declared.target.Target.TheVariants.{FileSystem, Snapshot, Bookmark}
-use Rattle.model.specs.declared.request.Property.TheVariants.{Referenced, Written, Guid, CreateTxg}
+use Rattle.model.specs.declared.request.Property.TheVariants.{Referenced, Written, Guid, CreateTxg, Origin, Clones}
 use Rattle.model.specs.declared.request.PoolProperty.TheVariants.{Free, Freeing}
-use Rattle.model.specs.declared.request.Request.TheVariants.{Create, Write, Punch, FreeObject, Snapshot as TakeSnapshots, Read, Get, PoolGet, List as ListNames, Rollback, Destroy, Slice, Sync, OpenView, CloseView}
-use Rattle.model.specs.declared.reply.Reply.TheVariants.{Done, Refused, Group, Names, Count, Opened}
+use Rattle.model.specs.declared.request.Request.TheVariants.{Create, Write, Punch, FreeObject, Snapshot as TakeSnapshots, Read, Get, PoolGet, List as ListNames, Rollback, Destroy, Slice, Sync, OpenView, CloseView, Clone, Promote}
+use Rattle.model.specs.declared.reply.Reply.TheVariants.{Done, Refused, Value as ValueIs, Group, Names, Count, Opened}
+use Rattle.model.specs.declared.reply.Value.TheVariants.{Named}
 use Rattle.script.specs.Lines.{lines}
 use Rattle.script.specs.Words.{number_of_word}
 use Rattle.script.specs.Meaning.{meaning, Silent, Faulty, Asks}
@@ -65,6 +66,13 @@ pub record WorkedLines : Type 0 where
   pub destroy_turned : meaning (codes "destroy -d -r p@s") ≡ Faulty BadLine
   pub destroy_two : meaning (codes "destroy p/a p/b") ≡ Faulty BadLine
   pub destroy_bad_name : meaning (codes "destroy p//a") ≡ Faulty BadName
+  pub clone : meaning (codes "clone p/a@s p/c") ≡ Asks (Clone (Snapshot (record { file_system = codes "p/a"; component = codes "s" })) (codes "p/c"))
+  pub clone_of_none : meaning (codes "clone p/a@s") ≡ Faulty BadLine
+  pub clone_to_snapshot : meaning (codes "clone p/a@s p/c@s") ≡ Faulty BadName
+  pub promote : meaning (codes "promote p/c") ≡ Asks (Promote (codes "p/c"))
+  pub promote_snapshot : meaning (codes "promote p/c@s") ≡ Faulty BadName
+  pub origin : meaning (codes "get origin p/c") ≡ Asks (Get (FileSystem (codes "p/c")) Origin)
+  pub clones : meaning (codes "get clones p/a@s") ≡ Asks (Get (Snapshot (record { file_system = codes "p/a"; component = codes "s" })) Clones)
   pub slice : meaning (codes "slice 20") ≡ Asks (Slice 20)
   pub slice_of_none : meaning (codes "slice 0") ≡ Asks (Slice 0)
   pub slice_greatest : meaning (codes "slice 4294967295") ≡ Asks (Slice 4294967295)
@@ -94,6 +102,8 @@ pub record WorkedLines : Type 0 where
   pub opened : line_of (Opened 3 (record { map = finmap.empty; guid = 5; group = 7 })) ≡ codes "3" ++ 10 ∷ []
   pub no_names : line_of (Names []) ≡ codes "-" ++ 10 ∷ []
   pub names : line_of (Names (codes "p" ∷ codes "p/a" ∷ [])) ≡ codes "p p/a" ++ 10 ∷ []
+  pub text : line_of (ValueIs (Named (codes "p/c,p/d"))) ≡ codes "p/c,p/d" ++ 10 ∷ []
+  pub no_text : line_of (ValueIs (Named [])) ≡ codes "-" ++ 10 ∷ []
   pub refused : line_of (Refused NoDataset) ≡ codes "error 2 NoDataset" ++ 10 ∷ []
 
 -- a number has one spelling, the one in which it is printed (profile)

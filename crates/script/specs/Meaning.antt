@@ -9,7 +9,7 @@ use Rattle.name.specs.declared.member.Member.{Member}
 use Rattle.name.specs.declared.target.Target.{Target}
 use Rattle.name.specs.Reading.{name_of, snap_of, target_of}
 use Rattle.model.specs.declared.request.Request.{Request}
-use Rattle.model.specs.declared.request.Request.TheVariants.{Create, Write, Punch, FreeObject, Snapshot, Read, Get, PoolGet, List as ListNames, Rollback, Destroy, Slice, Sync, OpenView, CloseView}
+use Rattle.model.specs.declared.request.Request.TheVariants.{Create, Write, Punch, FreeObject, Snapshot, Read, Get, PoolGet, List as ListNames, Rollback, Destroy, Slice, Sync, OpenView, CloseView, Clone, Promote}
 use Rattle.script.specs.Lines.{line_limit}
 use Rattle.script.specs.Words.{is_printable, words_of, is_word, number_of_word, block_of_word, property_of_word, pool_property_of_word}
 
@@ -56,9 +56,13 @@ abbrev pub after_option : List ℕ → List (List ℕ) → List (List ℕ)
 after_option option [] = []
 after_option option (w ∷ ws) = if bytes_eq w option then ws else w ∷ ws
 
--- `create NAME` (profile)
-unfoldable pub create_of : List (List ℕ) → Meaning
-create_of operands = shaped (one_of operands) (λ w. named (name_of w) (λ name. Asks (Create name)))
+-- `NAME`: a request of one file system (profile)
+unfoldable pub name_request_of : (List ℕ → Request) → List (List ℕ) → Meaning
+name_request_of request operands = shaped (one_of operands) (λ w. named (name_of w) (λ name. Asks (request name)))
+
+-- `clone TARGET NAME` (zfs-clone(8))
+unfoldable pub clone_of : List (List ℕ) → Meaning
+clone_of operands = shaped (two_of operands) (λ w. named (target_of w.0) (λ target. named (name_of w.1) (λ name. Asks (Clone target name))))
 
 -- `write TARGET NUM NUM HEX` (profile)
 unfoldable pub write_of : List (List ℕ) → Meaning
@@ -130,7 +134,7 @@ bare request (word ∷ words) = Faulty BadLine
 -- by the command word (profile)
 unfoldable pub command_of : List ℕ → List (List ℕ) → Meaning
 command_of command operands =
-    if bytes_eq command (codes "create") then create_of operands
+    if bytes_eq command (codes "create") then name_request_of Create operands
     else if bytes_eq command (codes "write") then write_of operands
     else if bytes_eq command (codes "punch") then block_request_of Punch operands
     else if bytes_eq command (codes "rmobj") then free_object_of operands
@@ -141,6 +145,8 @@ command_of command operands =
     else if bytes_eq command (codes "list") then bare ListNames operands
     else if bytes_eq command (codes "rollback") then rollback_of operands
     else if bytes_eq command (codes "destroy") then destroy_of operands
+    else if bytes_eq command (codes "clone") then clone_of operands
+    else if bytes_eq command (codes "promote") then name_request_of Promote operands
     else if bytes_eq command (codes "slice") then number_request_of Slice operands
     else if bytes_eq command (codes "sync") then bare Sync operands
     else if bytes_eq command (codes "view") then target_request_of OpenView operands

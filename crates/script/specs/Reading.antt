@@ -5,7 +5,7 @@ use Rattle.base.specs.declared.refusal.Refusal.TheVariants.{NoMemory}
 use Rattle.name.specs.declared.target.Target.{Target}
 use Rattle.model.specs.declared.request.Request.{Request}
 use Rattle.script.specs.Words.{words_of}
-use Rattle.script.specs.Meaning.{Meaning, Faulty, Asks, block_request_of, target_request_of, number_request_of}
+use Rattle.script.specs.Meaning.{Meaning, Faulty, Asks, block_request_of, target_request_of, name_request_of, number_request_of}
 
 -- nothing is left of a line, or these bytes after a space (profile)
 abbrev pub words_left : Option (List ℕ) → List (List ℕ)
@@ -26,6 +26,11 @@ MeansBlock (Err refusal) words request = (refusal ≡ NoMemory) ⊎ (block_reque
 abbrev pub MeansTarget : Result Target Refusal → List (List ℕ) → (Target → Request) → Type 0
 MeansTarget (Ok target) words request = target_request_of request words ≡ Asks (request target)
 MeansTarget (Err refusal) words request = (refusal ≡ NoMemory) ⊎ (target_request_of request words ≡ Faulty refusal)
+
+-- a request of one file system that a line asks, or its fault, unless memory ran out
+abbrev pub MeansName : Result (List ℕ) Refusal → List (List ℕ) → (List ℕ → Request) → Type 0
+MeansName (Ok name) words request = name_request_of request words ≡ Asks (request name)
+MeansName (Err refusal) words request = (refusal ≡ NoMemory) ⊎ (name_request_of request words ≡ Faulty refusal)
 
 -- a request of one number that a line asks, or its fault
 abbrev pub MeansNumber : Result ℕ Refusal → List (List ℕ) → (ℕ → Request) → Type 0

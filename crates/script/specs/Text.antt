@@ -5,14 +5,20 @@ use Rattle.std.specs.Fmt.{decimal}
 use Rattle.hex.specs.Hex.{encode_lower}
 use Rattle.base.specs.Refusals.{number_of, name_of}
 use Rattle.model.specs.declared.reply.Value.{Value}
-use Rattle.model.specs.declared.reply.Value.TheVariants.{Size, Number, NotApplicable}
+use Rattle.model.specs.declared.reply.Value.TheVariants.{Size, Number, Named, NotApplicable}
 use Rattle.model.specs.declared.reply.Reply.{Reply}
 use Rattle.model.specs.declared.reply.Reply.TheVariants.{Done, Refused, Data, Value as ValueIs, Group, Names, Count, Opened}
+
+-- a text, or `-` where it is empty (profile)
+abbrev pub named_text : List ℕ → List ℕ
+named_text [] = codes "-"
+named_text (b ∷ bs) = b ∷ bs
 
 -- a property's value (profile)
 abbrev pub value_text : Value → List ℕ
 value_text (Size bytes) = decimal bytes
 value_text (Number n) = decimal n
+value_text (Named text) = named_text text
 value_text NotApplicable = codes "-"
 
 -- a block's bytes, or `hole` (profile)

@@ -1,5 +1,5 @@
 //! What a line asks for.
-ghost use Rattle.std.specs.Prelude.{◌≡◌, ℕ, ◌*◌, ◌∷◌, Some, None, length, replicate};
+ghost use Rattle.std.specs.Prelude.{◌≡◌, ℕ, List, ◌*◌, ◌∷◌, Some, None, length, replicate};
 ghost use Rattle.std.specs.Bool.{OnTrue, OnFalse};
 ghost use Rattle.std.specs.Option.{option_map, option_copied};
 ghost use Rattle.std.specs.List.{list_all};
@@ -7,8 +7,8 @@ ghost use Rattle.hex.specs.Hex.{decode_of};
 ghost use Rattle.name.specs.Reading.{Reads};
 ghost use Rattle.model.specs.declared.request.Request.{Request};
 ghost use Rattle.script.specs.Words.{is_printable, is_word, words_of, number_of_word, number_without_zero, number_from, block_of_word, filled, property_of_word, pool_property_of_word};
-ghost use Rattle.script.specs.Meaning.{request_of, command_of, create_of, write_of, block_request_of, free_object_of, snap_names_of, snapshots_of, snapshot_of, get_of, rollback_of, destroyed_of, destroy_of, number_request_of, target_request_of, pool_get_of, has_option, after_option, bare, one_of, two_of, three_of, four_of};
-ghost use Rattle.script.specs.Reading.{words_left, Means, MeansBlock, MeansTarget, MeansNumber};
+ghost use Rattle.script.specs.Meaning.{request_of, command_of, clone_of, name_request_of, write_of, block_request_of, free_object_of, snap_names_of, snapshots_of, snapshot_of, get_of, rollback_of, destroyed_of, destroy_of, number_request_of, target_request_of, pool_get_of, has_option, after_option, bare, one_of, two_of, three_of, four_of};
+ghost use Rattle.script.specs.Reading.{words_left, Means, MeansBlock, MeansTarget, MeansName, MeansNumber};
 
 use crate::lines::LINE_LIMIT;
 use base::data::Data;
@@ -151,6 +151,10 @@ fn command_at(alloc: Global, command: &[u8], operands: Option<&[u8]>) -> Result<
         rollback(alloc, operands)
     } else if command == b"destroy".as_slice() {
         destroy(alloc, operands)
+    } else if command == b"clone".as_slice() {
+        clone(alloc, operands)
+    } else if command == b"promote".as_slice() {
+        promote(alloc, operands)
     } else if command == b"slice".as_slice() {
         slice(operands)
     } else if command == b"sync".as_slice() {
@@ -164,16 +168,44 @@ fn command_at(alloc: Global, command: &[u8], operands: Option<&[u8]>) -> Result<
     }
 }
 
-#[inline(never)]
-#[tactic(auto, unfolding(crate::specs::Meaning::create_of))]
-fn create(alloc: Global, operands: Option<&[u8]>) -> Result<Request, Refusal>
-    ensures { Means result (create_of (words_left (option_copied operands.entry))) }
+// The name that is the one operand of a request.
+#[tactic(auto, unfolding(crate::specs::Meaning::name_request_of))]
+fn lone_name(alloc: Global, operands: Option<&[u8]>) -> Result<DsName, Refusal>
+    ensures { (request : List ℕ → Request) → MeansName result (words_left (option_copied operands.entry)) request }
 {
     let Some(name) = one(operands) else {
         return Err(Refusal::BadLine);
     };
-    let name = DsName::read(alloc, name)?;
+    DsName::read(alloc, name)
+}
+
+#[inline(never)]
+fn create(alloc: Global, operands: Option<&[u8]>) -> Result<Request, Refusal>
+    ensures { Means result (name_request_of Request.Create (words_left (option_copied operands.entry))) }
+{
+    let name = lone_name(alloc, operands)?;
     Ok(Request::Create { name })
+}
+
+#[inline(never)]
+fn promote(alloc: Global, operands: Option<&[u8]>) -> Result<Request, Refusal>
+    ensures { Means result (name_request_of Request.Promote (words_left (option_copied operands.entry))) }
+{
+    let name = lone_name(alloc, operands)?;
+    Ok(Request::Promote { name })
+}
+
+#[inline(never)]
+#[tactic(auto, unfolding(crate::specs::Meaning::clone_of))]
+fn clone(alloc: Global, operands: Option<&[u8]>) -> Result<Request, Refusal>
+    ensures { Means result (clone_of (words_left (option_copied operands.entry))) }
+{
+    let Some((target, name)) = two(operands) else {
+        return Err(Refusal::BadLine);
+    };
+    let target = Target::read(alloc, target)?;
+    let name = DsName::read(alloc, name)?;
+    Ok(Request::Clone { target, name })
 }
 
 #[inline(never)]
@@ -429,6 +461,10 @@ fn property_named(word: &[u8]) -> Option<Property>
         Some(Property::Guid)
     } else if word == b"createtxg".as_slice() {
         Some(Property::CreateTxg)
+    } else if word == b"origin".as_slice() {
+        Some(Property::Origin)
+    } else if word == b"clones".as_slice() {
+        Some(Property::Clones)
     } else {
         None
     }

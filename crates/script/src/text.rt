@@ -1,7 +1,7 @@
 //! Replies as lines.
 ghost use Rattle.std.specs.Prelude.{◌++◌, ◌∷◌, [], Some, OnOk};
 ghost use Rattle.std.specs.Io.KnownBytes.{Appends};
-ghost use Rattle.script.specs.Text.{line_of, data_text, names_text};
+ghost use Rattle.script.specs.Text.{line_of, data_text, named_text, names_text};
 
 use base::text::Bytes;
 use model::reply::{Reply, Value};
@@ -28,6 +28,7 @@ pub(crate) fn write_reply<W: Write>(writer: &mut W, reply: &Reply) -> io::Result
             let number = *number;
             writeln!(writer, "{number}")
         }
+        Reply::Value(Value::Named(text)) => write_text(writer, text),
         Reply::Group(group) => {
             let group = *group;
             writeln!(writer, "{group}")
@@ -52,6 +53,17 @@ fn write_block<W: Write>(writer: &mut W, bytes: &[u8; 512]) -> io::Result<()>
     let _ = hex::encode_to_slice(bytes.as_slice(), &mut text[..1024]);
     text[1024] = b'\n';
     writer.write_all(&text)
+}
+
+fn write_text<W: Write>(writer: &mut W, text: &Bytes) -> io::Result<()>
+    ensures { OnOk result (Appends (W.contents writer.old) (W.contents writer.new) (named_text text.now ++ 10 ∷ [])) }
+{
+    let text = text.as_slice();
+    if text.is_empty() {
+        return writer.write_all(b"-\n");
+    }
+    writer.write_all(text)?;
+    writer.write_all(b"\n")
 }
 
 fn write_names<W: Write>(writer: &mut W, names: &[Bytes]) -> io::Result<()>

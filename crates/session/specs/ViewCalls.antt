@@ -2,7 +2,7 @@
 use Rattle.std.specs.Prelude.{◌≡◌, ◌≢◌, Bool, true, false}
 use Rattle.name.specs.declared.target.Target.{Target}
 use Rattle.model.specs.declared.request.Request.{Request}
-use Rattle.model.specs.declared.request.Request.TheVariants.{Create, Write, Punch, FreeObject, Snapshot, Read, Get, PoolGet, List, Rollback, Destroy, Slice, Sync, OpenView, CloseView}
+use Rattle.model.specs.declared.request.Request.TheVariants.{Create, Write, Punch, FreeObject, Snapshot, Read, Get, PoolGet, List, Rollback, Destroy, Slice, Sync, OpenView, CloseView, Clone, Promote}
 use Rattle.model.specs.declared.reply.Reply.TheVariants.{Opened as TheOpened, Done}
 use Rattle.book.specs.Calls.{Ran, IsFullOrNoMemory}
 use Rattle.book.specs.Entered.{is_opened}
@@ -30,6 +30,8 @@ is_of_views (Slice count) = false
 is_of_views Sync = false
 is_of_views (OpenView target) = true
 is_of_views (CloseView view) = true
+is_of_views (Clone target name) = false
+is_of_views (Promote name) = false
 
 -- the view shows what the reply says; or the reply opened none (profile)
 abbrev pub IsOpenedBy : {K : Type 0} → Placed → OpenedView K → Type 0

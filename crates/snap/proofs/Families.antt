@@ -6,7 +6,7 @@ use Rattle.std.specs.List.{filter, starts_with}
 use Rattle.std.specs.Cmp.Lexicographic.{pointwise}
 use Rattle.name.specs.Names.{same_name, slash}
 use Rattle.name.specs.declared.member.Member.{Member}
-use Rattle.file_systems.specs.Rows.{Row}
+use Rattle.file_system.specs.Rows.{Row}
 use Rattle.model.specs.requests.Snapshot.{named_with}
 use Rattle.world.specs.Tables.{Datasets, world_of}
 use Rattle.snap.specs.Taking.{all_of, is_in_family}
@@ -58,18 +58,18 @@ first_byte (b ∷ bs) h = refl
 
 -- the names of a family's file systems among these, with a component
 abbrev pub members_of : Member → List Row → List Member
-members_of name rows = map (λ n. record name { file_system = n }) (filter (is_in_family name.file_system) (map (λ (r : Row). r.0) rows))
+members_of name rows = map (λ n. record name { file_system = n }) (filter (is_in_family name.file_system) (map (λ (r : Row). r.name) rows))
 
 module _ (name : Member) (rows rest : List Row) (r : Row) (left : rows ≡ r ∷ rest) (xs all : List Member) (so_far : xs ++ members_of name rows ≡ all) where
-  pub with_member : is_in_family name.file_system r.0 ≡ true → (ys : List Member) (m : Member) → ys ≡ xs ++ m ∷ [] → m ≡ record name { file_system = r.0 } → ys ++ members_of name rest ≡ all
+  pub with_member : is_in_family name.file_system r.name ≡ true → (ys : List Member) (m : Member) → ys ≡ xs ++ m ∷ [] → m ≡ record name { file_system = r.name } → ys ++ members_of name rest ≡ all
   with_member is ys m grown made =
       (λ i. grown i ++ members_of name rest) ∙ append_assoc xs (m ∷ []) (members_of name rest) ∙ (λ i. xs ++ made i ∷ members_of name rest)
-      ∙ ap (λ b. xs ++ map (λ n. record name { file_system = n }) (cond b (r.0 ∷ filter (is_in_family name.file_system) (map (λ (r : Row). r.0) rest)) (filter (is_in_family name.file_system) (map (λ (r : Row). r.0) rest)))) (sym is)
+      ∙ ap (λ b. xs ++ map (λ n. record name { file_system = n }) (cond b (r.name ∷ filter (is_in_family name.file_system) (map (λ (r : Row). r.name) rest)) (filter (is_in_family name.file_system) (map (λ (r : Row). r.name) rest)))) (sym is)
       ∙ ap (λ l. xs ++ members_of name l) (sym left) ∙ so_far
 
-  pub without_member : is_in_family name.file_system r.0 ≡ false → xs ++ members_of name rest ≡ all
+  pub without_member : is_in_family name.file_system r.name ≡ false → xs ++ members_of name rest ≡ all
   without_member is =
-      ap (λ b. xs ++ map (λ n. record name { file_system = n }) (cond b (r.0 ∷ filter (is_in_family name.file_system) (map (λ (r : Row). r.0) rest)) (filter (is_in_family name.file_system) (map (λ (r : Row). r.0) rest)))) (sym is)
+      ap (λ b. xs ++ map (λ n. record name { file_system = n }) (cond b (r.name ∷ filter (is_in_family name.file_system) (map (λ (r : Row). r.name) rest)) (filter (is_in_family name.file_system) (map (λ (r : Row). r.name) rest)))) (sym is)
       ∙ ap (λ l. xs ++ members_of name l) (sym left) ∙ so_far
 
 -- one name more

@@ -2,7 +2,7 @@
 ghost use Rattle.std.specs.Prelude.{◌≡◌, ◌++◌, IfOk, IfErr, OnOk, map};
 ghost use Rattle.std.specs.Arc.{arc_value};
 ghost use Rattle.std.specs.List.{filter};
-ghost use Rattle.file_systems.specs.Rows.{Row};
+ghost use Rattle.file_system.specs.Rows.{Row};
 ghost use Rattle.snap.specs.Taking.{all_of, is_in_family};
 
 use base::refusal::Refusal;
@@ -46,7 +46,7 @@ fn add_family<'a>(
     file_systems: &'a [Arc<FileSystem>],
     name: &'a Member,
 ) -> Result<(), Refusal>
-    ensures ok { OnOk result (all.new.items ≡ all.old.items ++ map (λ n. record name.now { file_system = n }) (filter (is_in_family name.now.file_system) (map (λ (r : Row). r.0) (map arc_value file_systems.now)))) }
+    ensures ok { OnOk result (all.new.items ≡ all.old.items ++ map (λ n. record name.now { file_system = n }) (filter (is_in_family name.now.file_system) (map (λ (r : Row). r.name) (map arc_value file_systems.now)))) }
     ensures err { IfErr result (λ e. e ≡ Refusal.NoMemory) }
 {
     for file_system in file_systems {

@@ -2,3 +2,4 @@ pub mod Cuts
 pub mod Names
 pub mod Indexes
 pub mod Splices
+pub mod Moving

@@ -30,7 +30,7 @@ inside_at (x ∷ ks) (suc i) k e = let l = inside_at ks i k e in omega arith
 pub inside_named : (ks : List Kept) (i : ℕ) (n : List ℕ) → option_map (λ (k : Kept). k.snapshot.name) (slice_get ks i) ≡ Some n → i < length ks
 inside_named ks i n e = let k = named_at (slice_get ks i) n e in inside_at ks i k.0 k.1
 
-same_itself : (n : List ℕ) → same_name n n ≡ true
+pub same_itself : (n : List ℕ) → same_name n n ≡ true
 same_itself n = texts_ties n n ∙ ap is_eq (tied_itself nat_list_cmp_total n)
 
 -- it is found by its name

@@ -4,6 +4,7 @@
 mod by_name;
 mod kept;
 mod line;
+mod parts;
 mod snapshot;
 
 pub use by_name::ByName;

@@ -24,8 +24,8 @@ use std::sync::Arc;
 /// on there is no index: they are then found by a walk.
 #[derive(Drop)]
 pub struct Line {
-    kept: SharedList<Kept>,
-    by_name: Option<ByName>,
+    pub(crate) kept: SharedList<Kept>,
+    pub(crate) by_name: Option<ByName>,
 }
 
 impl Model for Line {
@@ -171,7 +171,7 @@ fn name_at(kept: &SharedList<Kept>, place: usize) -> Result<Component, Refusal>
 }
 
 // An equal index, by one more owner of each of its chunks.
-fn copy_of_index(by_name: &Option<ByName>) -> Result<Option<ByName>, Refusal>
+pub(crate) fn copy_of_index(by_name: &Option<ByName>) -> Result<Option<ByName>, Refusal>
     ensures ok { IfOk result (λ b. b ≡ by_name.now) }
     ensures err { IfErr result (λ e. e ≡ Refusal.NoMemory) }
 {
@@ -206,7 +206,7 @@ fn index(by_name: &mut Option<ByName>, kept: Arc<Kept>)
 }
 
 // Takes the snapshot of this name, which is there, out of the index. Where memory is refused there is no index any more.
-fn forget(by_name: &mut Option<ByName>, name: &[u8])
+pub(crate) fn forget(by_name: &mut Option<ByName>, name: &[u8])
     requires { IfSome by_name.old (λ index. IsSome (find (λ k. same_name k.snapshot.name name.now) index)) }
     ensures { (ks : List Kept) (place : ℕ) → option_map (λ k. k.snapshot.name) (slice_get ks place) ≡ Some name.now → AreNamesOnce ks → IsIndex by_name.old ks → IsIndex by_name.new (remove ks place) }
 {

@@ -20,7 +20,7 @@ use Rattle.world.proofs.Kept.{reach_is}
 use Rattle.world.proofs.StateSteps.{begun, create_before}
 use Rattle.steps.specs.Steady.{IsSteady}
 use Rattle.steps.specs.Edits.{datasets_of, with_datasets, put, CanPut}
-use Rattle.steps.proofs.Plain.{plain_empty, plain_put, plain_swept, same_known, put_known}
+use Rattle.steps.proofs.Plain.{plain_empty, plain_put, plain_swept, same_known, put_known, new_origins}
 use Rattle.steps.proofs.Putting.{put_none}
 use Rattle.steps.proofs.Ruled.{no_choice, refused_by, no_memory_by, done_by}
 
@@ -56,7 +56,8 @@ module _ (s : State) (steady : IsSteady s) (name : List ℕ) (may : create_refus
       let plain = plain_put s.now.file_systems steady.plain name empty_file_system plain_empty in
       record {
         good = create_before s steady.good name can.absent can.parent can.room;
-        swept = plain_swept s (with_datasets s created) steady refl (put_known s.now.file_systems s.now.file_systems (same_known s.now.file_systems) name empty_file_system (λ t i. absurd i));
+        swept = plain_swept s (with_datasets s created) steady refl (put_known s.now.file_systems s.now.file_systems (same_known s.now.file_systems) name empty_file_system (λ t i. absurd i))
+            (new_origins s.now.file_systems name empty_file_system can.absent);
         plain = plain;
       }
 

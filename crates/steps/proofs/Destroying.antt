@@ -1,11 +1,13 @@
 -- A destroy: the datasets after it, why it is refused, and its steps.
-use Rattle.std.proofs.Common.{◌≡◌, ◌⊎◌, Bool, true, false, not, ◌&&◌, ◌||◌, List, [], ◌∷◌, map, Option, Some, None, refl, sym, ap, subst, ◌∙◌, cond, ⊎_elim}
+use Rattle.std.proofs.Common.{◌≡◌, ◌⊎◌, Bool, not, ◌&&◌, map, Option, Some, None, refl, sym, ap, subst, ◌∙◌, cond, inl, ⊎_elim, true≢false}
+use Rattle.std.specs.Prelude.{nat_lt, length}
 use Rattle.std.specs.List.{filter, list_any}
-use Rattle.std.specs.Option.{option_map_or, is_some, IsSome}
+use Rattle.std.specs.Option.{option_map_or, is_some}
 use Rattle.std.specs.FinMap.{get, insert, remove}
-use Rattle.std.proofs.lemmas.Bool.{or_cases, and_parts}
+use Rattle.std.proofs.lemmas.Bool.{or_left, or_right, and_parts}
 use Rattle.base.specs.declared.refusal.Refusal.{Refusal}
 use Rattle.base.specs.declared.refusal.Refusal.TheVariants.{NoDataset, NoMemory}
+use Rattle.base.specs.Map.{blocks}
 use Rattle.base.specs.Surveys.{IsIn}
 use Rattle.name.specs.Names.{same_name}
 use Rattle.name.specs.declared.member.Member.{Member}
@@ -13,31 +15,34 @@ use Rattle.name.specs.declared.target.Target.{Target}
 use Rattle.name.specs.declared.target.Target.TheVariants.{FileSystem as OfFileSystem, Snapshot as OfSnapshot, Bookmark as OfBookmark}
 use Rattle.model.specs.declared.request.Request.TheVariants.{Destroy}
 use Rattle.model.specs.declared.reply.Reply.TheVariants.{Done, Refused}
-use Rattle.model.specs.World.{World, FileSystem, Snap, SnapId, id_of, snap_at, maps_of}
+use Rattle.model.specs.World.{World, FileSystem, Snap, id_of, maps_of, union_of}
 use Rattle.model.specs.State.{State, is_viewed}
-use Rattle.model.specs.Outcome.{is_needed}
+use Rattle.model.specs.Outcome.{is_needed, state_after_sweep}
 use Rattle.model.specs.Refusals.{refusal_of}
 use Rattle.model.specs.Edits.{with_now, with_losses, without_snaps}
 use Rattle.model.specs.Step.{Step}
 use Rattle.model.specs.requests.Destroy.{file_systems_named, snaps_named, is_one_of, with_deferred, after_destroy, destroy_rule}
 use Rattle.world.specs.Shapes.{Name}
-use Rattle.world.specs.Worlds.{AreFileSystems, AreMapsFrom}
-use Rattle.world.specs.Tables.{world_of}
+use Rattle.world.specs.Sets.{Has, IsSubset}
+use Rattle.world.specs.Worlds.{AreFileSystems, AreMapsFrom, IsSwept}
+use Rattle.world.specs.Tables.{Datasets, world_of}
+use Rattle.world.proofs.Bridge.{no_block, in_union_of, from_union_of}
 use Rattle.world.proofs.Families.{from_retained, retained_maps}
 use Rattle.world.proofs.Finding.{from_filter}
 use Rattle.world.proofs.Listed.{in_map}
-use Rattle.world.proofs.Maps.{no_value}
-use Rattle.world.proofs.ViewedRequests.{destroy_asked}
-use Rattle.world.proofs.WithoutSnaps.{from_without, without_from}
-use Rattle.removals.specs.Requests.{destroyed, destroy_refusal}
+use Rattle.world.proofs.StateSteps.{sweep_swept}
+use Rattle.world.proofs.Viewed.{IsSafe, safe_then, some_gone}
+use Rattle.world.proofs.ViewedRequests.{not_true, destroy_asked}
+use Rattle.world.proofs.WithoutSnaps.{from_without, without_from, losses_twice}
+use Rattle.removals.specs.Requests.{destroyed, destroy_refusal, swept}
 use Rattle.removals.proofs.Bare.{no_bookmark}
 use Rattle.removals.proofs.Deferring.{in_before, maps_stay, marked_by}
 use Rattle.steps.specs.Steady.{IsPlain, ArePlain, IsSteady}
 use Rattle.steps.specs.Edits.{datasets_of, lose, CanLose}
 use Rattle.steps.proofs.Losing.{can_lose}
-use Rattle.steps.proofs.Plain.{bare}
-use Rattle.steps.proofs.Ruled.{no_choice, refused_by, no_memory_by, done_by}
-use Rattle.steps.proofs.Seeing.{AreViewed, once, closed, viewed_needed, now_viewed, seen_after}
+use Rattle.steps.proofs.Plain.{bare, plain_without}
+use Rattle.steps.proofs.Ruled.{no_choice, refused_by, no_memory_by, swept_by}
+use Rattle.steps.proofs.Seeing.{once, closed, seen_after}
 
 -- the world after a destroy is that of the datasets, with what is to be freed
 destroyed_world : (s : State) (target : Target) (recursive defer : Bool)
@@ -97,20 +102,9 @@ module _ (s : State) (steady : IsSteady s) (recursive defer : Bool) where
         let plain = steady.plain n k.0 k.1 in
         subst IsPlain (sym k.2) (record {
           tags = λ u h. let v = was_snap k.0 u h in ap (λ (x : Snap). x.tags) v.2 ∙ plain.tags v.0 v.1;
-          origin = plain.origin;
           limits = plain.limits;
           bookmarks = plain.bookmarks;
         })
-
-    left_viewed : AreViewed s.views (with_deferred (without_snaps s.now goes) stays).file_systems
-    left_viewed n f u at h d =
-        let k = was n f at in
-        let v = was_snap k.0 u (subst (λ (x : FileSystem). IsIn x.snaps u) k.2 h) in
-        ap (λ (x : Snap). is_viewed s.views (id_of x)) v.2
-        ∙ ⊎_elim
-        (λ e. now_viewed s steady n k.0 v.0 k.1 v.1 e)
-        (λ e. sym (viewed_needed s steady n k.0 v.0 k.1 v.1) ∙ (and_parts defer (is_needed s.now s.views v.0) (and_parts (is_one_of (snaps_named s.now m recursive) v.0) (needed v.0) e).1).1)
-        (or_cases v.0.deferred (stays v.0) (sym (ap (λ (x : Snap). x.deferred) v.2) ∙ d))
 
   no_refusal : (e : Refusal) → ◌≡◌ {A = Option Refusal} (Some e) None → ⊥
   no_refusal e k = cc
@@ -119,7 +113,7 @@ module _ (s : State) (steady : IsSteady s) (recursive defer : Bool) where
   not_bookmark : (m : Member) → destroy_refusal (datasets_of s) s.views (OfBookmark m) recursive defer ≡ Some NoDataset
   not_bookmark m = ap (λ b. cond {A = Option Refusal} (not (is_some b)) (Some NoDataset) None) (no_bookmark (datasets_of s) (bare (datasets_of s) steady.plain) s.views m)
 
-  -- what a destroy that nothing refuses leaves has maps of what was there, is plain, and the views show what is deferred
+  -- what a destroy that nothing refuses leaves has maps of what was there, and is plain
   destroy_from : (target : Target) → destroy_refusal (datasets_of s) s.views target recursive defer ≡ None → AreMapsFrom s.now.file_systems (destroyed (datasets_of s) s.views target recursive defer).file_systems
   destroy_from (OfFileSystem name) none = retained_maps s.now.file_systems (λ n. not (list_any (same_name n) (file_systems_named s.now name recursive)))
   destroy_from (OfSnapshot m) none = left_from m
@@ -130,11 +124,49 @@ module _ (s : State) (steady : IsSteady s) (recursive defer : Bool) where
   destroy_plain (OfSnapshot m) none = left_plain m
   destroy_plain (OfBookmark m) none = absurd (no_refusal NoDataset (sym (not_bookmark m) ∙ none))
 
-  destroy_viewed : (target : Target) → destroy_refusal (datasets_of s) s.views target recursive defer ≡ None → AreViewed s.views (destroyed (datasets_of s) s.views target recursive defer).file_systems
-  destroy_viewed (OfFileSystem name) none = λ q x u at h d.
-      now_viewed s steady q x u (from_retained s.now.file_systems (λ n. not (list_any (same_name n) (file_systems_named s.now name recursive))) q x at).1 h d
-  destroy_viewed (OfSnapshot m) none = left_viewed m
-  destroy_viewed (OfBookmark m) none = absurd (no_refusal NoDataset (sym (not_bookmark m) ∙ none))
+-- ---- the sweep after it
+
+-- a world each of whose maps is another's has no other blocks
+maps_fewer : (w v : World) → AreMapsFrom w.file_systems v.file_systems → IsSubset (union_of v) (union_of w)
+maps_fewer w v from b h =
+    let r = from_union_of v b h in ⊎_elim
+    (λ e. absurd (no_block b (subst (λ m. Has (blocks m) b) e r.5)))
+    (λ k. in_union_of w k.0 k.1 r.2 b k.2 k.3 r.5)
+    (from r.0 r.1 r.2 r.3 r.4)
+
+module _ (s : State) (t : Datasets) (from : AreMapsFrom s.now.file_systems t.file_systems) where
+  abbrev unneeded : Snap → Bool
+  unneeded u = u.deferred && not (is_needed (world_of t) s.views u)
+
+  abbrev gone_to : World
+  gone_to = record s.now { file_systems = t.file_systems; group = t.group }
+
+  abbrev swept_to : World
+  swept_to = record s.now { file_systems = (swept t s.views).file_systems; group = t.group }
+
+  -- what is lost first and what the sweep loses are lost together
+  swept_state : lose s (swept t s.views) ≡ state_after_sweep (lose s t)
+  unfolding state_after_sweep
+  swept_state = ap (with_now s) (sym (losses_twice s.now gone_to swept_to refl refl (maps_fewer s.now gone_to from) (maps_fewer gone_to swept_to (without_from (world_of t) unneeded))))
+
+  swept_from : AreMapsFrom s.now.file_systems (swept t s.views).file_systems
+  swept_from n f m at h = ⊎_elim inl (λ k. from k.0 k.1 m k.2 k.3) (without_from (world_of t) unneeded n f m at h)
+
+  -- a view's snapshot stays
+  swept_safe : IsSafe s.views s.now (lose s t).now → IsSafe s.views s.now (without_snaps (lose s t).now (λ u. u.deferred && not (is_needed (world_of t) s.views u)))
+  swept_safe safe = safe_then s.views s.now (lose s t).now (without_snaps (lose s t).now unneeded) safe
+      (some_gone s.views (lose s t).now unneeded safe.once safe.closed
+      (λ name u k seen. not_true (unneeded u) (λ e.
+      true≢false (sym (and_parts u.deferred (not (is_needed (world_of t) s.views u)) e).1
+      ∙ ap not (or_right (nat_lt 0 (length u.tags)) _ (or_left (is_viewed s.views (id_of u)) _ seen))))))
+
+  -- so the datasets can be put in place once they are swept
+  swept_can : IsSteady s → AreFileSystems (swept t s.views).file_systems s.now.group → t.group ≡ s.now.group → ArePlain t.file_systems → IsSafe s.views s.now (lose s t).now
+      → CanLose s (swept t s.views)
+  swept_can steady good open_is plain safe = can_lose s steady (swept t s.views) (subst (AreFileSystems (swept t s.views).file_systems) (sym open_is) good) open_is swept_from
+      (plain_without (world_of t) plain unneeded)
+      (λ v id e. seen_after s steady (without_snaps (lose s t).now unneeded) (swept_safe safe) v id e)
+      (subst IsSwept (sym swept_state) (sweep_swept (lose s t)))
 
 -- ---- steps
 
@@ -148,17 +180,15 @@ module _ (s : State) (steady : IsSteady s) (target : Target) (recursive defer : 
       by_target (OfSnapshot m) = refl
       by_target (OfBookmark m) = refl
 
-  -- what nothing refuses can be put in place, where what holds of file systems holds of it
+  -- what nothing refuses can be put in place once it is swept, where what holds of file systems holds of it
   pub destroy_can : destroy_refusal (datasets_of s) s.views target recursive defer ≡ None
-      → AreFileSystems (destroyed (datasets_of s) s.views target recursive defer).file_systems s.now.group
-      → CanLose s (destroyed (datasets_of s) s.views target recursive defer)
+      → AreFileSystems (swept (destroyed (datasets_of s) s.views target recursive defer) s.views).file_systems s.now.group
+      → CanLose s (swept (destroyed (datasets_of s) s.views target recursive defer) s.views)
   destroy_can none good =
       let safe = destroy_asked s target recursive defer (once s.size s.now steady.good.now) (closed s.size s.now steady.good.now) (row_is ∙ none) in
-      can_lose s steady (destroyed (datasets_of s) s.views target recursive defer) good refl
-      (destroy_from s steady recursive defer target none) (destroy_plain s steady recursive defer target none)
-      (λ v id e. subst (λ (x : World). IsSome (snap_at (with_losses s.now x) id)) (destroyed_world s target recursive defer)
-      (seen_after s steady (with_losses s.now (after_destroy s.now (λ t. defer && is_needed s.now s.views t) target recursive)) safe v id e))
-      (destroy_viewed s steady recursive defer target none)
+      swept_can s (destroyed (datasets_of s) s.views target recursive defer) (destroy_from s steady recursive defer target none) steady good refl
+      (destroy_plain s steady recursive defer target none)
+      (subst (λ (x : World). IsSafe s.views s.now (with_losses s.now x)) (destroyed_world s target recursive defer) safe)
 
   -- a destroy that is refused, or has no memory
   pub destroy_refused : (why : Refusal) → (destroy_refusal (datasets_of s) s.views target recursive defer ≡ Some why) ⊎ (why ≡ NoMemory) → Step s (Destroy target recursive defer) (Refused why) s
@@ -168,10 +198,12 @@ module _ (s : State) (steady : IsSteady s) (target : Target) (recursive defer : 
       (no_memory_by (Destroy target recursive defer) (destroy_rule target recursive defer) refl s refl))
       which
 
-  -- and one that nothing refuses
+  -- and one that nothing refuses, after which what nothing needs any more is swept
   pub destroy_done : destroy_refusal (datasets_of s) s.views target recursive defer ≡ None
-      → CanLose s (destroyed (datasets_of s) s.views target recursive defer)
-      → Step s (Destroy target recursive defer) Done (lose s (destroyed (datasets_of s) s.views target recursive defer))
-  destroy_done none can = done_by (Destroy target recursive defer) (destroy_rule target recursive defer) refl s no_choice
-      (lose s (destroyed (datasets_of s) s.views target recursive defer)) Done refl refl (row_is ∙ none) refl
-      (sym (destroyed_state s target recursive defer)) can.steady
+      → CanLose s (swept (destroyed (datasets_of s) s.views target recursive defer) s.views)
+      → Step s (Destroy target recursive defer) Done (lose s (swept (destroyed (datasets_of s) s.views target recursive defer) s.views))
+  destroy_done none can = swept_by (Destroy target recursive defer) (destroy_rule target recursive defer) refl s no_choice
+      (lose s (swept (destroyed (datasets_of s) s.views target recursive defer) s.views)) Done refl refl (row_is ∙ none) refl
+      (swept_state s (destroyed (datasets_of s) s.views target recursive defer) (destroy_from s steady recursive defer target none)
+      ∙ ap state_after_sweep (sym (destroyed_state s target recursive defer)))
+      can.steady

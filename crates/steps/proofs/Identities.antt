@@ -20,7 +20,8 @@ use Rattle.steps.proofs.Questions.{get_done}
 
 module _ (s : State) (good : IsSteady s) where
   module _ (name : List ℕ) (f : FileSystem) (was : get s.now.file_systems name ≡ Some f) where
-    live_value : (property : Property) → property_value s (OfFileSystem name) property ≡ file_system_value s.now name property
+    -- the value of a property of a file system that is there
+    pub live_value : (property : Property) → property_value s (OfFileSystem name) property ≡ file_system_value s.now name property
     unfolding property_value
     live_value property = ap (λ x. option_map_or (λ _. file_system_value s.now name property) x NotApplicable) was
 
@@ -38,7 +39,8 @@ module _ (s : State) (good : IsSteady s) where
     get_written_of_live n e = get_done s good (OfFileSystem name) Written (Size (512 * n)) (ap is_some was) (live_value Written ∙ ap (λ k. Size (512 * k)) (sym e))
 
   module _ (m : Member) (t : Snap) (found : snap_in s.now.file_systems m ≡ Some t) (n : ℕ) where
-    kept_value : (property : Property) → property_value s (OfSnapshot m) property ≡ snap_value s.now t property
+    -- and of a snapshot
+    pub kept_value : (property : Property) → property_value s (OfSnapshot m) property ≡ snap_value s.now t property
     unfolding property_value
     kept_value property = ap (λ x. option_map_or (λ u. snap_value s.now u property) x NotApplicable) found
 

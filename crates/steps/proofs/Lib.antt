@@ -32,3 +32,6 @@ pub mod Freeing
 pub mod Rolling
 pub mod Destroying
 pub mod Slicing
+pub mod Cloning
+pub mod Promoting
+pub mod Texts

@@ -1,6 +1,6 @@
 -- Other datasets in the place of a pool's, and what they have lost to be freed: what holds between two steps holds again, the same
 -- blocks are reached, and no limit is passed.
-use Rattle.std.proofs.Common.{◌≡◌, ℕ, List, Some, None, refl, sym, ap, subst, ◌∙◌, arith}
+use Rattle.std.proofs.Common.{◌≡◌, ℕ, List, Some, None, refl, sym, subst, arith}
 use Rattle.std.specs.FinMap.{get}
 use Rattle.std.specs.Option.{IsSome}
 use Rattle.zalloc.specs.declared.BlockState.{BlockState}
@@ -9,19 +9,18 @@ use Rattle.model.specs.State.{State}
 use Rattle.model.specs.Numbers.{HasStates}
 use Rattle.model.specs.Rule.{first_of}
 use Rattle.model.specs.requests.Change.{limit_row}
-use Rattle.world.specs.Worlds.{AreFileSystems, AreMapsFrom}
+use Rattle.world.specs.Worlds.{AreFileSystems, AreMapsFrom, IsSwept}
 use Rattle.world.specs.Tables.{Datasets}
 use Rattle.world.proofs.Kept.{world_losses, pair_losses, losses_reach}
 use Rattle.steps.specs.Settles.{AreStatesOf}
 use Rattle.steps.specs.Steady.{IsSteady, ArePlain}
 use Rattle.steps.specs.Edits.{lose, CanLose}
 use Rattle.steps.proofs.Known.{states_of, of_states}
-use Rattle.steps.proofs.Seeing.{AreViewed, viewed_swept}
 use Rattle.steps.proofs.Snapping.{limits_hold}
 
 module _ (s : State) (steady : IsSteady s) (t : Datasets) (good : AreFileSystems t.file_systems t.group) (open_is : t.group ≡ s.now.group)
     (from : AreMapsFrom s.now.file_systems t.file_systems) (plain : ArePlain t.file_systems)
-    (seen : (v : ℕ) (id : SnapId) → get s.views v ≡ Some id → IsSome (snap_at (record s.now { file_systems = t.file_systems; group = t.group }) id)) (shown : AreViewed s.views t.file_systems) where
+    (seen : (v : ℕ) (id : SnapId) → get s.views v ≡ Some id → IsSome (snap_at (record s.now { file_systems = t.file_systems; group = t.group }) id)) (clean : IsSwept (lose s t)) where
   abbrev new : World
   new = record s.now { file_systems = t.file_systems; group = t.group }
 
@@ -34,7 +33,7 @@ module _ (s : State) (steady : IsSteady s) (t : Datasets) (good : AreFileSystems
         pair = pair_losses s.size s.now new steady.good.now from good refl s.last (let e = open_is in omega arith) steady.good.pair;
         views = seen;
       };
-      swept = viewed_swept (lose s t) shown;
+      swept = clean;
       plain = plain;
     };
     reach = losses_reach s.size s.now new steady.good.now from good refl;

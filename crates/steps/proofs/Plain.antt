@@ -1,5 +1,5 @@
 -- Plain file systems: what is told of them, and what keeps them so.
-use Rattle.std.proofs.Common.{◌≡◌, true, false, List, [], ◌∷◌, ◌++◌, Option, Some, None, refl, sym, ap, subst, ◌∙◌, true≢false, ◌⊎◌, inl, inr, ⊎_elim}
+use Rattle.std.proofs.Common.{◌≡◌, Bool, true, false, not, List, [], ◌∷◌, ◌++◌, Option, Some, None, refl, sym, ap, subst, ◌∙◌, ◌⊎◌, inl, inr, ⊎_elim}
 use Rattle.std.specs.Prelude.{is_some}
 use Rattle.std.specs.Option.{option_and_then}
 use Rattle.std.specs.FinMap.{get, insert, get-empty}
@@ -9,28 +9,32 @@ use Rattle.name.specs.declared.target.Target.{Target}
 use Rattle.name.specs.declared.target.Target.TheVariants.{FileSystem as OfFileSystem, Snapshot as OfSnapshot, Bookmark as OfBookmark}
 use Rattle.base.specs.Map.{Map}
 use Rattle.base.specs.Surveys.{IsIn}
-use Rattle.model.specs.World.{World, FileSystem, Snap, Live, empty_file_system, bookmark_named}
+use Rattle.model.specs.World.{World, FileSystem, Snap, SnapId, Live, empty_file_system, bookmark_named}
 use Rattle.model.specs.State.{State}
 use Rattle.model.specs.Targets.{has_dataset, has_target}
 use Rattle.model.specs.Hierarchy.{FileSystems}
+use Rattle.model.specs.Edits.{without_snaps}
 use Rattle.world.specs.Shapes.{Name, name_order}
 use Rattle.world.specs.Worlds.{IsSwept, InNow}
 use Rattle.world.proofs.Maps.{same_value, key_cases, no_value, get-insert_same, get-insert_other}
 use Rattle.world.proofs.Bridge.{map_of_live}
 use Rattle.world.proofs.Put.{put_cases}
 use Rattle.world.proofs.StateSteps.{swept_stays}
+use Rattle.world.proofs.Finding.{from_filter}
+use Rattle.world.proofs.WithoutSnaps.{from_without}
 use Rattle.accounts.specs.Limits.{IsUnlimited}
-use Rattle.removals.specs.Requests.{AreBare}
+use Rattle.removals.specs.Requests.{AreBare, IsSweptBy}
 use Rattle.world.specs.Tables.{Datasets}
 use Rattle.steps.specs.Room.{AreKeysOne}
 use Rattle.steps.specs.Steady.{IsPlain, ArePlain, IsSteady, IsAbsent}
+use Rattle.steps.specs.Edits.{datasets_of}
 
 -- a new one, and one with another live map
 pub plain_empty : IsPlain empty_file_system
-plain_empty = record { tags = λ t i. absurd i; origin = refl; limits = refl; bookmarks = refl }
+plain_empty = record { tags = λ t i. absurd i; limits = refl; bookmarks = refl }
 
 pub plain_with : (f : FileSystem) → IsPlain f → (m : Map) → IsPlain (record f { live = m })
-plain_with f plain m = record { tags = plain.tags; origin = plain.origin; limits = plain.limits; bookmarks = plain.bookmarks }
+plain_with f plain m = record { tags = plain.tags; limits = plain.limits; bookmarks = plain.bookmarks }
 
 -- one with a snapshot more, after its others
 pub in_appended : (ts : List Snap) (u t : Snap) → IsIn (ts ++ u ∷ []) t → IsIn ts t ⊎ (t ≡ u)
@@ -40,7 +44,6 @@ in_appended (x ∷ ts) u t h = ⊎_elim (λ e. inl (inl e)) (λ i. ⊎_elim (λ 
 pub plain_snapped : (f : FileSystem) → IsPlain f → (u : Snap) → u.tags ≡ [] → IsPlain (record f { snaps = f.snaps ++ u ∷ [] })
 plain_snapped f plain u is = record {
   tags = λ t i. ⊎_elim (plain.tags t) (λ e. ap (λ (v : Snap). v.tags) e ∙ is) (in_appended f.snaps u t i);
-  origin = plain.origin;
   limits = plain.limits;
   bookmarks = plain.bookmarks;
 }
@@ -72,13 +75,44 @@ put_known ss others known name f own q x t at h = ⊎_elim
     (λ k. known q x t k.1 h)
     (put_cases others name f q x at)
 
--- with such snapshots there is nothing to sweep
-pub plain_swept : (s new : State) → IsSteady s → new.views ≡ s.views → AreKnown s.now.file_systems new.now.file_systems → IsSwept new
-plain_swept s new steady views snaps = swept_stays s new views snaps (λ q x id at o. absurd (no_value id (sym (steady.plain q x at).origin ∙ o))) steady.swept
+-- each origin of these is an origin of others
+abbrev pub AreOriginsIn : FileSystems → FileSystems → Type 0
+AreOriginsIn ss others =
+    (q : Name) (x : FileSystem) (id : SnapId) → get ss q ≡ Some x → x.origin ≡ Some id → (p : Name) × (y : FileSystem) × (get others p ≡ Some y) × (y.origin ≡ Some id)
+
+pub same_origins : (ss : FileSystems) → AreOriginsIn ss ss
+same_origins ss q x id at o = (q, x, at, o)
+
+-- one more
+pub new_origins : (ss : FileSystems) (name : Name) (f : FileSystem) → get ss name ≡ None → AreOriginsIn ss (insert ss name f)
+new_origins ss name f absent q x id at o = (q, x, get-insert_other name_order ss name f q (λ same. no_value x (sym absent ∙ ap (get ss) (sym same) ∙ at)) ∙ at, o)
+
+-- another one, of the same origin
+pub put_origins : (ss others : FileSystems) → AreOriginsIn ss others → (name : Name) (f g : FileSystem) → get others name ≡ Some f → g.origin ≡ f.origin → AreOriginsIn ss (insert others name g)
+put_origins ss others known name f g at same q x id was o =
+    let k = known q x id was o in ⊎_elim
+    (λ (e : k.0 ≡ name). (name, g, get-insert_same name_order others name g, same ∙ ap (λ (y : FileSystem). y.origin) (same_value f k.1 (sym at ∙ ap (get others) (sym e) ∙ k.2)) ∙ k.3))
+    (λ other. (k.0, k.1, get-insert_other name_order others name g k.0 other ∙ k.2, k.3))
+    (key_cases name_order k.0 name)
+
+-- with such snapshots and origins there is nothing to sweep
+pub plain_swept : (s new : State) → IsSteady s → new.views ≡ s.views → AreKnown s.now.file_systems new.now.file_systems → AreOriginsIn s.now.file_systems new.now.file_systems → IsSwept new
+plain_swept s new steady views snaps origins = swept_stays s new views snaps origins steady.swept
+
+-- nor is there between two steps, as a removal asks of datasets
+pub clean : (s : State) → IsSteady s → IsSweptBy (datasets_of s) s.views
+clean s steady = steady.swept
+
+-- plain ones without some snapshots
+pub plain_without : (w : World) → ArePlain w.file_systems → (goes : Snap → Bool) → ArePlain (without_snaps w goes).file_systems
+plain_without w plain goes name f at =
+    let k = from_without w goes name f at in
+    let p = plain name k.0 k.1 in
+    subst IsPlain (sym k.2) (record { tags = λ t i. p.tags t (from_filter (λ t. not (goes t)) k.0.snaps t i).0; limits = p.limits; bookmarks = p.bookmarks })
 
 -- what a removal asks of datasets holds of these
 pub bare : (t : Datasets) → ArePlain t.file_systems → AreBare t.file_systems
-bare t plain name f at = let k = plain name f at in record { tags = k.tags; origin = k.origin; bookmarks = k.bookmarks }
+bare t plain name f at = let k = plain name f at in record { tags = k.tags; bookmarks = k.bookmarks }
 
 -- no limit is set
 pub plain_unlimited : (ss : FileSystems) → ArePlain ss → IsUnlimited ss

@@ -16,7 +16,7 @@ use Rattle.zalloc.specs.declared.BlockState.{BlockState}
 use Rattle.zalloc.specs.declared.BlockState.TheVariants.{Free, Allocated}
 use Rattle.zalloc.specs.States.{is_free}
 use Rattle.tree.specs.Change.{Shown, IsChange, young_count}
-use Rattle.file_systems.specs.Rows.{with_live}
+use Rattle.file_system.specs.Rows.{with_live}
 use Rattle.model.specs.World.{World, FileSystem, Live, union_of, reach_of}
 use Rattle.model.specs.State.{State}
 use Rattle.model.specs.Hierarchy.{FileSystems}
@@ -48,7 +48,7 @@ use Rattle.steps.proofs.States.{state_at-now, not_free}
 use Rattle.steps.proofs.Known.{states_of}
 use Rattle.steps.proofs.Room.{room_of_change, fresh_or_old, dropped_reached}
 use Rattle.steps.proofs.Counts.{count-free, len-young}
-use Rattle.steps.proofs.Plain.{plain_with, plain_put, plain_swept, AreKnown, same_known, put_known, plain_unlimited, live_once}
+use Rattle.steps.proofs.Plain.{plain_with, plain_put, plain_swept, AreKnown, AreOriginsIn, same_known, put_known, same_origins, put_origins, plain_unlimited, live_once}
 use Rattle.steps.proofs.Gives.{gives_way, live_there, union_comes}
 
 -- a bound moved by the same number on both sides
@@ -216,7 +216,9 @@ module _ (s : State) (steady : IsSteady s) (name : Name) (f : FileSystem) (was :
     change_steady = record {
       good = subst IsPoolState (sym leads_to) (change_before s steady.good name f was ch young late own_late states v is takable);
       swept = plain_swept s (with_datasets s after_it) steady refl (subst (AreKnown s.now.file_systems) (sym (with_live_is s.now.file_systems name f v.new was))
-          (put_known s.now.file_systems s.now.file_systems (same_known s.now.file_systems) name (record f { live = v.new }) (λ t i. inr (name, f, was, i))));
+          (put_known s.now.file_systems s.now.file_systems (same_known s.now.file_systems) name (record f { live = v.new }) (λ t i. inr (name, f, was, i))))
+          (subst (AreOriginsIn s.now.file_systems) (sym (with_live_is s.now.file_systems name f v.new was))
+          (put_origins s.now.file_systems s.now.file_systems (same_origins s.now.file_systems) name f (record f { live = v.new }) was refl));
       plain = after_plain;
     }
 

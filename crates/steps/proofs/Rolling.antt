@@ -1,19 +1,19 @@
 -- A rollback: the datasets after it, why it is refused, and its steps.
-use Rattle.std.proofs.Common.{◌≡◌, ◌⊎◌, Bool, true, false, cond, not, ◌&&◌, ◌||◌, List, [], ◌∷◌, ◌++◌, Option, Some, None, refl, sym, ap, subst, ◌∙◌, inl, inr, ⊎_elim}
-use Rattle.std.specs.Prelude.{is_some, nat_le, nat_lt}
-use Rattle.std.specs.List.{filter, find}
-use Rattle.std.specs.Option.{option_map, option_map_or, option_and_then}
+use Rattle.std.proofs.Common.{◌≡◌, ◌⊎◌, ◌<◌, Bool, true, false, cond, List, [], ◌∷◌, ◌++◌, Option, Some, None, refl, sym, ap, subst, ◌∙◌, inl, inr, ⊎_elim, map}
+use Rattle.std.specs.Prelude.{nat_le, nat_lt}
+use Rattle.std.specs.List.{filter}
+use Rattle.std.specs.Option.{option_map_or}
 use Rattle.std.specs.FinMap.{get, insert, entries, from_entries}
+use Rattle.std.proofs.lemmas.Bool.{lt-ltb}
+use Rattle.base.specs.Surveys.{IsIn}
 use Rattle.base.specs.declared.refusal.Refusal.{Refusal}
-use Rattle.base.specs.declared.refusal.Refusal.TheVariants.{NoDataset, NotSnapshot, NotNewest, Busy, HasClones, NoMemory}
-use Rattle.name.specs.Names.{name_cmp, same_name}
-use Rattle.name.specs.declared.member.Member.{Member}
+use Rattle.base.specs.declared.refusal.Refusal.TheVariants.{Busy, HasClones, NoMemory}
+use Rattle.name.specs.Names.{name_cmp}
 use Rattle.name.specs.declared.target.Target.{Target}
-use Rattle.name.specs.declared.target.Target.TheVariants.{FileSystem as OfFileSystem, Snapshot as OfSnapshot, Bookmark as OfBookmark}
 use Rattle.zalloc.specs.declared.BlockState.{BlockState}
 use Rattle.model.specs.declared.request.Request.TheVariants.{Rollback}
 use Rattle.model.specs.declared.reply.Reply.TheVariants.{Done, Refused}
-use Rattle.model.specs.World.{World, FileSystem, Snap, SnapId, Bookmark, id_of, snap_at, snap_named}
+use Rattle.model.specs.World.{World, FileSystem, Snap, SnapId, Bookmark, id_of, snap_at}
 use Rattle.model.specs.State.{State}
 use Rattle.model.specs.Numbers.{HasStates}
 use Rattle.model.specs.Rule.{Row, first_of}
@@ -21,23 +21,28 @@ use Rattle.model.specs.Refusals.{refusal_of, state_asked}
 use Rattle.model.specs.Edits.{with_now, with_losses, with_file_system}
 use Rattle.model.specs.Step.{Step}
 use Rattle.model.specs.requests.Change.{limit_row}
-use Rattle.model.specs.requests.Rollback.{placed, back_at, after_rollback, rolled_back, newer_snaps, is_busy, back_row, rollback_rule}
+use Rattle.model.specs.requests.Rollback.{placed, snaps_after, back_at, after_rollback, rolled_back, newer_snaps, is_busy, has_clone_outside, back_row, rollback_rule}
 use Rattle.world.specs.Shapes.{Name}
 use Rattle.world.specs.Worlds.{AreFileSystems, AreMapsFrom}
+use Rattle.world.specs.Dead.{HasNoCloneIn}
 use Rattle.world.specs.Tables.{world_of}
-use Rattle.world.proofs.Finding.{from_filter}
+use Rattle.world.proofs.Finding.{any_none, in_filter, from_filter}
 use Rattle.world.proofs.Groups.{same_maps}
-use Rattle.world.proofs.Maps.{no_value}
+use Rattle.world.proofs.Listed.{map_in}
+use Rattle.world.proofs.Maps.{same_value}
 use Rattle.world.proofs.Rollbacks.{rollback_systems, rollback_from}
 use Rattle.steps.specs.Steady.{IsPlain, ArePlain, IsSteady}
 use Rattle.steps.specs.Edits.{datasets_of, lose, CanLose}
+use Rattle.removals.specs.Named.{has_clone}
 use Rattle.removals.specs.Requests.{rolled, rollback_refusal}
 use Rattle.steps.proofs.Losing.{can_lose, lose_limits}
-use Rattle.steps.proofs.Plain.{plain_put, AreKnown, same_known, put_known}
+use Rattle.steps.proofs.Plain.{plain_put, plain_swept, AreKnown, AreOriginsIn, same_known, put_known, same_origins, put_origins}
 use Rattle.steps.proofs.Ruled.{no_choice, refused_by, no_memory_by, done_by}
-use Rattle.steps.proofs.Seeing.{once, closed, seen_after, known_viewed}
+use Rattle.steps.proofs.Seeing.{once, closed, seen_after}
 use Rattle.removals.proofs.Bare.{no_entries}
-use Rattle.world.proofs.ViewedRequests.{row_false, rollback_safe}
+use Rattle.removals.proofs.Clones.{uncloned_is, outside_is}
+use Rattle.world.proofs.Viewed.{snap_found}
+use Rattle.world.proofs.ViewedRequests.{row_false, from_placed, rollback_safe}
 
 -- ---- the world after it
 
@@ -82,7 +87,6 @@ rolled_state s target = ap (λ x. with_now s (with_losses s.now x)) (rolled_worl
 plain_back : (f : FileSystem) → IsPlain f → (t : Snap) → IsPlain (back_at f t)
 plain_back f plain t = record {
   tags = λ u i. plain.tags u (from_filter (λ (v : Snap). nat_le v.group t.group) f.snaps u i).0;
-  origin = plain.origin;
   limits = plain.limits;
   bookmarks =
       ap (λ m. from_entries {R = name_cmp} (filter (λ (b : Name × Bookmark). nat_le b.1.group t.group) (entries m))) plain.bookmarks
@@ -108,50 +112,83 @@ module _ (s : State) (steady : IsSteady s) where
       at (Some f) e = put_known s.now.file_systems s.now.file_systems (same_known s.now.file_systems) name (back_at f t)
           (λ u i. inr (name, f, e, (from_filter (λ (v : Snap). nat_le v.group t.group) f.snaps u i).0))
 
+  back_origins : (name : Name) (t : Snap) → AreOriginsIn s.now.file_systems (with_file_system s.now name (λ f. back_at f t)).file_systems
+  back_origins name t = at (get s.now.file_systems name) refl
+    where
+      at : (x : Option FileSystem) → get s.now.file_systems name ≡ x
+          → AreOriginsIn s.now.file_systems (option_map_or (λ (f : FileSystem). record s.now { file_systems = insert s.now.file_systems name (back_at f t) }) x s.now).file_systems
+      at None e = same_origins s.now.file_systems
+      at (Some f) e = put_origins s.now.file_systems s.now.file_systems (same_origins s.now.file_systems) name f (back_at f t) e refl
+
   record IsBack (to : World) : Type 0 where
     systems : AreFileSystems to.file_systems s.now.group
     from : AreMapsFrom s.now.file_systems to.file_systems
     plain : ArePlain to.file_systems
     known : AreKnown s.now.file_systems to.file_systems
+    origins : AreOriginsIn s.now.file_systems to.file_systems
 
   same_world : IsBack s.now
-  same_world = record { systems = steady.good.now.systems; from = same_maps s.now.file_systems; plain = steady.plain; known = same_known s.now.file_systems }
+  same_world = record {
+    systems = steady.good.now.systems;
+    from = same_maps s.now.file_systems;
+    plain = steady.plain;
+    known = same_known s.now.file_systems;
+    origins = same_origins s.now.file_systems;
+  }
 
-  is_back : (id : SnapId) → IsBack (after_rollback s.now id)
-  is_back id = at (snap_at s.now id) refl
-    where
-      at : (x : Option (Name × Snap)) → snap_at s.now id ≡ x → IsBack (after_rollback s.now id)
-      at None e = subst (λ x. IsBack (option_map_or (λ (p : Name × Snap). with_file_system s.now p.0 (λ f. back_at f p.1)) x s.now)) (sym e) same_world
-      at (Some p) e = record {
-        systems = rollback_systems s.size s.now steady.good.now id p e (λ x u was i l q y there o. absurd (no_value _ (sym (steady.plain q y there).origin ∙ o)));
-        from = rollback_from s.size s.now steady.good.now id p e (λ x u was i l q y there o. absurd (no_value _ (sym (steady.plain q y there).origin ∙ o)));
-        plain = subst (λ x. ArePlain (option_map_or (λ (p : Name × Snap). with_file_system s.now p.0 (λ f. back_at f p.1)) x s.now).file_systems) (sym e) (back_plain p.0 p.1);
-        known = subst (λ x. AreKnown s.now.file_systems (option_map_or (λ (p : Name × Snap). with_file_system s.now p.0 (λ f. back_at f p.1)) x s.now).file_systems) (sym e) (back_known p.0 p.1);
-      }
+  -- a snapshot of a file system, of whose newer ones none has a clone
+  module _ (name : Name) (p : FileSystem × Snap) (at : get s.now.file_systems name ≡ Some p.0) (here : IsIn p.0.snaps p.1)
+      (none : has_clone_outside s.now [] (map id_of (snaps_after p.0 p.1.group)) ≡ false) where
+    found : snap_at s.now (id_of p.1) ≡ Some (name, p.1)
+    found = snap_found s.now (once s.size s.now steady.good.now) name p.1 (id_of p.1) (p.0, at, here) refl
+
+    uncloned : (x : FileSystem) (u : Snap) → get s.now.file_systems name ≡ Some x → IsIn x.snaps u → p.1.group < u.group → HasNoCloneIn s.now.file_systems (id_of u)
+    uncloned x u was i l =
+        let newer = in_filter (λ (v : Snap). nat_lt p.1.group v.group) p.0.snaps u (subst (λ (y : FileSystem). IsIn y.snaps u) (same_value x p.0 (sym was ∙ at)) i) (lt-ltb p.1.group u.group l) in
+        uncloned_is (datasets_of s) (id_of u)
+        (any_none (has_clone (datasets_of s)) (map id_of (snaps_after p.0 p.1.group)) (sym (outside_is (datasets_of s) (map id_of (snaps_after p.0 p.1.group))) ∙ none) (id_of u)
+        (map_in (λ (v : Snap). id_of v) (snaps_after p.0 p.1.group) u newer))
+
+    abbrev by_snap : Option (Name × Snap) → World
+    by_snap x = option_map_or (λ (q : Name × Snap). with_file_system s.now q.0 (λ f. back_at f q.1)) x s.now
+
+    is_back : IsBack (after_rollback s.now (id_of p.1))
+    is_back = record {
+      systems = rollback_systems s.size s.now steady.good.now (id_of p.1) (name, p.1) found uncloned;
+      from = rollback_from s.size s.now steady.good.now (id_of p.1) (name, p.1) found uncloned;
+      plain = subst (λ x. ArePlain (by_snap x).file_systems) (sym found) (back_plain name p.1);
+      known = subst (λ x. AreKnown s.now.file_systems (by_snap x).file_systems) (sym found) (back_known name p.1);
+      origins = subst (λ x. AreOriginsIn s.now.file_systems (by_snap x).file_systems) (sym found) (back_origins name p.1);
+    }
 
   -- a snapshot's that may not be there
   module _ (target : Target) where
-    is_rolled : IsBack (rolled_back s.now target)
-    is_rolled = at (placed s.now target)
+    is_rolled : has_clone_outside s.now [] (newer_snaps s.now target) ≡ false → IsBack (rolled_back s.now target)
+    is_rolled none = at (placed s.now target) refl none
       where
-        at : (x : Option (FileSystem × Snap)) → IsBack (option_map_or (λ (p : FileSystem × Snap). after_rollback s.now (id_of p.1)) x s.now)
-        at None = same_world
-        at (Some p) = is_back (id_of p.1)
+        at : (x : Option (FileSystem × Snap)) → placed s.now target ≡ x
+            → has_clone_outside s.now [] (option_map_or (λ (p : FileSystem × Snap). map id_of (snaps_after p.0 p.1.group)) x []) ≡ false
+            → IsBack (option_map_or (λ (p : FileSystem × Snap). after_rollback s.now (id_of p.1)) x s.now)
+        at None e k = same_world
+        at (Some p) e k = let r = from_placed s.now target p e in is_back r.0 p r.1 r.2 k
 
-    -- where nothing newer is viewed, the datasets after a rollback can be put in place
+    -- where nothing newer is viewed or has a clone, the datasets after a rollback can be put in place
     pub rollback_can : (later : Bool) → rollback_refusal (datasets_of s) s.views target later ≡ None → CanLose s (rolled (datasets_of s) target)
     rollback_can later none =
         let idle = row_false (back_row s.now s.views target later) none (is_busy s.now s.views (newer_snaps s.now target), Busy) (inr (inr (inr (inl refl)))) in
+        let bare = row_false (back_row s.now s.views target later) none (has_clone_outside s.now [] (newer_snaps s.now target), HasClones) (inr (inr (inr (inr (inl refl))))) in
         let safe = rollback_safe s.views s.now target (once s.size s.now steady.good.now) (closed s.size s.now steady.good.now) idle in
+        let back = is_rolled bare in
+        let to = record (datasets_of s) { file_systems = (rolled_back s.now target).file_systems } in
         subst (λ ss. CanLose s (record (datasets_of s) { file_systems = ss })) (ap (λ (x : World). x.file_systems) (rolled_world s target))
-        (can_lose s steady (record (datasets_of s) { file_systems = (rolled_back s.now target).file_systems }) is_rolled.systems refl is_rolled.from is_rolled.plain
+        (can_lose s steady to back.systems refl back.from back.plain
         (λ v id e. seen_after s steady (rolled_back s.now target) safe v id e)
-        (λ n f u at h d. known_viewed s steady u (is_rolled.known n f u at h) d))
+        (plain_swept s (lose s to) steady refl back.known back.origins))
 
 -- ---- its refusals
 
 -- a row and then another that refuses nothing
-first_then : (xs ys : Row) → (first_of xs ≡ None → first_of ys ≡ None) → first_of (xs ++ ys) ≡ first_of xs
+pub first_then : (xs ys : Row) → (first_of xs ≡ None → first_of ys ≡ None) → first_of (xs ++ ys) ≡ first_of xs
 first_then [] ys rest = rest refl
 first_then (x ∷ xs) ys rest = by_first x.0 rest (first_then xs ys)
   where

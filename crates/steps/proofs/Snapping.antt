@@ -1,5 +1,5 @@
 -- Snapshots taken: what nothing refuses can be put in place, and the steps of a request that takes them.
-use Rattle.std.proofs.Common.{◌≡◌, ℕ, ◌+◌, Bool, true, false, cond, not, List, [], ◌∷◌, ◌++◌, Option, Some, None, refl, sym, ap, subst, ◌∙◌, true≢false, ◌⊎◌, inl, inr, ⊎_elim, length, arith}
+use Rattle.std.proofs.Common.{◌≡◌, ℕ, ◌+◌, Bool, true, false, cond, not, List, [], ◌∷◌, ◌++◌, Option, Some, None, refl, sym, ap, subst, ◌∙◌, true≢false, ◌⊎◌, inl, ⊎_elim, length, arith}
 use Rattle.std.specs.Prelude.{nat_lt}
 use Rattle.std.specs.Option.{option_map_or}
 use Rattle.std.specs.FinMap.{get, insert}
@@ -34,7 +34,7 @@ use Rattle.steps.specs.Steady.{ArePlain, IsSteady}
 use Rattle.steps.specs.Edits.{datasets_of, with_datasets, put, CanPut}
 use Rattle.steps.proofs.Known.{states_of}
 use Rattle.steps.proofs.Counts.{count-free}
-use Rattle.steps.proofs.Plain.{plain_put, plain_swept, AreKnown, same_known, put_known, in_appended, plain_snapped, plain_unlimited}
+use Rattle.steps.proofs.Plain.{plain_put, plain_swept, AreKnown, AreOriginsIn, same_known, put_known, same_origins, put_origins, in_appended, plain_snapped, plain_unlimited}
 use Rattle.steps.proofs.Putting.{kept_states}
 use Rattle.steps.proofs.Ruled.{no_choice, refused_by, no_memory_by, done_by}
 
@@ -63,6 +63,15 @@ snapshots_known ss (m ∷ ms) guid w known = by_name (λ v. snapshots_known ss m
     by_name rest (Some f) e = rest (longer w m guid f) (put_known ss w.file_systems known m.file_system (record f { snaps = f.snaps ++ snap_of_live w f m.component guid ∷ [] })
         (λ t i. ⊎_elim (λ k. known m.file_system f t e k) (λ k. inl (ap (λ (u : Snap). u.deferred) k)) (in_appended f.snaps (snap_of_live w f m.component guid) t i)))
 
+snapshots_origins : (ss : FileSystems) (ms : List Member) (guid : ℕ) (w : World) → AreOriginsIn ss w.file_systems → AreOriginsIn ss (with_snapshots w guid ms).file_systems
+snapshots_origins ss [] guid w known = known
+snapshots_origins ss (m ∷ ms) guid w known = by_name (λ v. snapshots_origins ss ms (guid + 1) v) (get w.file_systems m.file_system) refl
+  where
+    by_name : ((v : World) → AreOriginsIn ss v.file_systems → AreOriginsIn ss (with_snapshots v (guid + 1) ms).file_systems)
+        → (x : Option FileSystem) → get w.file_systems m.file_system ≡ x → AreOriginsIn ss (with_snapshots (option_map_or (longer w m guid) x w) (guid + 1) ms).file_systems
+    by_name rest None e = rest w known
+    by_name rest (Some f) e = rest (longer w m guid f) (put_origins ss w.file_systems known m.file_system f (record f { snaps = f.snaps ++ snap_of_live w f m.component guid ∷ [] }) e refl)
+
 snapshots_freed : (freeing : BlockSet) (ms : List Member) (guid : ℕ) (w : World)
     → with_snapshots (record w { freeing = freeing }) guid ms ≡ record (with_snapshots w guid ms) { freeing = freeing }
 snapshots_freed freeing [] guid w = refl
@@ -77,7 +86,7 @@ snapshots_freed freeing (m ∷ ms) guid w = by_name (λ v. snapshots_freed freei
 
 -- ---- rows
 
-first_left : (xs ys : Row) (why : Refusal) → first_of xs ≡ Some why → first_of (xs ++ ys) ≡ Some why
+pub first_left : (xs ys : Row) (why : Refusal) → first_of xs ≡ Some why → first_of (xs ++ ys) ≡ Some why
 first_left [] ys why e = absurd cc
 first_left (r ∷ rs) ys why e = at r.0 e (first_left rs ys why)
   where
@@ -152,6 +161,9 @@ module _ (s : State) (steady : IsSteady s) (names : List Member) (recursive : Bo
   known : AreKnown s.now.file_systems (taken_of (datasets_of s) (guid_by s.pool s.next_guid) (snapshot_names s.now names recursive)).file_systems
   known = snapshots_known s.now.file_systems all (guid_by s.pool s.next_guid) (world_of (datasets_of s)) (same_known s.now.file_systems)
 
+  origins : AreOriginsIn s.now.file_systems (taken_of (datasets_of s) (guid_by s.pool s.next_guid) (snapshot_names s.now names recursive)).file_systems
+  origins = snapshots_origins s.now.file_systems all (guid_by s.pool s.next_guid) (world_of (datasets_of s)) (same_origins s.now.file_systems)
+
   snapshot_reach : reach_of (with_datasets s (taken_of (datasets_of s) (guid_by s.pool s.next_guid) (snapshot_names s.now names recursive))).now ≡ reach_of s.now
   snapshot_reach =
       ap reach_of (now_is s all)
@@ -165,7 +177,7 @@ module _ (s : State) (steady : IsSteady s) (names : List Member) (recursive : Bo
   taking_can = record {
     steady = record {
       good = record { now = good.now; last = good.last; pair = good.pair; views = good.views };
-      swept = plain_swept s (put s t (length all)) steady refl known;
+      swept = plain_swept s (put s t (length all)) steady refl known origins;
       plain = plain;
     };
     reach = snapshot_reach;

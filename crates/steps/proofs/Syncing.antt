@@ -30,7 +30,7 @@ use Rattle.steps.specs.Steady.{IsSteady}
 use Rattle.world.specs.Tables.{Datasets}
 use Rattle.steps.specs.Edits.{datasets_of, synced, CanSync}
 use Rattle.steps.proofs.Known.{states_of, of_states}
-use Rattle.steps.proofs.Plain.{plain_swept, same_known}
+use Rattle.steps.proofs.Plain.{plain_swept, same_known, same_origins}
 use Rattle.steps.proofs.Ruled.{no_choice, refused_by, no_memory_by, done_by}
 
 -- ---- numbers
@@ -73,7 +73,7 @@ module _ (s : State) (steady : IsSteady s) where
       pair = sync_pairs s.size s.now steady.good.now s.last steady.good.pair;
       views = λ v id e. snap_stays s.now (with_next_group s.now) (s.now.group + 1) (next_keeps s.size s.now steady.good.now).systems.lines (λ q x u at h. (q, x, u, at, h, refl)) id (steady.good.views v id e);
     };
-    swept = plain_swept s (synced s (next_of s)) steady refl (same_known s.now.file_systems);
+    swept = plain_swept s (synced s (next_of s)) steady refl (same_known s.now.file_systems) (same_origins s.now.file_systems);
     plain = steady.plain;
   }
 

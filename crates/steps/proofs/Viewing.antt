@@ -1,10 +1,9 @@
 -- Views opened and closed: why the first is refused, what the second lets go, and their steps.
-use Rattle.std.proofs.Common.{◌≡◌, ◌+◌, ◌<◌, ℕ, Bool, true, false, not, ◌||◌, ◌&&◌, cond, Option, Some, None, refl, sym, ap, subst, ◌∙◌, inl, inr, ⊎_elim, arith}
-use Rattle.std.specs.Prelude.{nat_lt, length}
+use Rattle.std.proofs.Common.{◌≡◌, ◌+◌, ◌<◌, ℕ, Bool, true, false, not, ◌||◌, ◌&&◌, cond, Option, Some, None, refl, sym, ap, subst, ◌∙◌, ⊎_elim, arith}
+use Rattle.std.specs.Prelude.{nat_lt}
 use Rattle.std.specs.List.{find}
-use Rattle.std.specs.Option.{option_map, option_map_or, option_and_then, is_some, IsSome}
+use Rattle.std.specs.Option.{option_map, option_map_or, option_and_then, is_some}
 use Rattle.std.specs.FinMap.{get, insert, remove, len}
-use Rattle.std.proofs.lemmas.Bool.{or_left, or_right}
 use Rattle.base.specs.declared.refusal.Refusal.{Refusal}
 use Rattle.base.specs.declared.refusal.Refusal.TheVariants.{NotSnapshot, NoDataset, Deferred, TooMany, NoView, NoMemory}
 use Rattle.base.specs.Surveys.{IsIn}
@@ -15,10 +14,10 @@ use Rattle.name.specs.declared.target.Target.TheVariants.{FileSystem as OfFileSy
 use Rattle.model.specs.declared.request.Request.TheVariants.{OpenView, CloseView}
 use Rattle.model.specs.declared.reply.Reply.TheVariants.{Done, Refused, Opened}
 use Rattle.model.specs.Sights.{sight_of}
-use Rattle.model.specs.World.{World, FileSystem, Snap, SnapId, id_of, snap_at, snap_named, reach_of}
-use Rattle.model.specs.State.{State, Views, is_viewed}
+use Rattle.model.specs.World.{World, FileSystem, Snap, SnapId, id_of, reach_of}
+use Rattle.model.specs.State.{State}
 use Rattle.model.specs.Outcome.{is_needed, state_after_sweep}
-use Rattle.model.specs.Edits.{with_now, with_losses, without_snaps}
+use Rattle.model.specs.Edits.{with_now, without_snaps}
 use Rattle.model.specs.Targets.{number_limit}
 use Rattle.model.specs.Refusals.{refusal_of}
 use Rattle.model.specs.Rule.{first_of}
@@ -27,23 +26,22 @@ use Rattle.model.specs.requests.Rollback.{placed}
 use Rattle.model.specs.requests.OpenView.{view_limit, open_view_row, open_view_rule}
 use Rattle.model.specs.requests.CloseView.{close_view_rule}
 use Rattle.world.specs.Shapes.{Name, view_order}
-use Rattle.world.specs.Tables.{Datasets, world_of}
+use Rattle.world.specs.Tables.{world_of}
 use Rattle.world.specs.Worlds.{IsPoolState, IsSwept}
-use Rattle.world.proofs.Finding.{from_find, from_filter}
+use Rattle.world.proofs.Finding.{from_find}
 use Rattle.world.proofs.Kept.{losses_reach}
 use Rattle.world.proofs.Maps.{same_value, no_value, key_cases, get-insert_same, get-insert_other, get-remove_same, get-remove_other}
 use Rattle.world.proofs.Bridge.{snap_is_at}
 use Rattle.world.proofs.StateSteps.{sweep_swept}
 use Rattle.world.proofs.States.{sweep_keeps}
 use Rattle.world.proofs.Sweep.{with_losses-same}
-use Rattle.world.proofs.ViewedSteps.{viewed}
-use Rattle.world.proofs.WithoutSnaps.{from_without, without_from}
+use Rattle.world.proofs.WithoutSnaps.{without_from}
 use Rattle.removals.specs.Requests.{swept}
-use Rattle.removals.proofs.Seen.{viewed_by}
-use Rattle.steps.specs.Steady.{IsPlain, ArePlain, IsSteady, snap_in}
+use Rattle.steps.specs.Steady.{ArePlain, IsSteady, snap_in}
 use Rattle.steps.specs.Edits.{datasets_of, lose, viewing, closed, CanLose}
 use Rattle.steps.proofs.Ruled.{no_choice, refused_by, no_memory_by, done_by, swept_by}
-use Rattle.steps.proofs.Seeing.{viewed_swept, now_viewed}
+use Rattle.steps.proofs.Plain.{plain_without}
+use Rattle.steps.proofs.Seeing.{needed_more}
 
 -- ---- a view opened
 
@@ -128,10 +126,9 @@ module _ (s : State) where
               (λ other. steady.good.views v id (sym (get-insert_other view_order s.views s.next_view (id_of t) v other) ∙ e))
               (key_cases view_order v s.next_view);
         };
-        swept = viewed_swept (viewing s (id_of t)) (λ n f u was h d.
-            let k = viewed_by s.views (id_of u) (now_viewed s steady n f u was h d) in
-            viewed (insert s.views s.next_view (id_of t)) k.0 (id_of u)
-            (get-insert_other view_order s.views s.next_view (id_of t) k.0 (λ same. let l = below k.0 (id_of u) k.1 in absurd (omega arith)) ∙ k.1));
+        swept = λ n f u was h d. needed_more s.now s.views (insert s.views s.next_view (id_of t))
+            (λ v id e. get-insert_other view_order s.views s.next_view (id_of t) v (λ same. let l = below v id e in absurd (omega arith)) ∙ e)
+            u (steady.swept n f u was h d);
         plain = steady.plain;
       }
 
@@ -171,15 +168,7 @@ module _ (s : State) (number : ℕ) where
     after_is = refl
 
     left_plain : ArePlain (swept (datasets_of s) (remove s.views number)).file_systems
-    left_plain q x h =
-        let k = from_without (world_of (datasets_of s)) (λ u. u.deferred && not (is_needed (world_of (datasets_of s)) (remove s.views number) u)) q x h in
-        let plain = steady.plain q k.0 k.1 in
-        subst IsPlain (sym k.2) (record {
-          tags = λ u i. plain.tags u (from_filter (λ u. not (u.deferred && not (is_needed (world_of (datasets_of s)) (remove s.views number) u))) k.0.snaps u i).0;
-          origin = plain.origin;
-          limits = plain.limits;
-          bookmarks = plain.bookmarks;
-        })
+    left_plain = plain_without (world_of (datasets_of s)) steady.plain (λ u. u.deferred && not (is_needed (world_of (datasets_of s)) (remove s.views number) u))
 
     left_reach : reach_of (state_after_sweep (closed s number)).now ≡ reach_of s.now
     unfolding state_after_sweep

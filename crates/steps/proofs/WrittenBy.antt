@@ -2,7 +2,6 @@
 use Rattle.std.proofs.Common.{◌≡◌, ℕ, ◌*◌, Bool, true, false, cond, List, [], ◌∷◌, ◌++◌, Some, None, refl, sym, ap, ◌∙◌}
 use Rattle.std.specs.List.{find}
 use Rattle.std.specs.FinMap.{get}
-use Rattle.std.specs.FinSet.{empty}
 use Rattle.base.specs.Map.{BlockSet, blocks}
 use Rattle.name.specs.Names.{same_name}
 use Rattle.name.specs.declared.member.Member.{Member}
@@ -16,7 +15,8 @@ use Rattle.model.specs.Sums.{size_without}
 use Rattle.model.specs.State.{State}
 use Rattle.model.specs.Step.{Step}
 use Rattle.world.proofs.Maps.{same_value, no_value}
-use Rattle.file_systems.specs.Dead.{newest_from, newest_blocks, written_from}
+use Rattle.file_systems.specs.Clones.{below_in}
+use Rattle.file_system.specs.Dead.{newest_blocks, written_from}
 use Rattle.steps.specs.Steady.{IsSteady}
 use Rattle.steps.proofs.Named.{snap_there}
 use Rattle.steps.proofs.Identities.{get_written_of_live, get_written_of_snap}
@@ -29,7 +29,7 @@ pub record IsParted (bs : BlockSet) (ts : List Snap) (name : List ℕ) (n : ℕ)
   pub newer : List Snap
   pub parts : ts ≡ older ++ found ∷ newer
   pub first : find (λ t. same_name t.name name) ts ≡ Some found
-  pub count : n ≡ size_without (blocks found.map) (newest_from bs older)
+  pub count : n ≡ size_without (blocks found.map) (newest_blocks bs older)
 
 module _ (name : List ℕ) where
   abbrev has_name : Snap → Bool
@@ -72,15 +72,15 @@ module _ (name : List ℕ) where
       at false is rest k = ap (λ b. cond b (Some t) (find has_name ts)) is ∙ rest k
 
 module _ (s : State) (good : IsSteady s) where
-  -- zfsprops(7), written, of a live map: the newest snapshot comes before it
-  pub get_written_live : (name : List ℕ) (f : FileSystem) → get s.now.file_systems name ≡ Some f → (n : ℕ) → n ≡ size_without (blocks f.live) (newest_blocks f.snaps)
+  -- zfsprops(7), written, of a live map: the newest snapshot, or else the origin, comes before it
+  pub get_written_live : (name : List ℕ) (f : FileSystem) → get s.now.file_systems name ≡ Some f → (n : ℕ) → n ≡ size_without (blocks f.live) (newest_blocks (blocks (below_in s.now.file_systems f.origin)) f.snaps)
       → Step s (Get (OfFileSystem name) Written) (ValueIs (Size (512 * n))) s
-  get_written_live name f was n e = get_written_of_live s good name f was n (e ∙ sym (written_of_live s.now good.good.now.systems name f was (good.plain name f was).origin))
+  get_written_live name f was n e = get_written_of_live s good name f was n (e ∙ sym (written_of_live s.now good.good.now.systems name f was))
 
-  -- zfsprops(7), written, of a snapshot: the one that stands before it in its file system comes before it
-  pub get_written_snap : (m : Member) (f : FileSystem) → get s.now.file_systems m.file_system ≡ Some f → (n : ℕ) → written_from empty f.snaps m.component ≡ Some n
+  -- zfsprops(7), written, of a snapshot: the one that stands before it in its file system, or else the origin, comes before it
+  pub get_written_snap : (m : Member) (f : FileSystem) → get s.now.file_systems m.file_system ≡ Some f → (n : ℕ) → written_from (blocks (below_in s.now.file_systems f.origin)) f.snaps m.component ≡ Some n
       → Step s (Get (OfSnapshot m) Written) (ValueIs (Size (512 * n))) s
   get_written_snap m f was n e =
-      let at = parted m.component empty f.snaps n e in
+      let at = parted m.component (blocks (below_in s.now.file_systems f.origin)) f.snaps n e in
       get_written_of_snap s good m at.found (snap_there s.now.file_systems m f at.found was at.first) n
-      (at.count ∙ sym (written_of_kept s.now good.good.now.systems m.file_system f was (good.plain m.file_system f was).origin at.older at.found at.newer at.parts))
+      (at.count ∙ sym (written_of_kept s.now good.good.now.systems m.file_system f was at.older at.found at.newer at.parts))

@@ -1,5 +1,5 @@
 -- What holds of a pool's state between two steps.
-use Rattle.std.specs.Prelude.{◌≡◌, ℕ, List, [], Option, Some, None, true, false}
+use Rattle.std.specs.Prelude.{◌≡◌, ℕ, List, [], Option, Some, None, true}
 use Rattle.std.specs.List.{find}
 use Rattle.std.specs.Option.{option_and_then}
 use Rattle.std.specs.FinMap.{get}
@@ -16,10 +16,9 @@ use Rattle.model.specs.Targets.{dataset_of, has_dataset}
 use Rattle.model.specs.Hierarchy.{FileSystems}
 use Rattle.world.specs.Worlds.{IsPoolState, IsSwept}
 
--- a live map, and snapshots without tags: no origin, limit or bookmark, which no request makes so far (profile)
+-- a live map, perhaps an origin, and snapshots without tags: no limit or bookmark, which no request makes so far (profile)
 pub record IsPlain (f : FileSystem) : Type 0 where
   pub tags : (t : Snap) → IsIn f.snaps t → t.tags ≡ []
-  pub origin : f.origin ≡ None
   pub limits : f.limits ≡ no_limits
   pub bookmarks : f.bookmarks ≡ finmap.empty
 

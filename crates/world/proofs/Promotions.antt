@@ -60,14 +60,14 @@ module _ (g : ℕ) (older : List Snap) (t : Snap) (newer : List Snap) (up : AreR
 
 -- ---- what a promotion is
 
-record IsPromotion (w : World) (name : Name) (p : Promotion) : Type 0 where
-  clone_at : get w.file_systems name ≡ Some p.clone
-  origin_is : p.clone.origin ≡ Some p.origin
-  origin : Snap
-  found : snap_at w p.origin ≡ Some (p.owner, origin)
-  owner_at : get w.file_systems p.owner ≡ Some p.system
+pub record IsPromotion (w : World) (name : Name) (p : Promotion) : Type 0 where
+  pub clone_at : get w.file_systems name ≡ Some p.clone
+  pub origin_is : p.clone.origin ≡ Some p.origin
+  pub origin : Snap
+  pub found : snap_at w p.origin ≡ Some (p.owner, origin)
+  pub owner_at : get w.file_systems p.owner ≡ Some p.system
 
-promotion_is : (w : World) (name : Name) (p : Promotion) → promotion_of w name ≡ Some p → IsPromotion w name p
+pub promotion_is : (w : World) (name : Name) (p : Promotion) → promotion_of w name ≡ Some p → IsPromotion w name p
 promotion_is w name p h = by_clone (get w.file_systems name) refl h
   where
     made : FileSystem → SnapId → Name × Snap → FileSystem → Promotion

@@ -37,7 +37,7 @@ kept_of t = (id_of t, t.map, t.name)
 pub record IsSafe (views : Views) (w new : World) : Type 0 where
   pub once : AreOnce new
   pub closed : AreClosed new
-  pub stands : (name : Name) (t : Snap) → HasSnap w name t → is_viewed views (id_of t) ≡ true → (u : Snap) × HasSnap new name u × (kept_of u ≡ kept_of t)
+  pub stands : (name : Name) (t : Snap) → HasSnap w name t → is_viewed views (id_of t) ≡ true → (other : Name) × (u : Snap) × HasSnap new other u × (kept_of u ≡ kept_of t)
 
 -- ---- snapshots by their identities
 
@@ -57,7 +57,7 @@ pub found_after : (views : Views) (w new : World) → IsSafe views w new → (id
 found_after views w new safe id seen p e =
     let k = from_found w id p e in
     let u = safe.stands p.0 p.1 k.0 (ap (is_viewed views) k.1 ∙ seen) in
-    ((p.0, u.0), snap_found new safe.once p.0 u.0 id u.1 (ap (λ x. x.0) u.2 ∙ k.1), u.2)
+    ((u.0, u.1), snap_found new safe.once u.0 u.1 id u.2 (ap (λ x. x.0) u.3 ∙ k.1), u.3)
 
 -- ---- safe worlds
 
@@ -77,7 +77,7 @@ safe_from views w new change same once closed up from stands = record {
       let c = closed name a.0 a.1 in
       let e = ap (λ (x : SnapId). x.group) (id_is t a.0 a.2) in
       omega arith;
-  stands = λ name t h seen. (change t, stands name t h seen, same t);
+  stands = λ name t h seen. (name, change t, stands name t h seen, same t);
 }
   where
     id_is : (t u : Snap) → t ≡ change u → id_of t ≡ id_of u
@@ -91,7 +91,7 @@ pub safe_fewer : (views : Views) (w new : World) → AreOnce w → AreClosed w �
 safe_fewer views w new once closed up from stands = safe_from views w new (λ t. t) (λ t. refl) once closed up (λ name t h. (t, from name t h, refl)) stands
 
 pub safe_same : (views : Views) (w : World) → AreOnce w → AreClosed w → IsSafe views w w
-safe_same views w once closed = record { once = once; closed = closed; stands = λ name t h seen. (t, h, refl) }
+safe_same views w once closed = record { once = once; closed = closed; stands = λ name t h seen. (name, t, h, refl) }
 
 -- one after the other
 pub safe_then : (views : Views) (w v new : World) → IsSafe views w v → IsSafe views v new → IsSafe views w new
@@ -100,8 +100,8 @@ safe_then views w v new a b = record {
   closed = b.closed;
   stands = λ name t h seen.
       let x = a.stands name t h seen in
-      let y = b.stands name x.0 x.1 (ap (λ (k : SnapId × Map × List ℕ). is_viewed views k.0) x.2 ∙ seen) in
-      (y.0, y.1, y.2 ∙ x.2);
+      let y = b.stands x.0 x.1 x.2 (ap (λ (k : SnapId × Map × List ℕ). is_viewed views k.0) x.3 ∙ seen) in
+      (y.0, y.1, y.2, y.3 ∙ x.3);
 }
 
 -- what is to be freed is no matter

@@ -3,7 +3,7 @@ use Rattle.std.proofs.Common.{◌≡◌, Bool, true, false, cond, not, ◌&&◌,
 use Rattle.std.specs.Prelude.{nat_lt, nat_le, is_some}
 use Rattle.std.specs.List.{find, list_any}
 use Rattle.std.specs.Option.{option_map, option_map_or, option_and_then}
-use Rattle.std.specs.FinMap.{get, remove, contains_key}
+use Rattle.std.specs.FinMap.{get, insert, remove, contains_key}
 use Rattle.std.proofs.lemmas.Bool.{leb-false, lt-ltb, or_cases, or_left, or_right, and_parts, false_from_ne_true, not_from_false}
 use Rattle.base.specs.declared.refusal.Refusal.{Refusal}
 use Rattle.base.specs.declared.refusal.Refusal.TheVariants.{Exists, Busy}
@@ -11,13 +11,14 @@ use Rattle.base.specs.Surveys.{IsIn}
 use Rattle.name.specs.declared.target.Target.{Target}
 use Rattle.name.specs.declared.target.Target.TheVariants.{FileSystem as OfFileSystem, Snapshot as OfSnapshot, Bookmark as OfBookmark}
 use Rattle.name.specs.Names.{same_name}
-use Rattle.model.specs.World.{World, FileSystem, Snap, SnapId, id_of, snap_at, file_system_at, empty_file_system}
+use Rattle.model.specs.World.{World, FileSystem, Snap, SnapId, id_of, snap_at, file_system_at, empty_file_system, map_of_snap}
 use Rattle.model.specs.State.{State, Views, is_viewed}
 use Rattle.model.specs.Edits.{with_file_system, without_snaps, with_losses}
 use Rattle.model.specs.Rule.{Row, first_of}
 use Rattle.model.specs.Refusals.{state_asked, refusal_of}
 use Rattle.model.specs.Outcome.{is_needed}
 use Rattle.model.specs.requests.Create.{create_row, with_new_file_system, create_rule}
+use Rattle.model.specs.requests.Clone.{with_clone, clone_row, clone_rule}
 use Rattle.model.specs.requests.Rollback.{placed, snaps_after, back_at, after_rollback, rolled_back, newer_snaps, is_busy, rollback_row, rollback_rule}
 use Rattle.model.specs.requests.Destroy.{file_systems_named, snaps_named, snaps_within, is_one_of, without_file_systems, with_deferred, after_destroy, destroy_system_row, destroy_snap_row, destroy_rule}
 use Rattle.world.specs.RunLaws.{HasSnap}
@@ -51,23 +52,34 @@ not_true b wrong = not_from_false b (false_from_ne_true b wrong)
 
 -- ---- create
 
-create_safe : (views : Views) (w : World) (name : Name) → AreOnce w → AreClosed w → get w.file_systems name ≡ None → IsSafe views w (with_new_file_system w name)
-create_safe views w name once closed absent = safe_fewer views w (with_new_file_system w name) once closed (omega arith)
+-- one file system more, without snapshots
+added_safe : (views : Views) (w : World) (name : Name) (f : FileSystem) → f.snaps ≡ [] → AreOnce w → AreClosed w → get w.file_systems name ≡ None
+    → IsSafe views w (record w { file_systems = insert w.file_systems name f })
+added_safe views w name f bare once closed absent = safe_fewer views w (record w { file_systems = insert w.file_systems name f }) once closed (omega arith)
     (λ q t h. ⊎_elim
-    (λ k. absurd (subst (λ (x : FileSystem). IsIn x.snaps t) k.1 h.2))
+    (λ k. absurd (subst (λ (ts : List Snap). IsIn ts t) (ap (λ (x : FileSystem). x.snaps) k.1 ∙ bare) h.2))
     (λ k. (h.0, k.1, h.2))
-    (put_cases w.file_systems name empty_file_system q h.0 h.1))
-    (λ q t h seen. (h.0, put_other w.file_systems name empty_file_system q (λ same. no_value h.0 (sym absent ∙ ap (get w.file_systems) (sym same) ∙ h.1)) ∙ h.1, h.2))
+    (put_cases w.file_systems name f q h.0 h.1))
+    (λ q t h seen. (h.0, put_other w.file_systems name f q (λ same. no_value h.0 (sym absent ∙ ap (get w.file_systems) (sym same) ∙ h.1)) ∙ h.1, h.2))
+
+not_some : (x : Option FileSystem) → is_some x ≡ false → x ≡ None
+not_some None e = refl
+not_some (Some x) e = absurd (true≢false e)
 
 pub create_asked : (s : State) (name : Name) → AreOnce s.now → AreClosed s.now → refusal_of s (create_rule name) ≡ None → IsSafe s.views s.now (with_new_file_system s.now name)
 unfolding refusal_of
 create_asked s name once closed none =
-    create_safe s.views s.now name once closed
-    (absent (get s.now.file_systems name) (row_false (create_row s.now.file_systems name) none (contains_key s.now.file_systems name, Exists) (inl refl)))
-  where
-    absent : (x : Option FileSystem) → is_some x ≡ false → x ≡ None
-    absent None e = refl
-    absent (Some x) e = absurd (true≢false e)
+    added_safe s.views s.now name empty_file_system refl once closed
+    (not_some (get s.now.file_systems name) (row_false (create_row s.now.file_systems name) none (contains_key s.now.file_systems name, Exists) (inl refl)))
+
+-- ---- clone
+
+pub clone_asked : (s : State) (target : Target) (name : Name) (id : SnapId) → AreOnce s.now → AreClosed s.now → refusal_of s (clone_rule target name) ≡ None
+    → IsSafe s.views s.now (with_clone s.now id name)
+unfolding refusal_of
+clone_asked s target name id once closed none =
+    added_safe s.views s.now name (record empty_file_system { live = map_of_snap s.now (Some id); origin = Some id }) refl once closed
+    (not_some (get s.now.file_systems name) (row_false (clone_row s.now target name) none (contains_key s.now.file_systems name, Exists) (inr (inr (inr (inl refl))))))
 
 -- ---- rollback
 

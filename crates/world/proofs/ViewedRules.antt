@@ -1,6 +1,7 @@
 -- Each request, one by one: where it isn't refused, the views that it doesn't close keep their snapshots. So every step does.
-use Rattle.std.proofs.Common.{◌≡◌, ◌+◌, Bool, true, false, ◌&&◌, List, [], ◌∷◌, length, None, refl, sym, subst}
+use Rattle.std.proofs.Common.{◌≡◌, ◌+◌, ℕ, Option, Some, Bool, true, false, ◌&&◌, List, [], ◌∷◌, length, None, refl, sym, subst}
 use Rattle.std.specs.Prelude.{if◌then◌else◌}
+use Rattle.std.specs.Option.{option_map_or}
 use Rattle.std.specs.FinMap.{remove}
 use Rattle.std.specs.FinSet.{difference}
 use Rattle.name.specs.declared.member.Member.{Member}
@@ -8,24 +9,28 @@ use Rattle.name.specs.declared.target.Target.{Target}
 use Rattle.name.specs.declared.target.Target.TheVariants.{FileSystem as OfFileSystem, Snapshot as OfSnapshot, Bookmark as OfBookmark}
 use Rattle.base.specs.Rewrite.{Changes, rewrite}
 use Rattle.model.specs.declared.request.Request.{Request}
-use Rattle.model.specs.declared.request.Request.TheVariants.{Create as ToCreate, Write as ToWrite, Punch as ToPunch, FreeObject as ToFreeObject, Snapshot as ToSnapshot, Read as ToRead, Get as ToGet, PoolGet as ToPoolGet, List as ToList, Rollback as ToRollback, Destroy as ToDestroy, Slice as ToSlice, Sync as ToSync, OpenView as ToOpenView, CloseView as ToCloseView}
+use Rattle.model.specs.declared.request.Request.TheVariants.{Create as ToCreate, Write as ToWrite, Punch as ToPunch, FreeObject as ToFreeObject, Snapshot as ToSnapshot, Read as ToRead, Get as ToGet, PoolGet as ToPoolGet, List as ToList, Rollback as ToRollback, Destroy as ToDestroy, Slice as ToSlice, Sync as ToSync, OpenView as ToOpenView, CloseView as ToCloseView, Clone as ToClone, Promote as ToPromote}
 use Rattle.model.specs.declared.reply.Reply.{Reply}
 use Rattle.model.specs.State.{State}
 use Rattle.model.specs.Rule.{Choice, Rule}
 use Rattle.model.specs.Refusals.{refusal_of}
 use Rattle.model.specs.Outcome.{is_needed, state_after_sweep, state_after}
-use Rattle.model.specs.Edits.{with_losses, with_next_group, after_change}
+use Rattle.model.specs.World.{FileSystem, Snap, id_of}
+use Rattle.model.specs.Edits.{with_now, with_losses, with_next_group, after_change}
 use Rattle.model.specs.Step.{Step, Follows, done, refused, out_of_memory}
 use Rattle.model.specs.requests.{rule_of}
 use Rattle.model.specs.requests.Change.{state_after_change}
 use Rattle.model.specs.requests.Create.{with_new_file_system}
 use Rattle.model.specs.requests.Snapshot.{snapshots_taken, snapshot_names, with_snapshots, guid_by}
-use Rattle.model.specs.requests.Rollback.{rolled_back}
+use Rattle.model.specs.requests.Rollback.{placed, rolled_back}
+use Rattle.model.specs.requests.Clone.{with_clone, clone_rule}
+use Rattle.model.specs.requests.Promote.{Promotion, promotion_of, after_promotion}
 use Rattle.model.specs.requests.Destroy.{after_destroy}
 use Rattle.world.specs.RunLaws.{IsViewing}
 use Rattle.world.proofs.Viewed.{IsSafe, one_changed}
 use Rattle.world.proofs.ViewedTakes.{taken_safe}
-use Rattle.world.proofs.ViewedRequests.{create_asked, rollback_asked, destroy_asked}
+use Rattle.world.proofs.ViewedRequests.{create_asked, clone_asked, rollback_asked, destroy_asked}
+use Rattle.world.proofs.ViewedClones.{promoted_safe}
 use Rattle.world.proofs.ViewedSteps.{IsKeeping, keeping_swept, views_stay, state_stays, view_opened, view_closed}
 
 -- a change of a live map
@@ -42,7 +47,7 @@ sync_safe s v = taken_safe s.views s.now 0 [] v.once v.closed
 
 -- what is to be freed is no matter
 sliced : (s : State) (c : Choice) → IsViewing s → IsSafe s.views s.now (record s.now { freeing = difference s.now.freeing c.taken })
-sliced s c v = record { once = v.once; closed = v.closed; stands = λ name t h seen. (t, h, refl) }
+sliced s c v = record { once = v.once; closed = v.closed; stands = λ name t h seen. (name, t, h, refl) }
 
 -- snapshots taken
 took : (q : Request) (r : Reply) (s : State) (ms : List Member) → IsViewing s → IsKeeping q r s (snapshots_taken s ms)
@@ -50,6 +55,23 @@ took q r s [] v = state_stays q r s v
 took q r s (m ∷ ms) v =
     views_stay q r s (with_next_group (with_snapshots s.now (guid_by s.pool s.next_guid) (m ∷ ms))) s.last (s.next_guid + length (m ∷ ms)) v
     (taken_safe s.views s.now (guid_by s.pool s.next_guid) (m ∷ ms) v.once v.closed)
+
+-- a clone, and a promote
+cloned : (r : Reply) (s : State) (target : Target) (name : List ℕ) → IsViewing s → refusal_of s (clone_rule target name) ≡ None
+    → IsKeeping (ToClone target name) r s (option_map_or (λ p. with_now s (with_clone s.now (id_of p.1) name)) (placed s.now target) s)
+cloned r s target name v none = by_place (placed s.now target)
+  where
+    by_place : (x : Option (FileSystem × Snap)) → IsKeeping (ToClone target name) r s (option_map_or (λ p. with_now s (with_clone s.now (id_of p.1) name)) x s)
+    by_place None = state_stays (ToClone target name) r s v
+    by_place (Some p) = views_stay (ToClone target name) r s (with_clone s.now (id_of p.1) name) s.last s.next_guid v (clone_asked s target name (id_of p.1) v.once v.closed none)
+
+turned : (r : Reply) (s : State) (name : List ℕ) → IsViewing s
+    → IsKeeping (ToPromote name) r s (option_map_or (λ p. with_now s (after_promotion s.now name p)) (promotion_of s.now name) s)
+turned r s name v = by_promotion (promotion_of s.now name) refl
+  where
+    by_promotion : (x : Option Promotion) → promotion_of s.now name ≡ x → IsKeeping (ToPromote name) r s (option_map_or (λ p. with_now s (after_promotion s.now name p)) x s)
+    by_promotion None e = state_stays (ToPromote name) r s v
+    by_promotion (Some p) e = views_stay (ToPromote name) r s (after_promotion s.now name p) s.last s.next_guid v (promoted_safe s.now name p e s.views v.once v.closed)
 
 -- a rule that isn't refused
 followed : (q : Request) (r : Reply) (s new : State) (rule : Rule) → IsViewing s → ((c : Choice) → refusal_of s rule ≡ None → r ≡ rule.reply s → IsKeeping q r s (rule.after s c))
@@ -85,4 +107,6 @@ step_keeps q r s new v step = followed q r s new (rule_of q step.reading) v (by_
     by_request (ToSlice count) c none is = views_stay (ToSlice count) r s (record s.now { freeing = difference s.now.freeing c.taken }) s.last s.next_guid v (sliced s c v)
     by_request ToSync c none is = views_stay ToSync r s (with_next_group s.now) (with_next_group s.now) s.next_guid v (sync_safe s v)
     by_request (ToOpenView target) c none is = view_opened (ToOpenView target) r s target v
+    by_request (ToClone target name) c none is = cloned r s target name v none
+    by_request (ToPromote name) c none is = turned r s name v
     by_request (ToCloseView view) c none is = subst (λ x. IsKeeping (ToCloseView view) x s (record s { views = remove s.views view })) (sym is) (view_closed s view v)

@@ -114,7 +114,7 @@ pub taken_safe : (views : Views) (w : World) (guid : ℕ) (ms : List Member) →
 taken_safe views w guid ms once closed = record {
   once = taken.once;
   closed = λ q t h. let l = taken.upto q t h in let e = taken.group in omega arith;
-  stands = λ q t h seen. (t, taken.stays q t h, refl);
+  stands = λ q t h seen. (q, t, taken.stays q t h, refl);
 }
   where
     taken : IsTaken w (with_snapshots w guid ms)

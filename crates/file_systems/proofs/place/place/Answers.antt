@@ -1,7 +1,7 @@
 use Rattle.std.proofs.Common.{rules}
 use Rattle.std.proofs.lemmas.Fn.{always_returns_same}
-use Rattle.std.specs.Arc.{arc_value}
 use Rattle.name.specs.Names.{name_cmp}
+use Rattle.file_system.specs.Rows.{entry_in}
 use Rattle.file_systems.proofs.Rows.{searched}
 use Rattle.file_systems.proofs.place.place.Goals as goal
 
@@ -9,6 +9,6 @@ use Rattle.file_systems.proofs.place.place.Goals as goal
 pub returns : goal.returns
 returns c =
     let facts = c.binary_search_by.ensures in
-    let by_name = facts.position (λ a. name_cmp (arc_value a).0 c.args.name.now) (always_returns_same _ _ _ (λ a r g called. search rules)) in
-    let both = searched arc_value c.args.file_systems.now c.requires c.args.name.now _ facts.bound by_name in
+    let by_name = facts.position (λ a. name_cmp (entry_in a).0 c.args.name.now) (always_returns_same _ _ _ (λ a r g called. search rules)) in
+    let both = searched entry_in c.args.file_systems.now c.requires c.args.name.now _ facts.bound by_name in
     record { found = both.0; absent = both.1 }

@@ -1,20 +1,35 @@
 use Rattle.std.proofs.Common.{rules, ◌≡◌, Err, length, sym, ap, subst, ◌∙◌, ⊎_elim}
 use Rattle.base.specs.Map.{BlockSet}
 use Rattle.base.specs.declared.refusal.Refusal.TheVariants.{NoMemory}
-use Rattle.file_systems.specs.Losses.{newest_map}
-use Rattle.file_systems.specs.Rows.{live_of, snaps_at, with_live}
-use Rattle.world.specs.Tables.{Datasets}
+use Rattle.file_system.specs.Losses.{newest_map}
+use Rattle.std.specs.List.{list_any}
+use Rattle.model.specs.World.{union_of}
+use Rattle.world.specs.Sets.{AreDisjoint}
+use Rattle.file_system.specs.Rows.{entry_of, live_of, snaps_at, with_live}
+use Rattle.world.specs.Tables.{Datasets, world_of}
 use Rattle.removals.specs.Edits.{HasLost}
-use Rattle.removals.specs.Named.{without_all, newer_members}
+use Rattle.removals.specs.Named.{without_all, is_named_cloned, newer_members}
 use Rattle.removals.proofs.Losses.{lost_then}
-use Rattle.removals.proofs.Rolled.{back_of}
+use Rattle.removals.proofs.Named.{names_once}
+use Rattle.removals.proofs.Rolled.{back_of, later_named}
 use Rattle.removals.proofs.back.back_to.Goals as goal
+
+pub lose_newer-requires : goal.lose_newer-requires
+lose_newer-requires c =
+    let to = c.in_ok-edit.ensures.ok.0 in
+    let r = entry_of c.args.file_system.now in
+    record {
+      apart = subst (λ (p : Datasets × BlockSet). AreDisjoint (union_of (world_of p.0)) p.1) (λ i. (sym to i, sym c.in_ok-edit.ensures.ok.1 i)) c.requires.apart;
+      no_clone = ap (λ t. list_any (is_named_cloned t) (newer_members r c.args.group.0)) to
+          ∙ later_named c.args.table.now (names_once c.args.table.now c.len-count.ensures.good) r c.requires.there c.args.group.0 r.1.snaps (λ u i. i)
+          ∙ c.requires.no_clone;
+    }
 
 pub returns-in_err-lose_live-clause-err : goal.returns-in_err-lose_live-clause-err
 returns-in_err-lose_live-clause-err c =
-    let to : c.lose_newer.new.self.to ≡ without_all c.args.table.now (newer_members c.args.file_system.now c.args.group.0) =
-    c.in_ok-lose_newer.ensures.ok ∙ ap (λ t. without_all t (newer_members c.args.file_system.now c.args.group.0)) c.in_ok-edit.ensures.ok.0 in
-    let both = back_of c.args.table.now c.len-count.ensures.good c.args.file_system.now c.requires.there (c.requires.bare c.args.file_system.now.0 c.args.file_system.now.1 c.requires.there).bookmarks
+    let to : c.lose_newer.new.self.to ≡ without_all c.args.table.now (newer_members (entry_of c.args.file_system.now) c.args.group.0) =
+    c.in_ok-lose_newer.ensures.ok ∙ ap (λ t. without_all t (newer_members (entry_of c.args.file_system.now) c.args.group.0)) c.in_ok-edit.ensures.ok.0 in
+    let both = back_of c.args.table.now c.len-count.ensures.good (entry_of c.args.file_system.now) c.requires.there (c.requires.bare c.args.file_system.now.name c.args.file_system.now.system c.requires.there).bookmarks
     c.args.component.now c.args.group.0 c.requires.group c.lose_newer.new.self.to to in
     let only : c.in_err-lose_live.field-0.0 ≡ NoMemory = ⊎_elim
     (λ k. absurd (both.0 (ap (λ n. length (snaps_at c.lose_newer.new.self.to.file_systems n)) (sym c.name.ensures) ∙ c.in_err-lose_live.ensures.no_dataset.0 (ap Err k))))
@@ -24,9 +39,9 @@ returns-in_err-lose_live-clause-err c =
 
 pub returns-clause-ok : goal.returns-clause-ok
 returns-clause-ok c =
-    let to : c.lose_newer.new.self.to ≡ without_all c.args.table.now (newer_members c.args.file_system.now c.args.group.0) =
-    c.in_ok-lose_newer.ensures.ok ∙ ap (λ t. without_all t (newer_members c.args.file_system.now c.args.group.0)) c.in_ok-edit.ensures.ok.0 in
-    let both = back_of c.args.table.now c.len-count.ensures.good c.args.file_system.now c.requires.there (c.requires.bare c.args.file_system.now.0 c.args.file_system.now.1 c.requires.there).bookmarks
+    let to : c.lose_newer.new.self.to ≡ without_all c.args.table.now (newer_members (entry_of c.args.file_system.now) c.args.group.0) =
+    c.in_ok-lose_newer.ensures.ok ∙ ap (λ t. without_all t (newer_members (entry_of c.args.file_system.now) c.args.group.0)) c.in_ok-edit.ensures.ok.0 in
+    let both = back_of c.args.table.now c.len-count.ensures.good (entry_of c.args.file_system.now) c.requires.there (c.requires.bare c.args.file_system.now.name c.args.file_system.now.system c.requires.there).bookmarks
     c.args.component.now c.args.group.0 c.requires.group c.lose_newer.new.self.to to in
     let u = c.lose_newer.new.self.to in
     c.in_ok-lose_live.ensures.ok ∙ ap (λ n. record u { file_systems = with_live u.file_systems n (newest_map (live_of u.file_systems n) (snaps_at u.file_systems n)) }) c.name.ensures ∙ both.1

@@ -1,43 +1,39 @@
-use Rattle.std.proofs.Common.{◌≡◌, sym, ap, ◌∙◌, drop, map, length, arith}
-use Rattle.std.specs.Arc.{arc_value}
-use Rattle.file_systems.specs.Rows.{Row}
+use Rattle.std.proofs.Common.{◌≡◌, sym, ap, subst, ◌∙◌, drop, map, length, arith}
+use Rattle.file_system.specs.Rows.{entry_in, entry_of}
 use Rattle.snap.specs.Taking.{is_in_family}
 use Rattle.world.proofs.Listed.{length-mapped}
+use Rattle.world.specs.Tables.{CanRemove, without_system}
+use Rattle.removals.proofs.Shared.{shared_are}
 use Rattle.removals.proofs.Losses.{lost_none, lost_then}
 use Rattle.removals.proofs.SystemsGone.{left_by}
-use Rattle.removals.proofs.FamilyGone.{first_turn, last_turn, stays, there, can, goes}
+use Rattle.removals.proofs.FamilyGone.{first_turn, last_turn, stays, can, goes}
 use Rattle.removals.proofs.family.lose_family.Goals as goal
 
 pub loop-left-init : goal.loop-left-init
 loop-left-init c = record {
   within = omega arith;
-  so_far = first_turn c.args.table.now c.args.name.now (map (arc_value {X = Row}) c.file_systems-rows.result.now) c.file_systems-rows.ensures
-      (length c.file_systems-rows.result.now) (sym (length-mapped (arc_value {X = Row}) c.file_systems-rows.result.now)) c.args.edit.now.to c.requires.same;
+  so_far = first_turn c.args.table.now c.args.name.now (map entry_in c.file_systems-rows.result.now) (shared_are c.args.table.now.file_systems c.file_systems-rows.result.now c.file_systems-rows.ensures)
+      (length c.file_systems-rows.result.now) (sym (length-mapped entry_in c.file_systems-rows.result.now)) c.args.edit.now.to c.requires.same;
   lost = lost_none c.args.edit.now.to c.args.edit.now.freeing c.requires.apart;
 }
 
-pub lose_whole-requires-clause-there : goal.lose_whole-requires-clause-there
-lose_whole-requires-clause-there c =
+pub lose_file_system-requires-clause-can : goal.lose_file_system-requires-clause-can
+lose_file_system-requires-clause-can c =
     let within = (λ i. is_in_family (sym c.as_bytes.ensures i) (sym (c.as_bytes-in-loop-left.ensures ∙ c.name.ensures) i)) ∙ sym c.is_in_family.ensures ∙ c.if-is_in_family.true in
-    there (arc_value {X = Row}) c.args.table.now c.args.name.now c.file_systems-rows.result.now c.file_systems-rows.ensures c.loop-left.left c.loop-left-test.true c.loop-left.invariant.within
-    c.index-rows-left.result c.index-rows-left.is c.deref-file_system.result.now c.deref-file_system.ensures c.loop-left.edit.to c.loop-left.invariant.so_far within
-
-pub lose_whole-requires-clause-can : goal.lose_whole-requires-clause-can
-lose_whole-requires-clause-can c =
-    let within = (λ i. is_in_family (sym c.as_bytes.ensures i) (sym (c.as_bytes-in-loop-left.ensures ∙ c.name.ensures) i)) ∙ sym c.is_in_family.ensures ∙ c.if-is_in_family.true in
-    can (arc_value {X = Row}) c.args.table.now c.args.name.now c.file_systems-rows.result.now c.file_systems-rows.ensures c.loop-left.left c.loop-left-test.true c.loop-left.invariant.within
-    c.index-rows-left.result c.index-rows-left.is c.deref-file_system.result.now c.deref-file_system.ensures c.loop-left.edit.to c.loop-left.invariant.so_far within c.requires.not_root
+    subst (CanRemove c.loop-left.edit.to) (sym c.name-then-is_in_family.ensures)
+    (can entry_in c.args.table.now c.args.name.now c.file_systems-rows.result.now (shared_are c.args.table.now.file_systems c.file_systems-rows.result.now c.file_systems-rows.ensures) c.loop-left.left c.loop-left-test.true c.loop-left.invariant.within
+    c.index-rows-left.result c.index-rows-left.is (entry_of c.deref-file_system.result.now) (ap entry_of c.deref-file_system.ensures) c.loop-left.edit.to c.loop-left.invariant.so_far within c.requires.not_root c.requires.bare)
 
 pub loop-left-preserved-in-Continue-1 : goal.loop-left-preserved-in-Continue-1
 loop-left-preserved-in-Continue-1 c = record {
   within = let l = c.loop-left.invariant.within in omega (arith, l);
   so_far =
       let within = (λ i. is_in_family (sym c.as_bytes.ensures i) (sym (c.as_bytes-in-loop-left.ensures ∙ c.name.ensures) i)) ∙ sym c.is_in_family.ensures ∙ c.if-is_in_family.true in
-      goes (arc_value {X = Row}) c.args.table.now c.args.name.now c.file_systems-rows.result.now c.file_systems-rows.ensures c.loop-left.left c.loop-left-test.true c.loop-left.invariant.within
-      c.index-rows-left.result c.index-rows-left.is c.deref-file_system.result.now c.deref-file_system.ensures c.loop-left.edit.to c.loop-left.invariant.so_far within
-      c.lose_whole.new.edit.to c.in_ok-lose_whole.ensures.ok;
-  lost = lost_then c.args.edit.now.to c.loop-left.edit.to c.lose_whole.new.edit.to c.args.edit.now.freeing c.loop-left.edit.freeing c.lose_whole.new.edit.freeing
-      c.loop-left.invariant.lost c.in_ok-lose_whole.ensures.lost;
+      goes entry_in c.args.table.now c.args.name.now c.file_systems-rows.result.now (shared_are c.args.table.now.file_systems c.file_systems-rows.result.now c.file_systems-rows.ensures) c.loop-left.left c.loop-left-test.true c.loop-left.invariant.within
+      c.index-rows-left.result c.index-rows-left.is (entry_of c.deref-file_system.result.now) (ap entry_of c.deref-file_system.ensures) c.loop-left.edit.to c.loop-left.invariant.so_far within
+      c.lose_file_system.new.edit.to (c.in_ok-lose_file_system.ensures.ok ∙ ap (without_system c.loop-left.edit.to) c.name-then-is_in_family.ensures);
+  lost = lost_then c.args.edit.now.to c.loop-left.edit.to c.lose_file_system.new.edit.to c.args.edit.now.freeing c.loop-left.edit.freeing c.lose_file_system.new.edit.freeing
+      c.loop-left.invariant.lost c.in_ok-lose_file_system.ensures.lost;
 }
 
 pub loop-left-preserved : goal.loop-left-preserved
@@ -45,13 +41,13 @@ loop-left-preserved c = record {
   within = let l = c.loop-left.invariant.within in omega (arith, l);
   so_far =
       let out = (λ i. is_in_family (sym c.as_bytes.ensures i) (sym (c.as_bytes-in-loop-left.ensures ∙ c.name.ensures) i)) ∙ sym c.is_in_family.ensures ∙ c.if-is_in_family.false in
-      stays (arc_value {X = Row}) c.args.table.now c.args.name.now c.file_systems-rows.result.now c.file_systems-rows.ensures c.loop-left.left c.loop-left-test.true c.loop-left.invariant.within
-      c.index-rows-left.result c.index-rows-left.is c.deref-file_system.result.now c.deref-file_system.ensures c.loop-left.edit.to c.loop-left.invariant.so_far out;
+      stays entry_in c.args.table.now c.args.name.now c.file_systems-rows.result.now (shared_are c.args.table.now.file_systems c.file_systems-rows.result.now c.file_systems-rows.ensures) c.loop-left.left c.loop-left-test.true c.loop-left.invariant.within
+      c.index-rows-left.result c.index-rows-left.is (entry_of c.deref-file_system.result.now) (ap entry_of c.deref-file_system.ensures) c.loop-left.edit.to c.loop-left.invariant.so_far out;
   lost = c.loop-left.invariant.lost;
 }
 
 pub returns-clause-ok : goal.returns-clause-ok
 returns-clause-ok c =
     let none : c.loop-left.left ≡ 0 = let l = c.loop-left-test.false in omega (arith, l) in
-    last_turn c.args.table.now c.args.name.now (map (arc_value {X = Row}) c.file_systems-rows.result.now) c.file_systems-rows.ensures c.loop-left.edit.to
-    (c.loop-left.invariant.so_far ∙ ap (λ n. left_by c.args.table.now c.args.name.now (drop n (map (arc_value {X = Row}) c.file_systems-rows.result.now))) none)
+    last_turn c.args.table.now c.args.name.now (map entry_in c.file_systems-rows.result.now) (shared_are c.args.table.now.file_systems c.file_systems-rows.result.now c.file_systems-rows.ensures) c.loop-left.edit.to
+    (c.loop-left.invariant.so_far ∙ ap (λ n. left_by c.args.table.now c.args.name.now (drop n (map entry_in c.file_systems-rows.result.now))) none)

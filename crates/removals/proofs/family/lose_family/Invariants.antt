@@ -1,6 +1,5 @@
 use Rattle.std.proofs.Common.{◌≡◌, ◌≤◌, drop, map, length}
-use Rattle.std.specs.Arc.{arc_value}
-use Rattle.file_systems.specs.Rows.{Row}
+use Rattle.file_system.specs.Rows.{entry_in}
 use Rattle.removals.specs.Edits.{HasLost}
 use Rattle.removals.proofs.SystemsGone.{left_by}
 use Rattle.removals.proofs.family.lose_family.Given as goal
@@ -9,7 +8,7 @@ use Rattle.removals.proofs.family.lose_family.Given as goal
 abbrev pub invariant-loop-left : goal.invariant-loop-left
 invariant-loop-left l = record {
   within : l.left ≤ length l.rows;
-  so_far : l.edit.to ≡ left_by l.table l.name (drop l.left (map (arc_value {X = Row}) l.rows));
+  so_far : l.edit.to ≡ left_by l.table l.name (drop l.left (map entry_in l.rows));
   lost : HasLost l.initial.edit.to l.initial.edit.freeing l.edit.to l.edit.freeing;
 }
 

@@ -1,20 +1,25 @@
-use Rattle.std.proofs.Common.{sym, subst, ◌∙◌}
-use Rattle.world.specs.Tables.{CanRemove, without_system}
+use Rattle.std.proofs.Common.{◌≡◌, true, Result, Ok, Err, ap, subst, ◌∙◌}
+use Rattle.std.specs.Prelude.{OnOk}
+use Rattle.world.specs.Tables.{Datasets}
+use Rattle.removals.specs.Requests.{without_family}
+use Rattle.removals.proofs.Emptying.{emptied_bare, emptied_gone}
 use Rattle.removals.proofs.Losses.{lost_then}
-use Rattle.removals.proofs.FamilyGone.{bare_is}
 use Rattle.removals.proofs.family.lose_whole.Goals as goal
 
-pub lose_file_system-requires-clause-can : goal.lose_file_system-requires-clause-can
-lose_file_system-requires-clause-can c =
-    let to = c.in_ok-lose_newer.ensures.ok ∙ bare_is c.args.edit.now.to c.len-count.ensures.good c.args.file_system.now c.requires.there in
-    subst (CanRemove c.lose_newer.new.self.to) (sym c.name.ensures) (subst (λ t. CanRemove t c.args.file_system.now.0) (sym to) c.requires.can)
+pub lose_family-requires-clause-bare : goal.lose_family-requires-clause-bare
+lose_family-requires-clause-bare c = emptied_bare c.args.table.now c.args.name.now c.in_ok-emptied.emptied (c.in_ok-emptied.ensures.ok ∙ c.in_ok-empty_family.ensures.ok)
+
+on_ok : {T E P Q : Type 0} (r : Result T E) → (P → Q) → OnOk r P → OnOk r Q
+on_ok (Ok x) f p = f p
+on_ok (Err e) f p = tt
 
 pub returns-clause-ok : goal.returns-clause-ok
 returns-clause-ok c =
-    let to = c.in_ok-lose_newer.ensures.ok ∙ bare_is c.args.edit.now.to c.len-count.ensures.good c.args.file_system.now c.requires.there in
-    c.in_ok-lose_file_system.ensures.ok ∙ (λ i. without_system (to i) (c.name.ensures i))
+    subst (λ (v : Datasets). OnOk c.lose_family.result (c.lose_family.new.edit.to ≡ v))
+    (ap (λ (v : Datasets). without_family v c.args.name.now true) (c.in_ok-emptied.ensures.ok ∙ c.in_ok-empty_family.ensures.ok) ∙ emptied_gone c.args.table.now c.args.name.now)
+    c.lose_family.ensures.ok
 
 pub returns-clause-lost : goal.returns-clause-lost
-returns-clause-lost c =
-    lost_then c.args.edit.now.to c.lose_newer.new.self.to c.lose_file_system.new.edit.to c.args.edit.now.freeing c.lose_newer.new.self.freeing c.lose_file_system.new.edit.freeing
-    c.in_ok-lose_newer.ensures.lost c.in_ok-lose_file_system.ensures.lost
+returns-clause-lost c = on_ok c.lose_family.result
+    (λ lost. lost_then c.args.edit.now.to c.empty_family.new.edit.to c.lose_family.new.edit.to c.args.edit.now.freeing c.empty_family.new.edit.freeing c.lose_family.new.edit.freeing c.in_ok-empty_family.ensures.lost lost)
+    c.lose_family.ensures.lost

@@ -2,10 +2,10 @@ use Rattle.std.proofs.Common.{◌≡◌, ◌&&◌, Bool, Bor, true, false, List,
 use Rattle.std.specs.Prelude.{nat_lt}
 use Rattle.std.specs.List.{list_any}
 use Rattle.model.specs.State.{is_viewed}
-use Rattle.model.specs.World.{Snap, id_of}
+use Rattle.model.specs.World.{id_of}
 use Rattle.snapshots.specs.declared.kept.Kept.{Kept}
 use Rattle.shared_list.specs.Left.{left}
-use Rattle.file_systems.specs.Dead.{snaps_in}
+use Rattle.file_system.specs.Dead.{snaps_in}
 use Rattle.removals.specs.Named.{is_viewed_after}
 use Rattle.removals.proofs.Yielded.{gt_is, yielded_all, yielded_front, snaps_yielded}
 use Rattle.removals.proofs.Seen.{any_pushed, any_here, any_value}
@@ -23,7 +23,7 @@ returns-then-is_viewed c =
     let xs : List Kept = map (λ (x : Bor Kept). x.now) c.loop-kept.yielded in
     let ys : List Kept = left c.next.new.self in
     let front = yielded_front left c.into_iter-kept-iterator.result c.loop-kept.yielded c.loop-kept.kept-iterator c.loop-kept.yielded_by ∙ ap (λ l. xs ++ l) c.in-Some.ensures.steps in
-    let snaps : c.args.file_system.now.1.snaps ≡ snaps_in (xs ++ x ∷ ys) =
+    let snaps : c.args.file_system.now.system.snaps ≡ snaps_in (xs ++ x ∷ ys) =
     sym c.snapshots.ensures ∙ ap snaps_in (sym c.iter-kept-items.ensures ∙ ap left (sym c.into_iter-kept-iterator.ensures.into_iter_gives) ∙ front) in
     let later : nat_lt c.args.group.0 x.snapshot.group ≡ true =
     sym (gt_is x.snapshot.group c.args.group.0) ∙ ap (λ n. is_gt (nat_cmp n c.args.group.0)) (sym c.group.ensures) ∙ sym c.gt.ensures ∙ c.if-gt.true in

@@ -3,7 +3,7 @@ use Rattle.std.specs.Prelude.{IfOk, OnOk}
 use Rattle.base.specs.declared.refusal.Refusal.TheVariants.{NoSpace}
 use Rattle.tree.specs.Change.{HasRoom, LacksRoom}
 use Rattle.tree.specs.Updates.{changes_of}
-use Rattle.file_systems.specs.Rows.{live_of}
+use Rattle.file_system.specs.Rows.{live_of}
 use Rattle.world.specs.Tables.{Datasets}
 use Rattle.datasets.specs.Writes.{young_of, AllowsWrite, HasWritten}
 use Rattle.datasets.proofs.Above.{is_above}

@@ -1,6 +1,6 @@
 use Rattle.std.proofs.Common.{◌<◌, length, sym, subst}
 use Rattle.std.specs.Prelude.{IfOk}
-use Rattle.file_systems.specs.Rows.{snaps_at}
+use Rattle.file_system.specs.Rows.{snaps_at}
 use Rattle.world.specs.Tables.{Datasets}
 use Rattle.datasets.specs.Rollbacks.{Loses}
 use Rattle.datasets.proofs.Above.{is_above}

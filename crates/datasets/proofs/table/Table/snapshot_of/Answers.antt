@@ -1,14 +1,16 @@
 use Rattle.std.proofs.Common.{◌+◌, Some, sym, ap, ◌∙◌, map, drop}
 use Rattle.std.specs.Arc.{arc_value}
-use Rattle.std.specs.Option.{option_copied}
-use Rattle.file_systems.specs.Rows.{Row}
+use Rattle.file_system.specs.Rows.{Row}
 use Rattle.model.specs.Ids.{snap_id}
-use Rattle.datasets.proofs.Placed.{placed_in, in_own, in_others, first_of_left, row_rising}
+use Rattle.datasets.proofs.Placed.{placed_in, placed_all, in_own, in_others, first_of_left, row_rising}
 use Rattle.datasets.proofs.table.Table.snapshot_of.Goals as goal
 
 pub snapshot_of-requires : goal.snapshot_of-requires
 snapshot_of-requires c = row_rising (arc_value {X = Row}) c.file_systems-file_system-items.result.now c.loop-file_system.file_system-index c.loop-file_system-test.true
     c.file_system-item.result c.file_system-item.is c.deref.result.now c.deref.ensures c.args.self.now.file_systems c.args.self.now.group c.len-count.ensures.good c.file_systems-file_system-items.ensures
+
+pub loop-file_system-init : goal.loop-file_system-init
+loop-file_system-init c = placed_all c.args.self.now (snap_id c.args.id) (map (arc_value {X = Row}) c.file_systems-file_system-items.result.now) c.file_systems-file_system-items.ensures
 
 pub returns-in-Some : goal.returns-in-Some
 returns-in-Some c =
@@ -17,7 +19,7 @@ returns-in-Some c =
     let i = c.loop-file_system.file_system-index in
     let r : Row = c.deref.result.now in
     let here = first_of_left (arc_value {X = Row}) c.file_systems-file_system-items.result.now i c.loop-file_system-test.true c.file_system-item.result c.file_system-item.is r c.deref.ensures in
-    ap (λ (x : Row). Some (x.0, c.in-Some.snapshot.now)) (c.deref-in-Some.ensures ∙ sym c.deref.ensures)
+    ap (λ (x : Row). Some (x.name, c.in-Some.snapshot.now)) (c.deref-in-Some.ensures ∙ sym c.deref.ensures)
     ∙ sym (in_own id r (drop (i + 1) rows) c.in-Some.snapshot.now (sym c.in-Some.ensures))
     ∙ sym (ap (placed_in id) here) ∙ c.loop-file_system.invariant
 

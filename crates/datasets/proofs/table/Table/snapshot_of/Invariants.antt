@@ -1,6 +1,6 @@
 use Rattle.std.proofs.Common.{◌≡◌, drop, map}
 use Rattle.std.specs.Arc.{arc_value}
-use Rattle.file_systems.specs.Rows.{Row}
+use Rattle.file_system.specs.Rows.{Row}
 use Rattle.model.specs.Ids.{snap_id}
 use Rattle.model.specs.World.{snap_at}
 use Rattle.world.specs.Tables.{world_of}

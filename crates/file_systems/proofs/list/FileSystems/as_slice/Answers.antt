@@ -1,9 +1,11 @@
-use Rattle.std.proofs.Common.{ap, sym, ◌∙◌, map}
+use Rattle.std.proofs.Common.{ap, ◌∙◌, map}
 use Rattle.std.specs.Arc.{arc_value}
 use Rattle.std.specs.FinMap.{entries}
-use Rattle.file_systems.proofs.Rows.{entries_are}
+use Rattle.file_systems.specs.Clones.{row_in}
+use Rattle.file_system.specs.Rows.{FileSystems}
+use Rattle.file_systems.proofs.Ties.{rows_are}
 use Rattle.file_systems.proofs.list.FileSystems.as_slice.Goals as goal
 
 -- the rows are the map's entries
 pub returns : goal.returns
-returns c = ap (map arc_value) c.deref.ensures.value ∙ sym (entries_are _ c.self.invariant.sorted) ∙ ap entries c.self.view_is
+returns c = ap (map arc_value) c.deref.ensures.value ∙ rows_are c.self.inside.rows.items c.self.invariant.sorted c.self.invariant.tied ∙ ap (λ (m : FileSystems). map (row_in m) (entries m)) c.self.view_is

@@ -1,7 +1,7 @@
 use Rattle.std.proofs.Common.{ap, sym, ◌∙◌, length}
 use Rattle.std.proofs.lemmas.List.{length-map}
-use Rattle.std.specs.Arc.{arc_value}
 use Rattle.std.specs.FinMap.{len}
+use Rattle.file_system.specs.Rows.{entry_in}
 use Rattle.file_systems.proofs.Rows.{len_is}
 use Rattle.file_systems.proofs.list.FileSystems.len.Goals as goal
 
@@ -9,6 +9,6 @@ use Rattle.file_systems.proofs.list.FileSystems.len.Goals as goal
 pub returns : goal.returns
 returns c =
     ap length c.deref-rows.ensures.value
-    ∙ sym (length-map c.self.inside.rows.items arc_value)
+    ∙ sym (length-map c.self.inside.rows.items entry_in)
     ∙ sym (len_is _ c.self.invariant.sorted)
     ∙ ap len c.self.view_is

@@ -1,69 +1,101 @@
-use Rattle.std.proofs.Common.{◌≡◌, List, None, length, map, ap, sym, subst, ◌∙◌}
+use Rattle.std.proofs.Common.{arith, ◌≡◌, Option, List, None, length, map, ap, sym, subst, ◌∙◌}
 use Rattle.std.specs.Prelude.{remove}
+use Rattle.std.proofs.lemmas.List.{length-map}
 use Rattle.std.specs.Arc.{arc_value}
-use Rattle.std.specs.FinMap.{get}
-use Rattle.base.specs.Map.{Map}
-use Rattle.model.specs.World.{Snap}
+use Rattle.std.specs.FinMap.{get, from_sorted}
+use Rattle.std.specs.Option.{option_map}
+use Rattle.name.specs.Names.{name_cmp}
+use Rattle.model.specs.Ids.{snap_id}
+use Rattle.file_systems.specs.CloneNames.{IsListed, without_origin}
+use Rattle.file_systems.proofs.Promoting.{one_there}
+use Rattle.base.specs.Map.{Map, blocks}
+use Rattle.model.specs.World.{Snap, SnapId}
 use Rattle.tree.proofs.Options.{not_some}
-use Rattle.file_systems.specs.Dead.{IsAbove}
-use Rattle.file_systems.specs.Losses.{IsLost}
+use Rattle.file_system.specs.Dead.{IsAbove}
+use Rattle.file_system.specs.Losses.{IsLost}
+use Rattle.file_systems.specs.Clones.{below_at, origin_at}
+use Rattle.file_system.specs.Origins.{origin_group}
 use Rattle.file_systems.specs.Places.{IsAt, IsGapFor}
-use Rattle.file_systems.specs.Rows.{Row, live_of, snaps_at}
+use Rattle.file_system.specs.Rows.{entry_in, Row, Entry, live_of, snaps_at}
 use Rattle.file_systems.proofs.Rows.{row_of, get_gap, live_is, snaps_are}
+use Rattle.file_systems.proofs.Ties.{row_place, row_within, tied_removed, origin_is, below_is}
 use Rattle.file_systems.proofs.Removed.{map_removed, removed_sorted, removed_counted, removed_is}
+use Rattle.file_systems.proofs.Listing.{listed_left}
 use Rattle.file_systems.proofs.list.FileSystems.remove.Goals as goal
 
 -- the file system is there
 pub unreachable-requires : goal.unreachable-requires
 unreachable-requires c =
-    let gap : IsGapFor (map arc_value c.self.inside.rows.items) c.args.name.now c.in_default.field-0 = rw (← c.deref.ensures.value, ← c.as_bytes.ensures) c.in_default.ensures.absent in
+    let gap : IsGapFor (map entry_in c.self.inside.rows.items) c.args.name.now c.in_default.field-0 = rw (← c.deref.ensures.value, ← c.as_bytes.ensures) c.in_default.ensures.absent in
     let none : get c.args.self.now c.args.name.now ≡ None = rw (← c.self.view_is) (get_gap _ c.self.invariant.sorted c.args.name.now c.in_default.field-0 gap) in
     not_some (get c.args.self.now c.args.name.now) none c.requires.there
 
 pub lost-requires : goal.lost-requires
 lost-requires c =
-    let rows = map arc_value c.self.inside.rows.items in
-    let row = arc_value c.index.result.now in
+    let rows = map entry_in c.self.inside.rows.items in
+    let row = entry_in c.index.result.now in
     let at : IsAt rows c.args.name.now c.in-Ok.place = rw (← c.deref.ensures.value, ← c.as_bytes.ensures) c.in-Ok.ensures.found in
-    let is = row_of arc_value c.self.inside.rows.items c.in-Ok.place c.index.result.now c.index.ensures in
+    let is = row_of entry_in c.self.inside.rows.items c.in-Ok.place c.index.result.now c.index.ensures in
     let live = ap (λ m. live_of m c.args.name.now) (sym c.self.view_is) ∙ live_is _ c.self.invariant.sorted c.args.name.now c.in-Ok.place at row is in
     let snaps = ap (λ m. snaps_at m c.args.name.now) (sym c.self.view_is) ∙ snaps_are _ c.self.invariant.sorted c.args.name.now c.in-Ok.place at row is in
-    subst (λ (r : Row). IsAbove r.1.live r.1.snaps) (sym c.deref-2.ensures)
-    (subst (λ (m : Map). IsAbove m row.1.snaps) live (subst (λ (l : List Snap). IsAbove (live_of c.args.self.now c.args.name.now) l) snaps c.requires.above))
+    let below = ap (λ m. below_at m c.args.name.now) (sym c.self.view_is) ∙ below_is c.self.inside.rows.items c.self.invariant.sorted c.self.invariant.tied c.args.name.now c.in-Ok.place at c.index.result.now c.index.ensures in
+    let origin = ap (λ m. origin_at m c.args.name.now) (sym c.self.view_is) ∙ origin_is c.self.inside.rows.items c.self.invariant.sorted c.self.invariant.tied c.args.name.now c.in-Ok.place at c.index.result.now c.index.ensures in
+    let here = arc_value c.index.result.now in
+    subst (λ (r : Row). IsAbove (blocks r.below) (origin_group r.system.origin) r.system.live r.system.snaps) (sym c.deref-2.ensures)
+    (subst (λ (m : Map). IsAbove (blocks here.below) (origin_group here.system.origin) m here.system.snaps) live
+    (subst (λ (l : List Snap). IsAbove (blocks here.below) (origin_group here.system.origin) (live_of c.args.self.now c.args.name.now) l) snaps
+    (subst (λ (o : Option SnapId). IsAbove (blocks here.below) (origin_group o) (live_of c.args.self.now c.args.name.now) (snaps_at c.args.self.now c.args.name.now)) origin
+    (subst (λ (m : Map). IsAbove (blocks m) (origin_group (origin_at c.args.self.now c.args.name.now)) (live_of c.args.self.now c.args.name.now) (snaps_at c.args.self.now c.args.name.now)) below c.requires.above))))
 
 -- its row is gone
 pub invariant_of-self : goal.invariant_of-self
 invariant_of-self c =
-    let rows = map arc_value c.self.inside.rows.items in
-    let row = arc_value c.index.result.now in
+    let rows = map entry_in c.self.inside.rows.items in
+    let row = entry_in c.index.result.now in
     let at : IsAt rows c.args.name.now c.in-Ok.place = rw (← c.deref.ensures.value, ← c.as_bytes.ensures) c.in-Ok.ensures.found in
-    let is = row_of arc_value c.self.inside.rows.items c.in-Ok.place c.index.result.now c.index.ensures in
+    let is = row_of entry_in c.self.inside.rows.items c.in-Ok.place c.index.result.now c.index.ensures in
     let snaps = ap (λ m. snaps_at m c.args.name.now) (sym c.self.view_is) ∙ snaps_are _ c.self.invariant.sorted c.args.name.now c.in-Ok.place at row is in
-    let left : map arc_value c.remove-gone.new.self.items ≡ remove rows c.in-Ok.place = map_removed arc_value c.self.inside.rows.items c.remove-gone.new.self.items c.in-Ok.place c.remove-gone.ensures.items in
+    let left : map entry_in c.remove-gone.new.self.items ≡ remove rows c.in-Ok.place = map_removed entry_in c.self.inside.rows.items c.remove-gone.new.self.items c.in-Ok.place c.remove-gone.ensures.items in
+    let left_rows : map arc_value c.remove-gone.new.self.items ≡ remove (map arc_value c.self.inside.rows.items) c.in-Ok.place =
+    map_removed arc_value c.self.inside.rows.items c.remove-gone.new.self.items c.in-Ok.place c.remove-gone.ensures.items in
     let sorted = removed_sorted rows c.self.invariant.sorted c.args.name.now c.in-Ok.place at in
-    let bare = ap (λ (r : Row). length r.1.snaps) (sym is) ∙ ap length (sym snaps ∙ c.requires.bare) in
+    let bare = ap (λ (r : Entry). length r.1.snaps) (sym is) ∙ ap length (sym snaps ∙ c.requires.bare) in
+    let origin : option_map snap_id c.origin-origin.result ≡ row.1.origin =
+    c.origin-origin.ensures ∙ ap (λ (r : Row). r.system.origin) (c.deref-3.ensures ∙ ap arc_value (one_there c.self.inside.rows.items c.in-Ok.place c.index-2.result.now c.index.result.now c.index-2.ensures c.index.ensures (omega (arith, at.within, length-map c.self.inside.rows.items entry_in)))) in
+    let clones_are = c.leave.ensures ∙ ap (without_origin c.self.inside.clones c.args.name.now) origin in
     record {
       sorted = rw left sorted;
+      listed = subst (λ s. IsListed (from_sorted {R = name_cmp} (map entry_in c.remove-gone.new.self.items)) s) (sym clones_are)
+          (subst (λ m. IsListed m (without_origin c.self.inside.clones c.args.name.now row.1.origin)) (sym (ap (from_sorted {R = name_cmp}) left ∙ removed_is rows c.self.invariant.sorted c.args.name.now c.in-Ok.place at row))
+          (listed_left (from_sorted {R = name_cmp} rows) c.self.inside.clones c.self.invariant.listed c.args.name.now row.1.origin
+          (origin_is c.self.inside.rows.items c.self.invariant.sorted c.self.invariant.tied c.args.name.now c.in-Ok.place at c.index.result.now c.index.ensures)));
+      tied = rw left_rows (tied_removed (map arc_value c.self.inside.rows.items) c.in-Ok.place (arc_value c.index.result.now) c.self.invariant.tied (row_within c.self.inside.rows.items c.self.invariant.sorted c.self.invariant.tied c.args.name.now c.in-Ok.place at c.index.result.now c.index.ensures)
+          (row_place c.self.inside.rows.items c.self.invariant.sorted c.self.invariant.tied c.args.name.now c.in-Ok.place at c.index.result.now c.index.ensures) (sym snaps ∙ c.requires.bare));
       counted = rw left (removed_counted rows c.in-Ok.place row c.self.inside.snapshot_count c.self.invariant.sorted sorted at.within bare c.self.invariant.counted);
     }
 
 pub returns-clause-ok : goal.returns-clause-ok
 returns-clause-ok c =
-    let rows = map arc_value c.self.inside.rows.items in
-    let row = arc_value c.index.result.now in
+    let rows = map entry_in c.self.inside.rows.items in
+    let row = entry_in c.index.result.now in
     let at : IsAt rows c.args.name.now c.in-Ok.place = rw (← c.deref.ensures.value, ← c.as_bytes.ensures) c.in-Ok.ensures.found in
-    let left : map arc_value c.remove-gone.new.self.items ≡ remove rows c.in-Ok.place = map_removed arc_value c.self.inside.rows.items c.remove-gone.new.self.items c.in-Ok.place c.remove-gone.ensures.items in
+    let left : map entry_in c.remove-gone.new.self.items ≡ remove rows c.in-Ok.place = map_removed entry_in c.self.inside.rows.items c.remove-gone.new.self.items c.in-Ok.place c.remove-gone.ensures.items in
     rw (left, ← c.self.view_is) (removed_is rows c.self.invariant.sorted c.args.name.now c.in-Ok.place at row)
 
 pub returns-clause-lost : goal.returns-clause-lost
 returns-clause-lost c =
-    let rows = map arc_value c.self.inside.rows.items in
-    let row = arc_value c.index.result.now in
+    let rows = map entry_in c.self.inside.rows.items in
+    let row = entry_in c.index.result.now in
     let at : IsAt rows c.args.name.now c.in-Ok.place = rw (← c.deref.ensures.value, ← c.as_bytes.ensures) c.in-Ok.ensures.found in
-    let is = row_of arc_value c.self.inside.rows.items c.in-Ok.place c.index.result.now c.index.ensures in
+    let is = row_of entry_in c.self.inside.rows.items c.in-Ok.place c.index.result.now c.index.ensures in
     let live = ap (λ m. live_of m c.args.name.now) (sym c.self.view_is) ∙ live_is _ c.self.invariant.sorted c.args.name.now c.in-Ok.place at row is in
     let snaps = ap (λ m. snaps_at m c.args.name.now) (sym c.self.view_is) ∙ snaps_are _ c.self.invariant.sorted c.args.name.now c.in-Ok.place at row is in
-    subst (λ (l : List Snap). IsLost (live_of c.args.self.now c.args.name.now) l c.in_ok-lost.lost) c.requires.bare
-    (subst (λ (l : List Snap). IsLost (live_of c.args.self.now c.args.name.now) l c.in_ok-lost.lost) (sym snaps)
-    (subst (λ (m : Map). IsLost m row.1.snaps c.in_ok-lost.lost) (sym live)
-    (subst (λ (r : Row). IsLost r.1.live r.1.snaps c.in_ok-lost.lost) c.deref-2.ensures c.in_ok-lost.ensures.ok)))
+    let below = ap (λ m. below_at m c.args.name.now) (sym c.self.view_is) ∙ below_is c.self.inside.rows.items c.self.invariant.sorted c.self.invariant.tied c.args.name.now c.in-Ok.place at c.index.result.now c.index.ensures in
+    let origin = ap (λ m. origin_at m c.args.name.now) (sym c.self.view_is) ∙ origin_is c.self.inside.rows.items c.self.invariant.sorted c.self.invariant.tied c.args.name.now c.in-Ok.place at c.index.result.now c.index.ensures in
+    let here = arc_value c.index.result.now in
+    subst (λ (l : List Snap). IsLost (blocks (below_at c.args.self.now c.args.name.now)) (origin_group (origin_at c.args.self.now c.args.name.now)) (live_of c.args.self.now c.args.name.now) l c.in_ok-lost.lost) c.requires.bare
+    (subst (λ (m : Map). IsLost (blocks m) (origin_group (origin_at c.args.self.now c.args.name.now)) (live_of c.args.self.now c.args.name.now) (snaps_at c.args.self.now c.args.name.now) c.in_ok-lost.lost) (sym below)
+    (subst (λ (o : Option SnapId). IsLost (blocks here.below) (origin_group o) (live_of c.args.self.now c.args.name.now) (snaps_at c.args.self.now c.args.name.now) c.in_ok-lost.lost) (sym origin)
+    (subst (λ (l : List Snap). IsLost (blocks here.below) (origin_group here.system.origin) (live_of c.args.self.now c.args.name.now) l c.in_ok-lost.lost) (sym snaps)
+    (subst (λ (m : Map). IsLost (blocks here.below) (origin_group here.system.origin) m here.system.snaps c.in_ok-lost.lost) (sym live)
+    (subst (λ (r : Row). IsLost (blocks r.below) (origin_group r.system.origin) r.system.live r.system.snaps c.in_ok-lost.lost) c.deref-2.ensures c.in_ok-lost.ensures.ok)))))

@@ -1,5 +1,5 @@
 use Rattle.std.proofs.Common.{ap, ◌∙◌}
-use Rattle.file_systems.specs.Rows.{snap_count}
+use Rattle.file_system.specs.Rows.{snap_count}
 use Rattle.file_systems.proofs.list.FileSystems.snapshot_count.Goals as goal
 
 -- they are counted

@@ -1,4 +1,4 @@
-use Rattle.std.proofs.Common.{◌+◌, drop, refl, sym, ap, ◌∙◌}
+use Rattle.std.proofs.Common.{◌+◌, drop, sym, ap, ◌∙◌}
 use Rattle.snap.proofs.Rests.{next_left}
 use Rattle.removals.specs.Named.{deferred_named, deferred_all}
 use Rattle.removals.proofs.edit.Edit.defer_all.Goals as goal

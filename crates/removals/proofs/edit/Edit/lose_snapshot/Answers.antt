@@ -8,11 +8,15 @@ use Rattle.model.specs.World.{snap_named}
 use Rattle.world.specs.Tables.{world_of}
 use Rattle.deadlist.specs.declared.deadlist.Deadlist.{Deadlist}
 use Rattle.base.specs.declared.refusal.Refusal.TheVariants.{NoDataset}
+use Rattle.removals.proofs.Clones.{may_splice}
 use Rattle.removals.proofs.Losses.{lost_apart, lost_named}
 use Rattle.removals.proofs.edit.Edit.lose_snapshot.Goals as goal
 
 not_refused : (d : Deadlist) → ◌≡◌ {A = Result Deadlist Refusal} (Ok d) (Err NoDataset) → ⊥
 not_refused d e = cc
+
+pub destroy_snapshot-requires : goal.destroy_snapshot-requires
+destroy_snapshot-requires c = record { no_clone = may_splice c.args.self.now.to c.args.name.now c.requires.no_clone }
 
 pub add_dead-requires-clause-apart : goal.add_dead-requires-clause-apart
 add_dead-requires-clause-apart c =

@@ -1,8 +1,7 @@
-use Rattle.std.proofs.Common.{◌≡◌, Some, set, slice_get, ap, sym, subst, ◌∙◌}
+use Rattle.std.proofs.Common.{◌≡◌, Some, slice_get, ap, sym, ◌∙◌}
 use Rattle.std.specs.Option.{option_map}
 use Rattle.std.specs.Arc.{arc_value}
 use Rattle.snapshots.specs.declared.kept.Kept.{Kept}
-use Rattle.snapshots.specs.Index.{IsIndex, AreNamesOnce}
 use Rattle.snapshots.proofs.Splices.{index_has}
 use Rattle.snapshots.proofs.line.Line.set.Goals as goal
 

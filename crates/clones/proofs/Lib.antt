@@ -1,0 +1,3 @@
+pub mod Yielded
+pub mod Cloned
+pub mod Promoted

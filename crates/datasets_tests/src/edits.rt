@@ -1,0 +1,84 @@
+//! Edits from which snapshots and live maps go.
+ghost use Rattle.std.specs.Prelude.{◌≡◌, IfOk};
+ghost use Rattle.std.specs.FinSet as set;
+
+use crate::free::is_free;
+use base::meter::SegMeter;
+use base::refusal::Refusal;
+use datasets::Table;
+use destroyer::Freeing;
+use name::SnapName;
+use removals::Edit;
+use snap::{Guids, snapshot_one};
+use std::alloc::Global;
+use std::process::Abort;
+use toll::Toll;
+
+/// The root with a snapshot `s`.
+fn with_one(alloc: Global) -> Result<Table, Refusal> {
+    let name = SnapName::read(alloc, b"p@s")?;
+    let mut table = Table::new(alloc)?;
+    snapshot_one(alloc, &mut table, &name, Guids { pool: 7, next: 1 })?;
+    Ok(table)
+}
+
+/// An edit of a table with nothing to be freed.
+fn edit_of(alloc: Global, table: &Table) -> Result<Edit, Refusal>
+    ensures { IfOk result (λ e. e.freeing ≡ set.empty) }
+{
+    let freeing = Freeing::new(alloc);
+    Edit::of(table, &freeing)
+}
+
+/// How many snapshots are left, and how many blocks are to be freed, once the snapshot of this name has gone.
+fn left_without(alloc: Global, table: &Table, bytes: &[u8]) -> Result<(usize, u64), Refusal> {
+    let name = SnapName::read(alloc, bytes)?;
+    let mut edit = edit_of(alloc, table)?;
+    if !is_free(&edit.to, name.member()) {
+        return Err(Refusal::HasClones);
+    }
+    let mut segments = SegMeter::new(Toll::new());
+    edit.lose_snapshot(alloc, name.member(), &mut segments)?;
+    Ok((edit.to.snapshot_count(), edit.freeing.len()))
+}
+
+/// The same, once the live map has gone back.
+fn left_back(alloc: Global, table: &Table, bytes: &[u8]) -> Result<(usize, u64), Refusal> {
+    let name = SnapName::read(alloc, bytes)?;
+    let mut edit = edit_of(alloc, table)?;
+    edit.lose_live(alloc, &name.member().file_system)?;
+    Ok((edit.to.snapshot_count(), edit.freeing.len()))
+}
+
+#[test]
+fn what_is_there_goes(rt: HostRuntime) {
+    let alloc = rt.alloc();
+    let table = with_one(alloc).expect(&rt, "a table");
+    let gone = left_without(alloc, &table, b"p@s");
+    let missing = left_without(alloc, &table, b"p@t");
+    let back = left_back(alloc, &table, b"p@s");
+    let nowhere = left_back(alloc, &table, b"p/a@s");
+    let count = table.snapshot_count();
+    drop(table);
+    assert!(rt; gone == Ok((0, 0)));
+    assert!(rt; missing == Err(Refusal::NoDataset));
+    assert!(rt; back == Ok((1, 0)));
+    assert!(rt; nowhere == Err(Refusal::NoDataset));
+    assert!(rt; count == 1);
+}
+
+/// Run it with each allocation refused in turn: the table stays as it was.
+#[test]
+fn refused_memory_leaves_the_table(rt: HostRuntime) {
+    let alloc = rt.alloc();
+    let Ok(table) = with_one(alloc) else {
+        return;
+    };
+    let gone = left_without(alloc, &table, b"p@s");
+    let back = left_back(alloc, &table, b"p@s");
+    let count = table.snapshot_count();
+    drop(table);
+    assert!(rt; gone == Ok((0, 0)) || gone == Err(Refusal::NoMemory));
+    assert!(rt; back == Ok((1, 0)) || back == Err(Refusal::NoMemory));
+    assert!(rt; count == 1);
+}

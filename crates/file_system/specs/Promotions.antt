@@ -1,0 +1,39 @@
+-- A clone, and what it and the file system of its origin are after a promote.
+use Rattle.std.specs.Prelude.{◌≡◌, ℕ, List, Some}
+use Rattle.base.specs.Surveys.{IsIn}
+use Rattle.model.specs.World.{FileSystem, Snap, SnapId, id_of, empty_file_system}
+use Rattle.world.specs.Outcomes.{Promotion, snaps_upto, promoted, demoted}
+use Rattle.file_system.specs.Rows.{Row}
+use Rattle.file_system.specs.Splices.{AreAbove}
+
+-- a clone of a snapshot (zfs-clone(8))
+abbrev pub clone_system : Snap → FileSystem
+clone_system t = record empty_file_system { live = t.map; origin = Some (id_of t) }
+
+-- the same under a name, above the snapshot's map (zfs-clone(8))
+abbrev pub clone_row : List ℕ → Snap → Row
+clone_row name t = record { name = name; system = clone_system t; below = t.map }
+
+-- what a promote of the one, whose origin is this snapshot of the other, is between (zfs-promote(8))
+abbrev pub promotion_between : Row → Row → SnapId → Promotion
+promotion_between clone owner id = record { clone = clone.system; origin = id; owner = owner.name; system = owner.system }
+
+-- the clone afterwards, above the origin that the other had (zfs-promote(8))
+abbrev pub promoted_row : Row → Row → SnapId → Row
+promoted_row clone owner id = record { name = clone.name; system = promoted (promotion_between clone owner id); below = owner.below }
+
+-- the other afterwards, above the origin that the clone had (zfs-promote(8))
+abbrev pub demoted_row : Row → Row → SnapId → Row
+demoted_row clone owner id = record { name = owner.name; system = demoted (promotion_between clone owner id); below = clone.below }
+
+-- The clone's origin is a snapshot of the other, and no snapshot that it gains has the name of one of its own (zfs-promote(8)); each has
+-- its snapshots in their order
+pub record CanPromote (clone owner : Row) (id : SnapId) : Type 0 where
+  pub origin : Snap
+  pub there : IsIn owner.system.snaps origin
+  pub named : id_of origin ≡ id
+  pub is : clone.system.origin ≡ Some id
+  pub map : clone.below ≡ origin.map
+  pub own : AreAbove clone.below clone.system
+  pub others : AreAbove owner.below owner.system
+  pub names : (t u : Snap) → IsIn (snaps_upto owner.system id.group) t → IsIn clone.system.snaps u → t.name ≡ u.name → ⊥

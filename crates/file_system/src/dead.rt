@@ -1,0 +1,102 @@
+//! A change of a live tree, with what it lets go put onto the dead list.
+ghost use Rattle.std.specs.Prelude.{◌≡◌, ◌≤◌, ◌<◌, length, filter, IfOk, IfErr, OnOk, OnErr};
+ghost use Rattle.std.specs.Arc.{arc_value};
+ghost use Rattle.std.specs.List.Sorted.{IsPermutation};
+ghost use Rattle.base.specs.declared.refusal.Refusal.{Refusal};
+ghost use Rattle.deadlist.specs.Entries.{is_upto};
+ghost use Rattle.tree.specs.Drafting.{CanPut, HasPut};
+ghost use Rattle.file_system.specs.Dead.{HasGained};
+
+use base::meter::SegMeter;
+use base::number::{Dead, Group};
+use base::refusal::Refusal;
+use deadlist::deadlist::Deadlist;
+use std::alloc::Global;
+use std::sync::Arc;
+use tree::{Changed, Draft, Tree, Update};
+
+/// How many of these entries were born by the group. It costs their number.
+fn count_upto(entries: &[Dead], newest: Group) -> usize
+    ensures { result ≡ length (filter (is_upto newest.0) entries.now) }
+{
+    entries
+        .iter()
+        .filter(|dead| dead.birth.0 <= newest.0)
+        .count()
+}
+
+/// Puts a draft of a batch of changes of a live tree in force, and of what it lets go those blocks onto the dead list that were born by
+/// the group of the newest snapshot: where the list is, if it has no other owner, and else onto a copy of it, which comes to its place.
+/// NoMemory where there is none for the nodes or the list; then the tree is as it was, and so is the list but for the order of its
+/// entries. It costs what `Tree::put` does, the blocks let go, and where one is put onto the list now and then its segments.
+pub fn put(
+    dead: &mut Arc<Deadlist>,
+    live: &mut Tree,
+    alloc: Global,
+    updates: &[Update],
+    group: Group,
+    draft: Draft,
+    newest: Group,
+    segments: &mut SegMeter,
+) -> Result<Changed, Refusal>
+    requires { CanPut live.old updates.now group.0 draft }
+    ensures ok { IfOk result (HasPut live.old live.new updates.now group.0 draft) }
+    ensures dead { OnOk result (HasGained (arc_value dead.old).entries (arc_value dead.new).entries draft.released.items newest.0) }
+    ensures err { OnErr result (live.new ≡ live.old) }
+    ensures dead_err { OnErr result (IsPermutation (arc_value dead.old).entries (arc_value dead.new).entries) }
+    ensures only { OnErr result (result ≡ Err Refusal.NoMemory) }
+{
+    let few = count_upto(&draft.released, newest);
+    if few == 0 {
+        return live.put(alloc, updates, group, draft);
+    }
+    if let Some(list) = Arc::get_mut(dead) {
+        return put_onto(list, live, alloc, updates, group, draft, newest, segments);
+    }
+    let longer = longer(dead, alloc, &draft.released, newest, segments)?;
+    let changed = live.put(alloc, updates, group, draft)?;
+    *dead = longer;
+    Ok(changed)
+}
+
+/// The same, onto this list, which has room for no more yet.
+fn put_onto(
+    list: &mut Deadlist,
+    live: &mut Tree,
+    alloc: Global,
+    updates: &[Update],
+    group: Group,
+    draft: Draft,
+    newest: Group,
+    segments: &mut SegMeter,
+) -> Result<Changed, Refusal>
+    requires { CanPut live.old updates.now group.0 draft }
+    ensures ok { IfOk result (HasPut live.old live.new updates.now group.0 draft) }
+    ensures dead { OnOk result (HasGained list.old.entries list.new.entries draft.released.items newest.0) }
+    ensures err { OnErr result (live.new ≡ live.old) }
+    ensures dead_err { OnErr result (IsPermutation list.old.entries list.new.entries) }
+    ensures only { OnErr result (result ≡ Err Refusal.NoMemory) }
+{
+    let few = count_upto(&draft.released, newest);
+    list.reserve(few, segments)?;
+    let changed = live.put(alloc, updates, group, draft)?;
+    list.push_upto(&changed.released, newest);
+    Ok(changed)
+}
+
+/// A copy of a dead list with those of these entries behind its own that were born by the group.
+fn longer(
+    dead: &Deadlist,
+    alloc: Global,
+    released: &[Dead],
+    newest: Group,
+    segments: &mut SegMeter,
+) -> Result<Arc<Deadlist>, Refusal>
+    ensures ok { IfOk result (λ d. HasGained dead.now.entries (arc_value d).entries released.now newest.0) }
+    ensures only { IfErr result (λ e. e ≡ Refusal.NoMemory) }
+{
+    let mut list = dead.copy(segments)?;
+    list.reserve(count_upto(released, newest), segments)?;
+    list.push_upto(released, newest);
+    Ok(Arc::new(alloc, list)?)
+}

@@ -1,0 +1,487 @@
+//! One file system, with its snapshots.
+ghost use Rattle.std.specs.Prelude.{◌≡◌, ◌≤◌, ◌<◌, ◌+◌, ◌^◌, ◌==◌, max, nat_lt, ◌++◌, ◌∷◌, [], Some, IsSome, List, IfOk, IfErr, OnOk, OnErr, length, map, remove, slice_get, slice_set};
+ghost use Rattle.std.specs.Option.{option_map, option_copied};
+ghost use Rattle.std.specs.Arc.{arc_value};
+ghost use Rattle.std.specs.List.{find};
+ghost use Rattle.name.specs.Names.{name_cmp, same_name};
+ghost use Rattle.base.specs.declared.refusal.Refusal.{Refusal};
+ghost use Rattle.base.specs.Map.{blocks};
+ghost use Rattle.base.specs.Surveys.{dead_block};
+ghost use Rattle.model.specs.World.{id_of, same_id};
+ghost use Rattle.model.specs.Ids.{snap_id};
+ghost use Rattle.model.specs.Sums.{size_without};
+ghost use Rattle.tree.specs.Asking.{IsNoSpaceOrNoMemory};
+ghost use Rattle.tree.specs.Change.{HasRoom, LacksRoom, CountsDropped};
+ghost use Rattle.tree.specs.Updates.{changes_of};
+ghost use Rattle.file_system.specs.Dead.{snaps_in, newest_blocks, written_from, AllowsLive, IsAbove};
+ghost use Rattle.file_system.specs.Losses.{newest_map, IsLost};
+ghost use Rattle.snapshots.specs.Index.{AreNamesOnce};
+ghost use Rattle.world.specs.Deadlists.{Lists};
+ghost use Rattle.world.specs.Worlds.{AreRising};
+ghost use Rattle.file_system.specs.Origins.{origin_group};
+ghost use Rattle.file_system.specs.Promotions.{clone_row};
+ghost use Rattle.file_system.specs.Rows.{new_row, with_system, with_snap};
+ghost use Rattle.file_system.specs.Splices.{lost_from, without_group, AreAbove};
+ghost use Rattle.file_system.specs.Deferred.{deferred_at};
+ghost use Rattle.file_system.specs.Writes.{newest_group, young_after, IsWritten};
+
+use crate::dead::put;
+use crate::lost::Lost;
+use crate::mark::deferred;
+use crate::origin::{Origin, base_group, copy_of_origin, origin_in, origin_of};
+use crate::splice::{joined, joined_next, kept_of, place_of};
+use crate::written::{group_of, written_over};
+use base::meter::{Meter, SegMeter};
+use base::number::{Dead, Group, Guid};
+use base::refusal::Refusal;
+use deadlist::deadlist::Deadlist;
+use model::snapshot_id::SnapshotId;
+use name::{Component, DsName};
+use shared_list::SharedList;
+use snapshots::{Kept, Line, Snapshot};
+use std::alloc::Global;
+use std::cmp::Ordering;
+use std::marker::Model;
+use std::sync::Arc;
+use tree::{Changed, Tree, Update};
+use zalloc::Allocator;
+
+/// A file system: its name, its live dataset, its snapshots in order of their creation groups, and its origin where it is a clone (On-Disk
+/// Specification, chapter 4). Contracts see its name, what a world has under that name, and the map of the origin, which is the empty one
+/// where there is none. Copies share the name, the tree, the dead lists, the snapshots and the origin.
+#[derive(Drop)]
+pub struct FileSystem {
+    pub(crate) name: Arc<DsName>,
+    pub(crate) live: Tree,
+    pub(crate) dead: Arc<Deadlist>,
+    pub(crate) snapshots: Arc<Line>,
+    pub(crate) origin: Option<Arc<Origin>>,
+}
+
+impl Model for FileSystem {
+    ghost use Rattle.model.specs.World.{empty_file_system};
+    ghost use Rattle.file_system.specs.Rows.{Row, row_code};
+
+    ghost Value = { Row };
+
+    ghost coded = { row_code };
+
+    ghost use Rattle.std.specs.Arc.{arc_value};
+    ghost use Rattle.std.specs.Option.{option_map};
+    ghost use Rattle.file_system.specs.Dead.{snaps_in, IsKeeping};
+    ghost use Rattle.file_system.specs.Origins.{origin_id, map_below};
+
+    ghost view = { λ f. record {
+      name = f.name.value;
+      system = record empty_file_system { live = f.live; snaps = snaps_in (arc_value f.snapshots); origin = origin_id (option_map arc_value f.origin) };
+      below = map_below (option_map arc_value f.origin);
+    } };
+
+    ghost invariant = { IsKeeping };
+}
+
+impl FileSystem {
+    /// A file system without a block and without an origin, under this name (zfs-create(8)). NoMemory where there is none for the name. It costs the
+    /// length of the name.
+    pub fn new(alloc: Global, name: &DsName) -> Result<FileSystem, Refusal>
+        ensures ok { IfOk result (λ f. f ≡ new_row name.now) }
+        ensures err { IfErr result (λ e. e ≡ Refusal.NoMemory) }
+    {
+        let name = shared_name(alloc, name)?;
+        let dead = Arc::new(alloc, Deadlist::new(alloc))?;
+        let snapshots = Arc::new(alloc, Line::new(alloc))?;
+        Ok(FileSystem {
+            name,
+            live: Tree::new(),
+            dead,
+            snapshots,
+            origin: None,
+        })
+    }
+
+    /// A clone of a snapshot, under this name: its live map is the snapshot's, by one more owner of its tree, and the snapshot is its origin
+    /// (zfs-clone(8)). NoMemory where there is none for it. It costs the length of the name.
+    pub fn clone_of(
+        alloc: Global,
+        name: &DsName,
+        snapshot: &Snapshot,
+    ) -> Result<FileSystem, Refusal>
+        ensures ok { IfOk result (λ f. f ≡ clone_row name.now snapshot.now) }
+        ensures err { IfErr result (λ e. e ≡ Refusal.NoMemory) }
+    {
+        let own_name = shared_name(alloc, name)?;
+        let live = snapshot.tree().copy()?;
+        let origin = origin_of(alloc, snapshot)?;
+        let dead = Arc::new(alloc, Deadlist::new(alloc))?;
+        let snapshots = Arc::new(alloc, Line::new(alloc))?;
+        Ok(FileSystem {
+            name: own_name,
+            live,
+            dead,
+            snapshots,
+            origin: Some(origin),
+        })
+    }
+
+    /// Its name. Constant time.
+    pub fn name(&self) -> &DsName
+        ensures { result.now ≡ self.now.name }
+    {
+        &self.name
+    }
+
+    /// Its name behind an owner, of which others can be one more. Constant time.
+    pub fn owned_name(&self) -> &Arc<DsName>
+        ensures { arc_value result.now ≡ self.now.name }
+    {
+        &self.name
+    }
+
+    /// The tree of its live dataset. Constant time.
+    pub fn live(&self) -> &Tree
+        ensures { result.now ≡ self.now.system.live }
+    {
+        &self.live
+    }
+
+    /// Its snapshots, in order of their creation groups. Constant time.
+    pub fn snapshots(&self) -> &SharedList<Kept>
+        ensures { snaps_in result.now ≡ self.now.system.snaps }
+    {
+        self.snapshots.list()
+    }
+
+    /// The snapshot of this name within the file system, or none. It costs the logarithm of the number of its snapshots, or, where it has
+    /// no index, their number.
+    pub fn snapshot_named(&self, component: &[u8]) -> Option<&Snapshot>
+        ensures { option_copied result ≡ find (λ t. same_name t.name component.now) self.now.system.snaps }
+    {
+        self.kept_named(component).map(|kept| &kept.snapshot)
+    }
+
+    /// Its snapshot of this identity, or none. It costs the logarithm of the number of its snapshots, and a walk over their chunks.
+    pub fn snapshot_of(&self, id: SnapshotId) -> Option<&Snapshot>
+        requires { AreRising 0 self.now.system.snaps }
+        ensures { option_copied result ≡ find (λ t. same_id (id_of t) (snap_id id)) self.now.system.snaps }
+    {
+        kept_of(self.snapshots.list(), id).map(|kept| &kept.snapshot)
+    }
+
+    /// Its origin, where it is a clone, and else none (zfsprops(7): origin). Constant time.
+    pub fn origin(&self) -> Option<SnapshotId>
+        ensures { option_map snap_id result ≡ self.now.system.origin }
+    {
+        origin_in(&self.origin).map(|origin| origin.id())
+    }
+
+    /// The creation group of its newest snapshot, or else of its origin, and 0 where it has neither. Constant time.
+    pub fn newest_group(&self) -> Group
+        ensures { result.0 ≡ newest_group (origin_group self.now.system.origin) self.now.system.snaps }
+    {
+        group_of(self.snapshots.last(), base_group(origin_in(&self.origin)))
+    }
+
+    /// How many blocks its live dataset has that its newest snapshot hasn't, or else its origin, and all of them where it has neither
+    /// (zfsprops(7): written). Constant time.
+    pub fn written(&self) -> u32
+        ensures { result ≡ size_without (blocks self.now.system.live) (newest_blocks (blocks self.now.below) self.now.system.snaps) }
+    {
+        written_over(
+            self.snapshots.last(),
+            origin_in(&self.origin),
+            &self.live,
+            &self.dead,
+        )
+    }
+
+    /// How many blocks the snapshot of this name has that the one before it hasn't, or, where it is the oldest, the origin, and all of them
+    /// where there is neither (zfsprops(7): written); none where there is no such snapshot. It costs what `snapshot_named` does.
+    pub fn written_at(&self, component: &[u8]) -> Option<u32>
+        ensures { result ≡ written_from (blocks self.now.below) self.now.system.snaps component.now }
+    {
+        self.kept_named(component).map(|kept| kept.written)
+    }
+
+    /// An equal file system, by one more owner of its name, of its tree, of its dead list, of its snapshots and of its origin. NoMemory where
+    /// there is none for that. Constant time.
+    pub fn copy(&self) -> Result<FileSystem, Refusal>
+        ensures ok { IfOk result (λ f. f ≡ self.now) }
+        ensures err { IfErr result (λ e. e ≡ Refusal.NoMemory) }
+    {
+        let name = Arc::try_clone(&self.name)?;
+        let live = self.live.copy()?;
+        let dead = Arc::try_clone(&self.dead)?;
+        let snapshots = Arc::try_clone(&self.snapshots)?;
+        let origin = copy_of_origin(&self.origin)?;
+        Ok(FileSystem {
+            name,
+            live,
+            dead,
+            snapshots,
+            origin,
+        })
+    }
+
+    /// How its name compares with another, byte by byte.
+    pub fn compare(&self, name: &[u8]) -> Ordering
+        ensures { result ≡ name_cmp self.now.name name.now }
+    {
+        self.name.as_bytes().cmp(&name)
+    }
+
+    // What is kept of the snapshot of this name, or none.
+    fn kept_named(&self, component: &[u8]) -> Option<&Kept>
+        ensures snapshot { option_map (λ k. k.snapshot) (option_copied result) ≡ find (λ t. same_name t.name component.now) self.now.system.snaps }
+        ensures written { option_map (λ k. k.written) (option_copied result) ≡ written_from (blocks self.now.below) self.now.system.snaps component.now }
+    {
+        self.snapshots.get(component)
+    }
+
+    /// A snapshot of its live map after its others.
+    pub fn take(
+        &mut self,
+        alloc: Global,
+        name: &Component,
+        guid: Guid,
+        group: Group,
+    ) -> Result<(), Refusal>
+        ensures ok { OnOk result (self.new ≡ with_system self.old (with_snap self.old.system name.now guid.0 group.0)) }
+        ensures err { OnErr result (self.new ≡ self.old) }
+        ensures only { IfErr result (λ e. e ≡ Refusal.NoMemory) }
+    {
+        let written = self.written();
+        let snapshot = Snapshot::new(copy_of(name)?, self.live.copy()?, guid, group);
+        let dead = Arc::try_clone(&self.dead)?;
+        let fresh = Arc::new(alloc, Deadlist::new(alloc))?;
+        let kept = Kept {
+            snapshot,
+            dead,
+            written,
+        };
+        push(&mut self.snapshots, alloc, kept)?;
+        self.dead = fresh;
+        Ok(())
+    }
+
+    /// Takes out the snapshot of this group, which is there. Its dead list becomes a part of that of what comes after it; the blocks that
+    /// neither what stands before it nor what comes after it has are lost: the answer, which nobody has to walk. It costs the logarithm
+    /// of the number of snapshots, the chunks of them, the segments of both dead lists, and where no cut stands at the group before it, the
+    /// entries of one of them.
+    pub fn splice(
+        &mut self,
+        alloc: Global,
+        group: Group,
+        segments: &mut SegMeter,
+    ) -> Result<Deadlist, Refusal>
+        requires there { IsSome (find (λ t. t.group == group.0) self.old.system.snaps) }
+        requires above { AreAbove self.old.below self.old.system }
+        ensures ok { OnOk result (self.new ≡ with_system self.old (without_group self.old.system group.0)) }
+        ensures lost { IfOk result (λ d. Lists (map dead_block d.entries) (lost_from (blocks self.old.below) self.old.system.snaps self.old.system.live group.0)) }
+        ensures err { OnErr result (self.new ≡ self.old) }
+        ensures only { IfErr result (λ e. e ≡ Refusal.NoMemory) }
+    {
+        let (kept, origin) = (self.snapshots.list(), origin_in(&self.origin));
+        let (place, count) = (place_of(kept, group), kept.len());
+        if place + 1 < count {
+            let (next, lost) = joined_next(kept, origin, alloc, place, segments)?;
+            splice_in(&mut self.snapshots, alloc, place, next)?;
+            return Ok(lost);
+        }
+        let (dead, lost) = joined(kept, base_group(origin), place, &self.dead, segments)?;
+        let dead = Arc::new(alloc, dead)?;
+        remove_from(&mut self.snapshots, alloc, place)?;
+        self.dead = dead;
+        Ok(lost)
+    }
+
+    /// From now on the destroy of the snapshot of this group, which is there, is deferred. It costs the logarithm of the number of
+    /// snapshots, a walk over the chunks of them, and at most a chunk of them and one of their index.
+    pub fn defer(&mut self, alloc: Global, group: Group) -> Result<(), Refusal>
+        requires there { IsSome (find (λ t. t.group == group.0) self.old.system.snaps) }
+        requires above { AreAbove self.old.below self.old.system }
+        ensures ok { OnOk result (self.new ≡ with_system self.old (deferred_at self.old.system group.0)) }
+        ensures err { OnErr result (self.new ≡ self.old) }
+        ensures only { IfErr result (λ e. e ≡ Refusal.NoMemory) }
+    {
+        let kept = self.snapshots.list();
+        let place = place_of(kept, group);
+        let next = deferred(kept, place)?;
+        set_in(&mut self.snapshots, alloc, place, next)?;
+        Ok(())
+    }
+
+    /// What is lost where the live map goes.
+    pub fn lost(&self) -> Result<Lost, Refusal>
+        requires { IsAbove (blocks self.now.below) (origin_group self.now.system.origin) self.now.system.live self.now.system.snaps }
+        ensures ok { IfOk result (IsLost (blocks self.now.below) (origin_group self.now.system.origin) self.now.system.live self.now.system.snaps) }
+        ensures err { IfErr result (λ e. e ≡ Refusal.NoMemory) }
+    {
+        let tree = self.live.copy()?;
+        Ok(Lost {
+            tree,
+            after: self.newest_group(),
+            count: self.written(),
+        })
+    }
+
+    /// The live map becomes that of the newest snapshot, which shares its tree.
+    pub fn rollback(&mut self, alloc: Global) -> Result<Lost, Refusal>
+        requires there { 0 < length self.old.system.snaps }
+        requires above { IsAbove (blocks self.old.below) (origin_group self.old.system.origin) self.old.system.live self.old.system.snaps }
+        ensures ok { OnOk result (self.new ≡ with_system self.old (record self.old.system { live = newest_map self.old.system.live self.old.system.snaps })) }
+        ensures lost { IfOk result (IsLost (blocks self.old.below) (origin_group self.old.system.origin) self.old.system.live self.old.system.snaps) }
+        ensures err { OnErr result (self.new ≡ self.old) }
+        ensures only { IfErr result (λ e. e ≡ Refusal.NoMemory) }
+    {
+        let lost = self.lost()?;
+        let Some(newest) = self.snapshots.last() else {
+            unreachable!()
+        };
+        let live = newest.snapshot.tree().copy()?;
+        let dead = Arc::new(alloc, Deadlist::new(alloc))?;
+        self.live = live;
+        self.dead = dead;
+        Ok(lost)
+    }
+
+    /// Puts a batch of changes of the live tree in force at once, where the last sync left group `synced` open. It takes no number,
+    /// and of the blocks that the tree drops it releases those that no snapshot has; the others go onto the dead list.
+    pub fn apply(
+        &mut self,
+        alloc: Global,
+        updates: &[Update],
+        group: Group,
+        synced: Group,
+        allocator: &Allocator,
+        meter: &mut Meter,
+        segments: &mut SegMeter,
+    ) -> Result<Changed, Refusal>
+        requires { AllowsLive (blocks self.old.below) (origin_group self.old.system.origin) self.old.system.live self.old.system.snaps updates.now group.0 synced.0 allocator.now }
+        ensures ok { IfOk result (IsWritten self.old.system.live self.new.system.live (origin_group self.old.system.origin) self.old.system.snaps (changes_of updates.now) group.0 synced.0 allocator.now) }
+        ensures others { self.new ≡ with_system self.old (record self.old.system { live = self.new.system.live }) }
+        ensures room { OnOk result (HasRoom self.old.system.live (changes_of updates.now) (young_after (origin_group self.old.system.origin) self.old.system.snaps synced.0) allocator.now) }
+        ensures err { OnErr result (self.new ≡ self.old) }
+        ensures no_space { result ≡ Err Refusal.NoSpace → LacksRoom self.old.system.live (changes_of updates.now) (young_after (origin_group self.old.system.origin) self.old.system.snaps synced.0) allocator.now }
+        ensures only { IfErr result IsNoSpaceOrNoMemory }
+        ensures metered { OnOk result (CountsDropped self.old.system.live (changes_of updates.now) meter.old meter.new) }
+        ensures never_lower { meter.old ≤ meter.new }
+    {
+        let newest = self.newest_group();
+        let young = young_from(newest, synced);
+        let draft = self.live.draft(alloc, updates, young, allocator, meter)?;
+        let (dead, live) = (&mut self.dead, &mut self.live);
+        let mut changed = put(dead, live, alloc, updates, group, draft, newest, segments)?;
+        changed.released.retain(|dead| is_born_after(dead, newest));
+        Ok(changed)
+    }
+}
+
+// The first group whose blocks are young: after that of the newest snapshot, and no earlier than the one that the last sync left open.
+fn young_from(newest: Group, synced: Group) -> Group
+    requires { newest.0 + 1 < 2 ^ 64 }
+    ensures { result.0 ≡ max synced.0 (newest.0 + 1) }
+{
+    Group(synced.0.max(newest.0 + 1))
+}
+
+// Whether a block was born after that group.
+fn is_born_after(dead: &Dead, group: Group) -> bool
+    ensures { result ≡ nat_lt group.0 dead.now.birth.0 }
+{
+    dead.birth.0 > group.0
+}
+
+// Puts a snapshot behind others: where they are, if they have no other owner, and else behind a copy of them, which comes to their
+// place.
+fn push(line: &mut Arc<Line>, alloc: Global, kept: Kept) -> Result<(), Refusal>
+    ensures ok { OnOk result (arc_value line.new ≡ arc_value line.old ++ kept ∷ []) }
+    ensures err { OnErr result (arc_value line.new ≡ arc_value line.old) }
+    ensures only { IfErr result (λ e. e ≡ Refusal.NoMemory) }
+{
+    if let Some(line) = Arc::get_mut(line) {
+        return line.push(alloc, kept);
+    }
+    let mut longer = line.copy()?;
+    longer.push(alloc, kept)?;
+    *line = Arc::new(alloc, longer)?;
+    Ok(())
+}
+
+// Takes out the snapshot at that place: where they are, if they have no other owner, and else from a copy of them, which comes to their
+// place.
+fn remove_from(line: &mut Arc<Line>, alloc: Global, place: usize) -> Result<(), Refusal>
+    requires there { place < length (arc_value line.old) }
+    requires once { AreNamesOnce (arc_value line.old) }
+    ensures ok { OnOk result (arc_value line.new ≡ remove (arc_value line.old) place) }
+    ensures err { OnErr result (arc_value line.new ≡ arc_value line.old) }
+    ensures only { IfErr result (λ e. e ≡ Refusal.NoMemory) }
+{
+    if let Some(line) = Arc::get_mut(line) {
+        return line.remove(place);
+    }
+    let mut shorter = line.copy()?;
+    shorter.remove(place)?;
+    *line = Arc::new(alloc, shorter)?;
+    Ok(())
+}
+
+// Takes out the snapshot at that place, and puts this one in place of the one after it, which has its name: where they are, if they have
+// no other owner, and else in a copy of them, which comes to their place.
+fn splice_in(line: &mut Arc<Line>, alloc: Global, place: usize, next: Kept) -> Result<(), Refusal>
+    requires next { option_map (λ k. k.snapshot.name) (slice_get (arc_value line.old) (place + 1)) ≡ Some next.snapshot.name }
+    requires once { AreNamesOnce (arc_value line.old) }
+    ensures ok { OnOk result (arc_value line.new ≡ slice_set (remove (arc_value line.old) place) place next) }
+    ensures err { OnErr result (arc_value line.new ≡ arc_value line.old) }
+    ensures only { IfErr result (λ e. e ≡ Refusal.NoMemory) }
+{
+    if let Some(line) = Arc::get_mut(line) {
+        return line.splice(alloc, place, next);
+    }
+    let mut shorter = line.copy()?;
+    shorter.splice(alloc, place, next)?;
+    *line = Arc::new(alloc, shorter)?;
+    Ok(())
+}
+
+// A copy of a name, which others can own too.
+fn shared_name(alloc: Global, name: &DsName) -> Result<Arc<DsName>, Refusal>
+    ensures ok { IfOk result (λ a. arc_value a ≡ name.now) }
+    ensures err { IfErr result (λ e. e ≡ Refusal.NoMemory) }
+{
+    let own = own_name(name)?;
+    Ok(Arc::new(alloc, own)?)
+}
+
+// A copy of a file system's name.
+fn own_name(name: &DsName) -> Result<DsName, Refusal>
+    ensures ok { IfOk result (λ n. n ≡ name.now) }
+    ensures err { IfErr result (λ e. e ≡ Refusal.NoMemory) }
+{
+    Ok(name.clone()?)
+}
+
+// A copy of a name within a file system.
+fn copy_of(name: &Component) -> Result<Component, Refusal>
+    ensures ok { IfOk result (λ n. n ≡ name.now) }
+    ensures err { IfErr result (λ e. e ≡ Refusal.NoMemory) }
+{
+    Ok(name.clone()?)
+}
+
+// Puts a snapshot in place of the one at that place, which has its name: where they are, if they have no other owner, and else in a copy
+// of them, which comes to their place.
+fn set_in(line: &mut Arc<Line>, alloc: Global, place: usize, next: Kept) -> Result<(), Refusal>
+    requires same { option_map (λ k. k.snapshot.name) (slice_get (arc_value line.old) place) ≡ Some next.snapshot.name }
+    requires once { AreNamesOnce (arc_value line.old) }
+    ensures ok { OnOk result (arc_value line.new ≡ slice_set (arc_value line.old) place next) }
+    ensures err { OnErr result (arc_value line.new ≡ arc_value line.old) }
+    ensures only { IfErr result (λ e. e ≡ Refusal.NoMemory) }
+{
+    if let Some(line) = Arc::get_mut(line) {
+        return line.set(alloc, place, next);
+    }
+    let mut changed = line.copy()?;
+    changed.set(alloc, place, next)?;
+    *line = Arc::new(alloc, changed)?;
+    Ok(())
+}

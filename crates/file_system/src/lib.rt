@@ -1,0 +1,15 @@
+//! One file system: its live tree, its snapshots and its origin, with their dead lists.
+#![tactic(auto)]
+
+mod dead;
+mod file_system;
+mod lost;
+mod mark;
+mod origin;
+mod promote;
+mod splice;
+mod written;
+
+pub use file_system::FileSystem;
+pub use lost::Lost;
+pub use snapshots::{Kept, Snapshot};

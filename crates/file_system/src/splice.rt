@@ -1,0 +1,153 @@
+//! A snapshot that goes from those of a file system.
+ghost use Rattle.std.specs.Prelude.{◌≡◌, ◌+◌, ◌<◌, ◌≤◌, ◌==◌, Some, None, IsSome, IfOk, IfErr, length, take, nat_lt, slice_get};
+ghost use Rattle.std.specs.List.{find, last_or};
+ghost use Rattle.std.specs.List.Sorted.{IsPermutation};
+ghost use Rattle.std.specs.Option.{option_copied, option_map};
+ghost use Rattle.base.specs.declared.refusal.Refusal.{Refusal};
+ghost use Rattle.model.specs.World.{id_of, same_id};
+ghost use Rattle.model.specs.Ids.{snap_id};
+ghost use Rattle.world.specs.Worlds.{AreRising};
+ghost use Rattle.file_system.specs.Dead.{snaps_in};
+ghost use Rattle.file_system.specs.Origins.{blocks_below, group_below};
+ghost use Rattle.file_system.specs.Splices.{AreJoined, CanJoin, IsNext};
+
+use crate::origin::{Origin, base_group};
+use crate::written::{group_of, written_over};
+use base::meter::SegMeter;
+use base::number::Group;
+use base::refusal::Refusal;
+use deadlist::deadlist::Deadlist;
+use model::snapshot_id::SnapshotId;
+use shared_list::SharedList;
+use snapshots::Kept;
+use std::alloc::Global;
+use std::sync::Arc;
+
+/// How many entries a segment has at least, on average, in a dead list that is cut.
+const MANY: u64 = 256;
+
+/// A cut stands at most so many snapshots below.
+const NEAR: usize = 64;
+
+fn is_before(kept: &Kept, group: Group) -> bool
+    ensures { result ≡ nat_lt kept.now.snapshot.group group.0 }
+{
+    kept.snapshot.group() < group
+}
+
+/// Where the snapshot of this group stands, which is there. It costs the logarithm of the number of snapshots, and a walk over their chunks.
+pub fn place_of(kept: &SharedList<Kept>, group: Group) -> usize
+    requires rising { AreRising 0 (snaps_in kept.now) }
+    requires there { IsSome (find (λ t. t.group == group.0) (snaps_in kept.now)) }
+    ensures within { result < length kept.now }
+    ensures is { option_map (λ k. k.snapshot.group) (slice_get kept.now result) ≡ Some group.0 }
+{
+    kept.partition_point(|kept: &Kept| is_before(kept, group))
+}
+
+/// What is kept of the snapshot of this identity, or none. It costs the logarithm of the number of snapshots, and a walk over their
+/// chunks.
+pub fn kept_of(kept: &SharedList<Kept>, id: SnapshotId) -> Option<&Kept>
+    requires { AreRising 0 (snaps_in kept.now) }
+    ensures { option_map (λ k. k.snapshot) (option_copied result) ≡ find (λ t. same_id (id_of t) (snap_id id)) (snaps_in kept.now) }
+{
+    let place = kept.partition_point(|kept: &Kept| is_before(kept, id.group));
+    let found = kept.get(place)?;
+    if found.snapshot.id() == id {
+        Some(found)
+    } else {
+        None
+    }
+}
+
+/// The snapshot before that place, or None where the first stands there. It costs a walk over the chunks before it.
+fn before(kept: &SharedList<Kept>, place: usize) -> Option<&Kept>
+    requires { place ≤ length kept.now }
+    ensures { option_copied result ≡ last_or None (take place kept.now) }
+{
+    if place == 0 {
+        return None;
+    }
+    kept.get(place - 1)
+}
+
+/// Cuts a long dead list at the group of a snapshot not far below that place, so that what the next ones below it lose is found among
+/// the few entries after the cut. A list with few entries a segment is left as it is. It costs the entries of one segment where it cuts, and
+/// else nothing.
+/// NoMemory where there is none for the cut; then nothing is changed.
+fn cut_below(
+    kept: &SharedList<Kept>,
+    base: Group,
+    place: usize,
+    dead: &mut Deadlist,
+    segments: &mut SegMeter,
+) -> Result<(), Refusal>
+    requires { place ≤ length kept.now }
+    ensures entries { IsPermutation dead.old.entries dead.new.entries }
+    ensures err { IfErr result (λ e. e ≡ Refusal.NoMemory) }
+{
+    if dead.len() / MANY < dead.segments() as u64 {
+        return Ok(());
+    }
+    let below = place - place % NEAR;
+    dead.cut(group_of(before(kept, below), base), segments)
+}
+
+/// The dead list of what comes after the snapshot at that place, once that is gone, and what is lost with it: from the dead list that it has
+/// now, and from the group of what stands below the first of the snapshots. It costs the segments of both lists, and where no cut stands at the group before the place, the entries of one segment. NoMemory
+/// where there is none for it.
+pub fn joined(
+    kept: &SharedList<Kept>,
+    base: Group,
+    place: usize,
+    next: &Deadlist,
+    segments: &mut SegMeter,
+) -> Result<(Deadlist, Deadlist), Refusal>
+    requires { place < length kept.now }
+    ensures ok { IfOk result (λ p. AreJoined base.0 kept.now place next.now.entries p.0.entries p.1.entries) }
+    ensures err { IfErr result (λ e. e ≡ Refusal.NoMemory) }
+{
+    let Some(gone) = kept.get(place) else {
+        unreachable!()
+    };
+    let mut own = next.copy(segments)?;
+    let lost = own.take_after(group_of(before(kept, place), base), segments)?;
+    let mut all = gone.dead.copy(segments)?;
+    match all.append(own, segments) {
+        Ok(()) => {
+            cut_below(kept, base, place, &mut all, segments)?;
+            Ok((all, lost))
+        }
+        Err((refusal, _own)) => Err(refusal),
+    }
+}
+
+/// What is kept of the snapshot after the one at that place, once that is gone, and what is lost with it, where the first of them stands above
+/// this origin. It costs the segments of their
+/// dead lists, and the length of its name. NoMemory where there is none for it.
+pub fn joined_next(
+    kept: &SharedList<Kept>,
+    origin: Option<&Origin>,
+    alloc: Global,
+    place: usize,
+    segments: &mut SegMeter,
+) -> Result<(Kept, Deadlist), Refusal>
+    requires { CanJoin (blocks_below (option_copied origin)) (group_below (option_copied origin)) kept.now place }
+    ensures ok { IfOk result (λ p. IsNext (blocks_below (option_copied origin.entry)) kept.now place p.0 p.1.entries) }
+    ensures err { IfErr result (λ e. e ≡ Refusal.NoMemory) }
+{
+    let _count = kept.len();
+    let Some(next) = kept.get(place + 1) else {
+        unreachable!()
+    };
+    let (dead, lost) = joined(kept, base_group(origin), place, &next.dead, segments)?;
+    let snapshot = next.snapshot.copy()?;
+    let written = written_over(before(kept, place), origin, snapshot.tree(), &dead);
+    let dead = Arc::new(alloc, dead)?;
+    let next = Kept {
+        snapshot,
+        dead,
+        written,
+    };
+    Ok((next, lost))
+}

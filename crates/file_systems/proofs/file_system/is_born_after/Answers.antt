@@ -1,5 +1,0 @@
-use Rattle.std.proofs.Common.{refl}
-use Rattle.file_systems.proofs.file_system.is_born_after.Goals as goal
-
-pub returns : goal.returns
-returns c = refl

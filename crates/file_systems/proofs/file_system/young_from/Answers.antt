@@ -1,4 +1,0 @@
-use Rattle.file_systems.proofs.file_system.young_from.Goals as goal
-
-pub returns : goal.returns
-returns c = c.max.ensures

@@ -1,0 +1,333 @@
+-- The file systems of a family are emptied, those first whose origins are of the latest groups.
+use Rattle.std.proofs.Common.{◌≡◌, ◌⊎◌, ◌<◌, ◌≤◌, ◌+◌, ◌-◌, ℕ, zero, suc, Bool, true, false, cond, ◌||◌, List, [], ◌∷◌, ◌++◌, append_assoc, map, length, drop, get_or, Option, Some, None, Result, Ok, Err, refl, sym, ap, subst, ◌∙◌, true≢false, inl, inr, ⊎_elim, arith}
+use Rattle.std.specs.Prelude.{IsSome, OnOk, is_some, nat_lt}
+use Rattle.std.specs.List.{Contains, filter, find, list_any}
+use Rattle.std.specs.List.Sorted.{IsPermutation, IsNonDecreasingBy}
+use Rattle.std.specs.Option.{option_map, option_map_or, option_and_then}
+use Rattle.std.specs.FinMap.{get, insert, entries, same_map}
+use Rattle.std.specs.FinSet.{union}
+use Rattle.std.proofs.lemmas.Bool.{lt-ltb}
+use Rattle.std.proofs.lemmas.List.Elements.{Contains-append_left, Contains-append_right, Contains-append_cases, Contains-push, Contains-push_cases}
+use Rattle.std.proofs.lemmas.List.Sorted.{Contains-permutation, IsPermutation-sym}
+use Rattle.base.specs.Map.{BlockSet}
+use Rattle.base.specs.Surveys.{IsIn}
+use Rattle.name.specs.declared.member.Member.{Member}
+use Rattle.name.specs.Names.{same_name}
+use Rattle.model.specs.World.{FileSystem, Snap, SnapId, id_of, empty_file_system, snap_named, union_of}
+use Rattle.file_system.specs.Origins.{origin_group}
+use Rattle.file_system.specs.Rows.{Entry, snaps_at}
+use Rattle.snap.specs.Taking.{is_in_family}
+use Rattle.snap.proofs.Rests.{next_left, none_left}
+use Rattle.world.specs.Sets.{IsSubset, AreDisjoint}
+use Rattle.world.specs.Shapes.{Name, name_order}
+use Rattle.world.specs.Worlds.{AreFileSystems, AreRising}
+use Rattle.world.specs.Tables.{Datasets, world_of, with_system, without_snap, lost_between}
+use Rattle.world.proofs.Bridge.{from_entries, start, starts, start_is, rising, rising_above}
+use Rattle.world.proofs.Drawn.{union_from}
+use Rattle.world.proofs.Finding.{from_find, from_filter, in_filter, filter_all}
+use Rattle.world.proofs.Listed.{in_map, map_in}
+use Rattle.world.proofs.Maps.{key_cases, no_value, same_value, entry_of, at_entry}
+use Rattle.world.proofs.Put.{put_here, put_other, put_maps}
+use Rattle.world.proofs.Sweep.{get-with_file_systems}
+use Rattle.removals.specs.Edits.{HasLost}
+use Rattle.removals.specs.Families.{emptied, AreClonesInside, IsBareFamily}
+use Rattle.removals.specs.Named.{without_all, has_clone, is_named_cloned, member_of, newer_members}
+use Rattle.removals.specs.Requests.{without_family}
+use Rattle.removals.proofs.Clones.{is_uncloned}
+use Rattle.removals.proofs.Losses.{has_lost}
+use Rattle.removals.proofs.Rolled.{insert_twice, last_go}
+use Rattle.removals.proofs.SystemsGone.{in_entries, get-family}
+
+-- ---- one file system
+
+-- the datasets where this row's file system has no snapshot
+abbrev pub bare_at : Datasets → Entry → Datasets
+bare_at t r = record t { file_systems = insert t.file_systems r.0 (record r.1 { snaps = [] }) }
+
+-- all its snapshots are of a later group than 0
+pub bare_is : (t : Datasets) (good : AreFileSystems t.file_systems t.group) (r : Entry) → get t.file_systems r.0 ≡ Some r.1 → without_all t (newer_members r 0) ≡ bare_at t r
+bare_is t good r at =
+    ap (λ l. without_all t (map (member_of r) l)) (filter_all (λ (s : Snap). nat_lt 0 s.group) r.1.snaps (λ u i.
+    let l = rising_above (start t.file_systems t.group good.lines r.0 r.1 at).base r.1.snaps u (rising t.file_systems t.group good.lines r.0 r.1 at) i in
+    lt-ltb 0 u.group (omega (arith, l))))
+    ∙ last_go t good r at [] r.1.snaps refl
+
+none_named : (t : Datasets) (ms : List Member) → ((m : Member) → IsIn ms m → snap_named (world_of t) m ≡ None) → without_all t ms ≡ t
+none_named t [] each = refl
+none_named t (m ∷ ms) each =
+    ap (λ x. without_all (option_map_or (λ (s : Snap). without_snap t (id_of s)) x t) ms) (each m (inl refl)) ∙ none_named t ms (λ n i. each n (inr i))
+
+-- what is empty has none of them
+already_bare : (t : Datasets) (r : Entry) → get t.file_systems r.0 ≡ Some empty_file_system → without_all t (newer_members r 0) ≡ t
+already_bare t r at = none_named t (newer_members r 0) (λ m i.
+    let s = in_map (member_of r) (filter (λ (u : Snap). nat_lt 0 u.group) r.1.snaps) m i in
+    ap (λ n. option_and_then (λ (f : FileSystem). find (λ (u : Snap). same_name u.name n.component) f.snaps) (get t.file_systems n.file_system)) s.2
+    ∙ ap (option_and_then (λ (f : FileSystem). find (λ (u : Snap). same_name u.name s.0.name) f.snaps)) at)
+
+module _ (t : Datasets) (good : AreFileSystems t.file_systems t.group) (r : Entry) (state : (get t.file_systems r.0 ≡ Some r.1) ⊎ (get t.file_systems r.0 ≡ Some empty_file_system))
+    (u : Datasets) (to : u ≡ without_all t (newer_members r 0)) where
+  pub one_there : IsSome (get u.file_systems r.0)
+  one_there = ⊎_elim
+      (λ at. ap (λ (v : Datasets). is_some (get v.file_systems r.0)) (to ∙ bare_is t good r at) ∙ ap is_some (put_here t.file_systems r.0 (record r.1 { snaps = [] })))
+      (λ at. ap (λ (v : Datasets). is_some (get v.file_systems r.0)) (to ∙ already_bare t r at) ∙ ap is_some at)
+      state
+
+  pub one_bare : snaps_at u.file_systems r.0 ≡ []
+  one_bare = ⊎_elim
+      (λ at. ap (λ (v : Datasets). snaps_at v.file_systems r.0) (to ∙ bare_is t good r at) ∙ ap (λ (x : Option FileSystem). option_map_or (λ (f : FileSystem). f.snaps) x []) (put_here t.file_systems r.0 (record r.1 { snaps = [] })))
+      (λ at. ap (λ (v : Datasets). snaps_at v.file_systems r.0) (to ∙ already_bare t r at) ∙ ap (λ (x : Option FileSystem). option_map_or (λ (f : FileSystem). f.snaps) x []) at)
+      state
+
+  pub one_emptied : (v : Datasets) → v ≡ with_system u r.0 empty_file_system → v ≡ with_system t r.0 empty_file_system
+  one_emptied v is = is ∙ ⊎_elim
+      (λ at. ap (λ (w : Datasets). with_system w r.0 empty_file_system) (to ∙ bare_is t good r at)
+      ∙ ap (λ ss. record t { file_systems = ss }) (insert_twice t.file_systems r.0 (record r.1 { snaps = [] }) empty_file_system))
+      (λ at. ap (λ (w : Datasets). with_system w r.0 empty_file_system) (to ∙ already_bare t r at))
+      state
+
+-- an empty file system has no block of its own
+fewer_vacated : (t : Datasets) → AreFileSystems t.file_systems t.group → (name : Name) → IsSubset (union_of (world_of (with_system t name empty_file_system))) (union_of (world_of t))
+fewer_vacated t good name = union_from (world_of t) (world_of (with_system t name empty_file_system)) t.group good.lines
+    (put_maps t.file_systems name empty_file_system (λ m i. inl (⊎_elim (λ e. e) (λ k. absurd k) i)))
+
+pub lost_vacated : {T E : Type 0} (r : Result T E) (t u : Datasets) (freeing after : BlockSet) (lost : BlockSet) → AreFileSystems t.file_systems t.group → AreDisjoint (union_of (world_of t)) freeing → (name : Name)
+    → u ≡ with_system t name empty_file_system → lost ≡ lost_between t u → OnOk r (after ≡ union freeing lost) → OnOk r (HasLost t freeing u after)
+lost_vacated (Ok x) t u freeing after lost good apart name to is joined =
+    has_lost t u freeing after (subst (λ v. IsSubset (union_of (world_of v)) (union_of (world_of t))) (sym to) (fewer_vacated t good name)) apart (joined ∙ ap (union freeing) is)
+lost_vacated (Err e) t u freeing after lost good apart name to is joined = tt
+
+-- ---- some of the family are empty
+
+-- What is left where these of the family have been emptied
+pub record IsStage (t : Datasets) (name : Name) (u : Datasets) (rows : List Entry) : Type 0 where
+  pub each : (n : Name) → (get u.file_systems n ≡ get t.file_systems n) ⊎ ((is_in_family name n ≡ true) × IsSome (get t.file_systems n) × (get u.file_systems n ≡ Some empty_file_system))
+  pub done : (r : Entry) → IsIn rows r → get u.file_systems r.0 ≡ Some empty_file_system
+  pub group : u.group ≡ t.group
+
+pub first_stage : (t : Datasets) (name : Name) (u : Datasets) → u ≡ t → IsStage t name u []
+first_stage t name u is = record { each = λ n. inl (ap (λ (v : Datasets). get v.file_systems n) is); done = λ r i. absurd i; group = ap (λ (v : Datasets). v.group) is }
+
+pub next_stage : (t : Datasets) (name : Name) (u : Datasets) (done : List Entry) → IsStage t name u done → (r : Entry) → get t.file_systems r.0 ≡ Some r.1 → is_in_family name r.0 ≡ true
+    → (v : Datasets) → v ≡ with_system u r.0 empty_file_system → IsStage t name v (r ∷ done)
+next_stage t name u done s r at within v is = subst (λ w. IsStage t name w (r ∷ done)) (sym is) (record {
+  each = λ n. ⊎_elim
+      (λ (same : n ≡ r.0). inr (
+        ap (is_in_family name) same ∙ within,
+        ap (λ m. is_some (get t.file_systems m)) same ∙ ap is_some at,
+        ap (get (insert u.file_systems r.0 empty_file_system)) same ∙ put_here u.file_systems r.0 empty_file_system,
+      ))
+      (λ (ne : ¬ (n ≡ r.0)). ⊎_elim
+      (λ e. inl (put_other u.file_systems r.0 empty_file_system n ne ∙ e))
+      (λ e. inr (e.0, e.1, put_other u.file_systems r.0 empty_file_system n ne ∙ e.2))
+      (s.each n))
+      (key_cases name_order n r.0);
+  done = λ q i. ⊎_elim
+      (λ (same : q.0 ≡ r.0). ap (get (insert u.file_systems r.0 empty_file_system)) same ∙ put_here u.file_systems r.0 empty_file_system)
+      (λ (ne : ¬ (q.0 ≡ r.0)). put_other u.file_systems r.0 empty_file_system q.0 ne ∙ s.done q (⊎_elim (λ (e : q ≡ r). absurd (ne (ap (λ (x : Entry). x.0) e))) (λ k. k) i))
+      (key_cases name_order q.0 r.0);
+  group = s.group;
+})
+
+pub last_stage : (t : Datasets) (name : Name) (u : Datasets) (all : List Entry) → IsStage t name u all → ((r : Entry) → IsIn (entries t.file_systems) r → is_in_family name r.0 ≡ true → IsIn all r) → u ≡ emptied t name
+last_stage t name u all s whole = λ i. record { file_systems = systems i; group = s.group i }
+  where
+    none_there : (n : Name) → get t.file_systems n ≡ None → IsSome (get t.file_systems n) → ⊥
+    none_there n at some = true≢false (sym some ∙ ap is_some at)
+
+    by_family : (n : Name) (b : Bool) → is_in_family name n ≡ b → (x : Option FileSystem) → get t.file_systems n ≡ x
+        → get u.file_systems n ≡ option_map (λ (f : FileSystem). cond b empty_file_system f) x
+    by_family n true e None at = ⊎_elim (λ k. k ∙ at) (λ k. absurd (none_there n at k.1)) (s.each n)
+    by_family n true e (Some f) at = s.done (n, f) (whole (n, f) (in_entries (entries t.file_systems) n f (entry_of name_order t.file_systems n f at)) e)
+    by_family n false e None at = ⊎_elim (λ k. k ∙ at) (λ k. absurd (none_there n at k.1)) (s.each n)
+    by_family n false e (Some f) at = ⊎_elim (λ k. k ∙ at) (λ k. absurd (true≢false (sym k.0 ∙ e))) (s.each n)
+
+    systems : u.file_systems ≡ (emptied t name).file_systems
+    systems = same_map name_order.total name_order.exact _ _ (λ n.
+        by_family n (is_in_family name n) refl (get t.file_systems n) refl
+        ∙ sym (get-with_file_systems (world_of t) (λ n f. cond (is_in_family name n) empty_file_system f) n))
+
+-- ---- whose turn it is
+
+-- a snapshot is later than the origin of its file system
+later_than_origin : (t : Datasets) (good : AreFileSystems t.file_systems t.group) (n : Name) (f : FileSystem) → get t.file_systems n ≡ Some f → (s : Snap) → IsIn f.snaps s → origin_group f.origin < s.group
+later_than_origin t good n f at s i =
+    let q = start t.file_systems t.group good.lines n f at in
+    rising_above (origin_group f.origin) f.snaps s
+    (subst (λ g. AreRising g f.snaps) (start_is (world_of t) t.group good.lines f.origin q (starts t.file_systems t.group good.lines n f at)).1 (rising t.file_systems t.group good.lines n f at)) i
+
+none_any : {A : Type 0} (p : A → Bool) (xs : List A) → ((x : A) → IsIn xs x → p x ≡ false) → list_any p xs ≡ false
+none_any p [] each = refl
+none_any p (x ∷ xs) each = ap (λ b. b || list_any p xs) (each x (inl refl)) ∙ none_any p xs (λ y i. each y (inr i))
+
+-- of those that are left this one has the origin of the latest group: no snapshot of it has a clone any more
+module _ (t : Datasets) (good : AreFileSystems t.file_systems t.group) (name : Name) (inside : AreClonesInside t name) (u : Datasets) (done : List Entry) (stage : IsStage t name u done)
+    (r : Entry) (at : get t.file_systems r.0 ≡ Some r.1) (within : is_in_family name r.0 ≡ true)
+    (left : (q : Entry) → IsIn (entries t.file_systems) q → is_in_family name q.0 ≡ true → IsIn done q ⊎ (origin_group q.1.origin ≤ origin_group r.1.origin)) where
+  pub as_was : (get u.file_systems r.0 ≡ Some r.1) ⊎ (get u.file_systems r.0 ≡ Some empty_file_system)
+  as_was = ⊎_elim (λ e. inl (e ∙ at)) (λ k. inr k.2) (stage.each r.0)
+
+  no_origin : (f : FileSystem) (id : SnapId) → ◌≡◌ {A = Option FileSystem} (Some empty_file_system) (Some f) → f.origin ≡ Some id → ⊥
+  no_origin f id e o = no_value id (ap (λ (y : FileSystem). y.origin) (same_value empty_file_system f e) ∙ o)
+
+  uncloned : (s : Snap) → IsIn r.1.snaps s → has_clone u (id_of s) ≡ false
+  uncloned s i = is_uncloned u (id_of s) (λ n f h o. ⊎_elim (λ e. as_then n f h o e) (λ k. no_origin f (id_of s) (sym k.2 ∙ h) o) (stage.each n))
+    where
+      as_then : (n : Name) (f : FileSystem) → get u.file_systems n ≡ Some f → f.origin ≡ Some (id_of s) → get u.file_systems n ≡ get t.file_systems n → ⊥
+      as_then n f h o e =
+          let there : get t.file_systems n ≡ Some f = sym e ∙ h in
+          let of_family = inside r.0 n r.1 f s at there i o within in
+          let later = later_than_origin t good r.0 r.1 at s i in
+          let group : origin_group f.origin ≡ s.group = ap origin_group o in
+          ⊎_elim
+          (λ d. no_origin f (id_of s) (sym (stage.done (n, f) d) ∙ h) o)
+          (λ l. absurd (omega (arith, l, later, group)))
+          (left (n, f) (in_entries (entries t.file_systems) n f (entry_of name_order t.file_systems n f there)) of_family)
+
+  pub none_cloned : list_any (is_named_cloned u) (newer_members r 0) ≡ false
+  none_cloned = none_any (is_named_cloned u) (newer_members r 0) (λ m i.
+      let s = in_map (member_of r) (filter (λ (v : Snap). nat_lt 0 v.group) r.1.snaps) m i in
+      ap (is_named_cloned u) s.2 ∙ by_named s.0 (snap_named (world_of u) (member_of r s.0)) refl)
+    where
+      found : Snap → Option FileSystem → Option Snap
+      found v x = option_and_then (λ (f : FileSystem). find (λ (w : Snap). same_name w.name v.name) f.snaps) x
+
+      there : (v s : Snap) → snap_named (world_of u) (member_of r v) ≡ Some s → IsIn r.1.snaps s
+      there v s e = ⊎_elim
+          (λ k. (from_find (λ (w : Snap). same_name w.name v.name) r.1.snaps s (sym (ap (found v) k) ∙ e)).0)
+          (λ k. absurd (no_value s (sym (ap (found v) k) ∙ e)))
+          as_was
+
+      by_named : (v : Snap) (x : Option Snap) → snap_named (world_of u) (member_of r v) ≡ x → is_named_cloned u (member_of r v) ≡ false
+      by_named v None e = ap (λ (x : Option Snap). option_map_or (λ (s : Snap). has_clone u (id_of s)) x false) e
+      by_named v (Some s) e = ap (λ (x : Option Snap). option_map_or (λ (s : Snap). has_clone u (id_of s)) x false) e ∙ uncloned s (there v s e)
+
+-- ---- in order
+
+to_contains : {A : Type 0} (xs : List A) (x : A) → IsIn xs x → Contains xs x
+to_contains [] x h = absurd h
+to_contains (y ∷ ys) x h = ⊎_elim
+    (λ (e : x ≡ y). Contains-append_left (y ∷ []) ys x (subst (Contains (y ∷ [])) (sym e) (Contains-push [] y)))
+    (λ k. Contains-append_right (y ∷ []) ys x (to_contains ys x k))
+    h
+
+from_contains : {A : Type 0} (xs : List A) (x : A) → Contains xs x → IsIn xs x
+from_contains [] x h = let l = h.1 in absurd (omega arith)
+from_contains (y ∷ ys) x h = ⊎_elim
+    (λ k. ⊎_elim (λ n. let l = n.1 in absurd (omega arith)) (λ e. inl (sym e)) (Contains-push_cases [] y x k))
+    (λ k. inr (from_contains ys x k))
+    (Contains-append_cases (y ∷ []) ys x h)
+
+stays_in : {A : Type 0} (xs ys : List A) (x : A) → IsPermutation xs ys → IsIn xs x → IsIn ys x
+stays_in xs ys x p h = from_contains ys x (Contains-permutation xs ys x p (to_contains xs x h))
+
+-- one of a list stands behind a place, or before it
+before_or_behind : {A B : Type 0} (value : A → B) (d : A) (xs : List A) (k : ℕ) (q : B) → IsIn (map value xs) q
+    → IsIn (map value (drop k xs)) q ⊎ ((j : ℕ) × (j < k) × (j < length xs) × (q ≡ value (get_or xs j d)))
+before_or_behind value d [] k q i = absurd i
+before_or_behind value d (x ∷ xs) zero q i = inl i
+before_or_behind value d (x ∷ xs) (suc k) q i = ⊎_elim
+    (λ e. inr (zero, omega arith, omega arith, e))
+    (λ h. ⊎_elim
+    (λ b. inl b)
+    (λ b. let l = b.1 in let m = b.2 in inr (suc b.0, omega arith, omega arith, b.3))
+    (before_or_behind value d xs k q h))
+    i
+
+one_head : {A : Type 0} (x a : A) (xs rest : List A) → x ∷ xs ≡ a ∷ rest → x ≡ a
+one_head x a xs rest e = cc
+
+in_drop : {A : Type 0} (xs : List A) (i : ℕ) (a : A) (rest : List A) → drop i xs ≡ a ∷ rest → IsIn xs a
+in_drop [] zero a rest e = absurd cc
+in_drop [] (suc i) a rest e = absurd cc
+in_drop (x ∷ xs) zero a rest e = inl (sym (one_head x a xs rest e))
+in_drop (x ∷ xs) (suc i) a rest e = inr (in_drop xs i a rest e)
+
+-- the rows of the family in order, of which those from `left` on have been emptied
+module _ {A : Type 0} (value : A → Entry) (t : Datasets) (good : AreFileSystems t.file_systems t.group) (name : Name) (inside : AreClonesInside t name) (xs : List A)
+    (all : IsPermutation (filter (λ (r : Entry). is_in_family name r.0) (entries t.file_systems)) (map value xs))
+    (order : IsNonDecreasingBy (λ x. origin_group (value x).1.origin) xs) where
+  abbrev family : List Entry
+  family = filter (λ (r : Entry). is_in_family name r.0) (entries t.file_systems)
+
+  pub init_stage : (n : ℕ) → n ≡ length xs → (u : Datasets) → u ≡ t → IsStage t name u (map value (drop n xs))
+  init_stage n is u same = subst (λ (l : List A). IsStage t name u (map value l)) (sym (none_left xs n (omega (arith, is)))) (first_stage t name u same)
+
+  pub end_stage : (u : Datasets) → IsStage t name u (map value (drop 0 xs)) → u ≡ emptied t name
+  end_stage u s = last_stage t name u (map value xs) s (λ r i e. stays_in family (map value xs) r all (in_filter (λ (r : Entry). is_in_family name r.0) (entries t.file_systems) r i e))
+
+  module _ (left : ℕ) (some : 0 < left) (fits : left ≤ length xs) (a : A) (item : a ≡ get_or xs (left - 1) a) where
+    here : drop (left - 1) xs ≡ a ∷ drop (left - 1 + 1) xs
+    here = next_left xs (left - 1) a (omega (arith, some, fits)) item
+
+    its : IsIn (entries t.file_systems) (value a) × (is_in_family name (value a).0 ≡ true)
+    its = from_filter (λ (r : Entry). is_in_family name r.0) (entries t.file_systems) (value a)
+        (stays_in (map value xs) family (value a) (IsPermutation-sym family (map value xs) all) (map_in value xs a (in_drop xs (left - 1) a (drop (left - 1 + 1) xs) here)))
+
+    there : get t.file_systems (value a).0 ≡ Some (value a).1
+    there = at_entry name_order t.file_systems (value a).0 (value a).1 (from_entries (entries t.file_systems) (value a) its.0)
+
+    next : left - 1 + 1 ≡ left
+    next = omega (arith, some)
+
+    latest : (q : Entry) → IsIn (entries t.file_systems) q → is_in_family name q.0 ≡ true → IsIn (map value (drop left xs)) q ⊎ (origin_group q.1.origin ≤ origin_group (value a).1.origin)
+    latest q i e = ⊎_elim
+        (λ b. inl b)
+        (λ b. inr (before b.0 b.1 b.2 b.3))
+        (before_or_behind value a xs left q (stays_in family (map value xs) q all (in_filter (λ (r : Entry). is_in_family name r.0) (entries t.file_systems) q i e)))
+      where
+        before : (j : ℕ) → j < left → j < length xs → q ≡ value (get_or xs j a) → origin_group q.1.origin ≤ origin_group (value a).1.origin
+        before j l m is =
+            let le = order j (left - 1) a (omega (arith, l, some)) (omega (arith, some, fits)) in
+            subst (λ n. n ≤ origin_group (value a).1.origin) (sym (ap (λ (x : Entry). origin_group x.1.origin) is))
+            (subst (λ y. origin_group (value (get_or xs j a)).1.origin ≤ origin_group (value y).1.origin) (sym item) le)
+
+    module _ (u : Datasets) (stage : IsStage t name u (map value (drop left xs))) where
+      pub turn_as : (get u.file_systems (value a).0 ≡ Some (value a).1) ⊎ (get u.file_systems (value a).0 ≡ Some empty_file_system)
+      turn_as = as_was t good name inside u (map value (drop left xs)) stage (value a) there its.1 latest
+
+      pub turn_uncloned : list_any (is_named_cloned u) (newer_members (value a) 0) ≡ false
+      turn_uncloned = none_cloned t good name inside u (map value (drop left xs)) stage (value a) there its.1 latest
+
+      pub turn_stage : (v : Datasets) → v ≡ with_system u (value a).0 empty_file_system → IsStage t name v (map value (drop (left - 1) xs))
+      turn_stage v is = subst (λ (l : List A). IsStage t name v (map value l)) (sym (here ∙ ap (λ n. a ∷ drop n xs) next))
+          (next_stage t name u (map value (drop left xs)) stage (value a) there its.1 v is)
+
+-- ---- once all are empty
+
+module _ (t : Datasets) (name : Name) where
+  emptied_at : (n : Name) → get (emptied t name).file_systems n ≡ option_map (λ (f : FileSystem). cond (is_in_family name n) empty_file_system f) (get t.file_systems n)
+  emptied_at n = get-with_file_systems (world_of t) (λ n f. cond (is_in_family name n) empty_file_system f) n
+
+  pub emptied_bare : (u : Datasets) → u ≡ emptied t name → IsBareFamily u name
+  emptied_bare u is n f at within = by_system (get t.file_systems n)
+      (sym (ap (λ b. option_map (λ (f : FileSystem). cond b empty_file_system f) (get t.file_systems n)) within) ∙ sym (emptied_at n) ∙ ap (λ (v : Datasets). get v.file_systems n) (sym is) ∙ at)
+    where
+      by_system : (x : Option FileSystem) → option_map (λ (f : FileSystem). empty_file_system) x ≡ Some f → f.snaps ≡ []
+      by_system None e = absurd (no_value f e)
+      by_system (Some g) e = ap (λ (y : FileSystem). y.snaps) (sym (same_value empty_file_system f e))
+
+  pub emptied_gone : without_family (emptied t name) name true ≡ without_family t name true
+  emptied_gone = ap (λ ss. record t { file_systems = ss }) (same_map name_order.total name_order.exact _ _ (λ n.
+      get-family (emptied t name) name n
+      ∙ ap (λ x. cond (is_in_family name n) None x) (emptied_at n)
+      ∙ by_family (is_in_family name n) (get t.file_systems n)
+      ∙ sym (get-family t name n)))
+    where
+      by_family : (b : Bool) (x : Option FileSystem) → cond b None (option_map (λ (f : FileSystem). cond b empty_file_system f) x) ≡ cond b None x
+      by_family true x = refl
+      by_family false None = refl
+      by_family false (Some f) = refl
+
+-- ---- the rows of a family
+
+module _ (p : Entry → Bool) (front : List Entry) (r : Entry) (rest all : List Entry) (so_far : front ++ filter p (r ∷ rest) ≡ all) where
+  pub with_row : p r ≡ true → (ys : List Entry) → ys ≡ front ++ r ∷ [] → ys ++ filter p rest ≡ all
+  with_row e ys grown =
+      ap (λ l. l ++ filter p rest) grown ∙ append_assoc front (r ∷ []) (filter p rest) ∙ ap (λ b. front ++ cond b (r ∷ filter p rest) (filter p rest)) (sym e) ∙ so_far
+
+  pub without_row : p r ≡ false → front ++ filter p rest ≡ all
+  without_row e = ap (λ b. front ++ cond b (r ∷ filter p rest) (filter p rest)) (sym e) ∙ so_far
+
+pub mapped_push : {A B : Type 0} (value : A → B) (xs : List A) (x : A) → map value (xs ++ x ∷ []) ≡ map value xs ++ value x ∷ []
+mapped_push value [] x = refl
+mapped_push value (y ∷ ys) x = ap (λ l. value y ∷ l) (mapped_push value ys x)

@@ -1,0 +1,347 @@
+-- Snapshots that go with their last clones: all that nothing needs any more.
+use Rattle.std.proofs.Common.{◌≡◌, Bool, true, false, cond, not, ◌&&◌, ◌||◌, List, [], ◌∷◌, map, Option, Some, None, refl, sym, ap, subst, ◌∙◌, true≢false, inl, ⊎_elim}
+use Rattle.std.specs.Prelude.{nat_lt, length, is_some}
+use Rattle.std.specs.List.{filter, list_any}
+use Rattle.std.specs.Option.{option_map, option_map_or, option_and_then}
+use Rattle.std.specs.FinMap.{get, entries, same_map}
+use Rattle.std.proofs.lemmas.Bool.{and_parts}
+use Rattle.base.specs.Surveys.{IsIn}
+use Rattle.name.specs.declared.member.Member.{Member}
+use Rattle.name.specs.declared.target.Target.TheVariants.{Snapshot as OfSnapshot}
+use Rattle.model.specs.World.{World, FileSystem, Snap, SnapId, id_of, same_id, snap_at, snaps_of, snap_named}
+use Rattle.model.specs.State.{Views, is_viewed}
+use Rattle.model.specs.Outcome.{is_needed}
+use Rattle.model.specs.Edits.{without_snaps}
+use Rattle.model.specs.requests.Destroy.{is_one_of, snaps_named}
+use Rattle.file_system.specs.Rows.{Entry}
+use Rattle.world.specs.Shapes.{Name, name_order}
+use Rattle.world.specs.Worlds.{AreFileSystems}
+use Rattle.world.specs.Tables.{Datasets, world_of, without_snap}
+use Rattle.world.proofs.Maps.{no_value, same_value, at_entry}
+use Rattle.world.proofs.Finding.{or_none, found_none, from_filter, same_id_is, is_same_id}
+use Rattle.world.proofs.Bridge.{from_entries, from_snap_at, in_snaps, one_snap}
+use Rattle.world.proofs.Listed.{in_map}
+use Rattle.world.proofs.Sweep.{get-with_file_systems}
+use Rattle.world.proofs.WithoutSnaps.{get-without, from_without, without_twice, without_none}
+use Rattle.removals.specs.Named.{has_clone, is_kept, is_named_cloned}
+use Rattle.removals.specs.Families.{ArePartOf, unneeded, without_unneeded, gone_origin, without_origin, without_origins}
+use Rattle.removals.specs.Requests.{swept, destroyed, AreBare, IsSweptBy}
+use Rattle.removals.proofs.Bare.{needed_is}
+use Rattle.removals.proofs.Clones.{uncloned_is, is_uncloned}
+use Rattle.removals.proofs.Closed.{filter_alike, named_at}
+
+and_false : (b : Bool) → (b && false) ≡ false
+and_false true = refl
+and_false false = refl
+
+not_true : (b : Bool) → not b ≡ true → b ≡ false
+not_true true e = absurd (true≢false (sym e))
+not_true false e = refl
+
+pub alike : (a b : Bool) → (a ≡ false → b ≡ false) → (b ≡ false → a ≡ false) → a ≡ b
+alike true true f g = refl
+alike true false f g = g refl
+alike false true f g = sym (f refl)
+alike false false f g = refl
+
+-- ---- what a test leaves
+
+-- the datasets without the snapshots of a test
+abbrev pub without : Datasets → (Snap → Bool) → Datasets
+without t p = record t { file_systems = (without_snaps (world_of t) p).file_systems }
+
+-- tests that agree on what is there leave the same
+pub same_gone : (w : World) (p q : Snap → Bool) → ((n : Name) (f : FileSystem) (u : Snap) → get w.file_systems n ≡ Some f → IsIn f.snaps u → p u ≡ q u)
+    → (without_snaps w p).file_systems ≡ (without_snaps w q).file_systems
+same_gone w p q each = same_map name_order.total name_order.exact _ _ (λ n. get-without w p n ∙ by_system n (get w.file_systems n) refl ∙ sym (get-without w q n))
+  where
+    by_system : (n : Name) (x : Option FileSystem) → get w.file_systems n ≡ x
+        → option_map (λ (f : FileSystem). record f { snaps = filter (λ u. not (p u)) f.snaps }) x ≡ option_map (λ (f : FileSystem). record f { snaps = filter (λ u. not (q u)) f.snaps }) x
+    by_system n None at = refl
+    by_system n (Some f) at = ap (λ l. Some (record f { snaps = l })) (filter_alike p q f.snaps (λ u i. each n f u at i))
+
+pub none_without : (t : Datasets) (p : Snap → Bool) → ((n : Name) (f : FileSystem) (u : Snap) → get t.file_systems n ≡ Some f → IsIn f.snaps u → p u ≡ false) → without t p ≡ t
+none_without t p each = ap (λ ss. record t { file_systems = ss }) (without_none (world_of t) p each)
+
+-- an identity is one snapshot's
+abbrev pub IsOneToAnId : Datasets → Type 0
+IsOneToAnId t = (n m : Name) (f g : FileSystem) (a b : Snap) → get t.file_systems n ≡ Some f → get t.file_systems m ≡ Some g → IsIn f.snaps a → IsIn g.snaps b → id_of a ≡ id_of b → a ≡ b
+
+pub once_here : (t : Datasets) → AreFileSystems t.file_systems t.group → IsOneToAnId t
+once_here t good n m f g a b at at' i j e = (one_snap t.file_systems t.group good.lines n m f g a b at at' i j e).1
+
+once_left : (t : Datasets) → IsOneToAnId t → (p : Snap → Bool) → IsOneToAnId (without t p)
+once_left t once p n m f g a b at at' i j e =
+    let k = from_without (world_of t) p n f at in
+    let l = from_without (world_of t) p m g at' in
+    once n m k.0 l.0 a b k.1 l.1
+    (from_filter (λ u. not (p u)) k.0.snaps a (subst (λ (y : FileSystem). IsIn y.snaps a) k.2 i)).0
+    (from_filter (λ u. not (p u)) l.0.snaps b (subst (λ (y : FileSystem). IsIn y.snaps b) l.2 j)).0
+    e
+
+-- ---- clones depend on origins alone
+
+abbrev origin_at : Datasets → Name → Option (Option SnapId)
+origin_at t n = option_map (λ (f : FileSystem). f.origin) (get t.file_systems n)
+
+fewer_clones : (t u : Datasets) → ((n : Name) → origin_at u n ≡ origin_at t n) → (id : SnapId) → has_clone t id ≡ false → has_clone u id ≡ false
+fewer_clones t u same id e = is_uncloned u id (λ n f at o. by_system n f o (get t.file_systems n) refl (sym (same n) ∙ ap (option_map (λ (g : FileSystem). g.origin)) at))
+  where
+    by_system : (n : Name) (f : FileSystem) → f.origin ≡ Some id → (x : Option FileSystem) → get t.file_systems n ≡ x → option_map (λ (g : FileSystem). g.origin) x ≡ Some f.origin → ⊥
+    by_system n f o None at k = no_value f.origin k
+    by_system n f o (Some g) at k = uncloned_is t id e n g at (same_value g.origin f.origin k ∙ o)
+
+pub same_clones : (t u : Datasets) → ((n : Name) → origin_at u n ≡ origin_at t n) → (id : SnapId) → has_clone u id ≡ has_clone t id
+same_clones t u same id = alike (has_clone u id) (has_clone t id) (fewer_clones u t (λ n. sym (same n)) id) (fewer_clones t u same id)
+
+-- ---- one by one
+
+-- its destroy is deferred and nothing needs it
+abbrev pub is_due : Datasets → Views → Snap → Bool
+is_due t views u = u.deferred && not (is_kept t views (id_of u))
+
+module _ (t : Datasets) (p : Snap → Bool) where
+  origins_stay : (n : Name) → origin_at (without t p) n ≡ origin_at t n
+  origins_stay n = ap (option_map (λ (f : FileSystem). f.origin)) (get-without (world_of t) p n) ∙ by_system (get t.file_systems n)
+    where
+      by_system : (x : Option FileSystem) → option_map (λ (f : FileSystem). f.origin) (option_map (λ (f : FileSystem). record f { snaps = filter (λ u. not (p u)) f.snaps }) x) ≡ option_map (λ (f : FileSystem). f.origin) x
+      by_system None = refl
+      by_system (Some f) = refl
+
+  due_stays : (views : Views) (u : Snap) → is_due (without t p) views u ≡ is_due t views u
+  due_stays views u = ap (λ b. u.deferred && not (is_viewed views (id_of u) || b)) (same_clones t (without t p) origins_stay (id_of u))
+
+  there_stays : (n : Name) → is_some (get (without t p).file_systems n) ≡ is_some (get t.file_systems n)
+  there_stays n = ap is_some (get-without (world_of t) p n) ∙ by_system (get t.file_systems n)
+    where
+      by_system : (x : Option FileSystem) → is_some (option_map (λ (f : FileSystem). record f { snaps = filter (λ u. not (p u)) f.snaps }) x) ≡ is_some x
+      by_system None = refl
+      by_system (Some f) = refl
+
+module _ (t : Datasets) (once : IsOneToAnId t) (views : Views) (id : SnapId) where
+  abbrev one : Snap → Bool
+  one u = same_id (id_of u) id && is_due t views u
+
+  none_goes : ((n : Name) (f : FileSystem) (u : Snap) → get t.file_systems n ≡ Some f → IsIn f.snaps u → id_of u ≡ id → is_due t views u ≡ false) → t ≡ without t one
+  none_goes each = sym (none_without t one (λ n f u at i. by_same u (same_id (id_of u) id) refl (each n f u at i)))
+    where
+      by_same : (u : Snap) (b : Bool) → same_id (id_of u) id ≡ b → (id_of u ≡ id → is_due t views u ≡ false) → one u ≡ false
+      by_same u true e k = ap (λ b. same_id (id_of u) id && b) (k (same_id_is (id_of u) id e)) ∙ and_false (same_id (id_of u) id)
+      by_same u false e k = ap (λ b. b && is_due t views u) e
+
+  abbrev taken : Option (Name × Snap) → Option (Name × Snap)
+  taken x = option_and_then (λ p. cond p.1.deferred (Some p) None) x
+
+  abbrev left_by : Option (Name × Snap) → Datasets
+  left_by x = option_map_or (λ p. without_snap t (id_of p.1)) x t
+
+  -- the one that goes
+  module _ (unkept : is_kept t views id ≡ false) (p : Name × Snap) (found : snap_at (world_of t) id ≡ Some p) where
+    there : (f : FileSystem) × (get t.file_systems p.0 ≡ Some f) × IsIn f.snaps p.1 × (id_of p.1 ≡ id)
+    there = from_snap_at (world_of t) id p found
+
+    goes_alike : p.1.deferred ≡ true → (n : Name) (f : FileSystem) (u : Snap) → get t.file_systems n ≡ Some f → IsIn f.snaps u → (b : Bool) → same_id (id_of u) (id_of p.1) ≡ b → same_id (id_of u) (id_of p.1) ≡ one u
+    goes_alike d n f u at i true s =
+        let ids = same_id_is (id_of u) (id_of p.1) s in
+        let same : u ≡ p.1 = once n p.0 f there.0 u p.1 at there.1 i there.2 ids in
+        s ∙ sym (λ j. is_same_id (id_of u) id (ids ∙ there.3) j && ((ap (λ (v : Snap). v.deferred) same ∙ d) j && not ((ap (is_kept t views) (ids ∙ there.3) ∙ unkept) j)))
+    goes_alike d n f u at i false s = s ∙ sym (ap (λ b. b && is_due t views u) (ap (same_id (id_of u)) (sym there.3) ∙ s))
+
+    by_mark : (d : Bool) → p.1.deferred ≡ d → left_by (cond d (Some p) None) ≡ without t one
+    by_mark true d = ap (λ ss. record t { file_systems = ss })
+        (same_gone (world_of t) (λ u. same_id (id_of u) (id_of p.1)) one (λ n f u at i. goes_alike d n f u at i (same_id (id_of u) (id_of p.1)) refl))
+    by_mark false d = none_goes (λ n f u at i s.
+        ap (λ b. b && not (is_kept t views (id_of u))) (ap (λ (v : Snap). v.deferred) (once n p.0 f there.0 u p.1 at there.1 i there.2 (s ∙ sym there.3)) ∙ d))
+
+  by_found : is_kept t views id ≡ false → (x : Option (Name × Snap)) → snap_at (world_of t) id ≡ x → left_by (taken x) ≡ without t one
+  by_found unkept None e = none_goes (λ n f u at i s.
+      absurd (found_none (λ (p : Name × Snap). same_id (id_of p.1) id) (snaps_of (world_of t)) e (n, u) (in_snaps (world_of t) n f u at i) (is_same_id (id_of u) id s)))
+  by_found unkept (Some p) e = by_mark unkept p e p.1.deferred refl
+
+  one_swept : without_unneeded t views id ≡ without t one
+  one_swept = by_kept (is_kept t views id) refl
+    where
+      by_kept : (b : Bool) → is_kept t views id ≡ b → left_by (cond b None (taken (snap_at (world_of t) id))) ≡ without t one
+      by_kept true e = none_goes (λ n f u at i k. ap (λ b. u.deferred && not b) (ap (is_kept t views) k ∙ e) ∙ and_false u.deferred)
+      by_kept false e = by_found e (snap_at (world_of t) id) refl
+
+-- it is the origin of a file system that is gone
+abbrev pub is_gone_origin : Datasets → Snap → Entry → Bool
+is_gone_origin t u r = option_map_or (λ id. same_id (id_of u) id) (gone_origin t r) false
+
+origin_swept : (t : Datasets) → IsOneToAnId t → (views : Views) (r : Entry) → without_origin t views r ≡ without t (λ u. is_gone_origin t u r && is_due t views u)
+origin_swept t once views r = by_origin (gone_origin t r)
+  where
+    by_origin : (x : Option SnapId) → option_map_or (without_unneeded t views) x t ≡ without t (λ u. option_map_or (λ id. same_id (id_of u) id) x false && is_due t views u)
+    by_origin None = sym (none_without t (λ u. false) (λ n f u at i. refl))
+    by_origin (Some id) = one_swept t once views id
+
+rows_swept : (rows : List Entry) (t : Datasets) → IsOneToAnId t → (views : Views) → without_origins t views rows ≡ without t (λ u. list_any (is_gone_origin t u) rows && is_due t views u)
+rows_swept [] t once views = sym (none_without t (λ u. false) (λ n f u at i. refl))
+rows_swept (r ∷ rows) t once views =
+    ap (λ v. without_origins v views rows) (origin_swept t once views r)
+    ∙ rows_swept rows (without t first) (once_left t once first) views
+    ∙ (λ i. without (without t first) (λ u. any_stays u rows i && due_stays t first views u i))
+    ∙ ap (λ ss. record t { file_systems = ss })
+    (without_twice (world_of t) first (λ u. list_any (is_gone_origin t u) rows && is_due t views u) (λ u. list_any (is_gone_origin t u) (r ∷ rows) && is_due t views u)
+    (λ u. either (is_gone_origin t u r) (list_any (is_gone_origin t u) rows) (is_due t views u)))
+  where
+    first : Snap → Bool
+    first u = is_gone_origin t u r && is_due t views u
+
+    any_stays : (u : Snap) (rs : List Entry) → list_any (is_gone_origin (without t first) u) rs ≡ list_any (is_gone_origin t u) rs
+    any_stays u [] = refl
+    any_stays u (q ∷ qs) = λ i. option_map_or (λ id. same_id (id_of u) id) (cond (there_stays t first q.0 i) None q.1.origin) false || any_stays u qs i
+
+    either : (a b d : Bool) → (not (a && d) && not (b && d)) ≡ not ((a || b) && d)
+    either true b true = refl
+    either true true false = refl
+    either true false false = refl
+    either false b d = refl
+
+-- ---- all of them
+
+pub some_clone : (t : Datasets) (id : SnapId) → has_clone t id ≡ true → (r : Entry) × IsIn (entries t.file_systems) r × (r.1.origin ≡ Some id)
+some_clone t id e = among (filter is_clone (entries t.file_systems)) refl e
+  where
+    is_clone : Entry → Bool
+    is_clone r = option_map_or (same_id id) r.1.origin false
+
+    by_origin : (o : Option SnapId) → option_map_or (same_id id) o false ≡ true → o ≡ Some id
+    by_origin None h = absurd (true≢false (sym h))
+    by_origin (Some j) h = ap Some (sym (same_id_is id j h))
+
+    among : (l : List Entry) → filter is_clone (entries t.file_systems) ≡ l → nat_lt 0 (length (map (λ (r : Entry). r.0) l)) ≡ true → (r : Entry) × IsIn (entries t.file_systems) r × (r.1.origin ≡ Some id)
+    among [] k h = absurd (true≢false (sym h))
+    among (r ∷ rs) k h = let i = from_filter is_clone (entries t.file_systems) r (subst (λ l. IsIn l r) (sym k) (inl refl)) in (r, i.0, by_origin r.1.origin i.1)
+
+pub any_in : {A : Type 0} (p : A → Bool) (xs : List A) (x : A) → IsIn xs x → p x ≡ true → list_any p xs ≡ true
+any_in p [] x i e = absurd i
+any_in p (y ∷ ys) x i e = ⊎_elim
+    (λ (k : x ≡ y). ap (λ b. b || list_any p ys) (ap p (sym k) ∙ e))
+    (λ k. ap (λ b. p y || b) (any_in p ys x k e) ∙ or_true (p y))
+    i
+  where
+    or_true : (b : Bool) → (b || true) ≡ true
+    or_true true = refl
+    or_true false = refl
+
+module _ (t u : Datasets) (part : ArePartOf u t) (bare : AreBare t.file_systems) (views : Views) (clean : IsSweptBy t views) where
+  bare_part : AreBare u.file_systems
+  bare_part n f at = bare n f (part n f at)
+
+  -- one that is due has lost a clone
+  its_clone : (n : Name) (f : FileSystem) (s : Snap) → get u.file_systems n ≡ Some f → IsIn f.snaps s → is_due u views s ≡ true → list_any (is_gone_origin u s) (entries t.file_systems) ≡ true
+  its_clone n f s at i e =
+      let parts = and_parts s.deferred (not (is_kept u views (id_of s))) e in
+      let free = or_none (is_viewed views (id_of s)) (has_clone u (id_of s)) (not_true (is_kept u views (id_of s)) parts.1) in
+      let kept : is_kept t views (id_of s) ≡ true = sym (needed_is t bare views n f s (part n f at) i) ∙ clean n f s (part n f at) i parts.0 in
+      let clone = some_clone t (id_of s) (sym (ap (λ b. b || has_clone t (id_of s)) free.0) ∙ kept) in
+      any_in (is_gone_origin u s) (entries t.file_systems) clone.0 clone.1 (by_system free.1 clone.0 clone.1 clone.2 (get u.file_systems clone.0.0) refl)
+    where
+      by_system : has_clone u (id_of s) ≡ false → (r : Entry) → IsIn (entries t.file_systems) r → r.1.origin ≡ Some (id_of s) → (x : Option FileSystem) → get u.file_systems r.0 ≡ x → is_gone_origin u s r ≡ true
+      by_system none r k o None h =
+          ap (λ (x : Option FileSystem). option_map_or (λ id. same_id (id_of s) id) (cond (is_some x) None r.1.origin) false) h
+          ∙ ap (λ x. option_map_or (λ id. same_id (id_of s) id) x false) o ∙ is_same_id (id_of s) (id_of s) refl
+      by_system none r k o (Some g) h =
+          let same : g ≡ r.1 = same_value g r.1 (sym (part r.0 g h) ∙ at_entry name_order t.file_systems r.0 r.1 (from_entries (entries t.file_systems) r k)) in
+          absurd (uncloned_is u (id_of s) none r.0 g h (ap (λ (y : FileSystem). y.origin) same ∙ o))
+
+  each : (n : Name) (f : FileSystem) (s : Snap) → get u.file_systems n ≡ Some f → IsIn f.snaps s
+      → (list_any (is_gone_origin u s) (entries t.file_systems) && is_due u views s) ≡ (s.deferred && not (is_needed (world_of u) views s))
+  each n f s at i = by_due (is_due u views s) refl ∙ sym (ap (λ b. s.deferred && not b) (needed_is u bare_part views n f s at i))
+    where
+      by_due : (b : Bool) → is_due u views s ≡ b → (list_any (is_gone_origin u s) (entries t.file_systems) && is_due u views s) ≡ is_due u views s
+      by_due true e = ap (λ b. b && is_due u views s) (its_clone n f s at i e)
+      by_due false e = ap (λ b. list_any (is_gone_origin u s) (entries t.file_systems) && b) e ∙ and_false (list_any (is_gone_origin u s) (entries t.file_systems)) ∙ sym e
+
+  pub all_swept : IsOneToAnId u → without_origins u views (entries t.file_systems) ≡ swept u views
+  all_swept once = rows_swept (entries t.file_systems) u once views
+      ∙ ap (λ ss. record u { file_systems = ss }) (same_gone (world_of u) (λ s. list_any (is_gone_origin u s) (entries t.file_systems) && is_due u views s) (λ s. s.deferred && not (is_needed (world_of u) views s)) each)
+
+-- ---- a destroy of snapshots leaves nothing to sweep
+
+module _ (t : Datasets) (views : Views) (clean : IsSweptBy t views) (m : Member) (recursive defer : Bool) where
+  abbrev one_of : Snap → Bool
+  one_of u = is_one_of (snaps_named (world_of t) m recursive) u
+
+  abbrev waits : Snap → Bool
+  waits u = defer && is_needed (world_of t) views u
+
+  abbrev goes : Snap → Bool
+  goes u = one_of u && not (waits u)
+
+  abbrev marks : Snap → Bool
+  marks u = one_of u && waits u
+
+  abbrev marked : Snap → Snap
+  marked u = record u { deferred = u.deferred || marks u }
+
+  abbrev after : Datasets
+  after = destroyed t views (OfSnapshot m) recursive defer
+
+  abbrev marked_in : FileSystem → FileSystem
+  marked_in f = record f { snaps = map marked f.snaps }
+
+  after_at : (n : Name) → get after.file_systems n ≡ option_map (λ (f : FileSystem). record f { snaps = map marked f.snaps }) (get (without t goes).file_systems n)
+  after_at n = get-with_file_systems (without_snaps (world_of t) goes) (λ _ f. record f { snaps = map marked f.snaps }) n
+
+  origins_same : (n : Name) → origin_at after n ≡ origin_at t n
+  origins_same n = ap (option_map (λ (f : FileSystem). f.origin)) (after_at n) ∙ by_system (get (without t goes).file_systems n) ∙ origins_stay t goes n
+    where
+      by_system : (x : Option FileSystem) → option_map (λ (f : FileSystem). f.origin) (option_map (λ (f : FileSystem). record f { snaps = map marked f.snaps }) x) ≡ option_map (λ (f : FileSystem). f.origin) x
+      by_system None = refl
+      by_system (Some f) = refl
+
+  -- each that is deferred was needed and is
+  still_needed : (n : Name) (f : FileSystem) (u : Snap) → get t.file_systems n ≡ Some f → IsIn f.snaps u → ((marked u).deferred && not (is_needed (world_of after) views (marked u))) ≡ false
+  still_needed n f u at i =
+      ap (λ b. (u.deferred || marks u) && not (nat_lt 0 (length u.tags) || (is_viewed views (id_of u) || b))) (same_clones t after origins_same (id_of u))
+      ∙ by_marks u.deferred (one_of u) defer (is_needed (world_of t) views u) (λ d. clean n f u at i d)
+    where
+      by_marks : (d o e k : Bool) → (d ≡ true → k ≡ true) → ((d || (o && (e && k))) && not k) ≡ false
+      by_marks d o e true h = and_false (d || (o && (e && true)))
+      by_marks true o e false h = absurd (true≢false (sym (h refl)))
+      by_marks false true true false h = refl
+      by_marks false true false false h = refl
+      by_marks false false e false h = refl
+
+  pub none_swept : swept (destroyed t views (OfSnapshot m) recursive defer) views ≡ destroyed t views (OfSnapshot m) recursive defer
+  none_swept = none_without after (λ u. u.deferred && not (is_needed (world_of after) views u)) (λ n f u at i. by_system n f u i (get (without t goes).file_systems n) refl (sym (after_at n) ∙ at))
+    where
+      by_system : (n : Name) (f : FileSystem) (u : Snap) → IsIn f.snaps u → (x : Option FileSystem) → get (without t goes).file_systems n ≡ x
+          → option_map (λ (f : FileSystem). record f { snaps = map marked f.snaps }) x ≡ Some f → (u.deferred && not (is_needed (world_of after) views u)) ≡ false
+      by_system n f u i None at e = absurd (no_value f e)
+      by_system n f u i (Some g) at e =
+          let k = from_without (world_of t) goes n g at in
+          let v = in_map marked g.snaps u (subst (λ (y : FileSystem). IsIn y.snaps u) (sym (same_value (marked_in g) f e)) i) in
+          let there = from_filter (λ u. not (goes u)) k.0.snaps v.0 (subst (λ (y : FileSystem). IsIn y.snaps v.0) k.2 v.1) in
+          subst (λ (y : Snap). (y.deferred && not (is_needed (world_of after) views y)) ≡ false) (sym v.2) (still_needed n k.0 v.0 k.1 there.0)
+
+-- ---- the one that goes
+
+module _ (t : Datasets) (good : AreFileSystems t.file_systems t.group) (views : Views) (id : SnapId) (p : Name × Snap) (is : unneeded t views id ≡ Some p) where
+  unneeded_found : (is_kept t views id ≡ false) × (snap_at (world_of t) id ≡ Some p)
+  unneeded_found = by_found (is_kept t views id) refl (snap_at (world_of t) id) refl is
+    where
+      by_mark : (q : Name × Snap) (d : Bool) → cond {A = Option (Name × Snap)} d (Some q) None ≡ Some p → ◌≡◌ {A = Option (Name × Snap)} (Some q) (Some p)
+      by_mark q true e = e
+      by_mark q false e = absurd (no_value p e)
+
+      by_found : (b : Bool) → is_kept t views id ≡ b → (x : Option (Name × Snap)) → snap_at (world_of t) id ≡ x
+          → cond {A = Option (Name × Snap)} b None (option_and_then (λ q. cond q.1.deferred (Some q) None) x) ≡ Some p → (is_kept t views id ≡ false) × (snap_at (world_of t) id ≡ Some p)
+      by_found true k x a e = absurd (no_value p e)
+      by_found false k None a e = absurd (no_value p e)
+      by_found false k (Some q) a e = (k, a ∙ by_mark q q.1.deferred e)
+
+  pub unneeded_named : snap_named (world_of t) (record { file_system = p.0; component = p.1.name }) ≡ Some p.1
+  unneeded_named = named_at t good id p unneeded_found.1
+
+  pub unneeded_uncloned : is_named_cloned t (record { file_system = p.0; component = p.1.name }) ≡ false
+  unneeded_uncloned =
+      ap (λ (x : Option Snap). option_map_or (λ (s : Snap). has_clone t (id_of s)) x false) unneeded_named
+      ∙ ap (has_clone t) (from_snap_at (world_of t) id p unneeded_found.1).3
+      ∙ (or_none (is_viewed views id) (has_clone t id) unneeded_found.0).1
+
+  pub unneeded_goes : without_snap t (id_of p.1) ≡ without_unneeded t views id
+  unneeded_goes = sym (ap (λ (x : Option (Name × Snap)). option_map_or (λ q. without_snap t (id_of q.1)) x t) is)

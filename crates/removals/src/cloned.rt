@@ -1,0 +1,104 @@
+//! Which snapshots have clones.
+ghost use Rattle.std.specs.Prelude.{◌≡◌};
+ghost use Rattle.std.specs.List.{list_any};
+ghost use Rattle.std.specs.FinMap.{entries};
+ghost use Rattle.file_system.specs.Rows.{entry_in, entry_of};
+ghost use Rattle.removals.specs.Families.{is_outside_clone};
+ghost use Rattle.removals.specs.Named.{is_named_cloned, is_named_kept, is_cloned_after};
+
+use crate::viewed::is_named_viewed;
+use base::number::Group;
+use datasets::Table;
+use file_systems::FileSystem;
+use name::{Component, DsName};
+use snap::{Named, is_in_family};
+use std::sync::Arc;
+use views::Views;
+
+/// Whether the snapshot of this name has a clone. It costs the logarithms of the numbers of file systems, of clones and of snapshots of
+/// its own.
+pub(crate) fn is_named_cloned(table: &Table, file_system: &DsName, component: &Component) -> bool
+    ensures { result ≡ is_named_cloned table.now (record { file_system = file_system.now; component = component.now }) }
+{
+    let Some(file_system) = table.find(file_system) else {
+        return false;
+    };
+    match file_system.snapshot_named(component.as_bytes()) {
+        Some(snapshot) => table.has_clone(snapshot.id()),
+        None => false,
+    }
+}
+
+// The same of a name that is lent.
+fn is_cloned(table: &Table, name: &Named) -> bool
+    ensures { result ≡ is_named_cloned table.now name.now }
+{
+    is_named_cloned(table, name.file_system, name.component)
+}
+
+/// Whether the snapshot of one of these names has a clone. It costs what `is_named_cloned` does for each.
+pub(crate) fn any_named_cloned(table: &Table, all: &[Named]) -> bool
+    ensures { result ≡ list_any (is_named_cloned table.now) all.now }
+{
+    all.iter().any(|name| is_cloned(table, name))
+}
+
+/// Whether an open view shows the snapshot of this name, or it has a clone. It costs what `is_named_viewed` and `is_named_cloned` do.
+pub(crate) fn is_named_kept(
+    table: &Table,
+    views: &Views,
+    file_system: &DsName,
+    component: &Component,
+) -> bool
+    ensures { result ≡ is_named_kept table.now views.now.opened (record { file_system = file_system.now; component = component.now }) }
+{
+    is_named_viewed(table, views, file_system, component)
+        || is_named_cloned(table, file_system, component)
+}
+
+/// Whether a snapshot of this file system of a later group has a clone in the table. It costs the number of its snapshots, and for each
+/// that is later the logarithm of the number of clones.
+pub(crate) fn any_later_cloned(table: &Table, file_system: &FileSystem, group: Group) -> bool
+    ensures { result ≡ list_any (is_cloned_after table.now group.0) file_system.now.system.snaps }
+{
+    for kept in file_system.snapshots().iter() {
+        if kept.snapshot.group() > group && table.has_clone(kept.snapshot.id()) {
+            return true;
+        }
+    }
+    false
+}
+
+// Whether this file system isn't of the family of that name and is a clone of a snapshot of it. It costs the number of file systems times
+// the logarithm of that of the snapshots of one.
+fn is_outside_clone(table: &Table, name: &DsName, file_system: &FileSystem) -> bool
+    ensures { result ≡ is_outside_clone table.now name.now (entry_of file_system.now) }
+{
+    if is_in_family(name.as_bytes(), file_system.name().as_bytes()) {
+        return false;
+    }
+    let Some(origin) = file_system.origin() else {
+        return false;
+    };
+    match table.snapshot_of(origin) {
+        Some((owner, _snapshot)) => is_in_family(name.as_bytes(), owner.name().as_bytes()),
+        None => false,
+    }
+}
+
+// Whether that holds of one of these file systems.
+fn any_outside_clone(file_systems: &[Arc<FileSystem>], table: &Table, name: &DsName) -> bool
+    ensures { result ≡ list_any (λ a. is_outside_clone table.now name.now (entry_in a)) file_systems.now }
+{
+    file_systems
+        .iter()
+        .any(|file_system| is_outside_clone(table, name, file_system))
+}
+
+/// Whether a snapshot of the file system of this name or of a descendant has a clone that isn't one of these. It costs the number of file
+/// systems, and for each clone that isn't one of these that number times the logarithm of that of the snapshots of one.
+pub(crate) fn any_cloned_outside(table: &Table, name: &DsName) -> bool
+    ensures { result ≡ list_any (is_outside_clone table.now name.now) (entries table.now.file_systems) }
+{
+    any_outside_clone(table.file_systems(), table, name)
+}

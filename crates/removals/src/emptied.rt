@@ -1,0 +1,136 @@
+//! File systems that are emptied before they go.
+ghost use Rattle.std.specs.Prelude.{◌≡◌, ◌⊎◌, [], true, false, Some, IsSome, IfOk, IfErr, OnOk, map};
+ghost use Rattle.std.specs.List.{filter, list_any};
+ghost use Rattle.std.specs.List.Sorted.{IsPermutation, IsNonDecreasingBy};
+ghost use Rattle.std.specs.FinMap.{get, entries};
+ghost use Rattle.base.specs.declared.refusal.Refusal.{Refusal};
+ghost use Rattle.file_system.specs.Origins.{origin_group};
+ghost use Rattle.file_system.specs.Rows.{entry_of, snaps_at};
+ghost use Rattle.model.specs.World.{empty_file_system, union_of};
+ghost use Rattle.snap.specs.Taking.{is_in_family};
+ghost use Rattle.world.specs.Sets.{AreDisjoint};
+ghost use Rattle.world.specs.Tables.{world_of, with_system};
+ghost use Rattle.removals.specs.Edits.{HasLost};
+ghost use Rattle.removals.specs.Families.{emptied, AreClonesInside};
+ghost use Rattle.removals.specs.Named.{is_named_cloned, newer_members};
+
+use crate::edit::Edit;
+use base::meter::SegMeter;
+use base::number::Group;
+use base::refusal::Refusal;
+use datasets::Table;
+use file_systems::FileSystem;
+use name::DsName;
+use snap::is_in_family;
+use std::alloc::Global;
+
+// The creation group of its origin, and 0 where it has none. Constant time.
+fn origin_group(file_system: &FileSystem) -> u64
+    ensures { result ≡ origin_group file_system.now.system.origin }
+{
+    match file_system.origin() {
+        Some(id) => id.group.0,
+        None => 0,
+    }
+}
+
+// The file systems of this family. NoMemory where there is none for them. It costs the number of file systems.
+fn rows_of<'a>(
+    alloc: Global,
+    table: &'a Table,
+    name: &DsName,
+) -> Result<Vec<&'a FileSystem>, Refusal>
+    ensures ok { IfOk result (λ rows. map (λ x. entry_of x.now) rows.items ≡ filter (λ r. is_in_family name.now r.0) (entries table.now.file_systems)) }
+    ensures err { IfErr result (λ e. e ≡ Refusal.NoMemory) }
+{
+    let mut rows = Vec::new(alloc);
+    for file_system in table.file_systems() {
+        let file_system: &FileSystem = file_system;
+        if is_in_family(name.as_bytes(), file_system.name().as_bytes()) {
+            rows.push(file_system)?;
+        }
+    }
+    Ok(rows)
+}
+
+// The same in order of the groups of their origins. NoMemory where there is none for them. It costs the number of file systems, and for
+// n of them n times its logarithm.
+fn rows_in_order<'a>(
+    alloc: Global,
+    table: &'a Table,
+    name: &DsName,
+) -> Result<Vec<&'a FileSystem>, Refusal>
+    ensures ok { IfOk result (λ rows. IsPermutation (filter (λ r. is_in_family name.now r.0) (entries table.now.file_systems)) (map (λ x. entry_of x.now) rows.items)) }
+    ensures rising { IfOk result (λ rows. IsNonDecreasingBy (λ x. origin_group x.now.system.origin) rows.items) }
+    ensures err { IfErr result (λ e. e ≡ Refusal.NoMemory) }
+{
+    let mut rows = rows_of(alloc, table, name)?;
+    rows.sort_by_key(|row| origin_group(row))?;
+    Ok(rows)
+}
+
+// Empties this file system, which has no snapshot: what it has itself is to be freed, and it is no clone any more. NoMemory where there
+// is none for it, and then the edit is of no use. It costs the logarithm of the number of file systems.
+fn vacate(edit: &mut Edit, alloc: Global, name: &DsName) -> Result<(), Refusal>
+    requires apart { AreDisjoint (union_of (world_of edit.old.to)) edit.old.freeing }
+    requires there { IsSome (get edit.old.to.file_systems name.now) }
+    requires bare { snaps_at edit.old.to.file_systems name.now ≡ [] }
+    ensures ok { OnOk result (edit.new.to ≡ with_system edit.old.to name.now empty_file_system) }
+    ensures lost { OnOk result (HasLost edit.old.to edit.old.freeing edit.new.to edit.new.freeing) }
+    ensures err { IfErr result (λ e. e ≡ Refusal.NoMemory) }
+{
+    let _count = edit.to.len();
+    let lost = edit.to.vacate(alloc, name)?;
+    edit.freeing
+        .add_tree(&lost.tree, lost.after, u64::from(lost.count))
+}
+
+// Empties this file system, which is as it was or empty already, with its snapshots, none of which has a clone. NoMemory where there is
+// none for it, and then the edit is of no use. It costs what `Edit::lose_newer` does.
+fn empty_one(
+    edit: &mut Edit,
+    alloc: Global,
+    file_system: &FileSystem,
+    segments: &mut SegMeter,
+) -> Result<(), Refusal>
+    requires apart { AreDisjoint (union_of (world_of edit.old.to)) edit.old.freeing }
+    requires there { (get edit.old.to.file_systems file_system.now.name ≡ Some file_system.now.system) ⊎ (get edit.old.to.file_systems file_system.now.name ≡ Some empty_file_system) }
+    requires no_clone { list_any (is_named_cloned edit.old.to) (newer_members (entry_of file_system.now) 0) ≡ false }
+    ensures ok { OnOk result (edit.new.to ≡ with_system edit.old.to file_system.now.name empty_file_system) }
+    ensures lost { OnOk result (HasLost edit.old.to edit.old.freeing edit.new.to edit.new.freeing) }
+    ensures err { IfErr result (λ e. e ≡ Refusal.NoMemory) }
+{
+    // It tells of the snapshots that their groups rise.
+    let _count = edit.to.len();
+    edit.lose_newer(alloc, file_system, Group(0), segments)?;
+    vacate(edit, alloc, file_system.name())
+}
+
+/// Empties the file systems of this family: what they and their snapshots have alone is to be freed. Each clone of such a snapshot is of
+/// the family, and is emptied before it: the group of its origin is later than that of the file system that has the snapshot. NoMemory
+/// where there is none for it, and then the edit is of no use. It costs the number of file systems, for n of the family n times its
+/// logarithm, and for each what `Edit::lose_newer` does.
+pub(crate) fn empty_family(
+    edit: &mut Edit,
+    alloc: Global,
+    table: &Table,
+    name: &DsName,
+    segments: &mut SegMeter,
+) -> Result<(), Refusal>
+    requires apart { AreDisjoint (union_of (world_of edit.old.to)) edit.old.freeing }
+    requires same { edit.old.to ≡ table.now }
+    requires inside { AreClonesInside table.now name.now }
+    ensures ok { OnOk result (edit.new.to ≡ emptied table.now name.now) }
+    ensures lost { OnOk result (HasLost edit.old.to edit.old.freeing edit.new.to edit.new.freeing) }
+    ensures err { IfErr result (λ e. e ≡ Refusal.NoMemory) }
+{
+    // It tells of the snapshots that their groups rise.
+    let _count = table.len();
+    let rows = rows_in_order(alloc, table, name)?;
+    let mut left = rows.len();
+    while left > 0 {
+        left -= 1;
+        empty_one(edit, alloc, rows[left], segments)?;
+    }
+    Ok(())
+}

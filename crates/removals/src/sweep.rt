@@ -1,0 +1,120 @@
+//! The deferred snapshots that go with their last clones.
+ghost use Rattle.std.specs.Prelude.{◌≡◌, IfErr, OnOk};
+ghost use Rattle.std.specs.Option.{option_map};
+ghost use Rattle.base.specs.declared.refusal.Refusal.{Refusal};
+ghost use Rattle.file_system.specs.Rows.{entry_of};
+ghost use Rattle.model.specs.Ids.{snap_id};
+ghost use Rattle.model.specs.World.{union_of};
+ghost use Rattle.world.specs.Sets.{AreDisjoint};
+ghost use Rattle.world.specs.Tables.{world_of};
+ghost use Rattle.removals.specs.Edits.{HasLost};
+ghost use Rattle.removals.specs.Families.{ArePartOf, unneeded, gone_origin, without_origin, without_unneeded};
+ghost use Rattle.removals.specs.Requests.{swept, AreBare, IsSweptBy};
+
+use crate::edit::{Edit, member};
+use base::meter::SegMeter;
+use base::refusal::Refusal;
+use datasets::Table;
+use file_systems::{FileSystem, Snapshot};
+use model::snapshot_id::SnapshotId;
+use std::alloc::Global;
+use views::Views;
+
+// The snapshot of this identity with its file system, where its destroy is deferred and neither an open view nor a clone needs it. It
+// costs the number of open views, and the number of file systems times the logarithm of that of the snapshots of one.
+fn unneeded<'a>(
+    table: &'a Table,
+    views: &Views,
+    id: SnapshotId,
+) -> Option<(&'a FileSystem, &'a Snapshot)>
+    ensures { option_map (λ p. (p.0.now.name, p.1.now)) result ≡ unneeded table.now views.now.opened (snap_id id) }
+{
+    if views.is_viewed(id) || table.has_clone(id) {
+        return None;
+    }
+    let (owner, snapshot) = table.snapshot_of(id)?;
+    if snapshot.is_deferred() {
+        Some((owner, snapshot))
+    } else {
+        None
+    }
+}
+
+// Lets the snapshot of this identity go, where its destroy is deferred and nothing needs it. NoMemory where there is none for it, and
+// then the edit is of no use. It costs what `unneeded` does and, where it goes, what `Edit::lose_snapshot` does.
+fn lose_unneeded(
+    edit: &mut Edit,
+    alloc: Global,
+    views: &Views,
+    id: SnapshotId,
+    segments: &mut SegMeter,
+) -> Result<(), Refusal>
+    requires apart { AreDisjoint (union_of (world_of edit.old.to)) edit.old.freeing }
+    ensures ok { OnOk result (edit.new.to ≡ without_unneeded edit.old.to views.now.opened (snap_id id)) }
+    ensures lost { OnOk result (HasLost edit.old.to edit.old.freeing edit.new.to edit.new.freeing) }
+    ensures err { IfErr result (λ e. e ≡ Refusal.NoMemory) }
+{
+    // It tells of the snapshots that their groups rise.
+    let _count = edit.to.len();
+    let name = match unneeded(&edit.to, views, id) {
+        Some((file_system, snapshot)) => member(file_system.name(), snapshot.name())?,
+        None => return Ok(()),
+    };
+    edit.lose_snapshot(alloc, &name, segments)
+}
+
+// The origin of a file system that the table hasn't any more. It costs the logarithm of the number of file systems.
+fn gone_origin(table: &Table, file_system: &FileSystem) -> Option<SnapshotId>
+    ensures { option_map snap_id result ≡ gone_origin table.now (entry_of file_system.now) }
+{
+    if table.find(file_system.name()).is_some() {
+        return None;
+    }
+    file_system.origin()
+}
+
+// Lets the origin of this file system go, where the file system is gone, the origin's destroy is deferred and nothing needs it. NoMemory
+// where there is none for it, and then the edit is of no use. It costs what `lose_unneeded` does.
+fn lose_origin(
+    edit: &mut Edit,
+    alloc: Global,
+    views: &Views,
+    file_system: &FileSystem,
+    segments: &mut SegMeter,
+) -> Result<(), Refusal>
+    requires apart { AreDisjoint (union_of (world_of edit.old.to)) edit.old.freeing }
+    ensures ok { OnOk result (edit.new.to ≡ without_origin edit.old.to views.now.opened (entry_of file_system.now)) }
+    ensures lost { OnOk result (HasLost edit.old.to edit.old.freeing edit.new.to edit.new.freeing) }
+    ensures err { IfErr result (λ e. e ≡ Refusal.NoMemory) }
+{
+    match gone_origin(&edit.to, file_system) {
+        Some(id) => lose_unneeded(edit, alloc, views, id, segments),
+        None => Ok(()),
+    }
+}
+
+/// Lets the snapshots go whose destroy is deferred and that nothing needs any more, once file systems of this table are gone
+/// (zfs-destroy(8), -d). NoMemory where there is none for it, and then the edit is of no use. It costs the number of file systems times
+/// its logarithm, for each clone that is gone what `unneeded` does, and for each snapshot that goes what `Edit::lose_snapshot` does.
+pub(crate) fn sweep(
+    edit: &mut Edit,
+    alloc: Global,
+    table: &Table,
+    views: &Views,
+    segments: &mut SegMeter,
+) -> Result<(), Refusal>
+    requires apart { AreDisjoint (union_of (world_of edit.old.to)) edit.old.freeing }
+    requires bare { AreBare table.now.file_systems }
+    requires part { ArePartOf edit.old.to table.now }
+    requires swept { IsSweptBy table.now views.now.opened }
+    ensures ok { OnOk result (edit.new.to ≡ swept edit.old.to views.now.opened) }
+    ensures lost { OnOk result (HasLost edit.old.to edit.old.freeing edit.new.to edit.new.freeing) }
+    ensures err { IfErr result (λ e. e ≡ Refusal.NoMemory) }
+{
+    // It tells of the snapshots that each identity is one's.
+    let _count = edit.to.len();
+    for file_system in table.file_systems() {
+        lose_origin(edit, alloc, views, file_system, segments)?;
+    }
+    Ok(())
+}

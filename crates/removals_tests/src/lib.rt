@@ -1,5 +1,0 @@
-//! Tests of `removals` from outside.
-#![tactic(auto)]
-
-#[cfg(test)]
-mod edits;

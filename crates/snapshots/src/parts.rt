@@ -1,0 +1,150 @@
+//! Snapshots that change from one file system to another.
+ghost use Rattle.std.specs.Prelude.{◌≡◌, ◌≤◌, ◌++◌, ◌∷◌, None, List, length, take, drop, IfOk, IfErr};
+ghost use Rattle.std.specs.Arc.{arc_value};
+ghost use Rattle.std.specs.List.{find};
+ghost use Rattle.base.specs.declared.refusal.Refusal.{Refusal};
+ghost use Rattle.name.specs.Names.{same_name};
+ghost use Rattle.snapshots.specs.declared.kept.Kept.{Kept};
+ghost use Rattle.snapshots.specs.Index.{IsIndex, AreNamesOnce};
+
+use crate::by_name::ByName;
+use crate::kept::Kept;
+use crate::line::{Line, copy_of_index, forget};
+use base::refusal::Refusal;
+use shared_list::SharedList;
+use std::alloc::Global;
+use std::sync::Arc;
+
+impl Line {
+    /// The first `count` of them, and the others, where each name is one snapshot's. It costs the number of chunks, which is a 32nd of that
+    /// of the snapshots or less, and for each snapshot of the smaller part the logarithm of their number and at most three chunks of an
+    /// index. NoMemory where there is none for it.
+    pub fn split_at(&self, alloc: Global, count: usize) -> Result<(Line, Line), Refusal>
+        requires there { count ≤ length self.now }
+        requires once { AreNamesOnce self.now }
+        ensures first { IfOk result (λ parts. parts.0 ≡ take count self.now) }
+        ensures rest { IfOk result (λ parts. parts.1 ≡ drop count self.now) }
+        ensures err { IfErr result (λ e. e ≡ Refusal.NoMemory) }
+    {
+        let mut first = self.kept.copy()?;
+        let rest = first.split_off(count)?;
+        let index = copy_of_index(&self.by_name)?;
+        let (of_first, of_rest) = parted(alloc, index, &first, &rest)?;
+        let first = Line {
+            kept: first,
+            by_name: of_first,
+        };
+        let rest = Line {
+            kept: rest,
+            by_name: of_rest,
+        };
+        Ok((first, rest))
+    }
+
+    /// These and the others after them, where each name is one snapshot's. It costs the number of chunks, which is a 32nd of that of the
+    /// snapshots or less, and for each snapshot of the smaller part the logarithm of the number of all and at most a chunk of an index.
+    /// NoMemory where there is none for it.
+    pub fn joined(&self, others: &Line) -> Result<Line, Refusal>
+        requires once { AreNamesOnce (self.now ++ others.now) }
+        ensures ok { IfOk result (λ all. all ≡ self.now ++ others.now) }
+        ensures err { IfErr result (λ e. e ≡ Refusal.NoMemory) }
+    {
+        let by_name = index_of_both(self, others)?;
+        let mut kept = self.kept.copy()?;
+        let mut others = others.kept.copy()?;
+        kept.append(&mut others)?;
+        Ok(Line { kept, by_name })
+    }
+}
+
+// The indexes of two parts, from that of both: of the greater one what the smaller one leaves of it, and of the smaller one a new one. Where
+// memory for an index is refused there is none; NoMemory where there is none to take the smaller part one after another.
+fn parted(
+    alloc: Global,
+    by_name: Option<ByName>,
+    first: &SharedList<Kept>,
+    rest: &SharedList<Kept>,
+) -> Result<(Option<ByName>, Option<ByName>), Refusal>
+    requires once { AreNamesOnce (first.now ++ rest.now) }
+    requires index { IsIndex by_name (first.now ++ rest.now) }
+    ensures first { IfOk result (λ parts. IsIndex parts.0 first.now) }
+    ensures rest { IfOk result (λ parts. IsIndex parts.1 rest.now) }
+    ensures err { IfErr result (λ e. e ≡ Refusal.NoMemory) }
+{
+    if first.len() <= rest.len() {
+        let of_first = alone(alloc, first)?;
+        return Ok((of_first, without(by_name, first, rest)));
+    }
+    let of_rest = alone(alloc, rest)?;
+    Ok((without(by_name, rest, first), of_rest))
+}
+
+// An index of these, as `with` makes it.
+fn alone(alloc: Global, kept: &SharedList<Kept>) -> Result<Option<ByName>, Refusal>
+    requires { AreNamesOnce kept.now }
+    ensures ok { IfOk result (λ b. IsIndex b kept.now) }
+    ensures err { IfErr result (λ e. e ≡ Refusal.NoMemory) }
+{
+    let none = SharedList::new(alloc);
+    with(Some(ByName::new(alloc)), kept, &none)
+}
+
+// The index of these and the others after them, from that of the greater part.
+fn index_of_both(line: &Line, others: &Line) -> Result<Option<ByName>, Refusal>
+    requires { AreNamesOnce (line.now ++ others.now) }
+    ensures ok { IfOk result (λ b. IsIndex b (line.now ++ others.now)) }
+    ensures err { IfErr result (λ e. e ≡ Refusal.NoMemory) }
+{
+    if line.kept.len() <= others.kept.len() {
+        return with(copy_of_index(&others.by_name)?, &line.kept, &others.kept);
+    }
+    with(copy_of_index(&line.by_name)?, &others.kept, &line.kept)
+}
+
+// The index of the others, with these before them, whose names none of them has. Where memory for it is refused there is none; NoMemory where there is none to take these
+// one after another.
+fn with(
+    mut by_name: Option<ByName>,
+    kept: &SharedList<Kept>,
+    others: &SharedList<Kept>,
+) -> Result<Option<ByName>, Refusal>
+    requires once { AreNamesOnce (kept.now ++ others.now) }
+    requires index { IsIndex by_name others.now }
+    ensures ok { IfOk result (λ b. IsIndex b (kept.now ++ others.now)) }
+    ensures err { IfErr result (λ e. e ≡ Refusal.NoMemory) }
+{
+    let mut left = kept.copy()?;
+    'kept: while let Some(kept) = left.pop_shared()? {
+        put_before(&mut by_name, kept);
+    }
+    Ok(by_name)
+}
+
+// The index of the others, from one of these and them.
+fn without(
+    mut by_name: Option<ByName>,
+    kept: &SharedList<Kept>,
+    others: &SharedList<Kept>,
+) -> Option<ByName>
+    requires once { AreNamesOnce (kept.now ++ others.now) }
+    requires index { IsIndex by_name (kept.now ++ others.now) }
+    ensures { IsIndex result others.now }
+{
+    'kept: for kept in kept.iter() {
+        forget(&mut by_name, kept.snapshot.name().as_bytes());
+    }
+    by_name
+}
+
+// Puts a snapshot that comes before the others into their index, where none of them has its name. Where memory is refused there is no index
+// any more.
+fn put_before(by_name: &mut Option<ByName>, kept: Arc<Kept>)
+    ensures { (ks : List Kept) → find (λ k. same_name k.snapshot.name (arc_value kept).snapshot.name) ks ≡ None → IsIndex by_name.old ks → IsIndex by_name.new (arc_value kept ∷ ks) }
+{
+    let Some(index) = by_name else {
+        return;
+    };
+    if index.get(kept.snapshot.name().as_bytes()).is_some() || index.insert(kept).is_err() {
+        *by_name = None;
+    }
+}
