@@ -87,6 +87,33 @@ def syncs(leaves, rounds, writes):
         yield "sync"
 
 
+def clones(leaves, rounds):
+    """Leaf after leaf, and then promotes of a clone there and back, with a clone made and destroyed between them."""
+    yield "create p/a"
+    for leaf in range(leaves):
+        yield f"write p/a {place(leaf)} {leaf & 0xff:02x}"
+    yield "snapshot p/a@s"
+    yield "clone p/a@s p/c"
+    for i in range(rounds):
+        yield "promote p/c"
+        yield f"clone p/c@s p/x{i}"
+        yield f"destroy p/x{i}"
+        yield "promote p/a"
+
+
+def promotes(snapshots, rounds):
+    """Writes with a snapshot after each, and then promotes of a clone of the newest there and back."""
+    source = random.Random(f"promotes:{snapshots}")
+    yield "create p/a"
+    for i in range(snapshots):
+        yield f"write p/a {place(source.randrange(4096))} {i & 0xffffffff:08x}"
+        yield f"snapshot p/a@s{i}"
+    yield f"clone p/a@s{snapshots - 1} p/c"
+    for _ in range(rounds):
+        yield "promote p/c"
+        yield "promote p/a"
+
+
 def main():
     options = argparse.ArgumentParser(description=__doc__, formatter_class=argparse.RawDescriptionHelpFormatter)
     options.add_argument("folder", type=Path)
@@ -110,6 +137,9 @@ def main():
         "syncs-10k-blocks": syncs(scaled(9_375), scaled(2_000), 100),
         "bare-syncs-1M-blocks": syncs(scaled(937_500), scaled(100_000), 0),
         "bare-syncs-10k-blocks": syncs(scaled(9_375), scaled(100_000), 0),
+        "clones-10-blocks": clones(9, scaled(200_000)),
+        "clones-1M-blocks": clones(scaled(937_500), scaled(200_000)),
+        "promotes-20k-snapshots": promotes(scaled(20_000), scaled(10_000)),
     }
     for name, lines in scripts.items():
         with open(options.folder / f"{name}.script", "w", buffering=1 << 20) as file:

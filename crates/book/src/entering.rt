@@ -29,23 +29,29 @@ pub(crate) fn entry_of(alloc: Global, pool: &mut Pool, call: Call) -> Option<Own
     ensures some { IfSome result (λ r. IsEntered pool.old.state call.seat call.request r.kept.value r.ours.value r.theirs.value (option_map arc_value r.viewed) pool.new.state) }
     ensures none { IfNone result (pool.new.state ≡ pool.old.state) }
 {
-    if changes_a_tree(&call.kept.request) {
+    if answers_done(&call.kept.request) {
         changed(alloc, pool, call)
     } else {
         prepared(alloc, pool, call)
     }
 }
 
-/// Whether a request changes one tree. Its reply is Done, unless it is refused.
-fn changes_a_tree(request: &Request) -> bool
+/// Whether the reply to a request is Done, unless it is refused.
+fn answers_done(request: &Request) -> bool
     ensures { IsTrue result → AnswersDone request.now }
 {
-    match request {
-        Request::Write { .. } => true,
-        Request::Punch { .. } => true,
-        Request::FreeObject { .. } => true,
-        _ => false,
-    }
+    matches!(
+        request,
+        Request::Create { .. }
+            | Request::Snapshot { .. }
+            | Request::Rollback { .. }
+            | Request::Destroy { .. }
+            | Request::Write { .. }
+            | Request::Punch { .. }
+            | Request::FreeObject { .. }
+            | Request::Clone { .. }
+            | Request::Promote { .. }
+    )
 }
 
 /// The pool is changed where it is. Only a refusal is put into the entry, since it has the reply Done already.

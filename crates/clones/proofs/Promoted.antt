@@ -1,6 +1,6 @@
 -- Why a promote is refused, and what it leaves.
-use Rattle.std.proofs.Common.{◌≡◌, ◌||◌, List, Bool, true, false, cond, Option, Some, None, Bor, [], ◌∷◌, refl, sym, ap, subst, ◌∙◌, true≢false}
-use Rattle.std.specs.Prelude.{IsSome, IfSome, is_some, not}
+use Rattle.std.proofs.Common.{◌≡◌, ◌||◌, List, Bool, true, false, cond, Option, Some, None, Result, Ok, Err, Bor, [], ◌∷◌, refl, sym, ap, subst, ◌∙◌, true≢false}
+use Rattle.std.specs.Prelude.{IsSome, IfSome, OnOk, is_some, not}
 use Rattle.std.specs.Option.{option_map_or, option_copied}
 use Rattle.std.specs.FinMap.{get}
 use Rattle.std.specs.List.{find, list_any}
@@ -94,6 +94,15 @@ module _ (t : Datasets) (name : Name) where
         by_some : (x : Option Promotion) → IsSome x → IfSome x (λ p. u ≡ with_promoted t name p) → u ≡ option_map_or (with_promoted t name) x t
         by_some None there e = absurd (true≢false (sym there))
         by_some (Some p) there e = e
+
+    -- so it is where the table itself is promoted
+    pub promoted_now : (r : Result (Unit {0}) Refusal) (u : Datasets) → IfSome (promotion_of (world_of t) name) (λ p. OnOk r (u ≡ with_promoted t name p)) → OnOk r (u ≡ promoted t name)
+    promoted_now (Ok done) u h = promoted_is u h
+    promoted_now (Err e) u h = tt
+
+    pub previous_now : (r : Result (Unit {0}) Refusal) (u : Datasets) → AreFileSystems t.file_systems t.group → OnOk r (u ≡ promoted t name) → OnOk r (KeepsPrevious t u)
+    previous_now (Ok done) u good is = subst (KeepsPrevious t) (sym is) (keeps_previous good)
+    previous_now (Err e) u good is = tt
 
 -- ---- a snapshot of a name
 

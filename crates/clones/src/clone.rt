@@ -1,5 +1,5 @@
 //! A clone of a snapshot.
-ghost use Rattle.std.specs.Prelude.{◌≡◌, ◌⊎◌, Some, None, IfSome, IfOk, IfErr, OnOk};
+ghost use Rattle.std.specs.Prelude.{◌≡◌, ◌⊎◌, Some, None, IfSome, IfOk, IfErr, OnOk, OnErr};
 ghost use Rattle.std.specs.Option.{option_copied};
 ghost use Rattle.base.specs.declared.refusal.Refusal.{Refusal};
 ghost use Rattle.model.specs.World.{snap_named};
@@ -30,6 +30,25 @@ pub fn clone_snapshot(table: &Table, target: &Target, name: &DsName) -> Result<T
         unreachable!()
     };
     table.with_clone(name, snapshot.member())
+}
+
+/// The same in this table, where the file system is added: no other one is visited. At `Err` the table is as it was. It costs the logarithms
+/// of the numbers of file systems, of clones and of the snapshots of the snapshot's own file system, the length of the new name, and a move
+/// of what stands behind it.
+pub fn clone_now(table: &mut Table, target: &Target, name: &DsName) -> Result<(), Refusal>
+    ensures ok { OnOk result (table.new ≡ cloned table.old target.now name.now) }
+    ensures can { OnOk result (clone_refusal table.old target.now name.now ≡ None) }
+    ensures refused { IfSome (clone_refusal table.old target.now name.now) (λ e. result ≡ Err e) }
+    ensures unchanged { OnErr result (table.new ≡ table.old) }
+    ensures only { IfErr result (λ e. (clone_refusal table.old target.now name.now ≡ Some e) ⊎ (e ≡ Refusal.NoMemory)) }
+{
+    if let Some(refusal) = refusal_of(table, target, name) {
+        return Err(refusal);
+    }
+    let Target::Snapshot(snapshot) = target else {
+        unreachable!()
+    };
+    table.add_clone(name, snapshot.member())
 }
 
 // Why the clone is refused, if it is. It costs the logarithm of the number of file systems, and that of the number of snapshots of one.

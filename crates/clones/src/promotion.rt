@@ -1,5 +1,5 @@
 //! The promote of a clone.
-ghost use Rattle.std.specs.Prelude.{◌≡◌, ◌⊎◌, Some, None, IfSome, IfOk, IfErr, OnOk, nat_lt};
+ghost use Rattle.std.specs.Prelude.{◌≡◌, ◌⊎◌, Some, None, IfSome, IfOk, IfErr, OnOk, OnErr, nat_lt};
 ghost use Rattle.std.specs.List.{list_any};
 ghost use Rattle.std.specs.Option.{option_map};
 ghost use Rattle.base.specs.declared.refusal.Refusal.{Refusal};
@@ -47,6 +47,23 @@ pub fn promote(alloc: Global, table: &Table, name: &DsName) -> Result<Table, Ref
     let mut to = table.copy()?;
     to.promote(alloc, name)?;
     Ok(to)
+}
+
+/// The same in this table. At `Err` it is as it was. It costs what `promote` does, but for the copy.
+pub fn promote_now(alloc: Global, table: &mut Table, name: &DsName) -> Result<(), Refusal>
+    ensures ok { OnOk result (table.new ≡ promoted table.old name.now) }
+    ensures can { OnOk result (promote_refusal table.old name.now ≡ None) }
+    ensures refused { IfSome (promote_refusal table.old name.now) (λ e. result ≡ Err e) }
+    ensures unchanged { OnErr result (table.new ≡ table.old) }
+    ensures only { IfErr result (λ e. (promote_refusal table.old name.now ≡ Some e) ⊎ (e ≡ Refusal.NoMemory)) }
+    ensures previous { OnOk result (KeepsPrevious table.old table.new) }
+{
+    // It tells what holds of the file systems.
+    let _count = table.len();
+    if let Some(refusal) = refusal_of(table, name) {
+        return Err(refusal);
+    }
+    table.promote(alloc, name)
 }
 
 // Why the promote is refused, if it is. It costs for each file system the logarithm of the number of its snapshots, and for each snapshot

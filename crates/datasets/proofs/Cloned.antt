@@ -11,8 +11,8 @@ use Rattle.model.specs.requests.Create.{create_refusal}
 use Rattle.world.specs.Shapes.{Name, before_next}
 use Rattle.world.specs.Worlds.{snap_shape, shape_of, shapes}
 use Rattle.world.specs.Tables.{Datasets, world_of}
-use Rattle.file_systems.specs.Clones.{snap_in}
-use Rattle.file_system.specs.Promotions.{clone_system}
+use Rattle.file_systems.specs.Clones.{all_snaps, snap_in, IsTied}
+use Rattle.file_system.specs.Promotions.{clone_row, clone_system}
 use Rattle.world.proofs.Maps.{no_value}
 use Rattle.world.proofs.Finding.{from_find}
 use Rattle.world.proofs.Listed.{map_in}
@@ -52,10 +52,14 @@ module _ (t : Datasets) (sound : IsTable t) (name : Name) (can : create_refusal 
   absent = (can_add t.file_systems name can).absent
 
   -- it is the one of its identity
-  pub origin_in : snap_in t.file_systems (id_of u) ≡ Some u
+  origin_in : snap_in t.file_systems (id_of u) ≡ Some u
   origin_in =
       sym (alone_is (world_of t) (id_of u))
       ∙ ap (option_map {T = Name × Snap} {U = Snap} (λ p. p.1)) (snap_is_at (world_of t) t.group sound.systems.lines m.file_system n.system u (id_of u) n.at n.among refl)
+
+  -- a clone stands above its map
+  pub origin_tied : IsTied (all_snaps t.file_systems) (clone_row name u)
+  origin_tied = ap (option_map (λ (v : Snap). v.map)) origin_in
 
   map_is : map_of_snap (world_of t) (Some (id_of u)) ≡ u.map
   map_is = map_of_kept (world_of t) t.group sound.systems.lines m.file_system n.system u (id_of u) n.at n.among refl

@@ -87,6 +87,16 @@ created_table t sound name can =
           (put_maps t.file_systems name empty_file_system (λ m h. ⊎_elim (λ e. inl e) (λ k. absurd k) h)) sound.numbers;
     }
 
+-- one more, or all as it was
+pub added_table : {T E : Type 0} (t : Datasets) → IsTable t → (r : Result T E) (new to : FileSystems) → IsTable (record t { file_systems = to })
+    → OnOk r (new ≡ to) → OnErr r (new ≡ t.file_systems) → IsTable (record t { file_systems = new })
+added_table t sound (Ok v) new to after ok err = subst (λ ss. IsTable (record t { file_systems = ss })) (sym ok) after
+added_table t sound (Err e) new to after ok err = subst (λ ss. IsTable (record t { file_systems = ss })) (sym err) sound
+
+pub is_added : {T E : Type 0} (t : Datasets) (r : Result T E) (new to : FileSystems) → OnOk r (new ≡ to) → OnOk r (record t { file_systems = new } ≡ record t { file_systems = to })
+is_added t (Ok v) new to ok = ap (λ ss. record t { file_systems = ss }) ok
+is_added t (Err e) new to ok = tt
+
 -- a snapshot of a live map
 module _ (t : Datasets) (sound : IsTable t) (name component : Name) (guid group : ℕ)
     (can : CanSnap t name (plain_snap component (live_of t.file_systems name) guid group)) where

@@ -1,9 +1,9 @@
 -- A file system without snapshots goes from a table.
-use Rattle.std.proofs.Common.{◌≡◌, [], Option, Result, Ok, Err, sym, ap, subst, ◌∙◌}
-use Rattle.std.specs.Prelude.{IfOk, OnOk, OnErr, IsSome, is_some}
+use Rattle.std.proofs.Common.{◌≡◌, [], Option, Result, Ok, Err, sym, ap, ◌∙◌}
+use Rattle.std.specs.Prelude.{IfOk, IsSome, is_some}
 use Rattle.std.specs.Option.{option_map_or, option_and_then}
 use Rattle.std.specs.FinMap as finmap
-use Rattle.std.specs.FinMap.{get, remove}
+use Rattle.std.specs.FinMap.{get}
 use Rattle.std.specs.FinSet as set
 use Rattle.base.specs.declared.refusal.Refusal.{Refusal}
 use Rattle.base.specs.Map.{blocks}
@@ -16,7 +16,6 @@ use Rattle.file_system.specs.Rows.{live_of, snaps_at}
 use Rattle.file_system.specs.Writes.{newest_group}
 use Rattle.world.specs.Blocks.{after}
 use Rattle.world.specs.Shapes.{Name}
-use Rattle.world.specs.Worlds.{FileSystems}
 use Rattle.world.specs.Dead.{base_of}
 use Rattle.world.specs.Tables.{Datasets, world_of, without_system, lost_between, CanRemove}
 use Rattle.world.proofs.Bridge.{previous_of_live}
@@ -47,7 +46,7 @@ module _ (t : Datasets) (sound : IsTable t) (name : Name) (can : CanRemove t nam
       (previous_of_live (world_of t) t.group sound.systems.lines name can.system can.there)
       ∙ ap (newest_group (origin_group can.system.origin)) can.bare ∙ ap (λ x. newest_group (origin_group x) []) (sym origin_is)
 
-  left_table : IsTable (without_system t name)
+  pub left_table : IsTable (without_system t name)
   left_table = record {
     systems = unmake_good (world_of t) sound.systems name can.system can.there can.bare can.not_root can.childless;
     numbers = numbers_from t (without_system t name) sound.systems (gone_maps t.file_systems name) sound.numbers;
@@ -59,23 +58,12 @@ module _ (t : Datasets) (sound : IsTable t) (name : Name) (can : CanRemove t nam
       ∙ sym (unmake_loses (world_of t) sound.systems name can.system can.there can.bare can.not_root can.childless)
 
   -- what the file systems answer
-  module _ (r : Result Lost Refusal) (new : FileSystems) (ok : OnOk r (new ≡ remove t.file_systems name)) where
-    pub system_gone_table : OnErr r (new ≡ t.file_systems) → IsTable (record t { file_systems = new })
-    system_gone_table err = by_result r ok err
-      where
-        by_result : (x : Result Lost Refusal) → OnOk x (new ≡ remove t.file_systems name) → OnErr x (new ≡ t.file_systems) → IsTable (record t { file_systems = new })
-        by_result (Ok l) to e = subst (λ ss. IsTable (record t { file_systems = ss })) (sym to) left_table
-        by_result (Err w) to e = subst (λ ss. IsTable (record t { file_systems = ss })) (sym e) sound
-
-    pub system_gone_loses : IfOk r (IsLost (blocks (below_at t.file_systems name)) (origin_group (origin_at t.file_systems name)) (live_of t.file_systems name) []) → IfOk r (Loses t (record t { file_systems = new }))
-    system_gone_loses = by_result r ok
-      where
-        by_result : (x : Result Lost Refusal) → OnOk x (new ≡ remove t.file_systems name) → IfOk x (IsLost (blocks (below_at t.file_systems name)) (origin_group (origin_at t.file_systems name)) (live_of t.file_systems name) []) → IfOk x (Loses t (record t { file_systems = new }))
-        by_result (Ok l) to h =
-            let whole : after l.after.0 (blocks l.tree) ≡ lost_between t (record t { file_systems = new }) =
-            (λ i. after (h.after_is i) (blocks (h.tree_is i))) ∙ left_lost ∙ ap (λ ss. lost_between t (record t { file_systems = ss })) (sym to) in
-            record {
-              blocks_are = whole;
-              counted = h.counted ∙ ap set.len (sym h.blocks_are ∙ ap (λ m. after l.after.0 (blocks m)) (sym h.tree_is) ∙ whole);
-            }
-        by_result (Err w) to h = tt
+  pub system_gone_loses : (r : Result Lost Refusal) → IfOk r (IsLost (blocks (below_at t.file_systems name)) (origin_group (origin_at t.file_systems name)) (live_of t.file_systems name) [])
+      → IfOk r (Loses t (without_system t name))
+  system_gone_loses (Ok l) h =
+      let whole : after l.after.0 (blocks l.tree) ≡ lost_between t (without_system t name) = (λ i. after (h.after_is i) (blocks (h.tree_is i))) ∙ left_lost in
+      record {
+        blocks_are = whole;
+        counted = h.counted ∙ ap set.len (sym h.blocks_are ∙ ap (λ m. after l.after.0 (blocks m)) (sym h.tree_is) ∙ whole);
+      }
+  system_gone_loses (Err w) h = tt

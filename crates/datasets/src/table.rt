@@ -178,7 +178,21 @@ impl Table {
         if let Some(refusal) = self.create_refusal(name) {
             return Err(refusal);
         }
-        self.with_new(name)
+        let mut table = self.copy()?;
+        table.add(name)?;
+        Ok(table)
+    }
+
+    /// Adds a file system of this name, which nothing refuses, without a block or a snapshot (zfs-create(8)). NoMemory where there is none for
+    /// it, and then the table is as it was. It costs the number of file systems and the length of the name.
+    pub fn add(&mut self, name: &DsName) -> Result<(), Refusal>
+        requires can { create_refusal self.old.file_systems name.now ≡ None }
+        ensures ok { OnOk result (self.new ≡ with_system self.old name.now empty_file_system) }
+        ensures err { OnErr result (self.new ≡ self.old) }
+        ensures only { IfErr result (λ e. e ≡ Refusal.NoMemory) }
+    {
+        let file_system = FileSystem::new(self.systems.allocator(), name)?;
+        self.systems.add(file_system)
     }
 
     /// A table with a clone of this snapshot more, which is there, under this name, which nothing refuses (zfs-clone(8)): its live map is
@@ -191,14 +205,26 @@ impl Table {
         ensures ok { IfSome (snap_named (world_of self.now) snapshot.now) (λ t. IfOk result (λ u. u ≡ with_clone_of self.now (id_of t) name.now)) }
         ensures err { IfErr result (λ e. e ≡ Refusal.NoMemory) }
     {
+        let mut table = self.copy()?;
+        table.add_clone(name, snapshot)?;
+        Ok(table)
+    }
+
+    /// Adds a clone of this snapshot, which is there, under this name, which nothing refuses (zfs-clone(8)): its live map is the snapshot's, by
+    /// one more owner of its tree, and the snapshot is its origin. NoMemory where there is none for it, and then the table is as it was. It
+    /// costs the number of file systems, the logarithm of the number of snapshots of the snapshot's own, and the length of the name.
+    pub fn add_clone(&mut self, name: &DsName, snapshot: &Member) -> Result<(), Refusal>
+        requires can { create_refusal self.old.file_systems name.now ≡ None }
+        requires there { IsSome (snap_named (world_of self.old) snapshot.now) }
+        ensures ok { IfSome (snap_named (world_of self.old) snapshot.now) (λ t. OnOk result (self.new ≡ with_clone_of self.old (id_of t) name.now)) }
+        ensures err { OnErr result (self.new ≡ self.old) }
+        ensures only { IfErr result (λ e. e ≡ Refusal.NoMemory) }
+    {
         let Some(origin) = self.snapshot_named(snapshot) else {
             unreachable!()
         };
-        let systems = self.systems.with_clone(name, origin)?;
-        Ok(Table {
-            systems,
-            group: self.group,
-        })
+        let file_system = FileSystem::clone_of(self.systems.allocator(), name, origin)?;
+        self.systems.add(file_system)
     }
 
     /// Promotes the clone of this name (zfs-promote(8)): it gets the snapshots of the file system of its origin up to the origin, and the
@@ -365,7 +391,29 @@ impl Table {
         ensures err { OnErr result (self.new ≡ self.old) }
         ensures only { IfErr result (λ e. e ≡ Refusal.NoMemory) }
     {
-        self.systems.remove(name)
+        let lost = self.lost_with(name)?;
+        self.take_out(name);
+        Ok(lost)
+    }
+
+    /// What is lost with this file system, which is there and has no snapshot, and is neither the root nor a parent, where it goes
+    /// (zfs-destroy(8)): the blocks of its live tree. Nobody has walked them. NoMemory where there is none for one more owner of that tree. It
+    /// costs the logarithm of the number of file systems.
+    pub fn lost_with(&self, name: &DsName) -> Result<Lost, Refusal>
+        requires there { CanRemove self.now name.now }
+        ensures lost { IfOk result (Loses self.now (without_system self.now name.now)) }
+        ensures err { IfErr result (λ e. e ≡ Refusal.NoMemory) }
+    {
+        self.systems.lost(name)
+    }
+
+    /// Takes out this file system, which is there and has no snapshot, and is neither the root nor a parent (zfs-destroy(8)). It costs the
+    /// number of file systems, and where it is a clone, that of clones.
+    pub fn take_out(&mut self, name: &DsName)
+        requires there { CanRemove self.old name.now }
+        ensures { self.new ≡ without_system self.old name.now }
+    {
+        self.systems.take_out(name);
     }
 
     /// Empties this file system, which is there and has no snapshot: no block, no origin, no limit, no bookmark is left to it
@@ -406,19 +454,6 @@ impl Table {
     {
         let snapshot = self.snapshot_named(name)?;
         Some(snapshot.group())
-    }
-
-    // A table with one empty file system more, which nothing refuses.
-    fn with_new(&self, name: &DsName) -> Result<Table, Refusal>
-        requires { create_refusal self.now.file_systems name.now ≡ None }
-        ensures ok { IfOk result (λ t. t ≡ with_system self.now name.now empty_file_system) }
-        ensures err { IfErr result (λ e. e ≡ Refusal.NoMemory) }
-    {
-        let systems = self.systems.with_new(name)?;
-        Ok(Table {
-            systems,
-            group: self.group,
-        })
     }
 
     /// Whether a file system has this one's name as its parent's (zfs(8)). It costs the number of file systems.

@@ -1,12 +1,12 @@
-//! Which snapshots may go.
-ghost use Rattle.std.specs.Prelude.{◌≡◌, true, false, IfSome};
+//! Which snapshots and file systems may go.
+ghost use Rattle.std.specs.Prelude.{◌≡◌, true, false, IfSome, IsSome};
 ghost use Rattle.model.specs.World.{id_of, snap_named};
 ghost use Rattle.world.specs.Dead.{HasNoCloneIn};
-ghost use Rattle.world.specs.Tables.{world_of};
+ghost use Rattle.world.specs.Tables.{world_of, CanRemove};
 ghost use Rattle.removals.specs.Named.{is_named_cloned};
 
 use datasets::Table;
-use name::Member;
+use name::{DsName, Member};
 
 /// Whether the snapshot of this name, if it is there, has no clone.
 pub fn is_free(table: &Table, name: &Member) -> bool
@@ -20,4 +20,32 @@ pub fn is_free(table: &Table, name: &Member) -> bool
         Some(snapshot) => !table.has_clone(snapshot.id()),
         None => true,
     }
+}
+
+/// Whether the snapshot of this name is there.
+pub fn has_snapshot(table: &Table, name: &Member) -> bool
+    ensures { result ≡ true → IsSome (snap_named (world_of table.now) name.now) }
+{
+    let Some(file_system) = table.find(&name.file_system) else {
+        return false;
+    };
+    file_system
+        .snapshot_named(name.component.as_bytes())
+        .is_some()
+}
+
+/// Whether this file system is there, without a snapshot and without a child, and isn't the root.
+pub fn may_go(table: &Table, name: &DsName) -> bool
+    ensures { result ≡ true → CanRemove table.now name.now }
+{
+    let Some(file_system) = table.find(name) else {
+        return false;
+    };
+    if name.as_bytes() == b"p".as_slice() {
+        return false;
+    }
+    if file_system.snapshots().len() > 0 {
+        return false;
+    }
+    !table.has_child(name)
 }

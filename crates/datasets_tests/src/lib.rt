@@ -10,7 +10,11 @@ mod free;
 #[cfg(test)]
 mod gone;
 #[cfg(test)]
+mod in_place;
+#[cfg(test)]
 mod lists;
+#[cfg(test)]
+mod now;
 #[cfg(test)]
 mod tables;
 #[cfg(test)]

@@ -2,6 +2,7 @@
 use Rattle.std.proofs.Common.{◌≡◌, ℕ, List, [], ◌∷◌, ◌++◌, length, map, refl, sym, ap, subst, ◌∙◌, inl, inr, ⊎_elim}
 use Rattle.std.specs.FinMap as finmap
 use Rattle.std.specs.FinMap.{values, entries}
+use Rattle.std.specs.FinSet as set
 use Rattle.std.specs.FinSet.{union, difference, from_list, len}
 use Rattle.base.specs.declared.number.Key.{Key}
 use Rattle.base.specs.Map.{Map, Cell, Block, BlockSet, block_of, blocks}
@@ -17,7 +18,7 @@ use Rattle.world.proofs.Bridge.{no_block}
 use Rattle.world.proofs.Deadlists.{dead_counts}
 use Rattle.world.proofs.Lists.{in_listed, from_listed, from_list-append, once_append, stands_left, stands_right, stands_either, len-from_list}
 use Rattle.world.proofs.Maps.{at_entry, entries_apart}
-use Rattle.world.proofs.SetCounts.{same_members, in_union_left, in_union_right, from_union, in_difference, from_difference, from_retain}
+use Rattle.world.proofs.SetCounts.{no-empty, same_members, in_union_left, in_union_right, from_union, in_difference, from_difference, from_retain}
 use Rattle.destroyer.specs.Members.{born_after}
 
 -- the blocks of a map of different numbers are different
@@ -48,6 +49,15 @@ none_added s m cut is = same_members o s (union s (after cut (blocks m)))
     (λ i. i)
     (λ i. absurd (no_block b (subst (λ n. Has (blocks n) b) is (from_retain o (blocks m) _ b i).0)))
     (from_union o s (after cut (blocks m)) b h))
+
+-- nothing is added where there is none
+pub nothing_added : (s t : BlockSet) → t ≡ set.empty → s ≡ union s t
+nothing_added s t none = same_members o s (union s t)
+    (λ b h. in_union_left o s t b h)
+    (λ b h. ⊎_elim
+    (λ i. i)
+    (λ i. absurd (no-empty o b (subst (λ (u : BlockSet). Has u b) none i)))
+    (from_union o s t b h))
 
 -- different blocks before others
 pub added : (new old : List Block) (s : BlockSet) → Lists new s → AreDifferent old → AreDisjoint (from_list old) s → AreDifferent (new ++ old) × (from_list (new ++ old) ≡ union (from_list old) s)

@@ -86,7 +86,7 @@ impl Freeing {
     }
 
     /// Adds the blocks of a tree that were born after a group, and these are that many. No block is visited: it costs one piece, or the
-    /// last chunk of pieces where a copy has that too. NoMemory where memory is refused or there are then more blocks than a u64 counts,
+    /// last chunk of pieces where a copy has that too, and nothing where there is no such block. NoMemory where memory is refused or there are then more blocks than a u64 counts,
     /// and then nothing is changed.
     pub fn add_tree(&mut self, tree: &Tree, cut: Group, count: u64) -> Result<(), Refusal>
         requires count { count ≡ set.len (after cut.0 (blocks tree.now)) }
@@ -96,6 +96,9 @@ impl Freeing {
         ensures err { OnErr result (result ≡ Err Refusal.NoMemory) }
     {
         let _count = tree.node_count();
+        if count == 0 {
+            return Ok(());
+        }
         let Some(len) = self.len.checked_add(count) else {
             return Err(Refusal::NoMemory);
         };
@@ -108,7 +111,7 @@ impl Freeing {
     }
 
     /// Adds the blocks of a dead list's entries. No entry is visited: it costs one piece, or the last chunk of pieces where a copy has
-    /// that too. NoMemory where memory is refused or there are then more blocks than a u64 counts, and then nothing is changed.
+    /// that too, and nothing where there is no entry. NoMemory where memory is refused or there are then more blocks than a u64 counts, and then nothing is changed.
     pub fn add_dead(&mut self, list: Arc<Deadlist>) -> Result<(), Refusal>
         requires once { AreDifferent (dead_blocks list.value.entries) }
         requires apart { AreDisjoint self.old (dead_set list.value.entries) }
@@ -116,6 +119,9 @@ impl Freeing {
         ensures unchanged { OnErr result (self.new ≡ self.old) }
         ensures err { OnErr result (result ≡ Err Refusal.NoMemory) }
     {
+        if list.len() == 0 {
+            return Ok(());
+        }
         let Some(len) = self.len.checked_add(list.len()) else {
             return Err(Refusal::NoMemory);
         };

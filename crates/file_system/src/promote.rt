@@ -1,10 +1,11 @@
 //! A clone and the file system of its origin, which change places.
-ghost use Rattle.std.specs.Prelude.{◌≡◌, IfOk, IfErr};
+ghost use Rattle.std.specs.Prelude.{◌≡◌, ◌≤◌, ◌++◌, length, take, drop, IfOk, IfErr};
 ghost use Rattle.std.specs.Arc.{arc_value};
 ghost use Rattle.std.specs.Option.{option_map};
 ghost use Rattle.base.specs.Map.{blocks};
 ghost use Rattle.base.specs.declared.refusal.Refusal.{Refusal};
 ghost use Rattle.model.specs.Ids.{snap_id};
+ghost use Rattle.snapshots.specs.Index.{AreNamesOnce};
 ghost use Rattle.file_system.specs.Dead.{snaps_in, newest_blocks, AreAccounted};
 ghost use Rattle.file_system.specs.Origins.{origin_id, map_below, blocks_below};
 ghost use Rattle.file_system.specs.Promotions.{promoted_row, demoted_row, CanPromote};
@@ -18,12 +19,45 @@ use snapshots::Line;
 use std::alloc::Global;
 use std::sync::Arc;
 
+// The first `count` of these snapshots, and the others, where each name is one snapshot's: where there are no others, the first are these
+// by one more owner. NoMemory where there is none for it. It costs what `Line::split_at` does where there are others, and else constant
+// time.
+fn parted(alloc: Global, line: &Arc<Line>, count: usize) -> Result<(Arc<Line>, Arc<Line>), Refusal>
+    requires there { count ≤ length (arc_value line.now) }
+    requires once { AreNamesOnce (arc_value line.now) }
+    ensures first { IfOk result (λ parts. arc_value parts.0 ≡ take count (arc_value line.now)) }
+    ensures rest { IfOk result (λ parts. arc_value parts.1 ≡ drop count (arc_value line.now)) }
+    ensures err { IfErr result (λ e. e ≡ Refusal.NoMemory) }
+{
+    if line.list().len() == count {
+        let rest = Arc::new(alloc, Line::new(alloc))?;
+        return Ok((Arc::try_clone(line)?, rest));
+    }
+    let (first, rest) = line.split_at(alloc, count)?;
+    let first = Arc::new(alloc, first)?;
+    Ok((first, Arc::new(alloc, rest)?))
+}
+
+// These snapshots and the others after them, where each name is one snapshot's: these alone where there are no others. NoMemory where there
+// is none for it. It costs what `Line::joined` does where there are others, and else constant time.
+fn appended(alloc: Global, line: Arc<Line>, others: &Line) -> Result<Arc<Line>, Refusal>
+    requires once { AreNamesOnce (arc_value line ++ others.now) }
+    ensures ok { IfOk result (λ all. arc_value all ≡ arc_value line ++ others.now) }
+    ensures err { IfErr result (λ e. e ≡ Refusal.NoMemory) }
+{
+    if others.list().len() == 0 {
+        return Ok(line);
+    }
+    let all = line.joined(others)?;
+    Ok(Arc::new(alloc, all)?)
+}
+
 impl FileSystem {
     /// This file system, whose origin is that snapshot of the other, and the other after a promote (zfs-promote(8)): the first has the
     /// snapshots of the other up to its origin before its own, and the other's origin; the other has its newer snapshots, and that snapshot as
     /// its origin. No block is visited, and each dead list stays as it is, since no dataset has another before it. NoMemory where there is none
-    /// for it. It costs the chunks of the snapshots of both, and for each snapshot that changes its file system the logarithm of their number
-    /// and at most three chunks of an index.
+    /// for it. Where the origin is the other's newest snapshot and the first has none, it costs the logarithm of their number; else the chunks
+    /// of the snapshots of both, and for each snapshot of the smaller part the logarithm of their number and at most three chunks of an index.
     pub fn promoted(
         &self,
         alloc: Global,
@@ -37,31 +71,29 @@ impl FileSystem {
     {
         let kept = owner.snapshots.list();
         let (place, _count) = (place_of(kept, origin.group), kept.len());
-        let (older, newer) = owner.snapshots.split_at(alloc, place + 1)?;
-        let all = older.joined(&self.snapshots)?;
-        let clone = self.with_line(alloc, all, &owner.origin)?;
-        let rest = owner.with_line(alloc, newer, &self.origin)?;
+        let (older, newer) = parted(alloc, &owner.snapshots, place + 1)?;
+        let all = appended(alloc, older, &self.snapshots)?;
+        let clone = self.with_line(all, &owner.origin)?;
+        let rest = owner.with_line(newer, &self.origin)?;
         Ok((clone, rest))
     }
 
     // This file system with these snapshots above this origin, of which the newest has the blocks that its newest snapshot has.
     fn with_line(
         &self,
-        alloc: Global,
-        line: Line,
+        snapshots: Arc<Line>,
         origin: &Option<Arc<Origin>>,
     ) -> Result<FileSystem, Refusal>
-        requires accounted { AreAccounted (blocks_below (option_map arc_value origin.now)) line }
-        requires newest { newest_blocks (blocks_below (option_map arc_value origin.now)) (snaps_in line) ≡ newest_blocks (blocks self.now.below) self.now.system.snaps }
+        requires accounted { AreAccounted (blocks_below (option_map arc_value origin.now)) (arc_value snapshots) }
+        requires newest { newest_blocks (blocks_below (option_map arc_value origin.now)) (snaps_in (arc_value snapshots)) ≡ newest_blocks (blocks self.now.below) self.now.system.snaps }
         ensures name { IfOk result (λ f. f.name ≡ self.now.name) }
-        ensures system { IfOk result (λ f. f.system ≡ record self.now.system { snaps = snaps_in line; origin = origin_id (option_map arc_value origin.now) }) }
+        ensures system { IfOk result (λ f. f.system ≡ record self.now.system { snaps = snaps_in (arc_value snapshots); origin = origin_id (option_map arc_value origin.now) }) }
         ensures below { IfOk result (λ f. f.below ≡ map_below (option_map arc_value origin.now)) }
         ensures err { IfErr result (λ e. e ≡ Refusal.NoMemory) }
     {
         let name = Arc::try_clone(&self.name)?;
         let live = self.live.copy()?;
         let dead = Arc::try_clone(&self.dead)?;
-        let snapshots = Arc::new(alloc, line)?;
         let origin = copy_of_origin(origin)?;
         Ok(FileSystem {
             name,

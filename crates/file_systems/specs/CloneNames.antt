@@ -50,6 +50,10 @@ CloneEntry = CloneKey × Unit {0}
 abbrev pub key_in : CloneName → CloneEntry
 key_in c = (key_of c, tt)
 
+-- the set of these (zfsprops(7): clones)
+abbrev pub set_of : List CloneName → CloneSet
+set_of cs = finmap.from_sorted (map key_in cs)
+
 -- its code (profile)
 abbrev pub clone_set_code : Coded CloneSet
 clone_set_code = set.code (coded× id_code (coded_list coded_ℕ))

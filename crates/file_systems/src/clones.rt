@@ -1,5 +1,5 @@
 //! The clones among file systems, by their origins.
-ghost use Rattle.std.specs.Prelude.{◌≡◌, ◌+◌, ◌≤◌, ◌++◌, IfOk, IfErr, OnOk, OnErr, map, length, vec_len, vec_capacity};
+ghost use Rattle.std.specs.Prelude.{◌≡◌, ◌+◌, ◌<◌, ◌≤◌, ◌++◌, IfOk, IfErr, OnOk, OnErr, map, length, vec_len, vec_capacity};
 ghost use Rattle.std.specs.Arc.{arc_value};
 ghost use Rattle.std.specs.FinMap as finmap;
 ghost use Rattle.std.specs.FinMap.{entries};
@@ -8,7 +8,7 @@ ghost use Rattle.std.specs.Ordering.{is_lt};
 ghost use Rattle.base.specs.declared.refusal.Refusal.{Refusal};
 ghost use Rattle.model.specs.Ids.{snap_id};
 ghost use Rattle.model.specs.World.{same_id};
-ghost use Rattle.file_systems.specs.CloneNames.{id_cmp, key_cmp, key_of, key_in, name_of, with_key, with_origin, without_origin, promoted_set, names_in, IsInOrder, IsCloneAt, IsCloneGap};
+ghost use Rattle.file_systems.specs.CloneNames.{id_cmp, key_cmp, key_of, key_in, name_of, set_of, with_origin, without_origin, promoted_set, names_in, IsInOrder, IsCloneAt, IsCloneGap};
 
 use base::refusal::Refusal;
 use file_system::FileSystem;
@@ -92,6 +92,41 @@ fn shared(alloc: Global, clones: &[CloneName]) -> Result<Vec<CloneName>, Refusal
     Ok(copies)
 }
 
+// Puts a clone of that origin, if there is one, among these, for which there is room. It costs their number.
+fn put(entries: &mut Vec<CloneName>, origin: Option<SnapshotId>, name: Arc<DsName>)
+    requires order { IsInOrder entries.old.items }
+    requires room { vec_len entries.old < vec_capacity entries.old }
+    ensures order { IsInOrder entries.new.items }
+    ensures set { set_of entries.new.items ≡ with_origin (set_of entries.old.items) (arc_value name) (option_map snap_id origin) }
+    ensures len { vec_len entries.new ≤ vec_len entries.old + 1 }
+    ensures capacity { vec_capacity entries.old ≤ vec_capacity entries.new }
+{
+    let Some(origin) = origin else {
+        return;
+    };
+    if let Err(place) = place(&*entries, origin, name.as_bytes()) {
+        let Ok(()) = entries.insert(place, CloneName { origin, name }) else {
+            unreachable!()
+        };
+    }
+}
+
+// Takes the clone of that origin and this name out, where there is such an origin. It costs their number.
+fn leave_from(entries: &mut Vec<CloneName>, origin: Option<SnapshotId>, name: &DsName)
+    requires order { IsInOrder entries.old.items }
+    ensures order { IsInOrder entries.new.items }
+    ensures set { set_of entries.new.items ≡ without_origin (set_of entries.old.items) name.now (option_map snap_id origin) }
+    ensures len { vec_len entries.new ≤ vec_len entries.old }
+    ensures capacity { vec_capacity entries.new ≡ vec_capacity entries.old }
+{
+    let Some(origin) = origin else {
+        return;
+    };
+    if let Ok(place) = place(&*entries, origin, name.as_bytes()) {
+        let _gone = entries.remove(place);
+    }
+}
+
 /// An index of clones: each with its origin, in order of these, and those of one origin in byte order of their names. Contracts see it as the
 /// set of its pairs. Copies share the names.
 #[derive(Drop)]
@@ -144,16 +179,6 @@ impl CloneIndex {
         those
     }
 
-    /// These clones and one more, which has that origin (zfs-clone(8)). NoMemory where there is none for it. It costs the number of clones.
-    pub fn with_clone(&self, origin: SnapshotId, clone: &FileSystem) -> Result<CloneIndex, Refusal>
-        ensures ok { IfOk result (λ i. i ≡ with_key self.now (snap_id origin, clone.now.name)) }
-        ensures err { IfErr result (λ e. e ≡ Refusal.NoMemory) }
-    {
-        let mut index = self.copy()?;
-        index.enter(Some(origin), clone.owned_name())?;
-        Ok(index)
-    }
-
     /// Adds a clone of that origin, if there is one. NoMemory where there is none for it; then the index is as it was. It costs the number of
     /// clones.
     pub fn enter(&mut self, origin: Option<SnapshotId>, name: &Arc<DsName>) -> Result<(), Refusal>
@@ -175,31 +200,29 @@ impl CloneIndex {
     pub fn leave(&mut self, origin: Option<SnapshotId>, name: &DsName)
         ensures { self.new ≡ without_origin self.old name.now (option_map snap_id origin) }
     {
-        let Some(origin) = origin else {
-            return;
-        };
-        if let Ok(place) = place(&self.entries, origin, name.as_bytes()) {
-            let _gone = self.entries.remove(place);
-        }
+        leave_from(&mut self.entries, origin, name);
     }
 
-    /// The index after a promote of a clone of that snapshot, which the other file system has (zfs-promote(8)): the clone has the other's origin,
-    /// and the other the clone's. NoMemory where there is none for it. It costs the number of clones.
-    pub fn promoted(
-        &self,
+    /// Promotes a clone of that snapshot, which the other file system has (zfs-promote(8)): the clone has the other's origin, and the other the
+    /// clone's. NoMemory where there is none for it; then the index is as it was. It costs the number of clones.
+    pub fn promote(
+        &mut self,
         origin: SnapshotId,
         clone: &FileSystem,
         owner: &FileSystem,
-    ) -> Result<CloneIndex, Refusal>
-        ensures ok { IfOk result (λ i. i ≡ promoted_set self.now clone.now.name owner.now.name (snap_id origin) owner.now.system.origin) }
-        ensures err { IfErr result (λ e. e ≡ Refusal.NoMemory) }
+    ) -> Result<(), Refusal>
+        ensures ok { OnOk result (self.new ≡ promoted_set self.old clone.now.name owner.now.name (snap_id origin) owner.now.system.origin) }
+        ensures err { OnErr result (self.new ≡ self.old) }
+        ensures only { IfErr result (λ e. e ≡ Refusal.NoMemory) }
     {
-        let mut index = self.copy()?;
         let above = owner.origin();
-        index.leave(above, owner.name());
-        index.enter(Some(origin), owner.owned_name())?;
-        index.leave(Some(origin), clone.name());
-        index.enter(above, clone.owned_name())?;
-        Ok(index)
+        let clone_name = Arc::try_clone(clone.owned_name())?;
+        let owner_name = Arc::try_clone(owner.owned_name())?;
+        self.entries.reserve(2)?;
+        leave_from(&mut self.entries, above, owner.name());
+        put(&mut self.entries, Some(origin), owner_name);
+        leave_from(&mut self.entries, Some(origin), clone.name());
+        put(&mut self.entries, above, clone_name);
+        Ok(())
     }
 }

@@ -13,11 +13,10 @@ ghost use Rattle.base.specs.Surveys.{IsIn};
 ghost use Rattle.world.specs.Dead.{HasNoCloneIn};
 ghost use Rattle.model.specs.Ids.{snap_id};
 ghost use Rattle.file_systems.specs.CloneNames.{name_of, clones_in};
-ghost use Rattle.file_systems.specs.Clones.{all_snaps, snap_in, origin_at, below_at, row_in};
+ghost use Rattle.file_systems.specs.Clones.{all_snaps, origin_at, below_at, row_in, IsTied};
 ghost use Rattle.file_system.specs.Dead.{AllowsLive, IsAbove};
 ghost use Rattle.file_system.specs.Losses.{newest_map, IsLost};
 ghost use Rattle.file_system.specs.Origins.{origin_group};
-ghost use Rattle.file_system.specs.Promotions.{clone_system};
 ghost use Rattle.file_systems.specs.Promotions.{promoted_in, IsPromotion, CanPromoteIn};
 ghost use Rattle.world.specs.Outcomes.{Promotion};
 ghost use Rattle.file_system.specs.Rows.{live_of, snaps_at, with_live, with_snap, snap_count};
@@ -31,7 +30,7 @@ ghost use Rattle.tree.specs.Updates.{changes_of};
 
 use crate::clones::{CloneIndex, CloneName};
 use crate::place::{gap, place};
-use crate::row::{apply, defer, owner_place, promoted, rollback, shared, splice, take, with_added};
+use crate::row::{apply, defer, owner_place, promoted, put, rollback, shared, splice, take};
 use base::meter::{Meter, SegMeter};
 use base::number::{Group, Guid};
 use base::refusal::Refusal;
@@ -39,7 +38,6 @@ use deadlist::deadlist::Deadlist;
 use file_system::{FileSystem, Lost};
 use model::snapshot_id::SnapshotId;
 use name::{Component, DsName};
-use snapshots::Snapshot;
 use std::alloc::Global;
 use std::marker::Model;
 use std::sync::Arc;
@@ -151,47 +149,28 @@ impl FileSystems {
         place(&self.rows, name).is_ok()
     }
 
-    /// These file systems and one more, which has this name, no block and no snapshot, and one more owner of each other one. These
-    /// stay as they are. NoMemory where there is none for the name, the rows or an owner. It costs the number of file systems and
-    /// the length of the name.
-    pub fn with_new(&self, name: &DsName) -> Result<FileSystems, Refusal>
-        requires { get self.now name.now ≡ None }
-        ensures ok { IfOk result (λ t. t ≡ insert self.now name.now empty_file_system) }
-        ensures err { IfErr result (λ e. e ≡ Refusal.NoMemory) }
-    {
-        let rows: &[Arc<FileSystem>] = &self.rows;
-        let alloc = *self.rows.allocator();
-        let place = gap(rows, name.as_bytes());
-        let added = Arc::new(alloc, FileSystem::new(alloc, name)?)?;
-        let clones = self.clones.copy()?;
-        let rows = with_added(alloc, rows, place, added)?;
-        Ok(FileSystems {
-            rows,
-            snapshot_count: self.snapshot_count,
-            clones,
-        })
+    /// The allocator of their memory. Constant time.
+    pub fn allocator(&self) -> Global {
+        *self.rows.allocator()
     }
 
-    /// These file systems and a clone of that snapshot, which one of them has (zfs-clone(8)), under this name, and one more owner of each other
-    /// one. These stay as they are. NoMemory where there is none for the name, the rows or an owner. It costs the number of file systems and
-    /// the length of the name.
-    pub fn with_clone(&self, name: &DsName, snapshot: &Snapshot) -> Result<FileSystems, Refusal>
-        requires absent { get self.now name.now ≡ None }
-        requires origin { snap_in self.now (id_of snapshot.now) ≡ Some snapshot.now }
-        ensures ok { IfOk result (λ t. t ≡ insert self.now name.now (clone_system snapshot.now)) }
-        ensures err { IfErr result (λ e. e ≡ Refusal.NoMemory) }
+    /// Adds this file system, whose name none of these has, and which has no snapshot; where it is a clone, its origin is a snapshot of one of
+    /// these (zfs-create(8), zfs-clone(8)). NoMemory where there is none for it; then all are as they were. It costs the number of file
+    /// systems, and where it is a clone, that of clones.
+    pub fn add(&mut self, file_system: FileSystem) -> Result<(), Refusal>
+        requires absent { get self.old file_system.name ≡ None }
+        requires bare { file_system.system.snaps ≡ [] }
+        requires tied { IsTied (all_snaps self.old) file_system }
+        ensures ok { OnOk result (self.new ≡ insert self.old file_system.name file_system.system) }
+        ensures err { OnErr result (self.new ≡ self.old) }
+        ensures only { IfErr result (λ e. e ≡ Refusal.NoMemory) }
     {
-        let rows: &[Arc<FileSystem>] = &self.rows;
-        let alloc = *self.rows.allocator();
-        let place = gap(rows, name.as_bytes());
-        let added = Arc::new(alloc, FileSystem::clone_of(alloc, name, snapshot)?)?;
-        let clones = self.clones.with_clone(snapshot.id(), &added)?;
-        let rows = with_added(alloc, rows, place, added)?;
-        Ok(FileSystems {
-            rows,
-            snapshot_count: self.snapshot_count,
-            clones,
-        })
+        let place = gap(&self.rows, file_system.name().as_bytes());
+        let added = Arc::new(self.allocator(), file_system)?;
+        self.rows.reserve(1)?;
+        self.clones.enter(added.origin(), added.owned_name())?;
+        put(&mut self.rows, place, added);
+        Ok(())
     }
 
     /// Promotes the clone of this name (zfs-promote(8)): it has the snapshots of the file system of its origin up to that before its own, and
@@ -214,12 +193,10 @@ impl FileSystems {
             unreachable!()
         };
         let (clone, owner) = promoted(alloc, &self.rows[place], &self.rows[other], origin)?;
-        let clones = self
-            .clones
-            .promoted(origin, &self.rows[place], &self.rows[other])?;
+        self.clones
+            .promote(origin, &self.rows[place], &self.rows[other])?;
         self.rows[other] = owner;
         self.rows[place] = clone;
-        self.clones = clones;
         Ok(())
     }
 
@@ -353,25 +330,34 @@ impl FileSystems {
         Ok(lost)
     }
 
-    /// Takes out this file system, which is there and has no snapshot (zfs-destroy(8)), and answers what is lost with it: the blocks of its
-    /// live tree. NoMemory where there is none for one more owner of that; then all are as they were. It costs the number of file systems.
-    pub fn remove(&mut self, name: &DsName) -> Result<Lost, Refusal>
-        requires there { IsSome (get self.old name.now) }
-        requires bare { snaps_at self.old name.now ≡ [] }
-        requires above { IsAbove (blocks (below_at self.old name.now)) (origin_group (origin_at self.old name.now)) (live_of self.old name.now) (snaps_at self.old name.now) }
-        ensures ok { OnOk result (self.new ≡ finmap.remove self.old name.now) }
-        ensures lost { IfOk result (IsLost (blocks (below_at self.old name.now)) (origin_group (origin_at self.old name.now)) (live_of self.old name.now) []) }
-        ensures err { OnErr result (self.new ≡ self.old) }
-        ensures only { IfErr result (λ e. e ≡ Refusal.NoMemory) }
+    /// What is lost with this file system, which is there and has no snapshot, where it goes (zfs-destroy(8)): the blocks of its live tree, by
+    /// one more owner of that. NoMemory where there is none for it. It costs the logarithm of the number of file systems.
+    pub fn lost(&self, name: &DsName) -> Result<Lost, Refusal>
+        requires there { IsSome (get self.now name.now) }
+        requires bare { snaps_at self.now name.now ≡ [] }
+        requires above { IsAbove (blocks (below_at self.now name.now)) (origin_group (origin_at self.now name.now)) (live_of self.now name.now) (snaps_at self.now name.now) }
+        ensures lost { IfOk result (IsLost (blocks (below_at self.now name.now)) (origin_group (origin_at self.now name.now)) (live_of self.now name.now) []) }
+        ensures err { IfErr result (λ e. e ≡ Refusal.NoMemory) }
     {
         let Ok(place) = place(&self.rows, name.as_bytes()) else {
             unreachable!()
         };
-        let lost = self.rows[place].lost()?;
+        self.rows[place].lost()
+    }
+
+    /// Takes out this file system, which is there and has no snapshot (zfs-destroy(8)). It costs the number of file systems, and where it is
+    /// a clone, that of clones.
+    pub fn take_out(&mut self, name: &DsName)
+        requires there { IsSome (get self.old name.now) }
+        requires bare { snaps_at self.old name.now ≡ [] }
+        ensures { self.new ≡ finmap.remove self.old name.now }
+    {
+        let Ok(place) = place(&self.rows, name.as_bytes()) else {
+            unreachable!()
+        };
         let origin = self.rows[place].origin();
         self.clones.leave(origin, name);
         let _gone = self.rows.remove(place);
-        Ok(lost)
     }
 
     /// Empties this file system, which is there and has no snapshot: no block and no origin is left to it (zfs-destroy(8)); and answers what is
@@ -386,10 +372,10 @@ impl FileSystems {
         ensures err { OnErr result (self.new ≡ self.old) }
         ensures only { IfErr result (λ e. e ≡ Refusal.NoMemory) }
     {
+        let lost = self.lost(name)?;
         let Ok(place) = place(&self.rows, name.as_bytes()) else {
             unreachable!()
         };
-        let lost = self.rows[place].lost()?;
         let empty = Arc::new(alloc, FileSystem::new(alloc, name)?)?;
         let origin = self.rows[place].origin();
         self.clones.leave(origin, name);

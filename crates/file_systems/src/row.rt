@@ -58,25 +58,15 @@ pub fn shared(alloc: Global, rows: &[Arc<FileSystem>]) -> Result<Vec<Arc<FileSys
     Ok(owners)
 }
 
-/// One more owner of each of these rows, with another row at this place, and with room for no more. NoMemory where there is none
-/// for that. It costs their number.
-pub fn with_added(
-    alloc: Global,
-    rows: &[Arc<FileSystem>],
-    place: usize,
-    added: Arc<FileSystem>,
-) -> Result<Vec<Arc<FileSystem>>, Refusal>
-    requires { place ≤ length rows.now }
-    ensures ok { IfOk result (λ v. map arc_value v.items ≡ insert (map arc_value rows.now) place (arc_value added)) }
-    ensures room { IfOk result (λ v. vec_capacity v ≡ length rows.now + 1) }
-    ensures err { IfErr result (λ e. e ≡ Refusal.NoMemory) }
+/// Puts a row at this place among others, where there is room for it. It costs their number.
+pub fn put(rows: &mut Vec<Arc<FileSystem>>, place: usize, added: Arc<FileSystem>)
+    requires room { vec_len rows.old < vec_capacity rows.old }
+    requires within { place ≤ vec_len rows.old }
+    ensures { rows.new.items ≡ insert rows.old.items place added }
 {
-    let (before, after) = rows.split_at(place);
-    let mut owners = Vec::with_capacity(alloc, rows.len() + 1)?;
-    share(before, &mut owners)?;
-    owners.push_reserved(added);
-    share(after, &mut owners)?;
-    Ok(owners)
+    let Ok(()) = rows.insert(place, added) else {
+        unreachable!()
+    };
 }
 
 /// Puts a batch of changes of a row's live tree in force at once, as `FileSystem::apply` does: where the row is, if it has no other

@@ -1,9 +1,10 @@
 -- Clones and promotes: what is planned can be done, and is a step.
-use Rattle.std.proofs.Common.{◌≡◌, ◌⊎◌, ◌+◌, ◌≤◌, ℕ, List, Some, None, sym, subst, arith}
+use Rattle.std.proofs.Common.{◌≡◌, ◌⊎◌, ◌+◌, ◌≤◌, ℕ, List, Some, None, sym, ap, subst, arith}
 use Rattle.base.specs.declared.refusal.Refusal.{Refusal}
 use Rattle.base.specs.declared.refusal.Refusal.TheVariants.{NoMemory}
 use Rattle.name.specs.declared.target.Target.{Target}
 use Rattle.zalloc.specs.declared.BlockState.{BlockState}
+use Rattle.model.specs.declared.request.Request.{Request}
 use Rattle.model.specs.declared.request.Request.TheVariants.{Clone, Promote}
 use Rattle.model.specs.declared.reply.Reply.TheVariants.{Done, Refused}
 use Rattle.model.specs.State.{State}
@@ -11,11 +12,12 @@ use Rattle.model.specs.Step.{Step}
 use Rattle.model.specs.Targets.{guid_limit}
 use Rattle.world.specs.Tables.{Datasets}
 use Rattle.clones.specs.Requests.{cloned, clone_refusal, promoted, promote_refusal}
-use Rattle.steps.specs.Edits.{datasets_of, put, CanPut}
+use Rattle.steps.specs.Edits.{datasets_of, with_datasets, put, CanPut}
 use Rattle.steps.proofs.Cloning as cloning
 use Rattle.steps.proofs.Promoting as promoting
 use Rattle.pool.specs.Pools.{IsSound}
 use Rattle.pool.specs.Shown.{Shown, shown}
+use Rattle.pool.proofs.Commits.{sound_put}
 
 plus_none : (n : ℕ) → n ≡ n + 0
 plus_none n = omega (arith)
@@ -46,3 +48,23 @@ module _ (seen : Shown) (s : State) (numbers : List BlockState) (view : shown s 
       pub promote_done : Step seen.state (Promote name) Done (put seen.state to 0)
       promote_done = subst (λ (x : Shown). Step x.state (Promote name) Done (put x.state to 0)) view
           (subst (λ t. Step s (Promote name) Done (put s t 0)) (sym is) (promoting.promote_done s name sound.steady numbers sound.states none))
+
+-- no guid is made for a clone or a promote
+put_none : (s : State) (to : Datasets) → put s to 0 ≡ with_datasets s to
+put_none s to = ap (λ n. record (with_datasets s to) { next_guid = n }) (sym (plus_none s.next_guid))
+
+-- where that is done at once, the pool is sound again, and that is a step
+module _ (s : State) (numbers : List BlockState) (to : Datasets) where
+  pub sound_now : IsSound s numbers → CanPut s to 0 × (s.next_guid + 0 ≤ guid_limit + 1) → IsSound (with_datasets s to) numbers
+  sound_now sound can = subst (λ x. IsSound x numbers) (put_none s to) (sound_put s numbers sound to 0 can.0 can.1)
+
+  pub same_now : IsSound s numbers → to ≡ datasets_of s → IsSound (with_datasets s to) numbers
+  same_now sound same = subst (λ t. IsSound (with_datasets s t) numbers) (sym same) sound
+
+  pub step_now : (seen : Shown) → shown s numbers ≡ seen → (q : Request) → Step s q Done (put s to 0) → Step seen.state q Done (with_datasets s to)
+  step_now seen view q done = subst (λ (x : Shown). Step x.state q Done (with_datasets s to)) view (subst (λ x. Step s q Done x) (put_none s to) done)
+
+  -- where it is refused, nothing has changed
+  pub refused_now : (seen : Shown) → shown s numbers ≡ seen → (q : Request) (why : Refusal) → to ≡ datasets_of s → Step s q (Refused why) s → Step seen.state q (Refused why) (with_datasets s to)
+  refused_now seen view q why same refused =
+      subst (λ (t : Datasets). Step seen.state q (Refused why) (with_datasets s t)) (sym same) (subst (λ (x : Shown). Step x.state q (Refused why) s) view refused)

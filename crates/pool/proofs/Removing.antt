@@ -1,10 +1,12 @@
 -- Rollbacks and destroys: what is planned can be done, and is a step.
-use Rattle.std.proofs.Common.{◌≡◌, ◌⊎◌, Bool, List, Some, None, refl, sym, subst}
+use Rattle.std.proofs.Common.{◌≡◌, ◌⊎◌, Bool, List, Some, None, refl, sym, ap, subst, ◌∙◌}
 use Rattle.base.specs.Map.{BlockSet}
 use Rattle.base.specs.declared.refusal.Refusal.{Refusal}
 use Rattle.base.specs.declared.refusal.Refusal.TheVariants.{NoMemory}
 use Rattle.name.specs.declared.target.Target.{Target}
 use Rattle.zalloc.specs.declared.BlockState.{BlockState}
+use Rattle.model.specs.Edits.{with_now}
+use Rattle.model.specs.declared.request.Request.{Request}
 use Rattle.model.specs.declared.request.Request.TheVariants.{Rollback, Destroy}
 use Rattle.model.specs.declared.reply.Reply.TheVariants.{Done, Refused}
 use Rattle.model.specs.State.{State}
@@ -23,6 +25,7 @@ use Rattle.steps.proofs.Rolling as rolling
 use Rattle.steps.proofs.Destroying as destroying
 use Rattle.pool.specs.Pools.{IsSound}
 use Rattle.pool.specs.Shown.{Shown, shown}
+use Rattle.pool.proofs.Commits.{sound_lost}
 
 module _ (seen : Shown) (s : State) (numbers : List BlockState) (view : shown s numbers ≡ seen) (sound : IsSound s numbers) where
   -- no block of a dataset is to be freed
@@ -65,3 +68,23 @@ module _ (seen : Shown) (s : State) (numbers : List BlockState) (view : shown s 
       pub destroy_done : Step seen.state (Destroy target recursive defer) Done (lose seen.state to)
       destroy_done = subst (λ (x : Shown). Step x.state (Destroy target recursive defer) Done (lose x.state to)) view
           (subst (λ t. Step s (Destroy target recursive defer) Done (lose s t)) (sym is) (destroying.destroy_done s sound.steady target recursive defer none can))
+
+-- where that is done at once, the pool is sound again, and that is a step
+module _ (s : State) (numbers : List BlockState) (to : Datasets) (freeing : BlockSet) where
+  pub lost_now : IsSound s numbers → CanLose s to × (freeing ≡ (lose s to).now.freeing) → IsSound (with_now s (record (world_of to) { freeing = freeing })) numbers
+  lost_now sound can = subst (λ (x : BlockSet). IsSound (with_now s (record (world_of to) { freeing = x })) numbers) (sym can.1) (sound_lost s numbers sound to can.0)
+
+  pub lost_step : (seen : Shown) → shown s numbers ≡ seen → (q : Request) → freeing ≡ (lose s to).now.freeing → Step s q Done (lose s to) → Step seen.state q Done (with_now s (record (world_of to) { freeing = freeing }))
+  lost_step seen view q is done =
+      subst (λ (x : BlockSet). Step seen.state q Done (with_now s (record (world_of to) { freeing = x }))) (sym is) (subst (λ (x : Shown). Step x.state q Done (lose s to)) view done)
+
+  -- where it is refused, nothing has changed
+  module _ (same : to ≡ datasets_of s) (kept : freeing ≡ s.now.freeing) where
+    as_it_was : with_now s (record (world_of to) { freeing = freeing }) ≡ s
+    as_it_was = ap (λ t. with_now s (record (world_of t) { freeing = freeing })) same ∙ ap (λ x. with_now s (record (world_of (datasets_of s)) { freeing = x })) kept
+
+    pub kept_now : IsSound s numbers → IsSound (with_now s (record (world_of to) { freeing = freeing })) numbers
+    kept_now sound = subst (λ x. IsSound x numbers) (sym as_it_was) sound
+
+    pub kept_step : (seen : Shown) → shown s numbers ≡ seen → (q : Request) (why : Refusal) → Step s q (Refused why) s → Step seen.state q (Refused why) (with_now s (record (world_of to) { freeing = freeing }))
+    kept_step seen view q why refused = subst (λ x. Step seen.state q (Refused why) x) (sym as_it_was) (subst (λ (x : Shown). Step x.state q (Refused why) s) view refused)

@@ -5,7 +5,7 @@ ghost use Rattle.model.specs.Step.{Step};
 ghost use Rattle.pool.specs.Plans.{state_after_plan, CanDo};
 
 use crate::pool::{Plan, Pool};
-use clones::{clone_snapshot, promote};
+use clones::{clone_now, clone_snapshot, promote, promote_now};
 use model::reply::Reply;
 use name::{DsName, Target};
 use std::alloc::Global;
@@ -31,5 +31,27 @@ impl Pool {
             Ok(to) => (Reply::Done, Plan::Put { to, guids: 0 }),
             Err(refusal) => (Reply::Refused(refusal), Plan::Nothing),
         }
+    }
+
+    // Clones at once, or answers why it can't, and then nothing has changed.
+    pub(crate) fn clone_now(&mut self, target: &Target, name: &DsName) -> Reply
+        ensures { Step self.old.state (Request.Clone target.now name.now) result self.new.state }
+    {
+        let _size = self.size;
+        if let Err(refusal) = clone_now(&mut self.present, target, name) {
+            return Reply::Refused(refusal);
+        }
+        Reply::Done
+    }
+
+    // Promotes at once, or answers why it can't, and then nothing has changed.
+    pub(crate) fn promote_now(&mut self, alloc: Global, name: &DsName) -> Reply
+        ensures { Step self.old.state (Request.Promote name.now) result self.new.state }
+    {
+        let _size = self.size;
+        if let Err(refusal) = promote_now(alloc, &mut self.present, name) {
+            return Reply::Refused(refusal);
+        }
+        Reply::Done
     }
 }

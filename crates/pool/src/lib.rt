@@ -5,6 +5,7 @@
 #![tactic(auto)]
 
 mod cloning;
+mod destroying;
 mod named;
 mod pool;
 mod viewing;

@@ -29,7 +29,7 @@ use model::snap_names::SnapNames;
 use model::snapshot_id::SnapshotId;
 use name::{DsName, SnapName, Target};
 use objset::{free_of, punch_of, write_of};
-use removals::{Edit, destroy, rollback};
+use removals::{Edit, rollback};
 use snap::{Guids, Taken, snapshot, snapshot_one};
 use std::alloc::Global;
 use std::marker::Model;
@@ -300,37 +300,6 @@ impl Pool {
         (Reply::Done, Plan::Lose { to, freeing })
     }
 
-    fn planned_destroy(
-        &mut self,
-        alloc: Global,
-        target: &Target,
-        recursive: bool,
-        defer: bool,
-    ) -> (Reply, Plan)
-        ensures same { self.new ≡ self.old }
-        ensures can { CanDo self.old.state result.1 }
-        ensures step { Step self.old.state (Request.Destroy target.now recursive defer) result.0 (state_after_plan self.old.state result.1) }
-    {
-        let _size = self.size;
-        let edit = destroy(
-            alloc,
-            &self.present,
-            &self.freeing,
-            &self.views,
-            target,
-            recursive,
-            defer,
-            &mut self.segments,
-        );
-        let Edit { to, freeing } = match edit {
-            Ok(edit) => edit,
-            Err(refusal) => return (Reply::Refused(refusal), Plan::Nothing),
-        };
-        // It tells of the file systems that are left what a table keeps.
-        let _count = to.len();
-        (Reply::Done, Plan::Lose { to, freeing })
-    }
-
     fn planned_slice(&mut self, count: u64) -> (Reply, Plan)
         ensures same { self.new ≡ self.old }
         ensures can { CanDo self.old.state result.1 }
@@ -514,8 +483,9 @@ impl Pool {
 
     /// One step: the request is done, or refused with the state as it was. A write, a punch and a freed object change the tree at
     /// once, and cost the path to the leaf or the object's nodes. A snapshot of one name without its descendants is taken at once,
-    /// and costs the logarithm of the number of its file system's snapshots; and the first since a sync a 32nd of their number. Every
-    /// other request costs what `prepare` and `commit` do.
+    /// and costs the logarithm of the number of its file system's snapshots; and the first since a sync a 32nd of their number. A
+    /// creation, a clone, a promote and the destroy of one file system are done at once too, and copy no table: they cost what `Table::add`,
+    /// `clone_now`, `promote_now` and `destroy_now` say. Every other request costs what `prepare` and `commit` do.
     pub fn apply(&mut self, alloc: Global, request: &Request) -> Reply
         ensures step { Step self.old.state request.now result self.new.state }
         ensures numbered { IsNumbered self.new.state }
@@ -527,8 +497,8 @@ impl Pool {
         reply
     }
 
-    // One step: a change of a tree, a snapshot of one name and a sync at once, a question as it is, and each other request prepared
-    // and committed.
+    // One step: a change of a tree, a creation, a snapshot of one name, a clone, a promote, a destroy and a sync at once, a question as it
+    // is, and each other request prepared and committed.
     #[inline(never)]
     fn answer(&mut self, alloc: Global, request: &Request) -> Reply
         ensures { Step self.old.state request.now result self.new.state }
@@ -565,14 +535,18 @@ impl Pool {
                 [name] => self.snapshot_now(alloc, name),
                 _ => self.answer_prepared(alloc, request),
             },
-            Request::Create { .. }
-            | Request::Snapshot { .. }
+            Request::Destroy {
+                target,
+                recursive,
+                defer,
+            } => self.destroy_now(alloc, target, *recursive, *defer),
+            Request::Clone { target, name } => self.clone_now(target, name),
+            Request::Promote { name } => self.promote_now(alloc, name),
+            Request::Create { name } => self.create_now(name),
+            Request::Snapshot { .. }
             | Request::Rollback { .. }
-            | Request::Destroy { .. }
             | Request::OpenView { .. }
-            | Request::CloseView { .. }
-            | Request::Clone { .. }
-            | Request::Promote { .. } => self.answer_prepared(alloc, request),
+            | Request::CloseView { .. } => self.answer_prepared(alloc, request),
         }
     }
 
@@ -583,6 +557,20 @@ impl Pool {
         let (reply, ready) = self.prepare(alloc, request);
         self.commit(ready);
         reply
+    }
+
+    // Adds a file system of this name at once, or answers why it can't, and then nothing has changed.
+    fn create_now(&mut self, name: &DsName) -> Reply
+        ensures { Step self.old.state (Request.Create name.now) result self.new.state }
+    {
+        let _size = self.size;
+        if let Some(refusal) = self.present.create_refusal(name) {
+            return Reply::Refused(refusal);
+        }
+        if let Err(refusal) = self.present.add(name) {
+            return Reply::Refused(refusal);
+        }
+        Reply::Done
     }
 
     // Syncs at once, or answers why it can't, and then nothing has changed.

@@ -16,3 +16,5 @@ pub mod Shared
 pub mod Emptying
 pub mod Swept
 pub mod Outside
+pub mod Alone
+pub mod Left

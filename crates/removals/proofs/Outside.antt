@@ -19,7 +19,7 @@ use Rattle.world.proofs.Finding.{in_filter, from_filter, in_flat, from_flat, sam
 use Rattle.world.proofs.Bridge.{from_entries, from_snap_at, snap_is_at}
 use Rattle.world.proofs.Listed.{in_map, map_in}
 use Rattle.world.proofs.States.{in_clones}
-use Rattle.removals.specs.Families.{is_outside_clone, AreClonesInside}
+use Rattle.removals.specs.Families.{is_outside_clone, is_cloned_outside, AreClonesInside}
 use Rattle.removals.proofs.SystemsGone.{in_entries}
 use Rattle.removals.proofs.Swept.{any_in}
 
@@ -147,3 +147,63 @@ module _ (t : Datasets) (good : AreFileSystems t.file_systems t.group) (name : N
       by_test : (b : Bool) → is_in_family name clone ≡ b → is_in_family name clone ≡ true
       by_test true e = e
       by_test false e = absurd (true≢false (sym (is_one owner clone f c s at at' i o within e) ∙ any_none (is_outside_clone t name) (entries t.file_systems) none (clone, c) (at_row clone c at')))
+
+  -- what the code tests, of the family's snapshots
+  abbrev asked : Bool
+  asked = list_any (λ (r : Entry). is_in_family name r.0 && list_any (is_cloned_outside t name) r.1.snaps) (entries t.file_systems)
+
+  abbrev out_name : Name → Bool
+  out_name n = not (is_in_family name n)
+
+  asked_found : asked ≡ true → found ≡ true
+  asked_found e =
+      let owner = from_any (λ (r : Entry). is_in_family name r.0 && list_any (is_cloned_outside t name) r.1.snaps) (entries t.file_systems) e in
+      let parts = and_parts (is_in_family name owner.0.0) (list_any (is_cloned_outside t name) owner.0.1.snaps) owner.2 in
+      let s = from_any (is_cloned_outside t name) owner.0.1.snaps parts.1 in
+      let clone = from_any out_name (clones_of (world_of t) (id_of s.0)) s.2 in
+      by_clone owner.0 owner.1 parts.0 s.0 s.1 clone.0 clone.1 clone.2
+    where
+      by_origin : (id : SnapId) (o : Option SnapId) → option_map_or (same_id id) o false ≡ true → o ≡ Some id
+      by_origin id None h = absurd (true≢false (sym h))
+      by_origin id (Some j) h = ap Some (sym (same_id_is id j h))
+
+      by_row : (owner : Entry) → IsIn (entries t.file_systems) owner → is_in_family name owner.0 ≡ true → (s : Snap) → IsIn owner.1.snaps s → (row : Entry) → IsIn (entries t.file_systems) row
+          → option_map_or (same_id (id_of s)) row.1.origin false ≡ true → is_in_family name row.0 ≡ false → found ≡ true
+      by_row owner i within s k row l o out = any_in (is_outside_clone t name) (entries t.file_systems) row l
+          (is_one owner.0 row.0 owner.1 row.1 s (row_at owner i) (row_at row l) k (by_origin (id_of s) row.1.origin o) within out)
+
+      by_clone : (owner : Entry) → IsIn (entries t.file_systems) owner → is_in_family name owner.0 ≡ true → (s : Snap) → IsIn owner.1.snaps s → (clone : Name) → IsIn (clones_of (world_of t) (id_of s)) clone
+          → not (is_in_family name clone) ≡ true → found ≡ true
+      by_clone owner i within s k clone l out =
+          let row = in_map (λ (r : Entry). r.0) (filter (λ (r : Entry). option_map_or (same_id (id_of s)) r.1.origin false) (entries t.file_systems)) clone l in
+          let own = from_filter (λ (r : Entry). option_map_or (same_id (id_of s)) r.1.origin false) (entries t.file_systems) row.0 row.1 in
+          by_row owner i within s k row.0 own.0 own.1 (ap (is_in_family name) (sym row.2) ∙ not_true (is_in_family name clone) out)
+
+  found_asked : found ≡ true → asked ≡ true
+  found_asked e =
+      let row = from_any (is_outside_clone t name) (entries t.file_systems) e in
+      let parts = and_parts (not (is_in_family name row.0.0)) (option_map_or (λ id. option_map_or (λ (p : Name × Snap). is_in_family name p.0) (snap_at (world_of t) id) false) row.0.1.origin false) row.2 in
+      by_origin row.0 row.1 parts.0 row.0.1.origin refl parts.1
+    where
+      by_owner : (r : Entry) → IsIn (entries t.file_systems) r → not (is_in_family name r.0) ≡ true → (id : SnapId) → r.1.origin ≡ Some id → (x : Option (Name × Snap)) → snap_at (world_of t) id ≡ x
+          → option_map_or (λ (p : Name × Snap). is_in_family name p.0) x false ≡ true → asked ≡ true
+      by_owner r k out id o None at h = absurd (true≢false (sym h))
+      by_owner r k out id o (Some p) at h =
+          let s = from_snap_at (world_of t) id p at in
+          let shown : is_cloned_outside t name p.1 ≡ true = any_in out_name (clones_of (world_of t) (id_of p.1)) r.0 (in_clones (world_of t) (id_of p.1) r.0 r.1 (row_at r k) (o ∙ ap Some (sym s.3))) out in
+          any_in (λ (q : Entry). is_in_family name q.0 && list_any (is_cloned_outside t name) q.1.snaps) (entries t.file_systems) (p.0, s.0) (at_row p.0 s.0 s.1)
+          (λ i. h i && any_in (is_cloned_outside t name) s.0.snaps p.1 s.2 shown i)
+
+      by_origin : (r : Entry) → IsIn (entries t.file_systems) r → not (is_in_family name r.0) ≡ true → (o : Option SnapId) → r.1.origin ≡ o
+          → option_map_or (λ id. option_map_or (λ (p : Name × Snap). is_in_family name p.0) (snap_at (world_of t) id) false) o false ≡ true → asked ≡ true
+      by_origin r k out None o h = absurd (true≢false (sym h))
+      by_origin r k out (Some id) o h = by_owner r k out id o (snap_at (world_of t) id) refl h
+
+  -- it is whether a clone of a snapshot within is outside
+  pub asked_outside : list_any (λ (r : Entry). is_in_family name r.0 && list_any (is_cloned_outside t name) r.1.snaps) (entries t.file_systems) ≡ list_any (is_outside_clone t name) (entries t.file_systems)
+  asked_outside = same_test asked found asked_found found_asked
+    where
+      same_test : (a b : Bool) → (a ≡ true → b ≡ true) → (b ≡ true → a ≡ true) → a ≡ b
+      same_test true b f g = sym (f refl)
+      same_test false true f g = g refl
+      same_test false false f g = refl

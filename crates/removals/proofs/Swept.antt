@@ -101,7 +101,7 @@ abbrev pub is_due : Datasets → Views → Snap → Bool
 is_due t views u = u.deferred && not (is_kept t views (id_of u))
 
 module _ (t : Datasets) (p : Snap → Bool) where
-  origins_stay : (n : Name) → origin_at (without t p) n ≡ origin_at t n
+  pub origins_stay : (n : Name) → origin_at (without t p) n ≡ origin_at t n
   origins_stay n = ap (option_map (λ (f : FileSystem). f.origin)) (get-without (world_of t) p n) ∙ by_system (get t.file_systems n)
     where
       by_system : (x : Option FileSystem) → option_map (λ (f : FileSystem). f.origin) (option_map (λ (f : FileSystem). record f { snaps = filter (λ u. not (p u)) f.snaps }) x) ≡ option_map (λ (f : FileSystem). f.origin) x

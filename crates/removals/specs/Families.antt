@@ -6,7 +6,7 @@ use Rattle.std.specs.FinMap.{get, entries}
 use Rattle.base.specs.declared.refusal.Refusal.{Refusal}
 use Rattle.base.specs.declared.refusal.Refusal.TheVariants.{Busy, HasClones}
 use Rattle.base.specs.Surveys.{IsIn}
-use Rattle.model.specs.World.{FileSystem, Snap, SnapId, id_of, empty_file_system, snap_at}
+use Rattle.model.specs.World.{FileSystem, Snap, SnapId, id_of, empty_file_system, snap_at, clones_of}
 use Rattle.model.specs.State.{Views}
 use Rattle.model.specs.Edits.{with_file_systems}
 use Rattle.file_system.specs.Rows.{Entry}
@@ -32,6 +32,10 @@ IsBareFamily t name = (n : List ℕ) (f : FileSystem) → get t.file_systems n �
 abbrev pub is_outside_clone : Datasets → List ℕ → Entry → Bool
 is_outside_clone t name r =
     not (is_in_family name r.0) && option_map_or (λ id. option_map_or (λ p. is_in_family name p.0) (snap_at (world_of t) id) false) r.1.origin false
+
+-- a clone of this snapshot isn't of the family (zfs-destroy(8), -R)
+abbrev pub is_cloned_outside : Datasets → List ℕ → Snap → Bool
+is_cloned_outside t name s = list_any (λ n. not (is_in_family name n)) (clones_of (world_of t) (id_of s))
 
 -- why a family isn't destroyed, if it isn't: an open view shows a snapshot of it, or one has a clone outside (zfs-destroy(8); the view is
 -- profile)
@@ -66,3 +70,8 @@ without_origin t views r = option_map_or (without_unneeded t views) (gone_origin
 abbrev pub without_origins : Datasets → Views → List Entry → Datasets
 without_origins t views [] = t
 without_origins t views (r ∷ rows) = without_origins (without_origin t views r) views rows
+
+-- the file system of this name is a clone of a snapshot whose destroy is deferred (zfs-destroy(8), -d)
+abbrev pub has_deferred_origin : Datasets → List ℕ → Bool
+has_deferred_origin t name =
+    option_map_or (λ id. option_map_or (λ p. p.1.deferred) (snap_at (world_of t) id) false) (option_and_then (λ f. f.origin) (get t.file_systems name)) false

@@ -1,15 +1,17 @@
 //! Which snapshots have clones.
-ghost use Rattle.std.specs.Prelude.{◌≡◌};
+ghost use Rattle.std.specs.Prelude.{◌≡◌, ◌&&◌, not};
 ghost use Rattle.std.specs.List.{list_any};
 ghost use Rattle.std.specs.FinMap.{entries};
-ghost use Rattle.file_system.specs.Rows.{entry_in, entry_of};
-ghost use Rattle.removals.specs.Families.{is_outside_clone};
+ghost use Rattle.file_system.specs.Rows.{entry_in};
+ghost use Rattle.file_systems.specs.CloneNames.{name_of};
+ghost use Rattle.snap.specs.Taking.{is_in_family};
+ghost use Rattle.removals.specs.Families.{is_cloned_outside, is_outside_clone};
 ghost use Rattle.removals.specs.Named.{is_named_cloned, is_named_kept, is_cloned_after};
 
 use crate::viewed::is_named_viewed;
 use base::number::Group;
 use datasets::Table;
-use file_systems::FileSystem;
+use file_systems::{CloneName, FileSystem, Snapshot};
 use name::{Component, DsName};
 use snap::{Named, is_in_family};
 use std::sync::Arc;
@@ -69,36 +71,63 @@ pub(crate) fn any_later_cloned(table: &Table, file_system: &FileSystem, group: G
     false
 }
 
-// Whether this file system isn't of the family of that name and is a clone of a snapshot of it. It costs the number of file systems times
-// the logarithm of that of the snapshots of one.
-fn is_outside_clone(table: &Table, name: &DsName, file_system: &FileSystem) -> bool
-    ensures { result ≡ is_outside_clone table.now name.now (entry_of file_system.now) }
+// Whether this clone isn't of the family of that name.
+fn is_outside(clone: &CloneName, name: &DsName) -> bool
+    ensures { result ≡ not (is_in_family name.now (name_of clone.now)) }
 {
-    if is_in_family(name.as_bytes(), file_system.name().as_bytes()) {
-        return false;
+    !is_in_family(name.as_bytes(), clone.name().as_bytes())
+}
+
+// Whether one of these isn't.
+fn any_outside(clones: &[CloneName], name: &DsName) -> bool
+    ensures { result ≡ list_any (λ c. not (is_in_family name.now (name_of c))) clones.now }
+{
+    clones.iter().any(|clone| is_outside(clone, name))
+}
+
+// Whether this snapshot has a clone that isn't of the family of that name. It costs the logarithm of the number of clones, and the number
+// of the snapshot's own.
+fn is_cloned_outside(table: &Table, name: &DsName, snapshot: &Snapshot) -> bool
+    ensures { result ≡ is_cloned_outside table.now name.now snapshot.now }
+{
+    any_outside(table.clones_of(snapshot.id()), name)
+}
+
+// Whether that holds of a snapshot of this file system. It costs what `is_cloned_outside` does for each.
+fn any_snapshot_cloned_outside(table: &Table, name: &DsName, file_system: &FileSystem) -> bool
+    ensures { result ≡ list_any (is_cloned_outside table.now name.now) file_system.now.system.snaps }
+{
+    for kept in file_system.snapshots().iter() {
+        if is_cloned_outside(table, name, &kept.snapshot) {
+            return true;
+        }
     }
-    let Some(origin) = file_system.origin() else {
-        return false;
-    };
-    match table.snapshot_of(origin) {
-        Some((owner, _snapshot)) => is_in_family(name.as_bytes(), owner.name().as_bytes()),
-        None => false,
-    }
+    false
+}
+
+// Whether it is the file system of that name or a descendant, and a snapshot of it has a clone that isn't one of these.
+fn is_cloned_within(table: &Table, name: &DsName, file_system: &FileSystem) -> bool
+    ensures { result ≡ (is_in_family name.now file_system.now.name && list_any (is_cloned_outside table.now name.now) file_system.now.system.snaps) }
+{
+    is_in_family(name.as_bytes(), file_system.name().as_bytes())
+        && any_snapshot_cloned_outside(table, name, file_system)
 }
 
 // Whether that holds of one of these file systems.
-fn any_outside_clone(file_systems: &[Arc<FileSystem>], table: &Table, name: &DsName) -> bool
-    ensures { result ≡ list_any (λ a. is_outside_clone table.now name.now (entry_in a)) file_systems.now }
+fn any_cloned_within(file_systems: &[Arc<FileSystem>], table: &Table, name: &DsName) -> bool
+    ensures { result ≡ list_any (λ a. is_in_family name.now (entry_in a).0 && list_any (is_cloned_outside table.now name.now) (entry_in a).1.snaps) file_systems.now }
 {
     file_systems
         .iter()
-        .any(|file_system| is_outside_clone(table, name, file_system))
+        .any(|file_system| is_cloned_within(table, name, file_system))
 }
 
 /// Whether a snapshot of the file system of this name or of a descendant has a clone that isn't one of these. It costs the number of file
-/// systems, and for each clone that isn't one of these that number times the logarithm of that of the snapshots of one.
+/// systems, and for each snapshot of these the logarithm of the number of clones, and the number of its own.
 pub(crate) fn any_cloned_outside(table: &Table, name: &DsName) -> bool
     ensures { result ≡ list_any (is_outside_clone table.now name.now) (entries table.now.file_systems) }
 {
-    any_outside_clone(table.file_systems(), table, name)
+    // It tells of the snapshots that each identity is one's.
+    let _count = table.len();
+    any_cloned_within(table.file_systems(), table, name)
 }

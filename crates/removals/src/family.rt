@@ -109,8 +109,8 @@ fn family_refusal(table: &Table, views: &Views, name: &DsName) -> Option<Refusal
     None
 }
 
-// Why a file system isn't destroyed, if it isn't. It costs the number of file systems, and with `recursive` what `family_refusal` does.
-fn refusal_of(
+/// Why a file system isn't destroyed, if it isn't. It costs the number of file systems, and with `recursive` what `family_refusal` does.
+pub(crate) fn refusal_of(
     table: &Table,
     views: &Views,
     name: &DsName,
@@ -200,7 +200,8 @@ fn without_systems_swept(
 /// else Busy where one of these views shows a snapshot that would go, else HasClones where such a one has a clone that wouldn't. NoMemory,
 /// where there is none for it, may come before the refusals of a snapshot. It costs the number n of file systems times its logarithm, the
 /// chunks of pieces that are to be freed, for each snapshot that goes what `Edit::lose_snapshot` does and the number of open views, for
-/// each clone that goes, and with `recursive` for each that doesn't, n times the logarithm of the number of snapshots of one.
+/// each clone that goes n times the logarithm of the number of snapshots of one, and with `recursive` for each snapshot of the family the
+/// logarithm of the number of clones and the number of its own.
 pub fn destroy(
     alloc: Global,
     table: &Table,

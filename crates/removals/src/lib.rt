@@ -11,6 +11,7 @@ mod edit;
 mod emptied;
 mod family;
 mod gone;
+mod now;
 mod sweep;
 mod viewed;
 
@@ -19,3 +20,4 @@ pub use close::close_view;
 pub use edit::Edit;
 pub use family::destroy;
 pub use gone::destroy_snapshots;
+pub use now::destroy_now;

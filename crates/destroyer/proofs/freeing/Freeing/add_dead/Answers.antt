@@ -1,14 +1,20 @@
-use Rattle.std.proofs.Common.{◌≡◌, ◌+◌, refl, sym, ap, subst, ◌∙◌, arith, length}
-use Rattle.std.proofs.lemmas.List.{length-append, length-map}
+use Rattle.std.proofs.Common.{◌≡◌, ◌+◌, List, refl, sym, ap, subst, ◌∙◌, arith, length}
+use Rattle.std.proofs.lemmas.List.{length-append, length-map, nil_from_length}
 use Rattle.std.specs.FinSet.{union, from_list}
-use Rattle.base.specs.Map.{BlockSet}
+use Rattle.base.specs.Map.{Block, BlockSet}
 use Rattle.base.specs.Surveys.{AreDifferent, dead_block}
 use Rattle.deadlist.specs.Held.{Held}
 use Rattle.world.specs.Sets.{AreDisjoint}
 use Rattle.destroyer.specs.Members.{members, dead_blocks, dead_set}
 use Rattle.destroyer.proofs.Pieces.{last_piece}
-use Rattle.destroyer.proofs.Together.{added}
+use Rattle.destroyer.proofs.Together.{nothing_added, added}
 use Rattle.destroyer.proofs.freeing.Freeing.add_dead.Goals as goal
+
+pub returns-then-len-eq0-clause-ok : goal.returns-then-len-eq0-clause-ok
+returns-then-len-eq0-clause-ok c =
+    let entries = c.args.list.value.entries in
+    let none : length (dead_blocks entries) ≡ 0 = length-map entries dead_block ∙ sym (c.len.ensures ∙ ap (λ (h : Held). length h.entries) c.deref.ensures) ∙ c.if-len-eq0.true in
+    nothing_added c.args.self.now (dead_set entries) (ap (λ (bs : List Block). from_list bs) (nil_from_length (dead_blocks entries) none))
 
 pub invariant_of-self-2 : goal.invariant_of-self-2
 invariant_of-self-2 c =
@@ -21,7 +27,7 @@ invariant_of-self-2 c =
     let long : length (members c.push.new.self) ≡ length new + length old = ap length whole ∙ length-append new old in
     let count = length-map entries dead_block in
     let kept = c.self.invariant.1 in
-    let given : c.len.result ≡ length entries = c.len.ensures ∙ ap (λ (h : Held). length h.entries) c.deref.ensures in (
+    let given : c.len-2.result ≡ length entries = c.len-2.ensures ∙ ap (λ (h : Held). length h.entries) c.deref-2.ensures in (
       subst AreDifferent (sym whole) a.0,
       omega (arith, long, count, kept, given, c.in-Some.ensures),
     )

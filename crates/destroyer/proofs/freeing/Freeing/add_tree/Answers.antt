@@ -1,16 +1,20 @@
 use Rattle.std.proofs.Common.{◌≡◌, ◌+◌, sym, ap, subst, ◌∙◌, arith, length, length-append}
-use Rattle.std.specs.FinSet.{union, from_list}
+use Rattle.std.specs.FinSet.{union, from_list, empty_of_len}
 use Rattle.base.specs.Map.{BlockSet, blocks}
 use Rattle.base.specs.Surveys.{AreDifferent}
 use Rattle.world.specs.Blocks.{after}
 use Rattle.world.specs.Sets.{AreDisjoint}
 use Rattle.destroyer.specs.Members.{members, born_after}
 use Rattle.destroyer.proofs.Pieces.{last_piece}
-use Rattle.destroyer.proofs.Together.{tree_lists, none_added, added}
+use Rattle.destroyer.proofs.Together.{tree_lists, none_added, nothing_added, added}
 use Rattle.destroyer.proofs.freeing.Freeing.add_tree.Goals as goal
 
 pub returns-in_default-2-clause-ok : goal.returns-in_default-2-clause-ok
 returns-in_default-2-clause-ok c = none_added c.args.self.now c.args.tree.now c.args.cut.0 (rw c.in_default-2.is at c.in_ok-top.ensures.none)
+
+pub returns-then-count-eq0-clause-ok : goal.returns-then-count-eq0-clause-ok
+returns-then-count-eq0-clause-ok c =
+    nothing_added c.args.self.now (after c.args.cut.0 (blocks c.args.tree.now)) (empty_of_len (after c.args.cut.0 (blocks c.args.tree.now)) (sym c.requires.count ∙ c.if-count-eq0.true))
 
 pub invariant_of-self-2 : goal.invariant_of-self-2
 invariant_of-self-2 c =

@@ -1,4 +1,4 @@
-use Rattle.std.proofs.Common.{◌≡◌, ◌++◌, ◌+◌, suc, Some, take, drop, slice_get, sym, ap, subst, ◌∙◌, add-one, is_some, true}
+use Rattle.std.proofs.Common.{◌≡◌, ◌++◌, suc, Some, take, drop, slice_get, sym, ap, subst, ◌∙◌, add-one, is_some, true}
 use Rattle.std.specs.Prelude.{◌==◌}
 use Rattle.std.specs.List.{find}
 use Rattle.std.specs.Arc.{arc_value}
@@ -29,15 +29,15 @@ place_of-place-requires-clause-there c =
     subst (λ l. is_some (find (λ (t : Snap). t.group == c.args.origin.group.0) (snaps_in l)) ≡ true) (sym kept)
     (origin_there c.args.self.now c.args.owner.now (snap_id c.args.origin) c.requires (arc_value c.owner.inside.snapshots) ks_are)
 
-pub split_at-requires-clause-once : goal.split_at-requires-clause-once
-split_at-requires-clause-once c =
+pub parted-requires-clause-once : goal.parted-requires-clause-once
+parted-requires-clause-once c =
     let ks_are = ap (λ (r : Row). r.system.snaps) c.owner.view_is in
-    subst AreNamesOnce (sym c.deref-2.ensures) (owner_once c.args.self.now c.args.owner.now (snap_id c.args.origin) c.requires (arc_value c.owner.inside.snapshots) ks_are)
+    (owner_once c.args.self.now c.args.owner.now (snap_id c.args.origin) c.requires (arc_value c.owner.inside.snapshots) ks_are)
 
 -- ---- the snapshots of both
 
-pub joined-requires : goal.joined-requires
-joined-requires c =
+pub appended-requires : goal.appended-requires
+appended-requires c =
     let ks = arc_value c.owner.inside.snapshots in
     let cs = arc_value c.self.inside.snapshots in
     let i = c.place_of-place.result in
@@ -45,8 +45,8 @@ joined-requires c =
     let cs_are = ap (λ (r : Row). r.system.snaps) c.self.view_is in
     let kept : c.list-kept.result.now ≡ ks = c.list-kept.ensures ∙ c.deref.ensures in
     let at : option_map (λ (k : Kept). k.snapshot.group) (slice_get ks i) ≡ Some c.args.origin.group.0 = ap (λ l. option_map (λ (k : Kept). k.snapshot.group) (slice_get l i)) (sym kept) ∙ c.place_of-place.ensures.is in
-    let first : c.in_ok-older.older ≡ take (suc i) ks = c.in_ok-older.ensures.first ∙ ap (take (i + 1)) c.deref-2.ensures ∙ ap (λ n. take n ks) (add-one i) in
-    let both : c.in_ok-older.older ++ c.deref-3.result.now ≡ take (suc i) ks ++ cs = λ j. first j ++ c.deref-3.ensures j in
+    let first : (arc_value c.in_ok-older.older) ≡ take (suc i) ks = c.in_ok-older.ensures.first ∙ ap (λ n. take n ks) (add-one i) in
+    let both : (arc_value c.in_ok-older.older) ++ c.deref-2.result.now ≡ take (suc i) ks ++ cs = λ j. first j ++ c.deref-2.ensures j in
     record { once = subst AreNamesOnce (sym both) (joined_once c.args.self.now c.args.owner.now (snap_id c.args.origin) c.requires ks ks_are cs cs_are i at) }
 
 pub with_line-requires-clause-accounted : goal.with_line-requires-clause-accounted
@@ -58,13 +58,13 @@ with_line-requires-clause-accounted c =
     let cs_are = ap (λ (r : Row). r.system.snaps) c.self.view_is in
     let kept : c.list-kept.result.now ≡ ks = c.list-kept.ensures ∙ c.deref.ensures in
     let at : option_map (λ (k : Kept). k.snapshot.group) (slice_get ks i) ≡ Some c.args.origin.group.0 = ap (λ l. option_map (λ (k : Kept). k.snapshot.group) (slice_get l i)) (sym kept) ∙ c.place_of-place.ensures.is in
-    let first : c.in_ok-older.older ≡ take (suc i) ks = c.in_ok-older.ensures.first ∙ ap (take (i + 1)) c.deref-2.ensures ∙ ap (λ n. take n ks) (add-one i) in
-    let all : c.in_ok-all.all ≡ take (suc i) ks ++ cs = c.in_ok-all.ensures.ok ∙ (λ j. first j ++ c.deref-3.ensures j) in
+    let first : (arc_value c.in_ok-older.older) ≡ take (suc i) ks = c.in_ok-older.ensures.first ∙ ap (λ n. take n ks) (add-one i) in
+    let all : (arc_value c.in_ok-all.all) ≡ take (suc i) ks ++ cs = c.in_ok-all.ensures.ok ∙ (λ j. first j ++ c.deref-2.ensures j) in
     let owned : AreAccounted (blocks c.args.owner.now.below) ks = subst (λ (r : Row). AreAccounted (blocks r.below) ks) c.owner.view_is c.owner.invariant.accounted in
     let own : AreAccounted (blocks c.args.self.now.below) cs = subst (λ (r : Row). AreAccounted (blocks r.below) cs) c.self.view_is c.self.invariant.accounted in
     let done : AreAccounted (blocks c.args.owner.now.below) (take (suc i) ks ++ cs) =
     joined_accounted c.args.self.now c.args.owner.now (snap_id c.args.origin) c.requires ks ks_are cs cs_are i at owned own in
-    subst (λ (r : Row). AreAccounted (blocks r.below) c.in_ok-all.all) (sym c.owner.view_is) (subst (AreAccounted (blocks c.args.owner.now.below)) (sym all) done)
+    subst (λ (r : Row). AreAccounted (blocks r.below) (arc_value c.in_ok-all.all)) (sym c.owner.view_is) (subst (AreAccounted (blocks c.args.owner.now.below)) (sym all) done)
 
 pub with_line-requires-clause-newest : goal.with_line-requires-clause-newest
 with_line-requires-clause-newest c =
@@ -75,9 +75,9 @@ with_line-requires-clause-newest c =
     let cs_are = ap (λ (r : Row). r.system.snaps) c.self.view_is in
     let kept : c.list-kept.result.now ≡ ks = c.list-kept.ensures ∙ c.deref.ensures in
     let at : option_map (λ (k : Kept). k.snapshot.group) (slice_get ks i) ≡ Some c.args.origin.group.0 = ap (λ l. option_map (λ (k : Kept). k.snapshot.group) (slice_get l i)) (sym kept) ∙ c.place_of-place.ensures.is in
-    let first : c.in_ok-older.older ≡ take (suc i) ks = c.in_ok-older.ensures.first ∙ ap (take (i + 1)) c.deref-2.ensures ∙ ap (λ n. take n ks) (add-one i) in
-    let all : c.in_ok-all.all ≡ take (suc i) ks ++ cs = c.in_ok-all.ensures.ok ∙ (λ j. first j ++ c.deref-3.ensures j) in
-    ap (λ (r : Row). newest_blocks (blocks r.below) (snaps_in c.in_ok-all.all)) c.owner.view_is
+    let first : (arc_value c.in_ok-older.older) ≡ take (suc i) ks = c.in_ok-older.ensures.first ∙ ap (λ n. take n ks) (add-one i) in
+    let all : (arc_value c.in_ok-all.all) ≡ take (suc i) ks ++ cs = c.in_ok-all.ensures.ok ∙ (λ j. first j ++ c.deref-2.ensures j) in
+    ap (λ (r : Row). newest_blocks (blocks r.below) (snaps_in (arc_value c.in_ok-all.all))) c.owner.view_is
     ∙ ap (λ l. newest_blocks (blocks c.args.owner.now.below) (snaps_in l)) all
     ∙ joined_newest c.args.self.now c.args.owner.now (snap_id c.args.origin) c.requires ks ks_are cs cs_are i at
 
@@ -90,11 +90,11 @@ with_line-requires-2-clause-accounted c =
     let cs_are = ap (λ (r : Row). r.system.snaps) c.self.view_is in
     let kept : c.list-kept.result.now ≡ ks = c.list-kept.ensures ∙ c.deref.ensures in
     let at : option_map (λ (k : Kept). k.snapshot.group) (slice_get ks i) ≡ Some c.args.origin.group.0 = ap (λ l. option_map (λ (k : Kept). k.snapshot.group) (slice_get l i)) (sym kept) ∙ c.place_of-place.ensures.is in
-    let rest : c.in_ok-older.newer ≡ drop (suc i) ks = c.in_ok-older.ensures.rest ∙ ap (drop (i + 1)) c.deref-2.ensures ∙ ap (λ n. drop n ks) (add-one i) in
+    let rest : (arc_value c.in_ok-older.newer) ≡ drop (suc i) ks = c.in_ok-older.ensures.rest ∙ ap (λ n. drop n ks) (add-one i) in
     let owned : AreAccounted (blocks c.args.owner.now.below) ks = subst (λ (r : Row). AreAccounted (blocks r.below) ks) c.owner.view_is c.owner.invariant.accounted in
     let done : AreAccounted (blocks c.args.self.now.below) (drop (suc i) ks) =
     rest_accounted c.args.self.now c.args.owner.now (snap_id c.args.origin) c.requires ks ks_are cs cs_are i at owned in
-    subst (λ (r : Row). AreAccounted (blocks r.below) c.in_ok-older.newer) (sym c.self.view_is) (subst (AreAccounted (blocks c.args.self.now.below)) (sym rest) done)
+    subst (λ (r : Row). AreAccounted (blocks r.below) (arc_value c.in_ok-older.newer)) (sym c.self.view_is) (subst (AreAccounted (blocks c.args.self.now.below)) (sym rest) done)
 
 pub with_line-requires-2-clause-newest : goal.with_line-requires-2-clause-newest
 with_line-requires-2-clause-newest c =
@@ -105,8 +105,8 @@ with_line-requires-2-clause-newest c =
     let cs_are = ap (λ (r : Row). r.system.snaps) c.self.view_is in
     let kept : c.list-kept.result.now ≡ ks = c.list-kept.ensures ∙ c.deref.ensures in
     let at : option_map (λ (k : Kept). k.snapshot.group) (slice_get ks i) ≡ Some c.args.origin.group.0 = ap (λ l. option_map (λ (k : Kept). k.snapshot.group) (slice_get l i)) (sym kept) ∙ c.place_of-place.ensures.is in
-    let rest : c.in_ok-older.newer ≡ drop (suc i) ks = c.in_ok-older.ensures.rest ∙ ap (drop (i + 1)) c.deref-2.ensures ∙ ap (λ n. drop n ks) (add-one i) in
-    ap (λ (r : Row). newest_blocks (blocks r.below) (snaps_in c.in_ok-older.newer)) c.self.view_is
+    let rest : (arc_value c.in_ok-older.newer) ≡ drop (suc i) ks = c.in_ok-older.ensures.rest ∙ ap (λ n. drop n ks) (add-one i) in
+    ap (λ (r : Row). newest_blocks (blocks r.below) (snaps_in (arc_value c.in_ok-older.newer))) c.self.view_is
     ∙ ap (λ l. newest_blocks (blocks c.args.self.now.below) (snaps_in l)) rest
     ∙ rest_newest c.args.self.now c.args.owner.now (snap_id c.args.origin) c.requires ks ks_are cs cs_are i at
 
@@ -121,8 +121,8 @@ returns-clause-promoted c =
     let cs_are = ap (λ (r : Row). r.system.snaps) c.self.view_is in
     let kept : c.list-kept.result.now ≡ ks = c.list-kept.ensures ∙ c.deref.ensures in
     let at : option_map (λ (k : Kept). k.snapshot.group) (slice_get ks i) ≡ Some c.args.origin.group.0 = ap (λ l. option_map (λ (k : Kept). k.snapshot.group) (slice_get l i)) (sym kept) ∙ c.place_of-place.ensures.is in
-    let first : c.in_ok-older.older ≡ take (suc i) ks = c.in_ok-older.ensures.first ∙ ap (take (i + 1)) c.deref-2.ensures ∙ ap (λ n. take n ks) (add-one i) in
-    let all : c.in_ok-all.all ≡ take (suc i) ks ++ cs = c.in_ok-all.ensures.ok ∙ (λ j. first j ++ c.deref-3.ensures j) in
+    let first : (arc_value c.in_ok-older.older) ≡ take (suc i) ks = c.in_ok-older.ensures.first ∙ ap (λ n. take n ks) (add-one i) in
+    let all : (arc_value c.in_ok-all.all) ≡ take (suc i) ks ++ cs = c.in_ok-all.ensures.ok ∙ (λ j. first j ++ c.deref-2.ensures j) in
     let snaps = ap snaps_in all ∙ joined_snaps c.args.self.now c.args.owner.now (snap_id c.args.origin) c.requires ks ks_are cs cs_are i at in
     let origin = ap (λ (r : Row). r.system.origin) c.owner.view_is in
     let system = c.in_ok-clone.ensures.system ∙ (λ j. record c.args.self.now.system { snaps = snaps j; origin = origin j }) in
@@ -138,7 +138,7 @@ returns-clause-demoted c =
     let cs_are = ap (λ (r : Row). r.system.snaps) c.self.view_is in
     let kept : c.list-kept.result.now ≡ ks = c.list-kept.ensures ∙ c.deref.ensures in
     let at : option_map (λ (k : Kept). k.snapshot.group) (slice_get ks i) ≡ Some c.args.origin.group.0 = ap (λ l. option_map (λ (k : Kept). k.snapshot.group) (slice_get l i)) (sym kept) ∙ c.place_of-place.ensures.is in
-    let rest : c.in_ok-older.newer ≡ drop (suc i) ks = c.in_ok-older.ensures.rest ∙ ap (drop (i + 1)) c.deref-2.ensures ∙ ap (λ n. drop n ks) (add-one i) in
+    let rest : (arc_value c.in_ok-older.newer) ≡ drop (suc i) ks = c.in_ok-older.ensures.rest ∙ ap (λ n. drop n ks) (add-one i) in
     let snaps = ap snaps_in rest ∙ rest_snaps c.args.self.now c.args.owner.now (snap_id c.args.origin) c.requires ks ks_are cs cs_are i at in
     let origin = ap (λ (r : Row). r.system.origin) c.self.view_is ∙ c.requires.is in
     let system = c.in_ok-rest.ensures.system ∙ (λ j. record c.args.owner.now.system { snaps = snaps j; origin = origin j }) in

@@ -76,8 +76,8 @@ promoted-requires c =
     subst (λ (r : Row). CanPromote r c.deref-5.result.now id) (sym first) (subst (λ (r : Row). CanPromote (arc_value a) r id) (sym c.deref-5.ensures) done)
 
 -- both are in their places
-pub invariant_of-self : goal.invariant_of-self
-invariant_of-self c =
+pub invariant_of-self-2 : goal.invariant_of-self-2
+invariant_of-self-2 c =
     let items = c.self.inside.rows.items in
     let q = c.args.name.now in
     let m = from_sorted {R = name_cmp} (map entry_in items) in
@@ -99,8 +99,8 @@ invariant_of-self c =
     let again : c.deref-6.result.now ≡ arc_value a = c.deref-6.ensures ∙ ap arc_value (one_there items c.in-Ok.place c.index-4.result.now a c.index-4.ensures c.index.ensures i_within) in
     let second : c.deref-7.result.now ≡ arc_value b = c.deref-7.ensures ∙ ap arc_value (one_there items c.in-Some-owner_place.other c.index-5.result.now b c.index-5.ensures c.index-3.ensures other) in
     let named : c.deref-6.result.now.name ≡ q = ap (λ (r : Row). r.name) again ∙ its_name (map entry_in items) c.self.invariant.sorted q c.in-Ok.place at (entry_in a) (row_of entry_in items c.in-Ok.place a c.index.ensures) in
-    let clones_are : c.in_ok-clones.clones ≡ promoted_set c.self.inside.clones q (arc_value b).name id (arc_value b).system.origin =
-    c.in_ok-clones.ensures.ok ∙ (λ k. promoted_set c.self.inside.clones (named k) (second k).name id (second k).system.origin) in
+    let clones_are : c.promote.new.self ≡ promoted_set c.self.inside.clones q (arc_value b).name id (arc_value b).system.origin =
+    c.in_ok-promote.ensures.ok ∙ (λ k. promoted_set c.self.inside.clones (named k) (second k).name id (second k).system.origin) in
     record {
       sorted = subst (λ l. IsTrue (is_sorted name_cmp l)) (sym entries_are) (after_sorted items c.self.invariant.sorted c.self.invariant.tied q c.in-Ok.place at a c.index.ensures c.in-Some-owner_place.other other b c.index-3.ensures id origin there.0 there.1 there.2 can);
       counted = subst (λ l. c.self.inside.snapshot_count ≡ snap_count (from_sorted {R = name_cmp} l)) (sym entries_are) (after_counted items c.self.invariant.sorted c.self.invariant.tied q c.in-Ok.place at a c.index.ensures c.in-Some-owner_place.other other b c.index-3.ensures id origin there.0 there.1 there.2 can c.self.inside.snapshot_count c.self.invariant.counted);

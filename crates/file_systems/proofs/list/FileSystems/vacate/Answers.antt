@@ -1,24 +1,18 @@
-use Rattle.std.proofs.Common.{arith, set, ◌≡◌, ℕ, Option, List, None, length, map, ap, sym, subst, ◌∙◌}
-use Rattle.std.proofs.lemmas.List.{map-set, length-map}
+use Rattle.std.proofs.Common.{set, ◌≡◌, ℕ, List, None, length, map, ap, sym, subst, ◌∙◌}
+use Rattle.std.proofs.lemmas.List.{map-set}
 use Rattle.std.specs.Arc.{arc_value}
 use Rattle.std.specs.FinMap.{get, from_sorted}
 use Rattle.std.specs.Option.{option_map}
 use Rattle.name.specs.Names.{name_cmp}
 use Rattle.model.specs.Ids.{snap_id}
-use Rattle.file_systems.specs.CloneNames.{IsListed, without_origin}
-use Rattle.file_systems.proofs.Promoting.{one_there}
-use Rattle.base.specs.Map.{Map, blocks}
-use Rattle.model.specs.World.{Snap, SnapId, empty_file_system}
+use Rattle.model.specs.World.{empty_file_system}
 use Rattle.tree.proofs.Options.{not_some}
-use Rattle.file_system.specs.Dead.{IsAbove}
-use Rattle.file_system.specs.Losses.{IsLost}
-use Rattle.file_systems.specs.Clones.{below_at, origin_at}
-use Rattle.file_system.specs.Origins.{origin_group}
+use Rattle.file_system.specs.Rows.{entry_in, entry_of, Row, Entry, snaps_at, new_row}
+use Rattle.file_systems.specs.CloneNames.{IsListed, without_origin}
 use Rattle.file_systems.specs.Places.{IsAt, IsGapFor}
-use Rattle.file_system.specs.Rows.{entry_in, entry_of, Row, Entry, live_of, snaps_at, new_row}
-use Rattle.file_systems.proofs.Rows.{row_of, get_gap, live_is, snaps_are, its_name, placed_sorted, placed_is}
+use Rattle.file_systems.proofs.Rows.{row_of, get_gap, snaps_are, its_name, placed_sorted, placed_is}
 use Rattle.file_systems.proofs.Counts.{set_counted_same}
-use Rattle.file_systems.proofs.Ties.{row_place, row_within, origin_is, below_is}
+use Rattle.file_systems.proofs.Ties.{row_place, row_within, origin_is}
 use Rattle.file_systems.proofs.Emptied.{tied_emptied}
 use Rattle.file_systems.proofs.Listing.{listed_moved}
 use Rattle.file_systems.proofs.list.FileSystems.vacate.Goals as goal
@@ -29,23 +23,6 @@ unreachable-requires c =
     let gap : IsGapFor (map entry_in c.self.inside.rows.items) c.args.name.now c.in_default.field-0 = rw (← c.deref.ensures.value, ← c.as_bytes.ensures) c.in_default.ensures.absent in
     let none : get c.args.self.now c.args.name.now ≡ None = rw (← c.self.view_is) (get_gap _ c.self.invariant.sorted c.args.name.now c.in_default.field-0 gap) in
     not_some (get c.args.self.now c.args.name.now) none c.requires.there
-
-pub lost-requires : goal.lost-requires
-lost-requires c =
-    let rows = map entry_in c.self.inside.rows.items in
-    let row = entry_in c.index.result.now in
-    let at : IsAt rows c.args.name.now c.in-Ok.place = rw (← c.deref.ensures.value, ← c.as_bytes.ensures) c.in-Ok.ensures.found in
-    let is = row_of entry_in c.self.inside.rows.items c.in-Ok.place c.index.result.now c.index.ensures in
-    let live = ap (λ m. live_of m c.args.name.now) (sym c.self.view_is) ∙ live_is _ c.self.invariant.sorted c.args.name.now c.in-Ok.place at row is in
-    let snaps = ap (λ m. snaps_at m c.args.name.now) (sym c.self.view_is) ∙ snaps_are _ c.self.invariant.sorted c.args.name.now c.in-Ok.place at row is in
-    let below = ap (λ m. below_at m c.args.name.now) (sym c.self.view_is) ∙ below_is c.self.inside.rows.items c.self.invariant.sorted c.self.invariant.tied c.args.name.now c.in-Ok.place at c.index.result.now c.index.ensures in
-    let origin = ap (λ m. origin_at m c.args.name.now) (sym c.self.view_is) ∙ origin_is c.self.inside.rows.items c.self.invariant.sorted c.self.invariant.tied c.args.name.now c.in-Ok.place at c.index.result.now c.index.ensures in
-    let here = arc_value c.index.result.now in
-    subst (λ (r : Row). IsAbove (blocks r.below) (origin_group r.system.origin) r.system.live r.system.snaps) (sym c.deref-2.ensures)
-    (subst (λ (m : Map). IsAbove (blocks here.below) (origin_group here.system.origin) m here.system.snaps) live
-    (subst (λ (l : List Snap). IsAbove (blocks here.below) (origin_group here.system.origin) (live_of c.args.self.now c.args.name.now) l) snaps
-    (subst (λ (o : Option SnapId). IsAbove (blocks here.below) (origin_group o) (live_of c.args.self.now c.args.name.now) (snaps_at c.args.self.now c.args.name.now)) origin
-    (subst (λ (m : Map). IsAbove (blocks m) (origin_group (origin_at c.args.self.now c.args.name.now)) (live_of c.args.self.now c.args.name.now) (snaps_at c.args.self.now c.args.name.now)) below c.requires.above))))
 
 -- a new row stands in its place
 pub invariant_of-self : goal.invariant_of-self
@@ -61,7 +38,7 @@ invariant_of-self c =
     let snaps = ap (λ m. snaps_at m c.args.name.now) (sym c.self.view_is) ∙ snaps_are _ c.self.invariant.sorted c.args.name.now c.in-Ok.place at row is in
     let bare = ap (λ (r : Entry). length r.1.snaps) others ∙ ap length (sym c.requires.bare ∙ snaps) in
     let origin : option_map snap_id c.origin-origin.result ≡ row.1.origin =
-    c.origin-origin.ensures ∙ ap (λ (r : Row). r.system.origin) (c.deref-3.ensures ∙ ap arc_value (one_there c.self.inside.rows.items c.in-Ok.place c.index-2.result.now c.index.result.now c.index-2.ensures c.index.ensures (omega (arith, at.within, length-map c.self.inside.rows.items entry_in)))) in
+    c.origin-origin.ensures ∙ ap (λ (r : Row). r.system.origin) c.deref-2.ensures in
     let clones_are = c.leave.ensures ∙ ap (without_origin c.self.inside.clones c.args.name.now) origin in
     record {
       sorted = rw map-set sorted;
@@ -85,21 +62,3 @@ returns-clause-ok c =
     let fresh : arc_value c.in_ok-empty.empty ≡ new_row c.args.name.now = c.in_ok-empty.ensures.ok ∙ c.in_ok-new.ensures.ok in
     let others : entry_in c.in_ok-empty.empty ≡ (row.0, empty_file_system) = ap entry_of fresh ∙ ap (λ (n : List ℕ). (n, empty_file_system)) (sym (its_name rows c.self.invariant.sorted c.args.name.now c.in-Ok.place at row is)) in
     rw (map-set, ← c.self.view_is) (placed_is rows c.self.invariant.sorted c.args.name.now c.in-Ok.place at row is empty_file_system (entry_in c.in_ok-empty.empty) others)
-
-pub returns-clause-lost : goal.returns-clause-lost
-returns-clause-lost c =
-    let rows = map entry_in c.self.inside.rows.items in
-    let row = entry_in c.index.result.now in
-    let at : IsAt rows c.args.name.now c.in-Ok.place = rw (← c.deref.ensures.value, ← c.as_bytes.ensures) c.in-Ok.ensures.found in
-    let is = row_of entry_in c.self.inside.rows.items c.in-Ok.place c.index.result.now c.index.ensures in
-    let live = ap (λ m. live_of m c.args.name.now) (sym c.self.view_is) ∙ live_is _ c.self.invariant.sorted c.args.name.now c.in-Ok.place at row is in
-    let snaps = ap (λ m. snaps_at m c.args.name.now) (sym c.self.view_is) ∙ snaps_are _ c.self.invariant.sorted c.args.name.now c.in-Ok.place at row is in
-    let below = ap (λ m. below_at m c.args.name.now) (sym c.self.view_is) ∙ below_is c.self.inside.rows.items c.self.invariant.sorted c.self.invariant.tied c.args.name.now c.in-Ok.place at c.index.result.now c.index.ensures in
-    let origin = ap (λ m. origin_at m c.args.name.now) (sym c.self.view_is) ∙ origin_is c.self.inside.rows.items c.self.invariant.sorted c.self.invariant.tied c.args.name.now c.in-Ok.place at c.index.result.now c.index.ensures in
-    let here = arc_value c.index.result.now in
-    subst (λ (l : List Snap). IsLost (blocks (below_at c.args.self.now c.args.name.now)) (origin_group (origin_at c.args.self.now c.args.name.now)) (live_of c.args.self.now c.args.name.now) l c.in_ok-lost.lost) c.requires.bare
-    (subst (λ (m : Map). IsLost (blocks m) (origin_group (origin_at c.args.self.now c.args.name.now)) (live_of c.args.self.now c.args.name.now) (snaps_at c.args.self.now c.args.name.now) c.in_ok-lost.lost) (sym below)
-    (subst (λ (o : Option SnapId). IsLost (blocks here.below) (origin_group o) (live_of c.args.self.now c.args.name.now) (snaps_at c.args.self.now c.args.name.now) c.in_ok-lost.lost) (sym origin)
-    (subst (λ (l : List Snap). IsLost (blocks here.below) (origin_group here.system.origin) (live_of c.args.self.now c.args.name.now) l c.in_ok-lost.lost) (sym snaps)
-    (subst (λ (m : Map). IsLost (blocks here.below) (origin_group here.system.origin) m here.system.snaps c.in_ok-lost.lost) (sym live)
-    (subst (λ (r : Row). IsLost (blocks r.below) (origin_group r.system.origin) r.system.live r.system.snaps c.in_ok-lost.lost) c.deref-2.ensures c.in_ok-lost.ensures.ok)))))

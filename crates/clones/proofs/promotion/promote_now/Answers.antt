@@ -1,0 +1,18 @@
+use Rattle.std.proofs.Common.{sym, ◌∙◌}
+use Rattle.clones.proofs.Promoted.{promotion_there, can_promote, promoted_now, previous_now}
+use Rattle.clones.proofs.promotion.promote_now.Goals as goal
+
+pub promote-requires-clause-there : goal.promote-requires-clause-there
+promote-requires-clause-there c = promotion_there c.args.table.now c.args.name.now (sym c.refusal_of.ensures ∙ c.in_default.is)
+
+pub promote-requires-clause-can : goal.promote-requires-clause-can
+promote-requires-clause-can c = can_promote c.args.table.now c.args.name.now (sym c.refusal_of.ensures ∙ c.in_default.is)
+
+pub returns-clause-ok : goal.returns-clause-ok
+returns-clause-ok c = promoted_now c.args.table.now c.args.name.now (sym c.refusal_of.ensures ∙ c.in_default.is) c.promote.result c.promote.new.self c.promote.ensures.ok
+
+pub returns-clause-previous : goal.returns-clause-previous
+returns-clause-previous c =
+    let none = sym c.refusal_of.ensures ∙ c.in_default.is in
+    previous_now c.args.table.now c.args.name.now none c.promote.result c.promote.new.self c.len-count.ensures.good
+    (promoted_now c.args.table.now c.args.name.now none c.promote.result c.promote.new.self c.promote.ensures.ok)
