@@ -1,0 +1,10 @@
+//! The bookmarks of a file system (zfs-bookmark(8)).
+#![tactic(auto)]
+
+mod list;
+mod mark;
+mod order;
+mod place;
+
+pub use list::{BOOKMARK_LIMIT, Bookmarks};
+pub use mark::Mark;
