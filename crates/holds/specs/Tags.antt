@@ -1,5 +1,5 @@
 -- The tags of a snapshot.
-use Rattle.std.specs.Prelude.{ℕ, ◌+◌, ◌==◌, ◌&&◌, Bool, true, not, List, [], ◌∷◌, map, length, nat_lt}
+use Rattle.std.specs.Prelude.{ℕ, ◌+◌, ◌==◌, Bool, not, List, map, length, nat_lt}
 use Rattle.std.specs.List.{filter, list_any}
 use Rattle.std.specs.declared.alloc.Global.{Global}
 use Rattle.std.specs.declared.vec.Vec.{Vec}
@@ -24,11 +24,6 @@ is_none tags = length tags == 0
 -- one more would be too many (profile)
 abbrev pub is_full : List (List ℕ) → Bool
 is_full tags = nat_lt tag_limit (length tags + 1)
-
--- each stands once (zfs-hold(8))
-abbrev pub are_once : List (List ℕ) → Bool
-are_once [] = true
-are_once (tag ∷ tags) = not (has_tag tags tag) && are_once tags
 
 -- the others, in their order (zfs-release(8); the order is profile)
 abbrev pub without_tag : List (List ℕ) → List ℕ → List (List ℕ)

@@ -1,7 +1,8 @@
 //! The tags of a snapshot, in the order in which they were made.
-ghost use Rattle.std.specs.Prelude.{◌≡◌, ◌↔◌, ◌⊎◌, ◌≤◌, ◌++◌, ◌∷◌, [], true, false, not, Err, IsTrue, IfOk, IfErr, OnOk, OnErr, length};
+ghost use Rattle.std.specs.Prelude.{◌≡◌, ◌↔◌, ◌⊎◌, ◌≤◌, ◌++◌, ◌∷◌, [], true, false, not, Err, IfOk, IfErr, OnOk, OnErr, length};
+ghost use Rattle.base.specs.Surveys.{AreDifferent};
 ghost use Rattle.base.specs.declared.refusal.Refusal.{Refusal};
-ghost use Rattle.holds.specs.Tags.{tag_limit, has_tag, is_full, is_none, are_once, without_tag, texts};
+ghost use Rattle.holds.specs.Tags.{tag_limit, has_tag, is_full, is_none, without_tag, texts};
 
 use base::refusal::Refusal;
 use indexmap::IndexSet;
@@ -25,7 +26,7 @@ fn put(alloc: Global, tags: &mut IndexSet<Vec<u8>>, tag: &[u8]) -> Result<(), Re
 
 // A set of the same tags in the same order. NoMemory where there is none for it.
 fn copied(alloc: Global, tags: &[Vec<u8>]) -> Result<IndexSet<Vec<u8>>, Refusal>
-    requires { IsTrue (are_once (texts tags.now)) }
+    requires { AreDifferent (texts tags.now) }
     ensures ok { IfOk result (λ s. texts s.keys ≡ texts tags.now) }
     ensures err { IfErr result (λ e. e ≡ Refusal.NoMemory) }
 {
@@ -78,7 +79,7 @@ impl Holds {
     pub fn len(&self) -> usize
         ensures len { result ≡ length self.now }
         ensures few { length self.now ≤ tag_limit }
-        ensures once { IsTrue (are_once self.now) }
+        ensures once { AreDifferent self.now }
     {
         self.tags.len()
     }
