@@ -51,6 +51,9 @@ fn answers_done(request: &Request) -> bool
             | Request::FreeObject { .. }
             | Request::Clone { .. }
             | Request::Promote { .. }
+            | Request::Hold { .. }
+            | Request::Release { .. }
+            | Request::Bookmark { .. }
     )
 }
 

@@ -1,5 +1,5 @@
 -- The bookmarks of a file system.
-use Rattle.std.specs.Prelude.{ℕ, ◌+◌, Bool, List, map, nat_lt, nat_le}
+use Rattle.std.specs.Prelude.{ℕ, Bool, List, map, nat_lt, nat_le}
 use Rattle.std.specs.List.{filter, list_any}
 use Rattle.std.specs.Arc.{arc_value}
 use Rattle.std.specs.Coded.{Coded, coded_ℕ, coded_list}
@@ -11,6 +11,7 @@ use Rattle.name.specs.Names.{name_cmp}
 use Rattle.model.specs.declared.snapshot_id.SnapshotId.{SnapshotId}
 use Rattle.model.specs.Codes.{bookmark_code}
 use Rattle.model.specs.Properties.{bookmark_cmp}
+pub use Rattle.model.specs.requests.Bookmark.{mark_limit, has_all_bookmarks}
 use Rattle.model.specs.World.{Bookmark, FileSystem, empty_file_system}
 use Rattle.bookmarks.specs.declared.mark.Mark.{Mark}
 
@@ -42,13 +43,9 @@ entry_in a = entry_of (arc_value a)
 abbrev pub name_in : Arc Mark Global → List ℕ
 name_in a = (entry_in a).0
 
--- the most bookmarks of a file system (profile)
-abbrev pub mark_limit : ℕ
-mark_limit = 1024
-
 -- one more would be too many (profile)
 abbrev pub is_full : Marks → Bool
-is_full m = nat_lt mark_limit (len m + 1)
+is_full m = has_all_bookmarks m
 
 -- there is one of a later group (zfs-rollback(8))
 abbrev pub has_newer : Marks → ℕ → Bool

@@ -12,3 +12,4 @@ pub mod Placed
 pub mod Cloned
 pub mod Promoted
 pub mod ClonesOf
+pub mod Bookmarked

@@ -1,4 +1,4 @@
--- A snapshot of a table whose destroy is deferred.
+-- A snapshot of a table that is marked: its destroy is deferred, or it has other tags.
 use Rattle.std.proofs.Common.{◌≡◌, ◌⊎◌, ◌++◌, true≢false, ℕ, Bool, true, false, cond, ◌||◌, List, [], ◌∷◌, map, Option, Some, None, refl, sym, ap, subst, ◌∙◌, inl, inr, ⊎_elim}
 use Rattle.std.specs.Prelude.{◌==◌, Result, Ok, Err, IfSome, OnOk, OnErr}
 use Rattle.std.specs.Option.{option_map, option_map_or}
@@ -9,10 +9,11 @@ use Rattle.base.specs.Surveys.{IsIn}
 use Rattle.base.specs.declared.refusal.Refusal.{Refusal}
 use Rattle.name.specs.declared.member.Member.{Member}
 use Rattle.model.specs.World.{FileSystem, Snap, SnapId, id_of, same_id, snap_named, maps_of}
-use Rattle.file_system.specs.Deferred.{deferred_if, deferred_at, deferred_of}
+use Rattle.model.specs.Edits.{with_file_systems}
+use Rattle.file_system.specs.Deferred.{edited_if, edited_at, edited_of, with_deferred, with_tags}
 use Rattle.world.specs.Shapes.{Name, name_order}
 use Rattle.world.specs.Worlds.{FileSystems, AreRising, IsTidy, snap_shape, shape_of}
-use Rattle.world.specs.Tables.{Datasets, world_of, deferred_snap}
+use Rattle.world.specs.Tables.{Datasets, world_of}
 use Rattle.world.proofs.Bridge.{one_snap, in_middle}
 use Rattle.world.proofs.Finding.{is_same_id, same_id_is, in_either}
 use Rattle.world.proofs.Promotions.{split_at}
@@ -22,32 +23,46 @@ use Rattle.world.proofs.Put.{put_here, put_other}
 use Rattle.world.proofs.Sweep.{get-with_file_systems}
 use Rattle.world.proofs.Views.{label_systems, label_from, same_shapes_mapped, same_maps_mapped}
 use Rattle.datasets.specs.Table.{IsTable}
-use Rattle.datasets.proofs.Kept.{numbers_from}
+use Rattle.datasets.proofs.Kept.{numbers_from, added_table}
 use Rattle.datasets.proofs.Removed.{IsOf, of, older_differ, newer_differ, rising_at}
 
--- ---- what stays of each snapshot
+-- ---- marks
 
-module _ (g : ℕ) (t : Snap) where
-  same_shape : snap_shape (deferred_if g t) ≡ snap_shape t
-  same_shape = by_test (t.group == g)
-    where
-      by_test : (b : Bool) → snap_shape (cond b (record t { deferred = true }) t) ≡ snap_shape t
-      by_test true = refl
-      by_test false = refl
+-- A change of a snapshot keeps its identity, map and name; and by the identity of one it changes that one and no other (profile)
+pub record IsMark (change : Snap → Snap) (by_id : SnapId → Snap → Snap) : Type 0 where
+  pub ids : (v : Snap) → id_of (change v) ≡ id_of v
+  pub maps : (v : Snap) → (change v).map ≡ v.map
+  pub names : (v : Snap) → (change v).name ≡ v.name
+  pub here : (id : SnapId) (v : Snap) → same_id (id_of v) id ≡ true → by_id id v ≡ change v
+  pub elsewhere : (id : SnapId) (v : Snap) → same_id (id_of v) id ≡ false → by_id id v ≡ v
 
-  same_map_of : (deferred_if g t).map ≡ t.map
-  same_map_of = by_test (t.group == g)
-    where
-      by_test : (b : Bool) → (cond b (record t { deferred = true }) t).map ≡ t.map
-      by_test true = refl
-      by_test false = refl
+or_false : (b : Bool) → (b || false) ≡ b
+or_false true = refl
+or_false false = refl
 
-  same_name_of : (deferred_if g t).name ≡ t.name
-  same_name_of = by_test (t.group == g)
-    where
-      by_test : (b : Bool) → (cond b (record t { deferred = true }) t).name ≡ t.name
-      by_test true = refl
-      by_test false = refl
+or_true : (b : Bool) → (b || true) ≡ true
+or_true true = refl
+or_true false = refl
+
+-- its destroy is deferred
+pub deferral : IsMark with_deferred (λ id v. record v { deferred = v.deferred || same_id (id_of v) id })
+deferral = record {
+  ids = λ v. refl;
+  maps = λ v. refl;
+  names = λ v. refl;
+  here = λ id v e. ap (λ d. record v { deferred = d }) (ap (λ b. v.deferred || b) e ∙ or_true v.deferred);
+  elsewhere = λ id v e. ap (λ d. record v { deferred = d }) (ap (λ b. v.deferred || b) e ∙ or_false v.deferred);
+}
+
+-- it has these tags
+pub tagging : (tags : List (List ℕ)) → IsMark (with_tags tags) (λ id v. cond (same_id (id_of v) id) (record v { tags = tags }) v)
+tagging tags = record {
+  ids = λ v. refl;
+  maps = λ v. refl;
+  names = λ v. refl;
+  here = λ id v e. ap (λ b. cond b (record v { tags = tags }) v) e;
+  elsewhere = λ id v e. ap (λ b. cond b (record v { tags = tags }) v) e;
+}
 
 map_same : {A : Type 0} (xs : List A) → map (λ x. x) xs ≡ xs
 map_same [] = refl
@@ -64,123 +79,133 @@ not_same_id a b ne = by_test (same_id a b) refl
     by_test true e = absurd (ne (same_id_is a b e))
     by_test false e = e
 
-or_false : (b : Bool) → (b || false) ≡ b
-or_false true = refl
-or_false false = refl
-
-or_true : (b : Bool) → (b || true) ≡ true
-or_true true = refl
-or_true false = refl
-
 -- ---- in a table
 
-module _ (t : Datasets) (sound : IsTable t) (name : Name) (f : FileSystem) (at : get t.file_systems name ≡ Some f) (u : Snap) (there : IsIn f.snaps u) where
-  abbrev marked : FileSystem
-  marked = deferred_at f u.group
+module _ {change : Snap → Snap} {by_id : SnapId → Snap → Snap} (mark : IsMark change by_id) where
+  -- the table, where it is of this identity
+  abbrev marked_by : Datasets → SnapId → Datasets
+  marked_by t id = record t { file_systems = (with_file_systems (world_of t) (λ n x. record x { snaps = map {A = Snap} (by_id id) x.snaps })).file_systems }
 
-  shape : shape_of marked ≡ shape_of f
-  shape = ap (λ l. record { live = blocks f.live; snapshots = l; origin = f.origin }) (same_shapes_mapped (deferred_if u.group) (same_shape u.group) f.snaps)
-
-  maps : (m : Map) → IsIn (maps_of marked) m → IsIn (maps_of f) m
-  maps m h = subst (λ l. IsIn (f.live ∷ l) m) (same_maps_mapped (deferred_if u.group) (same_map_of u.group) f.snaps) h
-
-  tidy : IsTidy t.group marked
-  tidy = record {
-    names = λ a b h k same.
-        let v = in_map (deferred_if u.group) f.snaps a h in
-        let w = in_map (deferred_if u.group) f.snaps b k in
-        let one = (sound.systems.tidy name f at).names v.0 w.0 v.1 w.1
-        (sym (same_name_of u.group v.0) ∙ ap (λ (x : Snap). x.name) (sym v.2) ∙ same ∙ ap (λ (x : Snap). x.name) w.2 ∙ same_name_of u.group w.0) in
-        v.2 ∙ ap (deferred_if u.group) one ∙ sym w.2;
-    bookmarks = (sound.systems.tidy name f at).bookmarks;
-  }
-
-  pub marked_table : IsTable (record t { file_systems = insert t.file_systems name marked })
-  marked_table = record {
-    systems = label_systems t.file_systems t.group sound.systems name f marked at shape maps tidy;
-    numbers = numbers_from t (record t { file_systems = insert t.file_systems name marked }) sound.systems
-        (label_from t.file_systems t.group sound.systems name f marked at shape maps tidy) sound.numbers;
-  }
-
-  -- the snapshot of its group is the one of its identity
-  one_group : (v : Snap) → IsIn f.snaps v → (v.group == u.group) ≡ true → v ≡ u
-  one_group v h same =
-      let parts = split_at f.snaps u there in
-      by_place parts.0 parts.1 parts.2 (in_either parts.0 (u ∷ parts.1) v (subst (λ l. IsIn l v) parts.2 h))
-    where
-      up : (older newer : List Snap) → f.snaps ≡ older ++ u ∷ newer → AreRising 0 (older ++ u ∷ newer)
-      up older newer is = subst (AreRising 0) is (rising_at t sound name f at)
-
-      by_place : (older newer : List Snap) → f.snaps ≡ older ++ u ∷ newer → IsIn older v ⊎ IsIn (u ∷ newer) v → v ≡ u
-      by_place older newer is (inl k) = absurd (true≢false (sym same ∙ older_differ 0 older u newer (up older newer is) v k))
-      by_place older newer is (inr (inl e)) = e
-      by_place older newer is (inr (inr k)) = absurd (true≢false (sym same ∙ newer_differ 0 older u newer (up older newer is) v k))
-
-  alike : (v : Snap) → IsIn f.snaps v → record v { deferred = v.deferred || same_id (id_of v) (id_of u) } ≡ deferred_if u.group v
-  alike v h = by_test (v.group == u.group) refl
-    where
-      by_test : (b : Bool) → (v.group == u.group) ≡ b → record v { deferred = v.deferred || same_id (id_of v) (id_of u) } ≡ cond b (record v { deferred = true }) v
-      by_test true e =
-          ap (λ d. record v { deferred = d })
-          (ap (λ b. v.deferred || b) (is_same_id (id_of v) (id_of u) (ap id_of (one_group v h e))) ∙ or_true v.deferred)
-      by_test false e =
-          ap (λ d. record v { deferred = d })
-          (ap (λ b. v.deferred || b) (not_same_id (id_of v) (id_of u) (λ i. true≢false (sym (eq-eqb v.group u.group (ap (λ (x : SnapId). x.group) i)) ∙ e))) ∙ or_false v.deferred)
-
-  -- the others have no such snapshot
-  others : (q : Name) (x : FileSystem) → ¬ (q ≡ name) → get t.file_systems q ≡ Some x
-      → map {A = Snap} (λ v. record v { deferred = v.deferred || same_id (id_of v) (id_of u) }) x.snaps ≡ x.snaps
-  others q x ne e = map_alike {A = Snap} (λ v. record v { deferred = v.deferred || same_id (id_of v) (id_of u) }) (λ v. v) x.snaps
-      (λ v h. ap (λ d. record v { deferred = d })
-      (ap (λ b. v.deferred || b) (not_same_id (id_of v) (id_of u) (λ i. ne (one_snap t.file_systems t.group sound.systems.lines q name x f v u e at h there i).0)) ∙ or_false v.deferred))
-      ∙ map_same x.snaps
-
-  pub marked_is : record t { file_systems = insert t.file_systems name marked } ≡ deferred_snap t (id_of u)
-  marked_is = ap (λ ss. record t { file_systems = ss }) (sym (same_map name_order.total name_order.exact _ _ (λ n.
-      get-with_file_systems (world_of t) change n ∙ ⊎_elim
-      (λ (same : n ≡ name).
-      ap (option_map (change n)) (ap (get t.file_systems) same ∙ at)
-      ∙ ap (λ l. Some (record f { snaps = l })) (map_alike {A = Snap} (λ v. record v { deferred = v.deferred || same_id (id_of v) (id_of u) }) (deferred_if u.group) f.snaps alike)
-      ∙ sym (put_here t.file_systems name marked) ∙ ap (get (insert t.file_systems name marked)) (sym same))
-      (λ (ne : ¬ (n ≡ name)). by_old n ne (get t.file_systems n) refl ∙ sym (put_other t.file_systems name marked n ne))
-      (key_cases name_order n name))))
-    where
-      change : Name → FileSystem → FileSystem
-      change n x = record x { snaps = map {A = Snap} (λ v. record v { deferred = v.deferred || same_id (id_of v) (id_of u) }) x.snaps }
-
-      by_old : (n : Name) → ¬ (n ≡ name) → (y : Option FileSystem) → get t.file_systems n ≡ y → option_map (change n) (get t.file_systems n) ≡ get t.file_systems n
-      by_old n ne None e = ap (option_map (change n)) e ∙ sym e
-      by_old n ne (Some x) e = ap (option_map (change n)) e ∙ ap (λ l. Some (record x { snaps = l })) (others n x ne e) ∙ sym e
-
--- ---- the snapshot of this name, which is there, by its group
-
-module _ (t : Datasets) (sound : IsTable t) (m : Member) (g : ℕ) (told : Some g ≡ option_map (λ (u : Snap). u.group) (snap_named (world_of t) m)) where
-  abbrev o : IsOf t sound m g told
-  o = of t sound m g told
-
-  there : IsIn o.system.snaps o.it
-  there = subst (λ l. IsIn l o.it) (sym o.snaps_are) (in_middle o.older o.it o.newer)
-
-  after_is : deferred_of t.file_systems m.file_system g ≡ insert t.file_systems m.file_system (deferred_at o.system o.it.group)
-  after_is =
-      ap (λ x. option_map_or (λ (f : FileSystem). insert t.file_systems m.file_system (deferred_at f g)) x t.file_systems) o.at
-      ∙ ap (λ n. insert t.file_systems m.file_system (deferred_at o.system n)) (sym o.group_is)
-
-  deferred_table : IsTable (record t { file_systems = deferred_of t.file_systems m.file_system g })
-  deferred_table = subst (λ ss. IsTable (record t { file_systems = ss })) (sym after_is) (marked_table t sound m.file_system o.system o.at o.it there)
-
-  -- what the file systems answer
-  module _ {A : Type 0} (r : Result A Refusal) (new : FileSystems) (ok : OnOk r (new ≡ deferred_of t.file_systems m.file_system g)) where
-    pub table_marked : OnErr r (new ≡ t.file_systems) → IsTable (record t { file_systems = new })
-    table_marked err = by_result r ok err
+  module _ (g : ℕ) (v : Snap) where
+    same_shape : snap_shape (edited_if change g v) ≡ snap_shape v
+    same_shape = by_test (v.group == g)
       where
-        by_result : (x : Result A Refusal) → OnOk x (new ≡ deferred_of t.file_systems m.file_system g) → OnErr x (new ≡ t.file_systems) → IsTable (record t { file_systems = new })
-        by_result (Ok d) is e = subst (λ ss. IsTable (record t { file_systems = ss })) (sym is) deferred_table
-        by_result (Err w) is e = subst (λ ss. IsTable (record t { file_systems = ss })) (sym e) sound
+        by_test : (b : Bool) → snap_shape (cond b (change v) v) ≡ snap_shape v
+        by_test true = λ i. record { id = mark.ids v i; blocks = blocks (mark.maps v i) }
+        by_test false = refl
 
-    pub is_marked : IfSome (snap_named (world_of t) m) (λ u. OnOk r (record t { file_systems = new } ≡ deferred_snap t (id_of u)))
-    is_marked = subst (λ x. IfSome x (λ u. OnOk r (record t { file_systems = new } ≡ deferred_snap t (id_of u)))) (sym o.found) (by_result r ok)
+    same_map_of : (edited_if change g v).map ≡ v.map
+    same_map_of = by_test (v.group == g)
       where
-        by_result : (x : Result A Refusal) → OnOk x (new ≡ deferred_of t.file_systems m.file_system g) → OnOk x (record t { file_systems = new } ≡ deferred_snap t (id_of o.it))
-        by_result (Ok d) is = ap (λ ss. record t { file_systems = ss }) (is ∙ after_is) ∙ marked_is t sound m.file_system o.system o.at o.it there
-        by_result (Err w) is = tt
+        by_test : (b : Bool) → (cond b (change v) v).map ≡ v.map
+        by_test true = mark.maps v
+        by_test false = refl
+
+    same_name_of : (edited_if change g v).name ≡ v.name
+    same_name_of = by_test (v.group == g)
+      where
+        by_test : (b : Bool) → (cond b (change v) v).name ≡ v.name
+        by_test true = mark.names v
+        by_test false = refl
+
+  module _ (t : Datasets) (sound : IsTable t) (name : Name) (f : FileSystem) (at : get t.file_systems name ≡ Some f) (u : Snap) (there : IsIn f.snaps u) where
+    abbrev marked : FileSystem
+    marked = edited_at change f u.group
+
+    shape : shape_of marked ≡ shape_of f
+    shape = ap (λ l. record { live = blocks f.live; snapshots = l; origin = f.origin }) (same_shapes_mapped (edited_if change u.group) (same_shape u.group) f.snaps)
+
+    maps : (m : Map) → IsIn (maps_of marked) m → IsIn (maps_of f) m
+    maps m h = subst (λ l. IsIn (f.live ∷ l) m) (same_maps_mapped (edited_if change u.group) (same_map_of u.group) f.snaps) h
+
+    tidy : IsTidy t.group marked
+    tidy = record {
+      names = λ a b h k same.
+          let v = in_map (edited_if change u.group) f.snaps a h in
+          let w = in_map (edited_if change u.group) f.snaps b k in
+          let one = (sound.systems.tidy name f at).names v.0 w.0 v.1 w.1
+          (sym (same_name_of u.group v.0) ∙ ap (λ (x : Snap). x.name) (sym v.2) ∙ same ∙ ap (λ (x : Snap). x.name) w.2 ∙ same_name_of u.group w.0) in
+          v.2 ∙ ap (edited_if change u.group) one ∙ sym w.2;
+      bookmarks = (sound.systems.tidy name f at).bookmarks;
+    }
+
+    pub marked_table : IsTable (record t { file_systems = insert t.file_systems name marked })
+    marked_table = record {
+      systems = label_systems t.file_systems t.group sound.systems name f marked at shape maps tidy;
+      numbers = numbers_from t (record t { file_systems = insert t.file_systems name marked }) sound.systems
+          (label_from t.file_systems t.group sound.systems name f marked at shape maps tidy) sound.numbers;
+    }
+
+    -- the snapshot of its group is the one of its identity
+    one_group : (v : Snap) → IsIn f.snaps v → (v.group == u.group) ≡ true → v ≡ u
+    one_group v h same =
+        let parts = split_at f.snaps u there in
+        by_place parts.0 parts.1 parts.2 (in_either parts.0 (u ∷ parts.1) v (subst (λ l. IsIn l v) parts.2 h))
+      where
+        up : (older newer : List Snap) → f.snaps ≡ older ++ u ∷ newer → AreRising 0 (older ++ u ∷ newer)
+        up older newer is = subst (AreRising 0) is (rising_at t sound name f at)
+
+        by_place : (older newer : List Snap) → f.snaps ≡ older ++ u ∷ newer → IsIn older v ⊎ IsIn (u ∷ newer) v → v ≡ u
+        by_place older newer is (inl k) = absurd (true≢false (sym same ∙ older_differ 0 older u newer (up older newer is) v k))
+        by_place older newer is (inr (inl e)) = e
+        by_place older newer is (inr (inr k)) = absurd (true≢false (sym same ∙ newer_differ 0 older u newer (up older newer is) v k))
+
+    alike : (v : Snap) → IsIn f.snaps v → by_id (id_of u) v ≡ edited_if change u.group v
+    alike v h = by_test (v.group == u.group) refl
+      where
+        by_test : (b : Bool) → (v.group == u.group) ≡ b → by_id (id_of u) v ≡ cond b (change v) v
+        by_test true e = mark.here (id_of u) v (is_same_id (id_of v) (id_of u) (ap id_of (one_group v h e)))
+        by_test false e =
+            mark.elsewhere (id_of u) v (not_same_id (id_of v) (id_of u) (λ i. true≢false (sym (eq-eqb v.group u.group (ap (λ (x : SnapId). x.group) i)) ∙ e)))
+
+    -- the others have no such snapshot
+    others : (q : Name) (x : FileSystem) → ¬ (q ≡ name) → get t.file_systems q ≡ Some x → map {A = Snap} (by_id (id_of u)) x.snaps ≡ x.snaps
+    others q x ne e = map_alike {A = Snap} (by_id (id_of u)) (λ v. v) x.snaps
+        (λ v h. mark.elsewhere (id_of u) v (not_same_id (id_of v) (id_of u) (λ i. ne (one_snap t.file_systems t.group sound.systems.lines q name x f v u e at h there i).0)))
+        ∙ map_same x.snaps
+
+    pub marked_is : record t { file_systems = insert t.file_systems name marked } ≡ marked_by t (id_of u)
+    marked_is = ap (λ ss. record t { file_systems = ss }) (sym (same_map name_order.total name_order.exact _ _ (λ n.
+        get-with_file_systems (world_of t) each n ∙ ⊎_elim
+        (λ (same : n ≡ name).
+        ap (option_map (each n)) (ap (get t.file_systems) same ∙ at)
+        ∙ ap (λ l. Some (record f { snaps = l })) (map_alike {A = Snap} (by_id (id_of u)) (edited_if change u.group) f.snaps alike)
+        ∙ sym (put_here t.file_systems name marked) ∙ ap (get (insert t.file_systems name marked)) (sym same))
+        (λ (ne : ¬ (n ≡ name)). by_old n ne (get t.file_systems n) refl ∙ sym (put_other t.file_systems name marked n ne))
+        (key_cases name_order n name))))
+      where
+        each : Name → FileSystem → FileSystem
+        each n x = record x { snaps = map {A = Snap} (by_id (id_of u)) x.snaps }
+
+        by_old : (n : Name) → ¬ (n ≡ name) → (y : Option FileSystem) → get t.file_systems n ≡ y → option_map (each n) (get t.file_systems n) ≡ get t.file_systems n
+        by_old n ne None e = ap (option_map (each n)) e ∙ sym e
+        by_old n ne (Some x) e = ap (option_map (each n)) e ∙ ap (λ l. Some (record x { snaps = l })) (others n x ne e) ∙ sym e
+
+  -- ---- the snapshot of this name, which is there, by its group
+
+  module _ (t : Datasets) (sound : IsTable t) (m : Member) (g : ℕ) (told : Some g ≡ option_map (λ (u : Snap). u.group) (snap_named (world_of t) m)) where
+    abbrev o : IsOf t sound m g told
+    o = of t sound m g told
+
+    there : IsIn o.system.snaps o.it
+    there = subst (λ l. IsIn l o.it) (sym o.snaps_are) (in_middle o.older o.it o.newer)
+
+    after_is : edited_of change t.file_systems m.file_system g ≡ insert t.file_systems m.file_system (edited_at change o.system o.it.group)
+    after_is =
+        ap (λ x. option_map_or (λ (f : FileSystem). insert t.file_systems m.file_system (edited_at change f g)) x t.file_systems) o.at
+        ∙ ap (λ n. insert t.file_systems m.file_system (edited_at change o.system n)) (sym o.group_is)
+
+    after_table : IsTable (record t { file_systems = edited_of change t.file_systems m.file_system g })
+    after_table = subst (λ ss. IsTable (record t { file_systems = ss })) (sym after_is) (marked_table t sound m.file_system o.system o.at o.it there)
+
+    -- what the file systems answer
+    module _ {A : Type 0} (r : Result A Refusal) (new : FileSystems) (ok : OnOk r (new ≡ edited_of change t.file_systems m.file_system g)) where
+      pub table_marked : OnErr r (new ≡ t.file_systems) → IsTable (record t { file_systems = new })
+      table_marked err = added_table t sound r new (edited_of change t.file_systems m.file_system g) after_table ok err
+
+      pub is_marked : IfSome (snap_named (world_of t) m) (λ u. OnOk r (record t { file_systems = new } ≡ marked_by t (id_of u)))
+      is_marked = subst (λ x. IfSome x (λ u. OnOk r (record t { file_systems = new } ≡ marked_by t (id_of u)))) (sym o.found) (by_result r ok)
+        where
+          by_result : (x : Result A Refusal) → OnOk x (new ≡ edited_of change t.file_systems m.file_system g) → OnOk x (record t { file_systems = new } ≡ marked_by t (id_of o.it))
+          by_result (Ok d) is = ap (λ ss. record t { file_systems = ss }) (is ∙ after_is) ∙ marked_is t sound m.file_system o.system o.at o.it there
+          by_result (Err w) is = tt

@@ -1,5 +1,5 @@
 //! The datasets of a pool.
-ghost use Rattle.std.specs.Prelude.{[], ◌≡◌, ◌⊎◌, ◌↔◌, ◌≤◌, ◌+◌, ◌<◌, ◌^◌, false, Some, None, IsSome, IfSome, IfOk, IfErr, OnOk, OnErr, map, length, nat_lt};
+ghost use Rattle.std.specs.Prelude.{ℕ, List, [], ◌≡◌, ◌⊎◌, ◌↔◌, ◌≤◌, ◌+◌, ◌<◌, ◌^◌, false, Some, None, IsSome, IfSome, IfOk, IfErr, OnOk, OnErr, map, length, nat_lt};
 ghost use Rattle.std.specs.List.{list_any};
 ghost use Rattle.std.specs.Arc.{arc_value};
 ghost use Rattle.std.specs.Option.{option_map, option_map_or, option_copied};
@@ -8,7 +8,7 @@ ghost use Rattle.std.specs.FinMap.{get, insert, entries, len};
 ghost use Rattle.base.specs.declared.refusal.Refusal.{Refusal};
 ghost use Rattle.name.specs.Names.{root_name, same_name, parent_of};
 ghost use Rattle.base.specs.Surveys.{dead_block};
-ghost use Rattle.model.specs.World.{empty_file_system, id_of, snap_at, snap_named, children_of, clones_of};
+ghost use Rattle.model.specs.World.{Bookmark, empty_file_system, id_of, snap_at, snap_named, children_of, clones_of};
 ghost use Rattle.model.specs.Ids.{snap_id};
 ghost use Rattle.model.specs.Hierarchy.{has_parent};
 ghost use Rattle.model.specs.requests.Create.{create_refusal};
@@ -19,14 +19,14 @@ ghost use Rattle.world.specs.Worlds.{AreFileSystems};
 ghost use Rattle.world.specs.Dead.{HasNoCloneIn};
 ghost use Rattle.world.specs.Deadlists.{Lists};
 ghost use Rattle.world.specs.Outcomes.{promotion_of};
-ghost use Rattle.world.specs.Tables.{world_of, with_system, without_snap, deferred_snap, without_system, lost_between, CanSnap, CanRemove, CanPromote};
+ghost use Rattle.world.specs.Tables.{world_of, with_system, without_snap, deferred_snap, tagged_snap, with_bookmarks, without_system, lost_between, CanSnap, CanRemove, CanPromote};
 ghost use Rattle.file_systems.specs.CloneNames.{name_of};
 ghost use Rattle.file_systems.specs.Clones.{row_in};
 ghost use Rattle.file_system.specs.Losses.{newest_map};
 ghost use Rattle.file_system.specs.Rows.{Row, live_of, snaps_at, with_live, snap_count, plain_snap};
 ghost use Rattle.datasets.specs.Clones.{with_clone_of, with_promoted};
 ghost use Rattle.datasets.specs.Rollbacks.{Loses};
-ghost use Rattle.datasets.specs.Table.{AreNumbersOne};
+ghost use Rattle.datasets.specs.Table.{AreNumbersOne, AreBookmarksClosed, AreSnapshotsClosed};
 ghost use Rattle.datasets.specs.Writes.{young_of, AllowsWrite, HasWritten};
 ghost use Rattle.datasets.specs.Snapshots.{with_snap_at};
 
@@ -34,8 +34,10 @@ use crate::parent::parent_of;
 use base::meter::{Meter, SegMeter};
 use base::number::{Group, Guid};
 use base::refusal::Refusal;
+use bookmarks::Bookmarks;
 use deadlist::deadlist::Deadlist;
 use file_systems::{CloneName, FileSystem, FileSystems, Lost, Snapshot};
+use holds::Holds;
 use model::snapshot_id::SnapshotId;
 use name::{Component, DsName, Member};
 use std::alloc::Global;
@@ -100,6 +102,8 @@ impl Table {
         ensures len { result ≡ len self.now.file_systems }
         ensures good { AreFileSystems self.now.file_systems self.now.group }
         ensures numbers { AreNumbersOne self.now }
+        ensures bookmarks_closed { AreBookmarksClosed self.now }
+        ensures snapshots_closed { AreSnapshotsClosed self.now }
     {
         self.systems.len()
     }
@@ -362,6 +366,47 @@ impl Table {
             return Err(Refusal::NoDataset);
         };
         self.systems.defer(alloc, &name.file_system, group)
+    }
+
+    /// From now on the snapshot of this name has these tags (zfs-hold(8), zfs-release(8)). NoDataset exactly where there is no snapshot of
+    /// this name; else NoMemory where there is none for it. At `Err` the table is as it was. It costs the logarithms of the numbers of file
+    /// systems and of snapshots, and a walk over the chunks of its file system's.
+    pub fn set_tags(
+        &mut self,
+        alloc: Global,
+        name: &Member,
+        tags: Arc<Holds>,
+    ) -> Result<(), Refusal>
+        ensures ok { IfSome (snap_named (world_of self.old) name.now) (λ t. OnOk result (self.new ≡ tagged_snap self.old (id_of t) (arc_value tags))) }
+        ensures no_dataset { (result ≡ Err Refusal.NoDataset) ↔ (snap_named (world_of self.old) name.now ≡ None) }
+        ensures err { OnErr result (self.new ≡ self.old) }
+        ensures only { IfErr result (λ e. (e ≡ Refusal.NoDataset) ⊎ (e ≡ Refusal.NoMemory)) }
+    {
+        let Some(group) = self.group_of(name) else {
+            return Err(Refusal::NoDataset);
+        };
+        self.systems.set_tags(alloc, &name.file_system, group, tags)
+    }
+
+    /// From now on this file system has these bookmarks (zfs-bookmark(8)), which are of closed groups. NoDataset exactly where there is no
+    /// file system of this name; else NoMemory where there is none for it. At `Err` the table is as it was. It costs the logarithm of the
+    /// number of file systems.
+    pub fn set_bookmarks(
+        &mut self,
+        alloc: Global,
+        name: &DsName,
+        bookmarks: Arc<Bookmarks>,
+    ) -> Result<(), Refusal>
+        requires closed { (at : List ℕ) (b : Bookmark) → get (arc_value bookmarks) at ≡ Some b → b.group < self.old.group }
+        ensures ok { OnOk result (self.new ≡ with_bookmarks self.old name.now (arc_value bookmarks)) }
+        ensures no_dataset { (result ≡ Err Refusal.NoDataset) ↔ (get self.old.file_systems name.now ≡ None) }
+        ensures err { OnErr result (self.new ≡ self.old) }
+        ensures only { IfErr result (λ e. (e ≡ Refusal.NoDataset) ⊎ (e ≡ Refusal.NoMemory)) }
+    {
+        if !self.systems.contains(name.as_bytes()) {
+            return Err(Refusal::NoDataset);
+        }
+        self.systems.set_bookmarks(alloc, name, bookmarks)
     }
 
     /// Makes the map of its newest snapshot the live map of this file system (zfs-rollback(8)), by one more owner of its tree, and answers

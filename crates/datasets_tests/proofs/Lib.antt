@@ -1,3 +1,3 @@
 pub mod Apart
 pub mod Going
-pub mod Plain
+pub mod Sweeping

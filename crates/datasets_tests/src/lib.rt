@@ -1,4 +1,4 @@
-//! Tests of `file_systems`, `datasets`, `snap`, `clones` and `removals` from outside.
+//! Tests of `file_systems`, `datasets`, `snap`, `clones`, `removals` and `marks` from outside.
 #![tactic(auto)]
 
 #[cfg(test)]
@@ -10,11 +10,19 @@ mod free;
 #[cfg(test)]
 mod gone;
 #[cfg(test)]
+mod held;
+#[cfg(test)]
 mod in_place;
 #[cfg(test)]
 mod lists;
 #[cfg(test)]
+mod marked;
+#[cfg(test)]
 mod now;
+#[cfg(test)]
+mod removing;
+#[cfg(test)]
+mod swept;
 #[cfg(test)]
 mod tables;
 #[cfg(test)]

@@ -1,62 +1,40 @@
 //! File systems that are destroyed in place.
-ghost use Rattle.std.specs.Prelude.{◌≡◌, IfOk};
-ghost use Rattle.std.specs.FinSet as set;
-ghost use Rattle.datasets_tests.specs.Plain.{ArePlain};
-
-use base::meter::SegMeter;
+use crate::removing::destroy_named;
 use base::refusal::Refusal;
 use clones::clone_snapshot;
 use datasets::Table;
-use destroyer::Freeing;
 use name::{DsName, SnapName, Target};
-use removals::destroy_now;
 use snap::{Guids, snapshot_one};
 use std::alloc::Global;
-use toll::Toll;
 use views::Views;
 
 /// The root and `p/a`.
-fn with_child(alloc: Global) -> Result<Table, Refusal>
-    ensures { IfOk result (λ t. ArePlain t.file_systems) }
-{
+pub fn with_child(alloc: Global) -> Result<Table, Refusal> {
     let root = Table::new(alloc)?;
     let child = DsName::read(alloc, b"p/a")?;
     root.create(&child)
 }
 
-/// The root, `p/a` with a snapshot `s`, and its clone `p/c`.
-fn with_clone(alloc: Global) -> Result<Table, Refusal>
-    ensures { IfOk result (λ t. ArePlain t.file_systems) }
-{
-    let mut table = with_child(alloc)?;
-    let origin = SnapName::read(alloc, b"p/a@s")?;
-    snapshot_one(alloc, &mut table, &origin, Guids { pool: 7, next: 1 })?;
-    let clone = DsName::read(alloc, b"p/c")?;
-    clone_snapshot(&table, &Target::Snapshot(origin), &clone)
+/// Takes a snapshot of this name, with this number of the counter.
+pub fn take(alloc: Global, table: &mut Table, bytes: &[u8], next: u64) -> Result<(), Refusal> {
+    let name = SnapName::read(alloc, bytes)?;
+    snapshot_one(alloc, table, &name, Guids { pool: 7, next })?;
+    Ok(())
 }
 
-fn file_system(alloc: Global, bytes: &[u8]) -> Result<Target, Refusal> {
-    Ok(Target::FileSystem(DsName::read(alloc, bytes)?))
+/// The table with a clone `p/c` of this snapshot.
+pub fn cloned(alloc: Global, table: &Table, bytes: &[u8]) -> Result<Table, Refusal> {
+    let origin = Target::read(alloc, bytes)?;
+    let clone = DsName::read(alloc, b"p/c")?;
+    clone_snapshot(table, &origin, &clone)
 }
 
 /// How many file systems are left of the root and `p/a` without this one, and how many blocks are to be freed.
 fn left_without(alloc: Global, bytes: &[u8]) -> Result<(usize, u64), Refusal> {
     let mut table = with_child(alloc)?;
-    let target = file_system(alloc, bytes)?;
     let views = Views::new(alloc)?;
-    let mut freeing = Freeing::new(alloc);
-    let mut segments = SegMeter::new(Toll::new());
-    destroy_now(
-        alloc,
-        &mut table,
-        &mut freeing,
-        &views,
-        &target,
-        false,
-        false,
-        &mut segments,
-    )?;
-    Ok((table.len(), freeing.len()))
+    let freed = destroy_named(alloc, &mut table, &views, bytes, false, false)?;
+    Ok((table.len(), freed))
 }
 
 #[test]
@@ -68,40 +46,24 @@ fn a_file_system_goes_in_place(rt: HostRuntime) {
 }
 
 /// How many file systems and snapshots there are.
-fn counts(table: &Table) -> (usize, usize) {
+pub fn counts(table: &Table) -> (usize, usize) {
     (table.len(), table.snapshot_count())
+}
+
+/// The root, `p/a` with a snapshot `s`, and its clone `p/c`.
+fn with_clone(alloc: Global) -> Result<Table, Refusal> {
+    let mut table = with_child(alloc)?;
+    take(alloc, &mut table, b"p/a@s", 1)?;
+    cloned(alloc, &table, b"p/a@s")
 }
 
 /// How many are left once the destroy of an origin is deferred, and then once its clone is destroyed.
 fn left_in_turn(alloc: Global) -> Result<((usize, usize), (usize, usize)), Refusal> {
     let mut table = with_clone(alloc)?;
-    let snapshot = SnapName::read(alloc, b"p/a@s")?;
-    let origin = Target::Snapshot(snapshot);
-    let clone = file_system(alloc, b"p/c")?;
     let views = Views::new(alloc)?;
-    let mut freeing = Freeing::new(alloc);
-    let mut segments = SegMeter::new(Toll::new());
-    destroy_now(
-        alloc,
-        &mut table,
-        &mut freeing,
-        &views,
-        &origin,
-        false,
-        true,
-        &mut segments,
-    )?;
+    destroy_named(alloc, &mut table, &views, b"p/a@s", false, true)?;
     let waiting = counts(&table);
-    destroy_now(
-        alloc,
-        &mut table,
-        &mut freeing,
-        &views,
-        &clone,
-        false,
-        false,
-        &mut segments,
-    )?;
+    destroy_named(alloc, &mut table, &views, b"p/c", false, false)?;
     Ok((waiting, counts(&table)))
 }
 
@@ -110,36 +72,18 @@ fn its_deferred_origin_goes_too(rt: HostRuntime) {
     assert!(rt; left_in_turn(rt.alloc()) == Ok(((3, 1), (2, 0))));
 }
 
-/// Whether this file system goes from two and leaves one, or memory is all that is wanting, and the table and what it has to free are as
-/// they were.
-fn goes_or_stays(alloc: Global, table: &mut Table, target: &Target, views: &Views) -> bool
-    requires { ArePlain table.old.file_systems }
-{
-    let mut freeing = Freeing::new(alloc);
-    let mut segments = SegMeter::new(Toll::new());
-    let gone = destroy_now(
-        alloc,
-        table,
-        &mut freeing,
-        views,
-        target,
-        false,
-        false,
-        &mut segments,
-    );
-    match gone {
-        Ok(()) => counts(table) == (1, 0) && freeing.len() == 0,
-        Err(refusal) => {
-            refusal.same(Refusal::NoMemory) && counts(table) == (2, 0) && freeing.len() == 0
-        }
+/// Whether `p/a` goes from two and leaves one, or memory is all that is wanting, and the table and what it has to free are as they were.
+fn goes_or_stays(alloc: Global, table: &mut Table, views: &Views) -> bool {
+    match destroy_named(alloc, table, views, b"p/a", false, false) {
+        Ok(freed) => counts(table) == (1, 0) && freed == 0,
+        Err(refusal) => refusal.same(Refusal::NoMemory) && counts(table) == (2, 0),
     }
 }
 
 fn child_goes_or_stays(alloc: Global) -> Result<bool, Refusal> {
     let mut table = with_child(alloc)?;
-    let child = file_system(alloc, b"p/a")?;
     let views = Views::new(alloc)?;
-    Ok(goes_or_stays(alloc, &mut table, &child, &views))
+    Ok(goes_or_stays(alloc, &mut table, &views))
 }
 
 /// Run it with each allocation refused in turn: the file system is gone, or all is as it was.

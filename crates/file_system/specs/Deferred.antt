@@ -1,4 +1,4 @@
--- A snapshot whose destroy is deferred (zfs-destroy(8), -d).
+-- A snapshot whose destroy is deferred (zfs-destroy(8), -d), or that has other tags (zfs-hold(8), zfs-release(8)).
 use Rattle.std.specs.Prelude.{◌≡◌, ◌==◌, ℕ, List, Some, true, map, slice_get, if◌then◌else◌}
 use Rattle.std.specs.Arc.{arc_value}
 use Rattle.std.specs.FinMap.{get, insert}
@@ -6,23 +6,70 @@ use Rattle.std.specs.Option.{option_map_or}
 use Rattle.model.specs.World.{Snap, FileSystem}
 use Rattle.snapshots.specs.declared.kept.Kept.{Kept}
 use Rattle.file_system.specs.Rows.{FileSystems}
+use Rattle.file_system.specs.declared.mark.Edit.{Edit}
+use Rattle.file_system.specs.declared.mark.Edit.TheVariants.{Defer, SetTags}
+
+-- ---- any change of one snapshot
+
+-- the snapshot changed, where it is the one of this group (profile)
+abbrev pub edited_if : (Snap → Snap) → ℕ → Snap → Snap
+edited_if change group t = if t.group == group then change t else t
+
+-- the file system with its snapshot of this group changed (profile)
+abbrev pub edited_at : (Snap → Snap) → FileSystem → ℕ → FileSystem
+edited_at change f group = record f { snaps = map (edited_if change group) f.snaps }
+
+-- the file systems, where it is that one's (profile)
+abbrev pub edited_of : (Snap → Snap) → FileSystems → List ℕ → ℕ → FileSystems
+edited_of change m name group = option_map_or (λ f. insert m name (edited_at change f group)) (get m name) m
+
+-- what is kept of the snapshot at a place, with this change of the snapshot (profile)
+pub record IsEdited (change : Snap → Snap) (ks : List Kept) (i : ℕ) (next : Kept) : Type 0 where
+  pub now : Kept
+  pub there : slice_get ks i ≡ Some now
+  pub snapshot : next.snapshot ≡ change now.snapshot
+  pub dead : arc_value next.dead ≡ arc_value now.dead
+  pub written : next.written ≡ now.written
+
+-- ---- a deferred destroy
+
+-- the snapshot, which is to go once nothing needs it (zfs-destroy(8), -d)
+abbrev pub with_deferred : Snap → Snap
+with_deferred t = record t { deferred = true }
 
 -- the snapshot, where it is the one of this group (zfs-destroy(8), -d)
 abbrev pub deferred_if : ℕ → Snap → Snap
-deferred_if group t = if t.group == group then record t { deferred = true } else t
+deferred_if group t = edited_if with_deferred group t
 
 -- the file system whose snapshot of this group is to go once nothing needs it (zfs-destroy(8), -d)
 abbrev pub deferred_at : FileSystem → ℕ → FileSystem
-deferred_at f group = record f { snaps = map (deferred_if group) f.snaps }
+deferred_at f group = edited_at with_deferred f group
 
 -- the file systems, where it is that one's (zfs-destroy(8), -d)
 abbrev pub deferred_of : FileSystems → List ℕ → ℕ → FileSystems
-deferred_of m name group = option_map_or (λ f. insert m name (deferred_at f group)) (get m name) m
+deferred_of m name group = edited_of with_deferred m name group
 
--- what is kept of the snapshot at a place, but for that its destroy is deferred (zfs-destroy(8), -d)
-pub record IsDeferred (ks : List Kept) (i : ℕ) (next : Kept) : Type 0 where
-  pub now : Kept
-  pub there : slice_get ks i ≡ Some now
-  pub snapshot : next.snapshot ≡ record now.snapshot { deferred = true }
-  pub dead : arc_value next.dead ≡ arc_value now.dead
-  pub written : next.written ≡ now.written
+-- ---- other tags
+
+-- the snapshot with these tags (zfs-hold(8), zfs-release(8))
+abbrev pub with_tags : List (List ℕ) → Snap → Snap
+with_tags tags t = record t { tags = tags }
+
+-- the snapshot, where it is the one of this group (zfs-hold(8), zfs-release(8))
+abbrev pub tagged_if : ℕ → List (List ℕ) → Snap → Snap
+tagged_if group tags t = edited_if (with_tags tags) group t
+
+-- the file system whose snapshot of this group has these tags (zfs-hold(8), zfs-release(8))
+abbrev pub tagged_at : FileSystem → ℕ → List (List ℕ) → FileSystem
+tagged_at f group tags = edited_at (with_tags tags) f group
+
+-- the file systems, where it is that one's (zfs-hold(8), zfs-release(8))
+abbrev pub tagged_of : FileSystems → List ℕ → ℕ → List (List ℕ) → FileSystems
+tagged_of m name group tags = edited_of (with_tags tags) m name group
+
+-- ---- which change an edit is
+
+-- that of a deferred destroy, or that of other tags (zfs-destroy(8), -d; zfs-hold(8), zfs-release(8))
+abbrev pub edit_of : Edit → Snap → Snap
+edit_of Defer = with_deferred
+edit_of (SetTags tags) = with_tags (arc_value tags)

@@ -14,8 +14,8 @@ abbrev pub newest_map : Map → List Snap → Map
 newest_map m [] = m
 newest_map m (t ∷ ts) = newest_map t.map ts
 
--- What is lost with a live map above these snapshots and what stands below them: of its blocks those that were born after the newest of them, which are those that
--- this hasn't, and how many they are (zfs-rollback(8))
+-- What is lost with a live map above these snapshots and what stands below them: of its blocks those that were born after the newest of
+-- them, which are those that this hasn't, and how many they are (zfs-rollback(8))
 pub record IsLost (bs : BlockSet) (base : ℕ) (m : Map) (snaps : List Snap) (lost : Lost) : Type 0 where
   pub tree_is : lost.tree ≡ m
   pub after_is : lost.after.0 ≡ newest_group base snaps

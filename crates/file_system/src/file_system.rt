@@ -2,6 +2,7 @@
 ghost use Rattle.std.specs.Prelude.{◌≡◌, ◌≤◌, ◌<◌, ◌+◌, ◌^◌, ◌==◌, max, nat_lt, ◌++◌, ◌∷◌, [], Some, IsSome, List, IfOk, IfErr, OnOk, OnErr, length, map, remove, slice_get, slice_set};
 ghost use Rattle.std.specs.Option.{option_map, option_copied};
 ghost use Rattle.std.specs.Arc.{arc_value};
+ghost use Rattle.std.specs.FinMap as finmap;
 ghost use Rattle.std.specs.List.{find};
 ghost use Rattle.name.specs.Names.{name_cmp, same_name};
 ghost use Rattle.base.specs.declared.refusal.Refusal.{Refusal};
@@ -22,19 +23,21 @@ ghost use Rattle.file_system.specs.Origins.{origin_group};
 ghost use Rattle.file_system.specs.Promotions.{clone_row};
 ghost use Rattle.file_system.specs.Rows.{new_row, with_system, with_snap};
 ghost use Rattle.file_system.specs.Splices.{lost_from, without_group, AreAbove};
-ghost use Rattle.file_system.specs.Deferred.{deferred_at};
+ghost use Rattle.file_system.specs.Deferred.{deferred_at, edit_of, edited_at, tagged_at};
 ghost use Rattle.file_system.specs.Writes.{newest_group, young_after, IsWritten};
 
 use crate::dead::put;
 use crate::lost::Lost;
-use crate::mark::deferred;
+use crate::mark::{Edit, edited};
 use crate::origin::{Origin, base_group, copy_of_origin, origin_in, origin_of};
 use crate::splice::{joined, joined_next, kept_of, place_of};
 use crate::written::{group_of, written_over};
 use base::meter::{Meter, SegMeter};
 use base::number::{Dead, Group, Guid};
 use base::refusal::Refusal;
+use bookmarks::Bookmarks;
 use deadlist::deadlist::Deadlist;
+use holds::Holds;
 use model::snapshot_id::SnapshotId;
 use name::{Component, DsName};
 use shared_list::SharedList;
@@ -46,9 +49,10 @@ use std::sync::Arc;
 use tree::{Changed, Tree, Update};
 use zalloc::Allocator;
 
-/// A file system: its name, its live dataset, its snapshots in order of their creation groups, and its origin where it is a clone (On-Disk
-/// Specification, chapter 4). Contracts see its name, what a world has under that name, and the map of the origin, which is the empty one
-/// where there is none. Copies share the name, the tree, the dead lists, the snapshots and the origin.
+/// A file system: its name, its live dataset, its snapshots in order of their creation groups, its origin where it is a clone, and its
+/// bookmarks (On-Disk Specification, chapter 4; zfs-bookmark(8)). Contracts see its name, what a world has under that name, and the map of
+/// the origin, which is the empty one where there is none. Copies share the name, the tree, the dead lists, the snapshots, the origin and
+/// the bookmarks.
 #[derive(Drop)]
 pub struct FileSystem {
     pub(crate) name: Arc<DsName>,
@@ -56,11 +60,11 @@ pub struct FileSystem {
     pub(crate) dead: Arc<Deadlist>,
     pub(crate) snapshots: Arc<Line>,
     pub(crate) origin: Option<Arc<Origin>>,
+    pub(crate) bookmarks: Arc<Bookmarks>,
 }
 
 impl Model for FileSystem {
-    ghost use Rattle.model.specs.World.{empty_file_system};
-    ghost use Rattle.file_system.specs.Rows.{Row, row_code};
+    ghost use Rattle.file_system.specs.Rows.{Row, row_code, system_of};
 
     ghost Value = { Row };
 
@@ -73,7 +77,7 @@ impl Model for FileSystem {
 
     ghost view = { λ f. record {
       name = f.name.value;
-      system = record empty_file_system { live = f.live; snaps = snaps_in (arc_value f.snapshots); origin = origin_id (option_map arc_value f.origin) };
+      system = system_of f.live (snaps_in (arc_value f.snapshots)) (origin_id (option_map arc_value f.origin)) (arc_value f.bookmarks);
       below = map_below (option_map arc_value f.origin);
     } };
 
@@ -81,8 +85,8 @@ impl Model for FileSystem {
 }
 
 impl FileSystem {
-    /// A file system without a block and without an origin, under this name (zfs-create(8)). NoMemory where there is none for the name. It costs the
-    /// length of the name.
+    /// A file system without a block, without an origin and without a bookmark, under this name (zfs-create(8)). NoMemory where there is
+    /// none for it. It costs the length of the name.
     pub fn new(alloc: Global, name: &DsName) -> Result<FileSystem, Refusal>
         ensures ok { IfOk result (λ f. f ≡ new_row name.now) }
         ensures err { IfErr result (λ e. e ≡ Refusal.NoMemory) }
@@ -90,17 +94,19 @@ impl FileSystem {
         let name = shared_name(alloc, name)?;
         let dead = Arc::new(alloc, Deadlist::new(alloc))?;
         let snapshots = Arc::new(alloc, Line::new(alloc))?;
+        let bookmarks = no_bookmarks(alloc)?;
         Ok(FileSystem {
             name,
             live: Tree::new(),
             dead,
             snapshots,
             origin: None,
+            bookmarks,
         })
     }
 
-    /// A clone of a snapshot, under this name: its live map is the snapshot's, by one more owner of its tree, and the snapshot is its origin
-    /// (zfs-clone(8)). NoMemory where there is none for it. It costs the length of the name.
+    /// A clone of a snapshot, under this name: its live map is the snapshot's, by one more owner of its tree, and the snapshot is its
+    /// origin; it has no bookmark (zfs-clone(8)). NoMemory where there is none for it. It costs the length of the name.
     pub fn clone_of(
         alloc: Global,
         name: &DsName,
@@ -114,12 +120,14 @@ impl FileSystem {
         let origin = origin_of(alloc, snapshot)?;
         let dead = Arc::new(alloc, Deadlist::new(alloc))?;
         let snapshots = Arc::new(alloc, Line::new(alloc))?;
+        let bookmarks = no_bookmarks(alloc)?;
         Ok(FileSystem {
             name: own_name,
             live,
             dead,
             snapshots,
             origin: Some(origin),
+            bookmarks,
         })
     }
 
@@ -174,6 +182,20 @@ impl FileSystem {
         origin_in(&self.origin).map(|origin| origin.id())
     }
 
+    /// Its bookmarks (zfs-bookmark(8)). Constant time.
+    pub fn bookmarks(&self) -> &Bookmarks
+        ensures { result.now ≡ self.now.system.bookmarks }
+    {
+        &self.bookmarks
+    }
+
+    /// From now on it has these bookmarks (zfs-bookmark(8), zfs-destroy(8)). Constant time.
+    pub fn set_bookmarks(&mut self, bookmarks: Arc<Bookmarks>)
+        ensures { self.new ≡ with_system self.old (record self.old.system { bookmarks = arc_value bookmarks }) }
+    {
+        self.bookmarks = bookmarks;
+    }
+
     /// The creation group of its newest snapshot, or else of its origin, and 0 where it has neither. Constant time.
     pub fn newest_group(&self) -> Group
         ensures { result.0 ≡ newest_group (origin_group self.now.system.origin) self.now.system.snaps }
@@ -202,8 +224,8 @@ impl FileSystem {
         self.kept_named(component).map(|kept| kept.written)
     }
 
-    /// An equal file system, by one more owner of its name, of its tree, of its dead list, of its snapshots and of its origin. NoMemory where
-    /// there is none for that. Constant time.
+    /// An equal file system, by one more owner of its name, of its tree, of its dead list, of its snapshots, of its origin and of its
+    /// bookmarks. NoMemory where there is none for that. Constant time.
     pub fn copy(&self) -> Result<FileSystem, Refusal>
         ensures ok { IfOk result (λ f. f ≡ self.now) }
         ensures err { IfErr result (λ e. e ≡ Refusal.NoMemory) }
@@ -213,12 +235,14 @@ impl FileSystem {
         let dead = Arc::try_clone(&self.dead)?;
         let snapshots = Arc::try_clone(&self.snapshots)?;
         let origin = copy_of_origin(&self.origin)?;
+        let bookmarks = Arc::try_clone(&self.bookmarks)?;
         Ok(FileSystem {
             name,
             live,
             dead,
             snapshots,
             origin,
+            bookmarks,
         })
     }
 
@@ -294,8 +318,9 @@ impl FileSystem {
         Ok(lost)
     }
 
-    /// From now on the destroy of the snapshot of this group, which is there, is deferred. It costs the logarithm of the number of
-    /// snapshots, a walk over the chunks of them, and at most a chunk of them and one of their index.
+    /// From now on the destroy of the snapshot of this group, which is there, is deferred (zfs-destroy(8), -d). NoMemory where there is
+    /// none for it; then all is as it was. It costs the logarithm of the number of snapshots, a walk over the chunks of them, the length
+    /// of its name, and at most a chunk of them and one of their index.
     pub fn defer(&mut self, alloc: Global, group: Group) -> Result<(), Refusal>
         requires there { IsSome (find (λ t. t.group == group.0) self.old.system.snaps) }
         requires above { AreAbove self.old.below self.old.system }
@@ -303,9 +328,32 @@ impl FileSystem {
         ensures err { OnErr result (self.new ≡ self.old) }
         ensures only { IfErr result (λ e. e ≡ Refusal.NoMemory) }
     {
+        self.edit(alloc, group, Edit::Defer)
+    }
+
+    /// From now on the snapshot of this group, which is there, has these tags (zfs-hold(8), zfs-release(8)). NoMemory where there is none
+    /// for it; then all is as it was. It costs what `defer` does.
+    pub fn set_tags(&mut self, alloc: Global, group: Group, tags: Arc<Holds>) -> Result<(), Refusal>
+        requires there { IsSome (find (λ t. t.group == group.0) self.old.system.snaps) }
+        requires above { AreAbove self.old.below self.old.system }
+        ensures ok { OnOk result (self.new ≡ with_system self.old (tagged_at self.old.system group.0 (arc_value tags))) }
+        ensures err { OnErr result (self.new ≡ self.old) }
+        ensures only { IfErr result (λ e. e ≡ Refusal.NoMemory) }
+    {
+        self.edit(alloc, group, Edit::SetTags(tags))
+    }
+
+    // Makes this edit of the snapshot of this group, which is there. NoMemory where there is none for it; then all is as it was.
+    fn edit(&mut self, alloc: Global, group: Group, edit: Edit) -> Result<(), Refusal>
+        requires there { IsSome (find (λ t. t.group == group.0) self.old.system.snaps) }
+        requires above { AreAbove self.old.below self.old.system }
+        ensures ok { OnOk result (self.new ≡ with_system self.old (edited_at (edit_of edit) self.old.system group.0)) }
+        ensures err { OnErr result (self.new ≡ self.old) }
+        ensures only { IfErr result (λ e. e ≡ Refusal.NoMemory) }
+    {
         let kept = self.snapshots.list();
         let place = place_of(kept, group);
-        let next = deferred(kept, place)?;
+        let next = edited(kept, place, edit)?;
         set_in(&mut self.snapshots, alloc, place, next)?;
         Ok(())
     }
@@ -441,6 +489,14 @@ fn splice_in(line: &mut Arc<Line>, alloc: Global, place: usize, next: Kept) -> R
     shorter.splice(alloc, place, next)?;
     *line = Arc::new(alloc, shorter)?;
     Ok(())
+}
+
+// No bookmark, which others can own too.
+fn no_bookmarks(alloc: Global) -> Result<Arc<Bookmarks>, Refusal>
+    ensures ok { IfOk result (λ b. arc_value b ≡ finmap.empty) }
+    ensures err { IfErr result (λ e. e ≡ Refusal.NoMemory) }
+{
+    Ok(Arc::new(alloc, Bookmarks::new(alloc))?)
 }
 
 // A copy of a name, which others can own too.

@@ -1,25 +1,45 @@
-//! A snapshot whose destroy is deferred.
+//! A snapshot that is changed where it stands: its destroy is deferred, or it has other tags.
 ghost use Rattle.std.specs.Prelude.{◌≡◌, ◌<◌, IfOk, IfErr, length};
 ghost use Rattle.base.specs.declared.refusal.Refusal.{Refusal};
-ghost use Rattle.file_system.specs.Deferred.{IsDeferred};
+ghost use Rattle.file_system.specs.Deferred.{IsEdited, edit_of};
 
 use base::refusal::Refusal;
+use holds::Holds;
 use shared_list::SharedList;
-use snapshots::Kept;
+use snapshots::{Kept, Snapshot};
 use std::sync::Arc;
 
-/// What is kept of the snapshot at that place, but for that its destroy is deferred. It costs the length of its name, and a walk over the
-/// chunks before it. NoMemory where there is none for it.
-pub fn deferred(kept: &SharedList<Kept>, place: usize) -> Result<Kept, Refusal>
+/// A change of a snapshot that leaves its name, its map and its group as they are.
+#[derive(Drop)]
+pub enum Edit {
+    /// Its destroy is deferred (zfs-destroy(8), -d).
+    Defer,
+    /// It has these tags (zfs-hold(8), zfs-release(8)).
+    SetTags(Arc<Holds>),
+}
+
+// Makes the edit of this snapshot. Constant time.
+fn make(snapshot: &mut Snapshot, edit: Edit)
+    ensures { snapshot.new ≡ edit_of edit snapshot.old }
+{
+    match edit {
+        Edit::Defer => snapshot.defer(),
+        Edit::SetTags(tags) => snapshot.set_tags(tags),
+    }
+}
+
+/// What is kept of the snapshot at that place, with this edit of it. It costs the length of its name, and a walk over the chunks before it.
+/// NoMemory where there is none for it.
+pub fn edited(kept: &SharedList<Kept>, place: usize, edit: Edit) -> Result<Kept, Refusal>
     requires { place < length kept.now }
-    ensures ok { IfOk result (λ k. IsDeferred kept.now place k) }
+    ensures ok { IfOk result (λ k. IsEdited (edit_of edit) kept.now place k) }
     ensures err { IfErr result (λ e. e ≡ Refusal.NoMemory) }
 {
     let Some(now) = kept.get(place) else {
         unreachable!()
     };
     let mut snapshot = now.snapshot.copy()?;
-    snapshot.defer();
+    make(&mut snapshot, edit);
     Ok(Kept {
         snapshot,
         dead: Arc::try_clone(&now.dead)?,

@@ -54,10 +54,11 @@ fn appended(alloc: Global, line: Arc<Line>, others: &Line) -> Result<Arc<Line>, 
 
 impl FileSystem {
     /// This file system, whose origin is that snapshot of the other, and the other after a promote (zfs-promote(8)): the first has the
-    /// snapshots of the other up to its origin before its own, and the other's origin; the other has its newer snapshots, and that snapshot as
-    /// its origin. No block is visited, and each dead list stays as it is, since no dataset has another before it. NoMemory where there is none
-    /// for it. Where the origin is the other's newest snapshot and the first has none, it costs the logarithm of their number; else the chunks
-    /// of the snapshots of both, and for each snapshot of the smaller part the logarithm of their number and at most three chunks of an index.
+    /// snapshots of the other up to its origin before its own, and the other's origin; the other has its newer snapshots, and that snapshot
+    /// as its origin. Each keeps its bookmarks. No block is visited, and each dead list stays as it is, since no dataset has another before
+    /// it. NoMemory where there is none for it. Where the origin is the other's newest snapshot and the first has none, it costs the
+    /// logarithm of their number; else the chunks of the snapshots of both, and for each snapshot of the smaller part the logarithm of
+    /// their number and at most three chunks of an index.
     pub fn promoted(
         &self,
         alloc: Global,
@@ -95,12 +96,14 @@ impl FileSystem {
         let live = self.live.copy()?;
         let dead = Arc::try_clone(&self.dead)?;
         let origin = copy_of_origin(origin)?;
+        let bookmarks = Arc::try_clone(&self.bookmarks)?;
         Ok(FileSystem {
             name,
             live,
             dead,
             snapshots,
             origin,
+            bookmarks,
         })
     }
 }

@@ -35,7 +35,8 @@ fn is_before(kept: &Kept, group: Group) -> bool
     kept.snapshot.group() < group
 }
 
-/// Where the snapshot of this group stands, which is there. It costs the logarithm of the number of snapshots, and a walk over their chunks.
+/// Where the snapshot of this group stands, which is there. It costs the logarithm of the number of snapshots, and a walk over their
+/// chunks.
 pub fn place_of(kept: &SharedList<Kept>, group: Group) -> usize
     requires rising { AreRising 0 (snaps_in kept.now) }
     requires there { IsSome (find (λ t. t.group == group.0) (snaps_in kept.now)) }
@@ -72,9 +73,8 @@ fn before(kept: &SharedList<Kept>, place: usize) -> Option<&Kept>
 }
 
 /// Cuts a long dead list at the group of a snapshot not far below that place, so that what the next ones below it lose is found among
-/// the few entries after the cut. A list with few entries a segment is left as it is. It costs the entries of one segment where it cuts, and
-/// else nothing.
-/// NoMemory where there is none for the cut; then nothing is changed.
+/// the few entries after the cut. A list with few entries a segment is left as it is. It costs the entries of one segment where it cuts,
+/// and else nothing. NoMemory where there is none for the cut; then nothing is changed.
 fn cut_below(
     kept: &SharedList<Kept>,
     base: Group,
@@ -93,9 +93,9 @@ fn cut_below(
     dead.cut(group_of(before(kept, below), base), segments)
 }
 
-/// The dead list of what comes after the snapshot at that place, once that is gone, and what is lost with it: from the dead list that it has
-/// now, and from the group of what stands below the first of the snapshots. It costs the segments of both lists, and where no cut stands at the group before the place, the entries of one segment. NoMemory
-/// where there is none for it.
+/// The dead list of what comes after the snapshot at that place, once that is gone, and what is lost with it: from the dead list that it
+/// has now, and from the group of what stands below the first of the snapshots. It costs the segments of both lists, and where no cut
+/// stands at the group before the place, the entries of one segment. NoMemory where there is none for it.
 pub fn joined(
     kept: &SharedList<Kept>,
     base: Group,
@@ -122,9 +122,8 @@ pub fn joined(
     }
 }
 
-/// What is kept of the snapshot after the one at that place, once that is gone, and what is lost with it, where the first of them stands above
-/// this origin. It costs the segments of their
-/// dead lists, and the length of its name. NoMemory where there is none for it.
+/// What is kept of the snapshot after the one at that place, once that is gone, and what is lost with it, where the first of them stands
+/// above this origin. It costs the segments of their dead lists, and the length of its name. NoMemory where there is none for it.
 pub fn joined_next(
     kept: &SharedList<Kept>,
     origin: Option<&Origin>,

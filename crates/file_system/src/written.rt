@@ -35,8 +35,8 @@ pub fn group_of(kept: Option<&Kept>, base: Group) -> Group
     }
 }
 
-/// How many blocks a dataset has that the snapshot before it hasn't, or else the origin, and all of them where there is neither, by its dead
-/// list (zfsprops(7): written). Constant time.
+/// How many blocks a dataset has that the snapshot before it hasn't, or else the origin, and all of them where there is neither, by its
+/// dead list (zfsprops(7): written). Constant time.
 pub fn written_over(
     before: Option<&Kept>,
     origin: Option<&Origin>,

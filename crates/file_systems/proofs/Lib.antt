@@ -8,3 +8,4 @@ pub mod CloneRanges
 pub mod Listing
 pub mod Ties
 pub mod Promoting
+pub mod Labelled

@@ -20,7 +20,6 @@ use Rattle.world.proofs.Listed.{map_in}
 use Rattle.world.specs.Shapes.{name_order}
 use Rattle.world.proofs.Maps.{at_entry}
 use Rattle.file_systems.specs.Clones.{all_snaps, map_found, below_from, below_in, origin_at, below_at, row_in, IsTied, AreTied}
-use Rattle.file_system.specs.Deferred.{deferred_if}
 use Rattle.file_systems.specs.Places.{IsAt}
 use Rattle.file_system.specs.Rows.{Entry, Row, entry_in, entry_of, new_row}
 use Rattle.file_systems.proofs.Rows.{entries_are, got, its_name, row_of}
@@ -97,19 +96,10 @@ found_filtered g (t ∷ ts) id none = by (t.group == g) (same_id (id_of t) id) r
     by false false e f rest = ap (λ c. option_map (λ (x : Snap). x.map) (cond c (Some t) (find (λ (x : Snap). same_id (id_of x) id) (filter (λ (x : Snap). not (x.group == g)) ts)))) f ∙ rest
 
 -- after the same snapshot
-after_first : (b : Bool) (t u : Snap) (xs ys : List Snap) (id : SnapId) → t.map ≡ u.map → map_found xs id ≡ map_found ys id
+pub after_first : (b : Bool) (t u : Snap) (xs ys : List Snap) (id : SnapId) → t.map ≡ u.map → map_found xs id ≡ map_found ys id
     → option_map (λ (x : Snap). x.map) (cond b (Some t) (find (λ (x : Snap). same_id (id_of x) id) xs)) ≡ option_map (λ (x : Snap). x.map) (cond b (Some u) (find (λ (x : Snap). same_id (id_of x) id) ys))
 after_first true t u xs ys id e rest = ap Some e
 after_first false t u xs ys id e rest = rest
-
--- the same is found where a destroy is deferred
-pub found_deferred : (g : ℕ) (ts : List Snap) (id : SnapId) → map_found (map (deferred_if g) ts) id ≡ map_found ts id
-found_deferred g [] id = refl
-found_deferred g (t ∷ ts) id = by (t.group == g) (found_deferred g ts id)
-  where
-    by : (a : Bool) → map_found (map (deferred_if g) ts) id ≡ map_found ts id → map_found (cond a (record t { deferred = true }) t ∷ map (deferred_if g) ts) id ≡ map_found (t ∷ ts) id
-    by true rest = after_first (same_id (id_of t) id) (record t { deferred = true }) t (map (deferred_if g) ts) ts id refl rest
-    by false rest = after_first (same_id (id_of t) id) t t (map (deferred_if g) ts) ts id refl rest
 
 -- ---- rows in their places
 

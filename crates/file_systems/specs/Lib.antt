@@ -3,3 +3,4 @@ pub mod CloneNames
 pub mod Places
 pub mod Sorted
 pub mod Promotions
+pub mod Bookmarked

@@ -12,6 +12,7 @@ ghost use Rattle.model.specs.World.{empty_file_system, Snap, id_of, same_id};
 ghost use Rattle.base.specs.Surveys.{IsIn};
 ghost use Rattle.world.specs.Dead.{HasNoCloneIn};
 ghost use Rattle.model.specs.Ids.{snap_id};
+ghost use Rattle.file_systems.specs.Bookmarked.{bookmarked_of};
 ghost use Rattle.file_systems.specs.CloneNames.{name_of, clones_in};
 ghost use Rattle.file_systems.specs.Clones.{all_snaps, origin_at, below_at, row_in, IsTied};
 ghost use Rattle.file_system.specs.Dead.{AllowsLive, IsAbove};
@@ -21,7 +22,7 @@ ghost use Rattle.file_systems.specs.Promotions.{promoted_in, IsPromotion, CanPro
 ghost use Rattle.world.specs.Outcomes.{Promotion};
 ghost use Rattle.file_system.specs.Rows.{live_of, snaps_at, with_live, with_snap, snap_count};
 ghost use Rattle.file_system.specs.Splices.{lost_from, without_snap_of, AreAbove};
-ghost use Rattle.file_system.specs.Deferred.{deferred_of};
+ghost use Rattle.file_system.specs.Deferred.{deferred_of, tagged_of};
 ghost use Rattle.file_system.specs.Writes.{young_after, IsWritten};
 ghost use Rattle.world.specs.Deadlists.{Lists};
 ghost use Rattle.tree.specs.Asking.{IsNoSpaceOrNoMemory};
@@ -30,12 +31,17 @@ ghost use Rattle.tree.specs.Updates.{changes_of};
 
 use crate::clones::{CloneIndex, CloneName};
 use crate::place::{gap, place};
-use crate::row::{apply, defer, owner_place, promoted, put, rollback, shared, splice, take};
+use crate::row::{
+    apply, defer, owner_place, promoted, put, rollback, set_bookmarks, set_tags, shared, splice,
+    take,
+};
 use base::meter::{Meter, SegMeter};
 use base::number::{Group, Guid};
 use base::refusal::Refusal;
+use bookmarks::Bookmarks;
 use deadlist::deadlist::Deadlist;
 use file_system::{FileSystem, Lost};
+use holds::Holds;
 use model::snapshot_id::SnapshotId;
 use name::{Component, DsName};
 use std::alloc::Global;
@@ -308,6 +314,50 @@ impl FileSystems {
             unreachable!()
         };
         defer(&mut self.rows[place], alloc, group)?;
+        Ok(())
+    }
+
+    /// From now on the snapshot of this group, which is there, of this file system has these tags (zfs-hold(8), zfs-release(8)). NoMemory
+    /// where there is none for it; then all are as they were. Where others share the file system, a copy of it takes its place. It costs
+    /// the logarithm of the number of file systems and that of the number of its snapshots, and a walk over the chunks of them.
+    pub fn set_tags(
+        &mut self,
+        alloc: Global,
+        name: &DsName,
+        group: Group,
+        tags: Arc<Holds>,
+    ) -> Result<(), Refusal>
+        requires there { IsSome (find (λ t. t.group == group.0) (snaps_at self.old name.now)) }
+        requires above { IfSome (get self.old name.now) (AreAbove (below_at self.old name.now)) }
+        ensures ok { OnOk result (self.new ≡ tagged_of self.old name.now group.0 (arc_value tags)) }
+        ensures err { OnErr result (self.new ≡ self.old) }
+        ensures only { IfErr result (λ e. e ≡ Refusal.NoMemory) }
+    {
+        let Ok(place) = place(&self.rows, name.as_bytes()) else {
+            unreachable!()
+        };
+        set_tags(&mut self.rows[place], alloc, group, tags)?;
+        Ok(())
+    }
+
+    /// From now on this file system, which is there, has these bookmarks (zfs-bookmark(8)). NoMemory where there is none for it; then all
+    /// are as they were. Where others share the file system, a copy of it takes its place. It costs the logarithm of the number of file
+    /// systems.
+    pub fn set_bookmarks(
+        &mut self,
+        alloc: Global,
+        name: &DsName,
+        bookmarks: Arc<Bookmarks>,
+    ) -> Result<(), Refusal>
+        requires there { IsSome (get self.old name.now) }
+        ensures ok { OnOk result (self.new ≡ bookmarked_of self.old name.now (arc_value bookmarks)) }
+        ensures err { OnErr result (self.new ≡ self.old) }
+        ensures only { IfErr result (λ e. e ≡ Refusal.NoMemory) }
+    {
+        let Ok(place) = place(&self.rows, name.as_bytes()) else {
+            unreachable!()
+        };
+        set_bookmarks(&mut self.rows[place], alloc, bookmarks)?;
         Ok(())
     }
 

@@ -17,15 +17,17 @@ ghost use Rattle.file_system.specs.Losses.{newest_map, IsLost};
 ghost use Rattle.file_system.specs.Origins.{origin_group};
 ghost use Rattle.file_system.specs.Rows.{Row, with_system, with_snap};
 ghost use Rattle.file_system.specs.Splices.{lost_from, without_group, AreAbove};
-ghost use Rattle.file_system.specs.Deferred.{deferred_at};
+ghost use Rattle.file_system.specs.Deferred.{deferred_at, tagged_at};
 ghost use Rattle.world.specs.Deadlists.{Lists};
 ghost use Rattle.file_system.specs.Writes.{young_after, IsWritten};
 
 use base::meter::{Meter, SegMeter};
 use base::number::{Group, Guid};
 use base::refusal::Refusal;
+use bookmarks::Bookmarks;
 use deadlist::deadlist::Deadlist;
 use file_system::{FileSystem, Lost};
+use holds::Holds;
 use model::snapshot_id::SnapshotId;
 use name::Component;
 use std::alloc::Global;
@@ -180,6 +182,50 @@ pub fn defer(row: &mut Arc<FileSystem>, alloc: Global, group: Group) -> Result<(
     }
     let mut file_system = row.copy()?;
     file_system.defer(alloc, group)?;
+    *row = Arc::new(alloc, file_system)?;
+    Ok(())
+}
+
+/// From now on the snapshot of this group of a row has these tags, as `FileSystem::set_tags` says: in the row, if it has no other owner,
+/// and else in a copy of it, which comes to its place.
+pub fn set_tags(
+    row: &mut Arc<FileSystem>,
+    alloc: Global,
+    group: Group,
+    tags: Arc<Holds>,
+) -> Result<(), Refusal>
+    requires there { IsSome (find (λ t. t.group == group.0) (arc_value row.old).system.snaps) }
+    requires above { AreAbove (arc_value row.old).below (arc_value row.old).system }
+    ensures ok { OnOk result (arc_value row.new ≡ with_system (arc_value row.old) (tagged_at (arc_value row.old).system group.0 (arc_value tags))) }
+    ensures err { OnErr result (arc_value row.new ≡ arc_value row.old) }
+    ensures only { IfErr result (λ e. e ≡ Refusal.NoMemory) }
+{
+    if let Some(file_system) = Arc::get_mut(row) {
+        return file_system.set_tags(alloc, group, tags);
+    }
+    let mut file_system = row.copy()?;
+    file_system.set_tags(alloc, group, tags)?;
+    *row = Arc::new(alloc, file_system)?;
+    Ok(())
+}
+
+/// From now on a row has these bookmarks, as `FileSystem::set_bookmarks` says: itself, if it has no other owner, and else a copy of it,
+/// which comes to its place. NoMemory where there is none for that; then it is as it was.
+pub fn set_bookmarks(
+    row: &mut Arc<FileSystem>,
+    alloc: Global,
+    bookmarks: Arc<Bookmarks>,
+) -> Result<(), Refusal>
+    ensures ok { OnOk result (arc_value row.new ≡ with_system (arc_value row.old) (record (arc_value row.old).system { bookmarks = arc_value bookmarks })) }
+    ensures err { OnErr result (arc_value row.new ≡ arc_value row.old) }
+    ensures only { IfErr result (λ e. e ≡ Refusal.NoMemory) }
+{
+    if let Some(file_system) = Arc::get_mut(row) {
+        file_system.set_bookmarks(bookmarks);
+        return Ok(());
+    }
+    let mut file_system = row.copy()?;
+    file_system.set_bookmarks(bookmarks);
     *row = Arc::new(alloc, file_system)?;
     Ok(())
 }

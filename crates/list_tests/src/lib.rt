@@ -11,3 +11,5 @@ mod names;
 mod open_views;
 #[cfg(test)]
 mod own_names;
+#[cfg(test)]
+mod tagged;

@@ -1,12 +1,12 @@
 -- Worlds that differ in one place.
-use Rattle.std.specs.Prelude.{ℕ, ◌+◌, Bool, not, List, map}
+use Rattle.std.specs.Prelude.{ℕ, ◌+◌, Bool, not, List, map, if◌then◌else◌}
 use Rattle.std.specs.List.{filter}
 use Rattle.std.specs.Option.{option_map_or}
 use Rattle.std.specs.FinMap.{entries, insert, from_entries}
 use Rattle.std.specs.FinSet as set
 use Rattle.base.specs.declared.number.Key.{Key}
 use Rattle.base.specs.Rewrite.{Changes, rewrite}
-use Rattle.model.specs.World.{World, FileSystem, Snap, file_system_at, union_of}
+use Rattle.model.specs.World.{World, FileSystem, Snap, SnapId, id_of, same_id, file_system_at, union_of}
 use Rattle.model.specs.State.{State}
 
 -- one file system changed (profile)
@@ -33,6 +33,11 @@ with_next_group w = record w { group = w.group + 1 }
 -- snapshots gone (zfs-destroy(8))
 abbrev pub without_snaps : World → (Snap → Bool) → World
 without_snaps w goes = with_file_systems w (λ _ s. record s { snaps = filter (λ t. not (goes t)) s.snaps })
+
+-- the snapshot of this identity with other tags (zfs-hold(8), zfs-release(8))
+abbrev pub with_tags : World → SnapId → List (List ℕ) → World
+with_tags w id tags =
+    with_file_systems w (λ _ s. record s { snaps = map {A = Snap} (λ t. if same_id (id_of t) id then record t { tags = tags } else t) s.snaps })
 
 -- the same state with another present world (profile)
 abbrev pub with_now : State → World → State

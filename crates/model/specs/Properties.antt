@@ -1,5 +1,5 @@
 -- The values of properties, in bytes where they are sizes (zfsprops(7), zpoolprops(7)).
-use Rattle.std.specs.Prelude.{ℕ, ◌*◌, List, [], ◌∷◌, ◌++◌, map, Option}
+use Rattle.std.specs.Prelude.{ℕ, ◌*◌, List, [], ◌∷◌, ◌++◌, length, map, Option}
 use Rattle.std.specs.List.{flat_map, join_with_byte}
 use Rattle.std.specs.declared.cmp.Ordering.{Ordering}
 use Rattle.std.specs.Ordering.{nat_cmp, ordering_then}
@@ -8,11 +8,11 @@ use Rattle.std.specs.Option.{option_map_or, option_and_then}
 use Rattle.name.specs.declared.target.Target.{Target}
 use Rattle.name.specs.declared.target.Target.TheVariants.{FileSystem as OfFileSystem, Snapshot as OfSnapshot, Bookmark as OfBookmark}
 use Rattle.model.specs.declared.request.Property.{Property}
-use Rattle.model.specs.declared.request.Property.TheVariants.{Referenced, Written, Guid, CreateTxg, Origin, Clones}
+use Rattle.model.specs.declared.request.Property.TheVariants.{Referenced, Written, Guid, CreateTxg, Origin, Clones, UserRefs, DeferDestroy}
 use Rattle.model.specs.declared.request.PoolProperty.{PoolProperty}
 use Rattle.model.specs.declared.request.PoolProperty.TheVariants.{Size as PoolSize, Allocated, Free, Freeing, Waiting, Group}
 use Rattle.model.specs.declared.reply.Value.{Value}
-use Rattle.model.specs.declared.reply.Value.TheVariants.{Size, Number, Named, NotApplicable}
+use Rattle.model.specs.declared.reply.Value.TheVariants.{Size, Number, Named, Truth, NotApplicable}
 use Rattle.name.specs.Names.{name_cmp, snap_text, mark_text}
 use Rattle.model.specs.World.{World, FileSystem, Snap, SnapId, Bookmark, Live, Snapped, id_of, file_system_at, snap_at, snap_named, bookmark_named, clones_of}
 use Rattle.model.specs.State.{State}
@@ -38,6 +38,8 @@ file_system_value w name Guid = NotApplicable
 file_system_value w name CreateTxg = NotApplicable
 file_system_value w name Origin = option_map_or (λ id. Named (text_of_snap w id)) (origin_of w name) NotApplicable
 file_system_value w name Clones = NotApplicable
+file_system_value w name UserRefs = NotApplicable
+file_system_value w name DeferDestroy = NotApplicable
 
 -- a property of a snapshot (zfsprops(7))
 unfoldable pub snap_value : World → Snap → Property → Value
@@ -47,6 +49,8 @@ snap_value w t Guid = Number t.guid
 snap_value w t CreateTxg = Number t.group
 snap_value w t Origin = NotApplicable
 snap_value w t Clones = Named (join_with_byte 44 (clones_of w (id_of t)))
+snap_value w t UserRefs = Number (length t.tags)
+snap_value w t DeferDestroy = Truth t.deferred
 
 -- a property of a bookmark, which keeps its snapshot's guid and creation group (zfsprops(7), zfs-bookmark(8))
 unfoldable pub bookmark_value : Bookmark → Property → Value
@@ -56,6 +60,8 @@ bookmark_value b Guid = Number b.guid
 bookmark_value b CreateTxg = Number b.group
 bookmark_value b Origin = NotApplicable
 bookmark_value b Clones = NotApplicable
+bookmark_value b UserRefs = NotApplicable
+bookmark_value b DeferDestroy = NotApplicable
 
 -- a property of what the name stands for (zfs-get(8))
 unfoldable pub property_value : State → Target → Property → Value

@@ -1,5 +1,5 @@
 -- What an open view shows.
-use Rattle.std.specs.Prelude.{◌≡◌, ℕ, refl}
+use Rattle.std.specs.Prelude.{ℕ, refl}
 use Rattle.std.specs.Coded.{Coded, code_by, coded×, coded_ℕ}
 use Rattle.base.specs.Map.{Map}
 use Rattle.base.specs.Codes.{map_code}

@@ -2,7 +2,7 @@
 use Rattle.std.specs.Prelude.{◌≡◌, Option, None}
 use Rattle.stream.specs.Spelling.{Sending}
 use Rattle.model.specs.declared.request.Request.{Request}
-use Rattle.model.specs.declared.request.Request.TheVariants.{Create as ToCreate, Write as ToWrite, Punch as ToPunch, FreeObject as ToFreeObject, Snapshot as ToSnapshot, Read as ToRead, Get as ToGet, PoolGet as ToPoolGet, List as ToList, Rollback as ToRollback, Destroy as ToDestroy, Slice as ToSlice, Sync as ToSync, OpenView as ToOpenView, CloseView as ToCloseView, Clone as ToClone, Promote as ToPromote}
+use Rattle.model.specs.declared.request.Request.TheVariants.{Create as ToCreate, Write as ToWrite, Punch as ToPunch, FreeObject as ToFreeObject, Snapshot as ToSnapshot, Read as ToRead, Get as ToGet, PoolGet as ToPoolGet, List as ToList, Rollback as ToRollback, Destroy as ToDestroy, Slice as ToSlice, Sync as ToSync, OpenView as ToOpenView, CloseView as ToCloseView, Clone as ToClone, Promote as ToPromote, Hold as ToHold, Release as ToRelease, Holds as ToHolds, Bookmark as ToBookmark}
 use Rattle.model.specs.declared.reply.Reply.TheVariants.{Done}
 use Rattle.model.specs.State.{State}
 use Rattle.model.specs.Rule.{Rule}
@@ -23,6 +23,10 @@ use Rattle.model.specs.requests.OpenView.{open_view_rule}
 use Rattle.model.specs.requests.CloseView.{close_view_rule}
 use Rattle.model.specs.requests.Clone.{clone_rule}
 use Rattle.model.specs.requests.Promote.{promote_rule}
+use Rattle.model.specs.requests.Hold.{hold_rule}
+use Rattle.model.specs.requests.Release.{release_rule}
+use Rattle.model.specs.requests.Holds.{holds_rule}
+use Rattle.model.specs.requests.Bookmark.{bookmark_rule}
 pub mod Create
 pub mod Change
 pub mod Write
@@ -41,6 +45,10 @@ pub mod OpenView
 pub mod CloseView
 pub mod Clone
 pub mod Promote
+pub mod Hold
+pub mod Release
+pub mod Holds
+pub mod Bookmark
 
 -- what the bytes of a request say; no request has any yet (zfs-receive(8))
 abbrev pub IsReadingOf : Request → Option Sending → Type 0
@@ -65,6 +73,10 @@ rule_of (ToOpenView target) reading = open_view_rule target
 rule_of (ToCloseView view) reading = close_view_rule view
 rule_of (ToClone target name) reading = clone_rule target name
 rule_of (ToPromote name) reading = promote_rule name
+rule_of (ToHold tag target) reading = hold_rule tag target
+rule_of (ToRelease tag target) reading = release_rule tag target
+rule_of (ToHolds target) reading = holds_rule target
+rule_of (ToBookmark target mark) reading = bookmark_rule target mark
 
 -- where it isn't refused, the reply is Done (profile)
 abbrev pub AnswersDone : Request → Type 0

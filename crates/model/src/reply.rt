@@ -15,6 +15,8 @@ pub enum Value {
     Number(u64),
     /// A text, perhaps an empty one.
     Named(Bytes),
+    /// Whether something is so.
+    Truth(bool),
     /// What was asked about has no such property.
     NotApplicable,
 }
@@ -28,6 +30,7 @@ impl Value {
             (Value::Size(a), Value::Size(b)) => *a == *b,
             (Value::Number(a), Value::Number(b)) => *a == *b,
             (Value::Named(a), Value::Named(b)) => a.same(b),
+            (Value::Truth(a), Value::Truth(b)) => *a == *b,
             (Value::NotApplicable, Value::NotApplicable) => true,
             _ => false,
         }

@@ -3,7 +3,7 @@ ghost use Rattle.std.specs.Prelude.{◌≡◌, ◌↔◌, IsTrue};
 
 use crate::snap_names::SnapNames;
 use base::data::Data;
-use name::{DsName, Target};
+use name::{DsName, MarkName, Tag, Target};
 
 /// What `Get` may ask of a dataset or bookmark (zfsprops(7)).
 #[derive(Clone, Copy, PartialEq, Eq, Debug)]
@@ -20,6 +20,10 @@ pub enum Property {
     Origin,
     /// The names of a snapshot's clones in byte order, joined by commas, a text; empty where it has none.
     Clones,
+    /// How many tags a snapshot has, a number; open views aren't counted.
+    UserRefs,
+    /// Whether a snapshot's destroy is deferred, a truth.
+    DeferDestroy,
 }
 
 /// What `PoolGet` may ask of a pool (zpoolprops(7); `Waiting` and `Group` are profile).
@@ -152,6 +156,33 @@ pub enum Request {
     Promote {
         name: DsName,
     },
+    /// Gives a snapshot a tag, which keeps it from being destroyed until the tag is released (zfs-hold(8)). The reply is Done. It is
+    /// refused NotSnapshot where the target is no snapshot's name, NoDataset where no snapshot has it, Deferred where the snapshot's
+    /// destroy is deferred, TagExists where it has the tag, TooMany where it has 256 tags: the first of these, or NoMemory.
+    Hold {
+        tag: Tag,
+        target: Target,
+    },
+    /// Takes a tag from a snapshot; one whose destroy is deferred goes with the last tag, where neither a view nor a clone needs it
+    /// (zfs-release(8)). The reply is Done. It is refused NotSnapshot where the target is no snapshot's name, NoDataset where no snapshot
+    /// has it, NoTag where it hasn't the tag: the first of these, or NoMemory.
+    Release {
+        tag: Tag,
+        target: Target,
+    },
+    /// The tags of a snapshot in the order in which they were made (zfs-holds(8)). The reply is Names. It is refused NotSnapshot where the
+    /// target is no snapshot's name, NoDataset where no snapshot has it, else perhaps NoMemory.
+    Holds {
+        target: Target,
+    },
+    /// Makes a bookmark of a snapshot, which keeps its guid and its creation group when the snapshot goes (zfs-bookmark(8)). The reply is
+    /// Done. It is refused NotSnapshot where the target is no snapshot's name, NoDataset where no snapshot has it, NotAncestor where the
+    /// bookmark's name is of another file system than the snapshot's, Exists where there is a bookmark of that name, TooMany where the file
+    /// system has 1,024 bookmarks: the first of these, or NoMemory.
+    Bookmark {
+        target: Target,
+        mark: MarkName,
+    },
 }
 
 impl Request {
@@ -261,6 +292,15 @@ impl Request {
             }
             (Request::Promote { name: a }, Request::Promote { name: b }) => a.same(b),
             (Request::CloseView { view: v }, Request::CloseView { view: w }) => *v == *w,
+            (Request::Hold { tag: a, target: t }, Request::Hold { tag: b, target: u }) => {
+                a.same(b) && t.same(u)
+            }
+            (Request::Release { tag: a, target: t }, Request::Release { tag: b, target: u }) => {
+                a.same(b) && t.same(u)
+            }
+            (Request::Holds { target: t }, Request::Holds { target: u }) => t.same(u),
+            (Request::Bookmark { target: t, mark: a }, Request::Bookmark { target: u, mark: b }) =>
+                t.same(u) && a.same(b),
             _ => false,
         }
     }

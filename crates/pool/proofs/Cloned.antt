@@ -19,7 +19,7 @@ use Rattle.pool.specs.Pools.{IsSound}
 use Rattle.pool.specs.Shown.{Shown, shown}
 use Rattle.pool.proofs.Commits.{sound_put}
 
-plus_none : (n : ℕ) → n ≡ n + 0
+pub plus_none : (n : ℕ) → n ≡ n + 0
 plus_none n = omega (arith)
 
 module _ (seen : Shown) (s : State) (numbers : List BlockState) (view : shown s numbers ≡ seen) (sound : IsSound s numbers) where

@@ -10,4 +10,5 @@ pub mod Asking
 pub mod Immediate
 pub mod Sights
 pub mod Cloned
+pub mod Marked
 pub mod Joined

@@ -9,7 +9,7 @@ use Rattle.model.specs.Hierarchy.{FileSystems}
 use Rattle.model.specs.Targets.{is_snapshot_name}
 use Rattle.model.specs.State.{State}
 use Rattle.world.proofs.Maps.{same_value, no_value}
-use Rattle.steps.specs.Steady.{IsSteady, IsAbsent, IsNamed, snap_in}
+use Rattle.steps.specs.Steady.{IsSteady, HasNoDataset, IsNamed, snap_in}
 use Rattle.steps.proofs.Named.{named_live, named_snap}
 use Rattle.pool.specs.Named.{map_named}
 
@@ -32,7 +32,7 @@ found s steady (OfSnapshot n) m e =
     subst (λ x. IsNamed s (OfSnapshot n) x) is.2 (named_snap s steady n is.0 is.1)
 found s steady (OfBookmark n) m e = absurd (no_value m (sym e))
 
-pub absent : (ss : FileSystems) (target : Target) → None ≡ map_named ss target → IsAbsent ss target
+pub absent : (ss : FileSystems) (target : Target) → None ≡ map_named ss target → HasNoDataset ss target
 absent ss (OfFileSystem name) e = unmapped (λ f. f.live) (get ss name) e
 absent ss (OfSnapshot n) e = unmapped (λ t. t.map) (snap_in ss n) e
 absent ss (OfBookmark n) e = tt

@@ -17,10 +17,9 @@ use Rattle.world.specs.Tables.{Datasets, world_of}
 use Rattle.world.proofs.Kept.{union-fields}
 use Rattle.world.specs.Worlds.{AreFileSystems}
 use Rattle.removals.specs.Edits.{HasLost}
-use Rattle.removals.specs.Requests.{AreBare, rolled, rollback_refusal, destroyed, destroy_refusal, swept}
+use Rattle.removals.specs.Requests.{rolled, rollback_refusal, destroyed, destroy_refusal, swept}
 use Rattle.steps.specs.Edits.{datasets_of, lose, CanLose}
 use Rattle.steps.proofs.Freeing.{joined_losses}
-use Rattle.steps.proofs.Plain.{bare}
 use Rattle.steps.proofs.Rolling as rolling
 use Rattle.steps.proofs.Destroying as destroying
 use Rattle.pool.specs.Pools.{IsSound}
@@ -32,11 +31,8 @@ module _ (seen : Shown) (s : State) (numbers : List BlockState) (view : shown s 
   pub apart : AreDisjoint (union_of (world_of (datasets_of s))) s.now.freeing
   apart b h k = sound.steady.good.now.freeing_apart b (subst (λ x. Has x b) (union-fields (world_of (datasets_of s)) s.now refl) h) k
 
-  pub no_clone : AreBare s.now.file_systems
-  no_clone = bare (datasets_of s) sound.steady.plain
-
   -- what is to be freed beside datasets that can be put in place
-  with_freed : (to : Datasets) (freeing : BlockSet) → HasLost (datasets_of s) s.now.freeing to freeing → CanLose s to → CanLose seen.state to × (freeing ≡ (lose seen.state to).now.freeing)
+  pub with_freed : (to : Datasets) (freeing : BlockSet) → HasLost (datasets_of s) s.now.freeing to freeing → CanLose s to → CanLose seen.state to × (freeing ≡ (lose seen.state to).now.freeing)
   with_freed to freeing lost can = subst (λ (x : Shown). CanLose x.state to × (freeing ≡ (lose x.state to).now.freeing)) view (can, joined_losses s to freeing lost.joined)
 
   module _ (target : Target) (later : Bool) where

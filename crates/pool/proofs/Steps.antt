@@ -28,6 +28,7 @@ use Rattle.model.specs.Rule.{first_of}
 use Rattle.model.specs.Step.{Step}
 use Rattle.model.specs.Sums.{IsBalanced}
 use Rattle.model.specs.Numbers.{IsNumbered, HasStates}
+use Rattle.world.specs.Worlds.{IsPoolState}
 use Rattle.model.specs.requests.Create.{create_refusal}
 use Rattle.model.specs.requests.Get.{is_text}
 use Rattle.model.specs.requests.Snapshot.{snapshot_names, taking_row, guid_by}
@@ -127,6 +128,10 @@ module _ (seen : Shown) (s : State) (numbers : List BlockState) (view : shown s 
   -- each block is allocated, free or waiting
   pub balanced : IsBalanced seen.state
   balanced = subst (λ (x : Shown). IsBalanced x.state) view (properties.are_balanced s sound.steady numbers sound.states)
+
+  -- it is what a pool's state is between two steps
+  pub kept : IsPoolState seen.state
+  kept = subst (λ (x : Shown). IsPoolState x.state) view sound.steady.good
 
   -- one number names one block
   pub numbered : IsNumbered seen.state

@@ -1,27 +1,27 @@
 -- What a name stands for among file systems.
-use Rattle.std.specs.Prelude.{◌≡◌, ◌⊎◌, ◌*◌, ℕ, List, Option, None, Some}
+use Rattle.std.specs.Prelude.{◌≡◌, ◌⊎◌, ◌*◌, ℕ, List, Option, None, Some, length, map}
 use Rattle.std.specs.List.{find, join_with_byte}
 use Rattle.std.specs.Option.{option_map, option_map_or, option_and_then}
 use Rattle.std.specs.FinMap.{get, len}
 use Rattle.base.specs.Map.{Map, blocks}
 use Rattle.base.specs.declared.refusal.Refusal.{Refusal}
 use Rattle.base.specs.declared.refusal.Refusal.TheVariants.{NoDataset, ReadOnly}
-use Rattle.name.specs.Names.{same_name}
+use Rattle.name.specs.Names.{same_name, snap_text, mark_text}
 use Rattle.name.specs.declared.member.Member.{Member}
 use Rattle.name.specs.declared.target.Target.{Target}
 use Rattle.name.specs.declared.target.Target.TheVariants.{FileSystem as OfFileSystem, Snapshot as OfSnapshot, Bookmark as OfBookmark}
 use Rattle.model.specs.Hierarchy.{FileSystems}
-use Rattle.model.specs.World.{Snap, SnapId, id_of, clones_of}
-use Rattle.model.specs.Properties.{text_of_snap}
+use Rattle.model.specs.World.{Snap, SnapId, id_of, clones_of, bookmark_named}
+use Rattle.model.specs.Properties.{text_of_snap, bookmark_value, bookmarks_in_order}
 use Rattle.model.specs.Sums.{size_without}
 use Rattle.model.specs.declared.request.Property.{Property}
-use Rattle.model.specs.declared.request.Property.TheVariants.{Referenced, Written, Guid, CreateTxg, Origin, Clones}
+use Rattle.model.specs.declared.request.Property.TheVariants.{Referenced, Written, Guid, CreateTxg, Origin, Clones, UserRefs, DeferDestroy}
 use Rattle.model.specs.declared.reply.Value.{Value}
-use Rattle.model.specs.declared.reply.Value.TheVariants.{Size, Number, Named, NotApplicable}
+use Rattle.model.specs.declared.reply.Value.TheVariants.{Size, Number, Named, Truth, NotApplicable}
 use Rattle.world.specs.Tables.{Datasets, world_of}
 use Rattle.file_systems.specs.Clones.{row_in}
 use Rattle.file_system.specs.Dead.{newest_blocks, written_from}
-use Rattle.file_system.specs.Rows.{Row}
+use Rattle.file_system.specs.Rows.{Row, Entry}
 use Rattle.steps.specs.Steady.{snap_in}
 
 -- the map of the dataset of a name: a file system's live map, or a snapshot's (zfs(8))
@@ -35,11 +35,19 @@ pub record IsNoLive (ss : FileSystems) (target : Target) (why : Refusal) : Type 
   pub never : (name : List ℕ) → target ≡ OfFileSystem name → ⊥
   pub which : ((why ≡ ReadOnly) × (m : Map) × (Some m ≡ map_named ss target)) ⊎ ((why ≡ NoDataset) × (None ≡ map_named ss target))
 
+-- the names of a file system's snapshots, in order of their creation groups (zfs-list(8))
+abbrev pub snapshot_names : Entry → List (List ℕ)
+snapshot_names e = map (λ t. snap_text (record { file_system = e.0; component = t.name })) e.1.snaps
+
+-- and those of its bookmarks, in order of their groups and then of their names (zfs-list(8); the order is profile)
+abbrev pub bookmark_names : Entry → List (List ℕ)
+bookmark_names e = map (λ b. mark_text (record { file_system = e.0; component = b })) (bookmarks_in_order e.1)
+
 -- the origin of a file system, where it is a clone (zfsprops(7): origin)
 abbrev pub origin_value : Datasets → Option SnapId → Value
 origin_value t origin = option_map_or (λ id. Named (text_of_snap (world_of t) id)) origin NotApplicable
 
--- a property of a file system: of its live dataset, or its origin; it has neither a guid, nor a creation group, nor clones (zfsprops(7))
+-- a property of a file system: of its live dataset, or its origin; it has no property of a snapshot alone (zfsprops(7))
 abbrev pub live_value : Datasets → Row → Property → Value
 live_value t r Referenced = Size (512 * len r.system.live)
 live_value t r Written = Size (512 * size_without (blocks r.system.live) (newest_blocks (blocks r.below) r.system.snaps))
@@ -47,6 +55,8 @@ live_value t r Guid = NotApplicable
 live_value t r CreateTxg = NotApplicable
 live_value t r Origin = origin_value t r.system.origin
 live_value t r Clones = NotApplicable
+live_value t r UserRefs = NotApplicable
+live_value t r DeferDestroy = NotApplicable
 
 -- a property of a snapshot of a file system, which has this name within it (zfsprops(7))
 abbrev pub kept_value : Datasets → Row → List ℕ → Snap → Property → Option Value
@@ -56,6 +66,8 @@ kept_value t r name u Guid = Some (Number u.guid)
 kept_value t r name u CreateTxg = Some (Number u.group)
 kept_value t r name u Origin = Some NotApplicable
 kept_value t r name u Clones = Some (Named (join_with_byte 44 (clones_of (world_of t) (id_of u))))
+kept_value t r name u UserRefs = Some (Number (length u.tags))
+kept_value t r name u DeferDestroy = Some (Truth u.deferred)
 
 -- a property of the snapshot of this name within a file system, none where there is no such snapshot (zfs-get(8))
 abbrev pub snapshot_value : Datasets → Row → List ℕ → Property → Option Value
@@ -69,4 +81,4 @@ value_in t m property = option_and_then (λ f. snapshot_value t (row_in t.file_s
 abbrev pub value_named : Datasets → Target → Property → Option Value
 value_named t (OfFileSystem name) property = option_map (λ f. live_value t (row_in t.file_systems (name, f)) property) (get t.file_systems name)
 value_named t (OfSnapshot m) property = value_in t m property
-value_named t (OfBookmark m) property = None
+value_named t (OfBookmark m) property = option_map (λ b. bookmark_value b property) (bookmark_named (world_of t) m)

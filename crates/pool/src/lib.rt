@@ -1,11 +1,12 @@
 //! A pool of blocks with its file systems and snapshots, which answers one request after another.
 //!
 //! A pool keeps the present world and the one that the last sync left, and the state of each block number. So far it has file
-//! systems with their snapshots and clones, without tags, bookmarks or limits.
+//! systems with their snapshots, clones and bookmarks, without limits.
 #![tactic(auto)]
 
 mod cloning;
 mod destroying;
+mod marking;
 mod named;
 mod pool;
 mod viewing;

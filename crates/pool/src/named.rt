@@ -1,19 +1,20 @@
 //! File systems by a name of any kind, and what is told of them.
-ghost use Rattle.std.specs.Prelude.{◌≡◌, ◌*◌, ◌++◌, true, IfOk, IfErr, OnOk, map, codes};
+ghost use Rattle.std.specs.Prelude.{◌≡◌, ◌*◌, ◌++◌, ◌∷◌, true, IfOk, IfErr, OnOk, map};
 ghost use Rattle.std.specs.Arc.{arc_value};
-ghost use Rattle.std.specs.Option.{option_copied, option_map_or};
+ghost use Rattle.std.specs.Option.{option_copied, option_map, option_map_or};
 ghost use Rattle.std.specs.List.{flat_map, join_with_byte};
 ghost use Rattle.base.specs.declared.refusal.Refusal.{Refusal};
 ghost use Rattle.file_systems.specs.CloneNames.{name_of};
 ghost use Rattle.file_system.specs.Rows.{entry_of, entry_in};
 ghost use Rattle.model.specs.Ids.{snap_id};
-ghost use Rattle.model.specs.Properties.{text_of_snap};
-ghost use Rattle.model.specs.World.{clones_of};
+ghost use Rattle.model.specs.Properties.{text_of_snap, bookmark_value};
+ghost use Rattle.model.specs.World.{clones_of, bookmark_named};
 ghost use Rattle.model.specs.requests.Get.{is_text};
 ghost use Rattle.steps.specs.Steady.{snap_in};
 ghost use Rattle.steps.specs.Listed.{own_names};
+ghost use Rattle.bookmarks.specs.Marks.{bookmark_of};
 ghost use Rattle.world.specs.Tables.{world_of};
-ghost use Rattle.pool.specs.Named.{map_named, live_value, origin_value, snapshot_value, value_in, value_named};
+ghost use Rattle.pool.specs.Named.{map_named, snapshot_names, bookmark_names, live_value, origin_value, snapshot_value, value_in, value_named};
 
 use base::refusal::Refusal;
 use base::text::Bytes;
@@ -48,8 +49,8 @@ pub(crate) fn snapshot_named<'a>(table: &'a Table, member: &Member) -> Option<&'
         .snapshot_named(member.component.as_bytes())
 }
 
-/// Copies of the names of file systems, each with those of its snapshots after it. NoMemory where there is none for them. It costs
-/// the names.
+/// Copies of the names of file systems, each with those of its snapshots and then those of its bookmarks after it. NoMemory where there is
+/// none for them. It costs the names, and for the bookmarks of each what `Bookmarks::in_order` does.
 pub fn names_of(alloc: Global, file_systems: &[Arc<FileSystem>]) -> Result<Vec<Bytes>, Refusal>
     ensures ok { IfOk result (λ names. names.items ≡ flat_map own_names (map entry_in file_systems.now)) }
     ensures err { IfErr result (λ e. e ≡ Refusal.NoMemory) }
@@ -61,7 +62,7 @@ pub fn names_of(alloc: Global, file_systems: &[Arc<FileSystem>]) -> Result<Vec<B
     Ok(names)
 }
 
-// Adds the name of a file system, and those of its snapshots.
+// Adds the name of a file system, those of its snapshots, and those of its bookmarks.
 fn push_names(
     alloc: Global,
     names: &mut Vec<Bytes>,
@@ -70,11 +71,42 @@ fn push_names(
     ensures ok { OnOk result (names.new.items ≡ names.old.items ++ own_names (entry_of file_system.now)) }
     ensures err { IfErr result (λ e. e ≡ Refusal.NoMemory) }
 {
+    names.push(text_of(alloc, file_system.name().as_bytes())?)?;
+    push_snapshots(alloc, names, file_system)?;
+    push_bookmarks(alloc, names, file_system)?;
+    Ok(())
+}
+
+// Adds the names of a file system's snapshots.
+fn push_snapshots(
+    alloc: Global,
+    names: &mut Vec<Bytes>,
+    file_system: &FileSystem,
+) -> Result<(), Refusal>
+    ensures ok { OnOk result (names.new.items ≡ names.old.items ++ snapshot_names (entry_of file_system.now)) }
+    ensures err { IfErr result (λ e. e ≡ Refusal.NoMemory) }
+{
     let name = file_system.name().as_bytes();
-    names.push(text_of(alloc, name)?)?;
     for kept in file_system.snapshots().iter() {
         let component = kept.snapshot.name().as_bytes();
-        names.push(snapshot_text(alloc, name, component)?)?;
+        names.push(member_text(alloc, name, b'@', component)?)?;
+    }
+    Ok(())
+}
+
+// Adds the names of a file system's bookmarks.
+fn push_bookmarks(
+    alloc: Global,
+    names: &mut Vec<Bytes>,
+    file_system: &FileSystem,
+) -> Result<(), Refusal>
+    ensures ok { OnOk result (names.new.items ≡ names.old.items ++ bookmark_names (entry_of file_system.now)) }
+    ensures err { IfErr result (λ e. e ≡ Refusal.NoMemory) }
+{
+    let name = file_system.name().as_bytes();
+    let marks = file_system.bookmarks().in_order()?;
+    for mark in marks.as_slice() {
+        names.push(member_text(alloc, name, b'#', mark.name.as_bytes())?)?;
     }
     Ok(())
 }
@@ -87,14 +119,19 @@ fn text_of(alloc: Global, name: &[u8]) -> Result<Bytes, Refusal>
     Ok(Bytes::from(name.to_vec(alloc)?))
 }
 
-// A snapshot's name in print, `p/a@s` (zfs(8)).
-fn snapshot_text(alloc: Global, file_system: &[u8], component: &[u8]) -> Result<Bytes, Refusal>
-    ensures ok { IfOk result (λ text. text ≡ file_system.now ++ codes "@" ++ component.now) }
+// A name within a file system in print, as `p/a@s` or `p/a#b`, with this byte between (zfs(8)).
+fn member_text(
+    alloc: Global,
+    file_system: &[u8],
+    between: u8,
+    component: &[u8],
+) -> Result<Bytes, Refusal>
+    ensures ok { IfOk result (λ text. text ≡ file_system.now ++ between ∷ component.now) }
     ensures err { IfErr result (λ e. e ≡ Refusal.NoMemory) }
 {
     let mut text = Vec::with_capacity(alloc, file_system.len() + 1 + component.len())?;
     text.extend_from_slice(file_system)?;
-    text.push(b'@')?;
+    text.push(between)?;
     text.extend_from_slice(component)?;
     Ok(Bytes::from(text))
 }
@@ -106,9 +143,10 @@ fn text_of_snapshot(alloc: Global, table: &Table, id: SnapshotId) -> Result<Byte
     ensures err { IfErr result (λ e. e ≡ Refusal.NoMemory) }
 {
     match table.snapshot_of(id) {
-        Some((file_system, snapshot)) => snapshot_text(
+        Some((file_system, snapshot)) => member_text(
             alloc,
             file_system.name().as_bytes(),
+            b'@',
             snapshot.name().as_bytes(),
         ),
         None => Ok(Bytes::from(Vec::new(alloc))),
@@ -153,7 +191,7 @@ fn value_of_origin(alloc: Global, table: &Table, file_system: &FileSystem) -> Re
     }
 }
 
-// A property of a file system of the table: of its live dataset, or its origin. It has neither a guid, nor a creation group, nor clones.
+// A property of a file system of the table: of its live dataset, or its origin. It has no property of a snapshot alone.
 // NoMemory where there is none for a text. Constant time, but for the origin what `value_of_origin` costs.
 fn value_of_live(
     alloc: Global,
@@ -168,7 +206,11 @@ fn value_of_live(
         Property::Referenced => Ok(in_bytes(file_system.live().node_count())),
         Property::Written => Ok(in_bytes(file_system.written())),
         Property::Origin => value_of_origin(alloc, table, file_system),
-        Property::Guid | Property::CreateTxg | Property::Clones => Ok(Value::NotApplicable),
+        Property::Guid
+        | Property::CreateTxg
+        | Property::Clones
+        | Property::UserRefs
+        | Property::DeferDestroy => Ok(Value::NotApplicable),
     }
 }
 
@@ -194,6 +236,8 @@ fn value_within(
         Property::CreateTxg => Value::Number(snapshot.group().0),
         Property::Origin => Value::NotApplicable,
         Property::Clones => Value::Named(clones_text(alloc, table, snapshot.id())?),
+        Property::UserRefs => Value::Number(snapshot.tag_count() as u64),
+        Property::DeferDestroy => Value::Truth(snapshot.is_deferred()),
     };
     Ok(Some(value))
 }
@@ -239,7 +283,32 @@ pub fn value_named(
             None => Ok(None),
         },
         Target::Snapshot(name) => value_of_snapshot(alloc, table, name.member(), property),
-        Target::Bookmark(_) => Ok(None),
+        Target::Bookmark(name) => {
+            Ok(bookmark_named(table, name.member()).map(|mark| value_of_mark(mark, property)))
+        }
+    }
+}
+
+// What the bookmark of this name keeps of its snapshot, or none where there is no such bookmark. It costs the logarithms of the numbers of
+// file systems and of bookmarks of this one.
+fn bookmark_named(table: &Table, member: &Member) -> Option<SnapshotId>
+    ensures { option_map bookmark_of result ≡ bookmark_named (world_of table.now) member.now }
+{
+    table
+        .find(&member.file_system)?
+        .bookmarks()
+        .get(member.component.as_bytes())
+}
+
+// A property of a bookmark, which keeps its snapshot's guid and creation group (zfsprops(7), zfs-bookmark(8)). Constant time.
+#[tactic(auto, unfolding(model::specs::Properties::bookmark_value))]
+fn value_of_mark(mark: SnapshotId, property: Property) -> Value
+    ensures { result ≡ bookmark_value (bookmark_of mark) property }
+{
+    match property {
+        Property::Guid => Value::Number(mark.guid.0),
+        Property::CreateTxg => Value::Number(mark.group.0),
+        _ => Value::NotApplicable,
     }
 }
 

@@ -12,6 +12,7 @@ ghost use Rattle.model.specs.Sums.{IsBalanced};
 ghost use Rattle.model.specs.Run.{Run};
 ghost use Rattle.steps.specs.Settles.{AllAllocated, releases};
 ghost use Rattle.name.specs.declared.target.Target.{Target};
+ghost use Rattle.world.specs.Worlds.{IsPoolState};
 ghost use Rattle.pool.specs.Asked.{Asks};
 ghost use Rattle.pool.specs.Named.{IsNoLive};
 ghost use Rattle.pool.specs.Plans.{state_after_plan, CanDo};
@@ -186,6 +187,7 @@ impl Pool {
         ensures numbered { IsNumbered self.old.state }
         ensures states { HasStates self.old.state self.old.numbers }
         ensures balanced { IsBalanced self.old.state }
+        ensures kept { IsPoolState self.old.state }
     {
         let _size = self.size;
         let (reply, plan) = self.planned(alloc, request);
@@ -239,6 +241,10 @@ impl Pool {
             Request::CloseView { view } => self.planned_close(alloc, *view),
             Request::Clone { target, name } => self.planned_clone(target, name),
             Request::Promote { name } => self.planned_promote(alloc, name),
+            Request::Hold { tag, target } => self.planned_hold(alloc, tag, target),
+            Request::Release { tag, target } => self.planned_release(alloc, tag, target),
+            Request::Holds { target } => (self.holds(alloc, target), Plan::Nothing),
+            Request::Bookmark { target, mark } => self.planned_bookmark(alloc, target, mark),
         }
     }
 
@@ -491,6 +497,7 @@ impl Pool {
         ensures numbered { IsNumbered self.new.state }
         ensures states { HasStates self.new.state self.new.numbers }
         ensures balanced { IsBalanced self.new.state }
+        ensures kept { IsPoolState self.new.state }
     {
         let reply = self.answer(alloc, request);
         let _size = self.size;
@@ -543,6 +550,10 @@ impl Pool {
             Request::Clone { target, name } => self.clone_now(target, name),
             Request::Promote { name } => self.promote_now(alloc, name),
             Request::Create { name } => self.create_now(name),
+            Request::Hold { tag, target } => self.hold_now(alloc, tag, target),
+            Request::Release { tag, target } => self.release_now(alloc, tag, target),
+            Request::Holds { target } => self.holds(alloc, target),
+            Request::Bookmark { target, mark } => self.bookmark_now(alloc, target, mark),
             Request::Snapshot { .. }
             | Request::Rollback { .. }
             | Request::OpenView { .. }

@@ -2,9 +2,13 @@
 #![tactic(auto)]
 
 #[cfg(test)]
+mod bookmarked;
+#[cfg(test)]
 mod cloned;
 #[cfg(test)]
 mod families;
+#[cfg(test)]
+mod held;
 #[cfg(test)]
 mod pools;
 #[cfg(test)]

@@ -2,6 +2,7 @@
 use base::data::Data;
 use base::refusal::Refusal;
 use base::text::Bytes;
+use laws::run_laws;
 use model::entry::{Entry, KeptReply};
 use model::names::Names;
 use model::reply::{Reply, Value};
@@ -10,7 +11,6 @@ use model::snap_names::SnapNames;
 use name::{DsName, SnapName, Target};
 use std::alloc::Global;
 use std::process::Abort;
-use world::laws::run_laws;
 
 fn target(rt: &impl Abort, alloc: Global, bytes: &[u8]) -> Target {
     Target::read(alloc, bytes).expect(rt, "memory for a name")

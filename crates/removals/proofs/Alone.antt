@@ -5,7 +5,7 @@ use Rattle.std.specs.Option.{option_map_or, option_and_then}
 use Rattle.std.specs.FinMap.{get, entries}
 use Rattle.base.specs.Surveys.{IsIn}
 use Rattle.model.specs.World.{FileSystem, Snap, SnapId, id_of, same_id, snap_at, snaps_of}
-use Rattle.model.specs.State.{Views, is_viewed}
+use Rattle.model.specs.State.{Views}
 use Rattle.model.specs.Outcome.{is_needed}
 use Rattle.file_system.specs.Rows.{Entry}
 use Rattle.world.specs.Shapes.{Name, name_order}
@@ -14,11 +14,11 @@ use Rattle.world.specs.Tables.{Datasets, world_of, without_system}
 use Rattle.world.proofs.Maps.{no_value, key_cases, at_entry, get-remove_same, get-remove_other}
 use Rattle.world.proofs.Finding.{found_none, is_same_id}
 use Rattle.world.proofs.Bridge.{from_entries, from_snap_at, in_snaps}
-use Rattle.removals.specs.Named.{has_clone, is_kept}
+use Rattle.removals.specs.Named.{has_clone, is_held, is_kept}
 use Rattle.removals.specs.Families.{has_deferred_origin}
-use Rattle.removals.specs.Requests.{swept, without_family, AreBare, IsSweptBy}
-use Rattle.removals.proofs.Bare.{needed_is}
+use Rattle.removals.specs.Requests.{swept, without_family, IsSweptBy}
 use Rattle.removals.proofs.Clones.{uncloned_is}
+use Rattle.removals.proofs.Needed.{needed_is}
 use Rattle.removals.proofs.SystemsGone.{one_gone}
 use Rattle.removals.proofs.Swept.{none_without, once_here, some_clone}
 
@@ -30,7 +30,7 @@ origin_marked t name f id p at o found =
     ∙ ap (λ (x : Option SnapId). option_map_or (λ (j : SnapId). option_map_or (λ (q : Name × Snap). q.1.deferred) (snap_at (world_of t) j) false) x false) o
     ∙ ap (λ (x : Option (Name × Snap)). option_map_or (λ (q : Name × Snap). q.1.deferred) x false) found
 
-module _ (t : Datasets) (good : AreFileSystems t.file_systems t.group) (bare : AreBare t.file_systems) (views : Views) (clean : IsSweptBy t views) (name : Name) (stays : has_deferred_origin t name ≡ false) where
+module _ (t : Datasets) (good : AreFileSystems t.file_systems t.group) (views : Views) (clean : IsSweptBy t views) (name : Name) (stays : has_deferred_origin t name ≡ false) where
   abbrev after : Datasets
   after = without_system t name
 
@@ -70,18 +70,18 @@ module _ (t : Datasets) (good : AreFileSystems t.file_systems t.group) (bare : A
   -- so nothing is to go
   still_needed : (n : Name) (f : FileSystem) (u : Snap) → get after.file_systems n ≡ Some f → IsIn f.snaps u → (u.deferred && not (is_needed (world_of after) views u)) ≡ false
   still_needed n f u at i =
-      ap (λ b. u.deferred && not b) (needed_is after (λ m g h. bare m g (was_there m g h)) views n f u at i)
+      ap (λ b. u.deferred && not b) (needed_is after views u)
       ∙ by_mark u.deferred refl
     where
-      kept : u.deferred ≡ true → is_kept t views (id_of u) ≡ true
-      kept d = sym (needed_is t bare views n f u (was_there n f at) i) ∙ clean n f u (was_there n f at) i d
+      kept : u.deferred ≡ true → is_kept t views u ≡ true
+      kept d = sym (needed_is t views u) ∙ clean n f u (was_there n f at) i d
 
-      by_view : (v c e : Bool) → (c ≡ true → e ≡ true) → (v || c) ≡ true → (v || e) ≡ true
-      by_view true c e h k = refl
-      by_view false c e h k = h k
+      by_hold : (v c e : Bool) → (c ≡ true → e ≡ true) → (v || c) ≡ true → (v || e) ≡ true
+      by_hold true c e h k = refl
+      by_hold false c e h k = h k
 
-      by_mark : (d : Bool) → u.deferred ≡ d → (d && not (is_kept after views (id_of u))) ≡ false
-      by_mark true d = ap not (by_view (is_viewed views (id_of u)) (has_clone t (id_of u)) (has_clone after (id_of u)) (still_cloned n f u (was_there n f at) i d) (kept d))
+      by_mark : (d : Bool) → u.deferred ≡ d → (d && not (is_kept after views u)) ≡ false
+      by_mark true d = ap not (by_hold (is_held views u) (has_clone t (id_of u)) (has_clone after (id_of u)) (still_cloned n f u (was_there n f at) i d) (kept d))
       by_mark false d = refl
 
   pub nothing_swept : swept (without_system t name) views ≡ without_system t name

@@ -20,7 +20,7 @@ use Rattle.world.proofs.Finding.{from_find, find_only, from_filter, same_id_is, 
 use Rattle.world.proofs.States.{positive, in_clones}
 use Rattle.world.proofs.WithoutSnaps.{from_without}
 use Rattle.removals.specs.Named.{without_named, has_clone, is_named_cloned}
-use Rattle.removals.proofs.Bare.{none_kept, any_alike}
+use Rattle.removals.proofs.Needed.{none_kept, any_alike}
 use Rattle.removals.proofs.Named.{AreNamesOnce, names_once, once_after}
 
 -- ---- whether one is there

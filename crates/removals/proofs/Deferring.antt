@@ -11,10 +11,8 @@ use Rattle.model.specs.requests.Destroy.{is_one_of, with_deferred}
 use Rattle.world.specs.Shapes.{Name, name_order}
 use Rattle.world.specs.Tables.{Datasets, world_of, deferred_snap}
 use Rattle.world.proofs.Sweep.{get-with_file_systems}
-use Rattle.std.specs.FinSet.{union, difference}
 use Rattle.base.specs.Map.{BlockSet}
 use Rattle.model.specs.World.{maps_of, union_of}
-use Rattle.world.specs.Sets.{IsSubset, AreDisjoint}
 use Rattle.world.specs.Blocks.{block_order as o}
 use Rattle.world.proofs.Maps.{same_value, no_value}
 use Rattle.world.proofs.SetCounts.{same_members}
@@ -22,6 +20,7 @@ use Rattle.world.proofs.Views.{same_maps_mapped}
 use Rattle.world.proofs.Bridge.{in_union_of, from_union_of}
 use Rattle.removals.specs.Edits.{HasLost}
 use Rattle.removals.specs.Named.{deferred_all}
+use Rattle.removals.proofs.Losses.{lost_alike}
 use Rattle.removals.proofs.Named.{ids_of, id_named}
 
 -- a snapshot, where it is one of some
@@ -160,9 +159,4 @@ module _ (w : World) (p : Snap → Bool) where
 -- what has been lost stays so
 pub lost_deferred : (t u v : Datasets) (freeing after : BlockSet) (ms : List Member) → v ≡ deferred_all u ms → HasLost t freeing u after → HasLost t freeing v after
 lost_deferred t u v freeing after ms to lost =
-    let same : union_of (world_of v) ≡ union_of (world_of u) = ap (λ x. union_of (world_of x)) (to ∙ all_deferred ms u) ∙ union_stays (world_of u) (is_one_of (ids_of u ms)) in
-    record {
-      fewer = subst (λ s. IsSubset s (union_of (world_of t))) (sym same) lost.fewer;
-      joined = lost.joined ∙ ap (λ s. union freeing (difference (union_of (world_of t)) s)) (sym same);
-      apart = subst (λ s. AreDisjoint s after) (sym same) lost.apart;
-    }
+    lost_alike t u v freeing after (ap (λ x. union_of (world_of x)) (to ∙ all_deferred ms u) ∙ union_stays (world_of u) (is_one_of (ids_of u ms))) lost

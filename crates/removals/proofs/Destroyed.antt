@@ -11,7 +11,7 @@ use Rattle.base.specs.Surveys.{IsIn}
 use Rattle.name.specs.declared.member.Member.{Member}
 use Rattle.name.specs.declared.target.Target.TheVariants.{Snapshot as OfSnapshot}
 use Rattle.model.specs.World.{World, FileSystem, Snap, SnapId, id_of, same_id, snap_named}
-use Rattle.model.specs.State.{Views, is_viewed}
+use Rattle.model.specs.State.{Views}
 use Rattle.model.specs.Outcome.{is_needed}
 use Rattle.model.specs.Edits.{without_snaps}
 use Rattle.model.specs.requests.Snapshot.{named_with}
@@ -23,11 +23,11 @@ use Rattle.world.proofs.Sweep.{get-with_file_systems}
 use Rattle.world.proofs.Finding.{append_none, any_none, same_id_is}
 use Rattle.world.proofs.WithoutSnaps.{get-without, any_from}
 use Rattle.snap.specs.Taking.{all_of}
-use Rattle.removals.specs.Named.{without_all, deferred_all, has_clone, is_named_viewed, is_named_cloned, is_kept, is_named_kept}
-use Rattle.removals.specs.Requests.{destroyed, destroy_refusal, AreBare}
-use Rattle.removals.proofs.Bare.{needed_is, busy_is}
+use Rattle.removals.specs.Named.{without_all, deferred_all, has_clone, is_held, is_named_held, is_named_cloned, is_kept, is_named_kept}
+use Rattle.removals.specs.Requests.{destroyed, destroy_refusal}
 use Rattle.removals.proofs.Clones.{outside_is}
 use Rattle.removals.proofs.Named.{names_once, ids_of, all_are, ids_left}
+use Rattle.removals.proofs.Needed.{any_alike, needed_is, is_held_at, held_at, named_held, named_one}
 use Rattle.removals.proofs.Seen.{any_named}
 use Rattle.removals.proofs.Deferring.{all_deferred}
 
@@ -49,64 +49,67 @@ and_false : (b : Bool) → (b && false) ≡ false
 and_false true = refl
 and_false false = refl
 
+-- whether a tag or a view keeps one of these
+any_held : (t : Datasets) → AreFileSystems t.file_systems t.group → (views : Views) (ms : List Member) → list_any (is_held_at t views) (ids_of t ms) ≡ list_any (is_named_held t views) ms
+any_held t good views ms = any_named t (is_held_at t views) ms
+    ∙ any_alike (λ m. option_map_or (λ (s : Snap). is_held_at t views (id_of s)) (snap_named (world_of t) m) false) (is_named_held t views) ms (λ m i. named_held t good views m)
+
 -- why it is refused
-pub refusal_is : (t : Datasets) → AreBare t.file_systems → (views : Views) (m : Member) (recursive defer : Bool)
+pub refusal_is : (t : Datasets) → AreFileSystems t.file_systems t.group → (views : Views) (m : Member) (recursive defer : Bool)
     → destroy_refusal t views (OfSnapshot m) recursive defer
     ≡ cond (list_any (λ n. is_some (snap_named (world_of t) n)) (all_of t (m ∷ []) recursive))
-    (cond (not defer && list_any (is_named_viewed t views) (all_of t (m ∷ []) recursive)) (Some Busy)
+    (cond (not defer && list_any (is_named_held t views) (all_of t (m ∷ []) recursive)) (Some Busy)
     (cond (not defer && list_any (is_named_cloned t) (all_of t (m ∷ []) recursive)) (Some HasClones) None)) (Some NoDataset)
-refusal_is t bare views m recursive defer =
+refusal_is t good views m recursive defer =
     first-of (nat_lt 0 (length (snaps_named (world_of t) m recursive))) _ _ _ _
-    (ap (λ b. not defer && b) (busy_is t bare views (snaps_named (world_of t) m recursive) ∙ any_named t (is_viewed views) (named_with (world_of t) recursive m)
-    ∙ ap (list_any (is_named_viewed t views)) (sym (named_is t m recursive))))
+    (ap (λ b. not defer && b) (any_held t good views (named_with (world_of t) recursive m) ∙ ap (list_any (is_named_held t views)) (sym (named_is t m recursive))))
     (ap (λ b. not defer && b) (outside_is t (snaps_named (world_of t) m recursive) ∙ any_named t (has_clone t) (named_with (world_of t) recursive m)
     ∙ ap (list_any (is_named_cloned t)) (sym (named_is t m recursive))))
-    ∙ ap (λ b. cond {A = Option Refusal} b (cond (not defer && list_any (is_named_viewed t views) (all_of t (m ∷ []) recursive)) (Some Busy)
+    ∙ ap (λ b. cond {A = Option Refusal} b (cond (not defer && list_any (is_named_held t views) (all_of t (m ∷ []) recursive)) (Some Busy)
     (cond (not defer && list_any (is_named_cloned t) (all_of t (m ∷ []) recursive)) (Some HasClones) None)) (Some NoDataset))
     (sym (any_there t (named_with (world_of t) recursive m)) ∙ ap (list_any (λ n. is_some (snap_named (world_of t) n))) (sym (named_is t m recursive)))
   where
-    first-of : (is_there busy viewed outside cloned : Bool) → busy ≡ viewed → outside ≡ cloned
+    first-of : (is_there busy held outside cloned : Bool) → busy ≡ held → outside ≡ cloned
         → cond {A = Option Refusal} (not is_there) (Some NoDataset) (cond busy (Some Busy) (cond outside (Some HasClones) None))
-        ≡ cond {A = Option Refusal} is_there (cond viewed (Some Busy) (cond cloned (Some HasClones) None)) (Some NoDataset)
-    first-of true busy viewed outside cloned a b = λ i. cond {A = Option Refusal} (a i) (Some Busy) (cond (b i) (Some HasClones) None)
-    first-of false busy viewed outside cloned a b = refl
+        ≡ cond {A = Option Refusal} is_there (cond held (Some Busy) (cond cloned (Some HasClones) None)) (Some NoDataset)
+    first-of true busy held outside cloned a b = λ i. cond {A = Option Refusal} (a i) (Some Busy) (cond (b i) (Some HasClones) None)
+    first-of false busy held outside cloned a b = refl
 
 -- ---- what is left
 
-module _ (t : Datasets) (views : Views) where
-  -- of those that are not kept
-  unviewed_ids : (ms : List Member) (u : Snap)
-      → is_one_of (ids_of t (filter (λ m. not (is_named_kept t views m)) ms)) u ≡ (is_one_of (ids_of t ms) u && not (is_kept t views (id_of u)))
-  unviewed_ids [] u = refl
-  unviewed_ids (m ∷ ms) u = by_snap (snap_named (world_of t) m) (unviewed_ids ms u) refl
+-- of those that are not kept, where each name's that has the identity of this snapshot is this one
+module _ (t : Datasets) (views : Views) (u : Snap) (one : (m : Member) (s : Snap) → snap_named (world_of t) m ≡ Some s → id_of u ≡ id_of s → u ≡ s) where
+  unkept_ids : (ms : List Member) → is_one_of (ids_of t (filter (λ m. not (is_named_kept t views m)) ms)) u ≡ (is_one_of (ids_of t ms) u && not (is_kept t views u))
+  unkept_ids [] = refl
+  unkept_ids (m ∷ ms) = by_snap (snap_named (world_of t) m) (unkept_ids ms) refl
     where
       rest : List Member
       rest = filter (λ m. not (is_named_kept t views m)) ms
 
       -- the one of the name is this, or another
-      by_same : (s : Snap) (same viewed : Bool) → same_id (id_of u) (id_of s) ≡ same → is_kept t views (id_of s) ≡ viewed
-          → is_one_of (ids_of t rest) u ≡ (is_one_of (ids_of t ms) u && not (is_kept t views (id_of u)))
-          → cond viewed (is_one_of (ids_of t rest) u) (same || is_one_of (ids_of t rest) u) ≡ ((same || is_one_of (ids_of t ms) u) && not (is_kept t views (id_of u)))
-      by_same s true true e v ih =
-          let it : is_kept t views (id_of u) ≡ true = ap (is_kept t views) (same_id_is (id_of u) (id_of s) e) ∙ v in
+      by_same : (s : Snap) → snap_named (world_of t) m ≡ Some s → (same kept : Bool) → same_id (id_of u) (id_of s) ≡ same → is_kept t views s ≡ kept
+          → is_one_of (ids_of t rest) u ≡ (is_one_of (ids_of t ms) u && not (is_kept t views u))
+          → cond kept (is_one_of (ids_of t rest) u) (same || is_one_of (ids_of t rest) u) ≡ ((same || is_one_of (ids_of t ms) u) && not (is_kept t views u))
+      by_same s at true true e v ih =
+          let it : is_kept t views u ≡ true = ap (is_kept t views) (one m s at (same_id_is (id_of u) (id_of s) e)) ∙ v in
           ih ∙ ap (λ b. is_one_of (ids_of t ms) u && not b) it ∙ and_false (is_one_of (ids_of t ms) u) ∙ sym (ap not it)
-      by_same s true false e v ih =
-          let it : is_kept t views (id_of u) ≡ false = ap (is_kept t views) (same_id_is (id_of u) (id_of s) e) ∙ v in
+      by_same s at true false e v ih =
+          let it : is_kept t views u ≡ false = ap (is_kept t views) (one m s at (same_id_is (id_of u) (id_of s) e)) ∙ v in
           sym (ap not it)
-      by_same s false true e v ih = ih
-      by_same s false false e v ih = ih
+      by_same s at false true e v ih = ih
+      by_same s at false false e v ih = ih
 
-      by_snap : (x : Option Snap) → is_one_of (ids_of t rest) u ≡ (is_one_of (ids_of t ms) u && not (is_kept t views (id_of u))) → snap_named (world_of t) m ≡ x
-          → is_one_of (ids_of t (cond (not (option_map_or (λ (s : Snap). is_viewed views (id_of s)) x false || option_map_or (λ (s : Snap). has_clone t (id_of s)) x false)) (m ∷ rest) rest)) u
-          ≡ (is_one_of (option_map_or (λ (s : Snap). id_of s ∷ []) x [] ++ ids_of t ms) u && not (is_kept t views (id_of u)))
+      by_snap : (x : Option Snap) → is_one_of (ids_of t rest) u ≡ (is_one_of (ids_of t ms) u && not (is_kept t views u)) → snap_named (world_of t) m ≡ x
+          → is_one_of (ids_of t (cond (not (option_map_or (is_held views) x false || option_map_or (λ (s : Snap). has_clone t (id_of s)) x false)) (m ∷ rest) rest)) u
+          ≡ (is_one_of (option_map_or (λ (s : Snap). id_of s ∷ []) x [] ++ ids_of t ms) u && not (is_kept t views u))
       by_snap None ih e = ap (λ x. is_one_of (option_map_or (λ (s : Snap). id_of s ∷ []) x [] ++ ids_of t rest) u) e ∙ ih
       by_snap (Some s) ih e =
-          by_viewed (is_kept t views (id_of s))
-          ∙ by_same s (same_id (id_of u) (id_of s)) (is_kept t views (id_of s)) refl refl ih
+          by_kept (is_kept t views s)
+          ∙ by_same s e (same_id (id_of u) (id_of s)) (is_kept t views s) refl refl ih
         where
-          by_viewed : (v : Bool) → is_one_of (ids_of t (cond (not v) (m ∷ rest) rest)) u ≡ cond v (is_one_of (ids_of t rest) u) (same_id (id_of u) (id_of s) || is_one_of (ids_of t rest) u)
-          by_viewed true = refl
-          by_viewed false = ap (λ x. is_one_of (option_map_or (λ (v : Snap). id_of v ∷ []) x [] ++ ids_of t rest) u) e
+          by_kept : (v : Bool) → is_one_of (ids_of t (cond (not v) (m ∷ rest) rest)) u ≡ cond v (is_one_of (ids_of t rest) u) (same_id (id_of u) (id_of s) || is_one_of (ids_of t rest) u)
+          by_kept true = refl
+          by_kept false = ap (λ x. is_one_of (option_map_or (λ (v : Snap). id_of v ∷ []) x [] ++ ids_of t rest) u) e
 
 -- snapshots gone and others marked, by tests that agree
 module _ (w : World) (p q : Snap → Bool) (p' q' : Snap → Bool)
@@ -155,8 +158,8 @@ module _ (w : World) (p q : Snap → Bool) (p' q' : Snap → Bool)
       by_system n (Some f) e = ap (λ l. Some (record f { snaps = l })) (same_left f.snaps (λ u i. goes n f u e i) (λ u i. marks n f u e i))
 
 -- what the destroy of a name leaves
-module _ (t : Datasets) (good : AreFileSystems t.file_systems t.group) (bare : AreBare t.file_systems) (views : Views) (m : Member) (recursive defer : Bool)
-    (may : (not defer && list_any (is_named_viewed t views) (all_of t (m ∷ []) recursive)) ≡ false)
+module _ (t : Datasets) (good : AreFileSystems t.file_systems t.group) (views : Views) (m : Member) (recursive defer : Bool)
+    (may : (not defer && list_any (is_named_held t views) (all_of t (m ∷ []) recursive)) ≡ false)
     (uncloned : (not defer && list_any (is_named_cloned t) (all_of t (m ∷ []) recursive)) ≡ false) where
   abbrev all : List Member
   all = named_with (world_of t) recursive m
@@ -171,18 +174,18 @@ module _ (t : Datasets) (good : AreFileSystems t.file_systems t.group) (bare : A
   needed u = defer && is_needed (world_of t) views u
 
   -- those of them that are kept are needed
-  alike : (n : Name) (f : FileSystem) (u : Snap) → get t.file_systems n ≡ Some f → IsIn f.snaps u → one u ≡ true → is_kept t views (id_of u) ≡ needed u
+  alike : (n : Name) (f : FileSystem) (u : Snap) → get t.file_systems n ≡ Some f → IsIn f.snaps u → one u ≡ true → is_kept t views u ≡ needed u
   alike n f u at i is = by_defer defer may uncloned
     where
       none_of : (p : SnapId → Bool) → list_any p (ids_of t all) ≡ false → p (id_of u) ≡ false
       none_of p none = any_none p (ids_of t all) none (id_of u) (any_from (ids_of t all) (id_of u) is)
 
-      by_defer : (d : Bool) → (not d && list_any (is_named_viewed t views) (all_of t (m ∷ []) recursive)) ≡ false → (not d && list_any (is_named_cloned t) (all_of t (m ∷ []) recursive)) ≡ false
-          → is_kept t views (id_of u) ≡ (d && is_needed (world_of t) views u)
-      by_defer true e k = sym (needed_is t bare views n f u at i)
-      by_defer false e k = λ i.
-          none_of (is_viewed views) (any_named t (is_viewed views) all ∙ ap (list_any (is_named_viewed t views)) (sym (named_is t m recursive)) ∙ e) i
-          || none_of (has_clone t) (any_named t (has_clone t) all ∙ ap (list_any (is_named_cloned t)) (sym (named_is t m recursive)) ∙ k) i
+      by_defer : (d : Bool) → (not d && list_any (is_named_held t views) (all_of t (m ∷ []) recursive)) ≡ false → (not d && list_any (is_named_cloned t) (all_of t (m ∷ []) recursive)) ≡ false
+          → is_kept t views u ≡ (d && is_needed (world_of t) views u)
+      by_defer true e k = sym (needed_is t views u)
+      by_defer false e k = λ j.
+          (sym (held_at t good views n f u at i) ∙ none_of (is_held_at t views) (any_held t good views all ∙ ap (list_any (is_named_held t views)) (sym (named_is t m recursive)) ∙ e)) j
+          || none_of (has_clone t) (any_named t (has_clone t) all ∙ ap (list_any (is_named_cloned t)) (sym (named_is t m recursive)) ∙ k) j
 
   when : (a b c : Bool) → (a ≡ true → b ≡ c) → (a && not b) ≡ (a && not c)
   when true b c e = ap not (e refl)
@@ -190,7 +193,7 @@ module _ (t : Datasets) (good : AreFileSystems t.file_systems t.group) (bare : A
 
   -- the others go
   goes_alike : (n : Name) (f : FileSystem) (u : Snap) → get t.file_systems n ≡ Some f → IsIn f.snaps u → is_one_of (ids_of t gone) u ≡ (one u && not (needed u))
-  goes_alike n f u at i = unviewed_ids t views all u ∙ when (one u) (is_kept t views (id_of u)) (needed u) (alike n f u at i)
+  goes_alike n f u at i = unkept_ids t views u (named_one t good views n f u at i) all ∙ when (one u) (is_kept t views u) (needed u) (alike n f u at i)
 
   -- and they are deferred
   marks_alike : (n : Name) (f : FileSystem) (u : Snap) → get t.file_systems n ≡ Some f → IsIn f.snaps u → is_one_of (ids_of t gone) u ≡ false

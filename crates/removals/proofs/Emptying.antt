@@ -1,14 +1,13 @@
 -- The file systems of a family are emptied, those first whose origins are of the latest groups.
-use Rattle.std.proofs.Common.{◌≡◌, ◌⊎◌, ◌<◌, ◌≤◌, ◌+◌, ◌-◌, ℕ, zero, suc, Bool, true, false, cond, ◌||◌, List, [], ◌∷◌, ◌++◌, append_assoc, map, length, drop, get_or, Option, Some, None, Result, Ok, Err, refl, sym, ap, subst, ◌∙◌, true≢false, inl, inr, ⊎_elim, arith}
+use Rattle.std.proofs.Common.{◌≡◌, ◌⊎◌, ◌<◌, ◌≤◌, ◌+◌, ◌-◌, ℕ, zero, suc, Bool, true, false, cond, ◌||◌, List, [], ◌∷◌, map, length, drop, get_or, Option, Some, None, Result, Ok, Err, refl, sym, ap, subst, ◌∙◌, true≢false, inl, inr, ⊎_elim, arith}
 use Rattle.std.specs.Prelude.{IsSome, OnOk, is_some, nat_lt}
-use Rattle.std.specs.List.{Contains, filter, find, list_any}
+use Rattle.std.specs.List.{filter, find, list_any}
 use Rattle.std.specs.List.Sorted.{IsPermutation, IsNonDecreasingBy}
 use Rattle.std.specs.Option.{option_map, option_map_or, option_and_then}
 use Rattle.std.specs.FinMap.{get, insert, entries, same_map}
 use Rattle.std.specs.FinSet.{union}
 use Rattle.std.proofs.lemmas.Bool.{lt-ltb}
-use Rattle.std.proofs.lemmas.List.Elements.{Contains-append_left, Contains-append_right, Contains-append_cases, Contains-push, Contains-push_cases}
-use Rattle.std.proofs.lemmas.List.Sorted.{Contains-permutation, IsPermutation-sym}
+use Rattle.std.proofs.lemmas.List.Sorted.{IsPermutation-sym}
 use Rattle.base.specs.Map.{BlockSet}
 use Rattle.base.specs.Surveys.{IsIn}
 use Rattle.name.specs.declared.member.Member.{Member}
@@ -28,6 +27,7 @@ use Rattle.world.proofs.Finding.{from_find, from_filter, in_filter, filter_all}
 use Rattle.world.proofs.Listed.{in_map, map_in}
 use Rattle.world.proofs.Maps.{key_cases, no_value, same_value, entry_of, at_entry}
 use Rattle.world.proofs.Put.{put_here, put_other, put_maps}
+use Rattle.world.proofs.Shuffled.{stays_in}
 use Rattle.world.proofs.Sweep.{get-with_file_systems}
 use Rattle.removals.specs.Edits.{HasLost}
 use Rattle.removals.specs.Families.{emptied, AreClonesInside, IsBareFamily}
@@ -203,23 +203,6 @@ module _ (t : Datasets) (good : AreFileSystems t.file_systems t.group) (name : N
 
 -- ---- in order
 
-to_contains : {A : Type 0} (xs : List A) (x : A) → IsIn xs x → Contains xs x
-to_contains [] x h = absurd h
-to_contains (y ∷ ys) x h = ⊎_elim
-    (λ (e : x ≡ y). Contains-append_left (y ∷ []) ys x (subst (Contains (y ∷ [])) (sym e) (Contains-push [] y)))
-    (λ k. Contains-append_right (y ∷ []) ys x (to_contains ys x k))
-    h
-
-from_contains : {A : Type 0} (xs : List A) (x : A) → Contains xs x → IsIn xs x
-from_contains [] x h = let l = h.1 in absurd (omega arith)
-from_contains (y ∷ ys) x h = ⊎_elim
-    (λ k. ⊎_elim (λ n. let l = n.1 in absurd (omega arith)) (λ e. inl (sym e)) (Contains-push_cases [] y x k))
-    (λ k. inr (from_contains ys x k))
-    (Contains-append_cases (y ∷ []) ys x h)
-
-stays_in : {A : Type 0} (xs ys : List A) (x : A) → IsPermutation xs ys → IsIn xs x → IsIn ys x
-stays_in xs ys x p h = from_contains ys x (Contains-permutation xs ys x p (to_contains xs x h))
-
 -- one of a list stands behind a place, or before it
 before_or_behind : {A B : Type 0} (value : A → B) (d : A) (xs : List A) (k : ℕ) (q : B) → IsIn (map value xs) q
     → IsIn (map value (drop k xs)) q ⊎ ((j : ℕ) × (j < k) × (j < length xs) × (q ≡ value (get_or xs j d)))
@@ -317,17 +300,3 @@ module _ (t : Datasets) (name : Name) where
       by_family true x = refl
       by_family false None = refl
       by_family false (Some f) = refl
-
--- ---- the rows of a family
-
-module _ (p : Entry → Bool) (front : List Entry) (r : Entry) (rest all : List Entry) (so_far : front ++ filter p (r ∷ rest) ≡ all) where
-  pub with_row : p r ≡ true → (ys : List Entry) → ys ≡ front ++ r ∷ [] → ys ++ filter p rest ≡ all
-  with_row e ys grown =
-      ap (λ l. l ++ filter p rest) grown ∙ append_assoc front (r ∷ []) (filter p rest) ∙ ap (λ b. front ++ cond b (r ∷ filter p rest) (filter p rest)) (sym e) ∙ so_far
-
-  pub without_row : p r ≡ false → front ++ filter p rest ≡ all
-  without_row e = ap (λ b. front ++ cond b (r ∷ filter p rest) (filter p rest)) (sym e) ∙ so_far
-
-pub mapped_push : {A B : Type 0} (value : A → B) (xs : List A) (x : A) → map value (xs ++ x ∷ []) ≡ map value xs ++ value x ∷ []
-mapped_push value [] x = refl
-mapped_push value (y ∷ ys) x = ap (λ l. value y ∷ l) (mapped_push value ys x)

@@ -7,7 +7,8 @@ pub mod Families
 pub mod SystemsGone
 pub mod FamilyGone
 pub mod Refused
-pub mod Bare
+pub mod Needed
+pub mod Marked
 pub mod Seen
 pub mod Deferring
 pub mod Closed

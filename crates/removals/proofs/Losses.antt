@@ -4,7 +4,7 @@ use Rattle.std.specs.Prelude.{IfSome, OnOk}
 use Rattle.std.specs.Option.{option_map_or}
 use Rattle.std.specs.FinMap as finmap
 use Rattle.std.specs.FinMap.{get, insert}
-use Rattle.std.specs.FinSet.{union}
+use Rattle.std.specs.FinSet.{union, difference}
 use Rattle.base.specs.Map.{Map, BlockSet}
 use Rattle.base.specs.Surveys.{IsIn}
 use Rattle.model.specs.World.{FileSystem, Snap, SnapId, same_id, id_of, union_of}
@@ -120,4 +120,12 @@ lost_then t u v freeing between after first next = record {
   joined = next.joined ∙ ap (λ s. union s (lost_between u v)) first.joined ∙ union_thrice freeing (lost_between t u) (lost_between u v)
       ∙ ap (union freeing) (sym (losses_add (union_of (world_of t)) (union_of (world_of u)) (union_of (world_of v)) first.fewer next.fewer));
   apart = next.apart;
+}
+
+-- the same where other datasets have these blocks
+pub lost_alike : (t u v : Datasets) (freeing after : BlockSet) → union_of (world_of v) ≡ union_of (world_of u) → HasLost t freeing u after → HasLost t freeing v after
+lost_alike t u v freeing after same lost = record {
+  fewer = subst (λ s. IsSubset s (union_of (world_of t))) (sym same) lost.fewer;
+  joined = lost.joined ∙ ap (λ s. union freeing (difference (union_of (world_of t)) s)) (sym same);
+  apart = subst (λ s. AreDisjoint s after) (sym same) lost.apart;
 }

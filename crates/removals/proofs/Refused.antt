@@ -11,7 +11,7 @@ use Rattle.base.specs.declared.refusal.Refusal.TheVariants.{NoDataset, NotSnapsh
 use Rattle.name.specs.declared.target.Target.TheVariants.{FileSystem as OfFileSystem}
 use Rattle.name.specs.Names.{root_name, same_name, parent_of}
 use Rattle.model.specs.World.{FileSystem, Snap, SnapId, id_of, children_of, family_of}
-use Rattle.model.specs.State.{Views, is_viewed}
+use Rattle.model.specs.State.{Views}
 use Rattle.model.specs.requests.Destroy.{file_systems_named, snaps_within}
 use Rattle.model.specs.requests.Rollback.{has_clone_outside}
 use Rattle.file_system.specs.Rows.{Entry}
@@ -23,12 +23,12 @@ use Rattle.snap.specs.Taking.{is_in_family}
 use Rattle.world.proofs.Maps.{some_of, entry_of, at_entry}
 use Rattle.world.proofs.Listed.{map_in}
 use Rattle.world.proofs.Finding.{in_filter, filter_all, name_itself}
-use Rattle.removals.specs.Named.{is_viewed_after}
+use Rattle.removals.specs.Named.{is_held_after}
 use Rattle.removals.specs.Families.{family_refusal, is_outside_clone, AreClonesInside}
-use Rattle.removals.specs.Requests.{destroy_refusal, AreBare}
-use Rattle.removals.proofs.Bare.{busy_is}
+use Rattle.removals.specs.Requests.{destroy_refusal}
+use Rattle.removals.proofs.Needed.{is_held_at, later_held}
 use Rattle.removals.proofs.Outside.{cloned_outside, clones_inside}
-use Rattle.removals.proofs.Seen.{any_join, any_later}
+use Rattle.removals.proofs.Seen.{any_join}
 use Rattle.removals.proofs.SystemsGone.{in_entries}
 
 -- by the tests of a file system that is there
@@ -47,9 +47,9 @@ is_free root recursive defer children snaps family a b c d = λ i. cond {A = Opt
 abbrev has_children : Datasets → List ℕ → Bool
 has_children t name = nat_lt 0 (length (children_of (world_of t) name))
 
--- an open view shows a snapshot of the family
-abbrev pub family_viewed : Datasets → Views → List ℕ → Bool
-family_viewed t views name = list_any (λ (r : Entry). is_in_family name r.0 && list_any (is_viewed_after views 0) r.1.snaps) (entries t.file_systems)
+-- a tag or an open view keeps a snapshot of the family
+abbrev pub family_held : Datasets → Views → List ℕ → Bool
+family_held t views name = list_any (λ (r : Entry). is_in_family name r.0 && list_any (is_held_after views 0) r.1.snaps) (entries t.file_systems)
 
 -- the identities of the snapshots of a file system of this name
 abbrev ids_at : Datasets → List ℕ → List SnapId
@@ -57,74 +57,63 @@ ids_at t n = option_map_or (λ (f : FileSystem). map {A = Snap} id_of f.snaps) (
 
 module _ (t : Datasets) (good : AreFileSystems t.file_systems t.group) (views : Views) where
   -- all snapshots are of a later group than 0
-  all_later : (n : List ℕ) (f : FileSystem) → get t.file_systems n ≡ Some f → list_any (is_viewed views) (map {A = Snap} id_of f.snaps) ≡ list_any (is_viewed_after views 0) f.snaps
+  all_later : (n : List ℕ) (f : FileSystem) → get t.file_systems n ≡ Some f → list_any (is_held_at t views) (map {A = Snap} id_of f.snaps) ≡ list_any (is_held_after views 0) f.snaps
   all_later n f at =
-      ap (λ l. list_any (is_viewed views) (map {A = Snap} id_of l)) (sym (filter_all (λ (s : Snap). nat_lt 0 s.group) f.snaps (λ u i.
+      ap (λ l. list_any (is_held_at t views) (map {A = Snap} id_of l)) (sym (filter_all (λ (s : Snap). nat_lt 0 s.group) f.snaps (λ u i.
       let l = rising_above (start t.file_systems t.group good.lines n f at).base f.snaps u (rising t.file_systems t.group good.lines n f at) i in
       lt-ltb 0 u.group (omega (arith, l)))))
-      ∙ any_later (is_viewed views) 0 f.snaps
+      ∙ later_held t good views n f at 0
 
   any_within : (p : List ℕ → Bool) (rows : List Entry) → ((r : Entry) → IsIn rows r → get t.file_systems r.0 ≡ Some r.1)
-      → list_any (is_viewed views) (flat_map (ids_at t) (filter p (map (λ (r : Entry). r.0) rows))) ≡ list_any (λ (r : Entry). p r.0 && list_any (is_viewed_after views 0) r.1.snaps) rows
+      → list_any (is_held_at t views) (flat_map (ids_at t) (filter p (map (λ (r : Entry). r.0) rows))) ≡ list_any (λ (r : Entry). p r.0 && list_any (is_held_after views 0) r.1.snaps) rows
   any_within p [] each = refl
   any_within p (r ∷ rows) each = by_test (p r.0) (any_within p rows (λ x i. each x (inr i)))
     where
-      by_test : (b : Bool) → list_any (is_viewed views) (flat_map (ids_at t) (filter p (map (λ (r : Entry). r.0) rows))) ≡ list_any (λ (r : Entry). p r.0 && list_any (is_viewed_after views 0) r.1.snaps) rows
-          → list_any (is_viewed views) (flat_map (ids_at t) (cond b (r.0 ∷ filter p (map (λ (r : Entry). r.0) rows)) (filter p (map (λ (r : Entry). r.0) rows))))
-          ≡ ((b && list_any (is_viewed_after views 0) r.1.snaps) || list_any (λ (r : Entry). p r.0 && list_any (is_viewed_after views 0) r.1.snaps) rows)
+      by_test : (b : Bool) → list_any (is_held_at t views) (flat_map (ids_at t) (filter p (map (λ (r : Entry). r.0) rows))) ≡ list_any (λ (r : Entry). p r.0 && list_any (is_held_after views 0) r.1.snaps) rows
+          → list_any (is_held_at t views) (flat_map (ids_at t) (cond b (r.0 ∷ filter p (map (λ (r : Entry). r.0) rows)) (filter p (map (λ (r : Entry). r.0) rows))))
+          ≡ ((b && list_any (is_held_after views 0) r.1.snaps) || list_any (λ (r : Entry). p r.0 && list_any (is_held_after views 0) r.1.snaps) rows)
       by_test true ih =
-          any_join (is_viewed views) (ids_at t r.0) (flat_map (ids_at t) (filter p (map (λ (r : Entry). r.0) rows)))
-          ∙ (λ i. (ap (λ x. list_any (is_viewed views) (option_map_or (λ (f : FileSystem). map {A = Snap} id_of f.snaps) x [])) (each r (inl refl)) ∙ all_later r.0 r.1 (each r (inl refl))) i || ih i)
+          any_join (is_held_at t views) (ids_at t r.0) (flat_map (ids_at t) (filter p (map (λ (r : Entry). r.0) rows)))
+          ∙ (λ i. (ap (λ x. list_any (is_held_at t views) (option_map_or (λ (f : FileSystem). map {A = Snap} id_of f.snaps) x [])) (each r (inl refl)) ∙ all_later r.0 r.1 (each r (inl refl))) i || ih i)
       by_test false ih = ih
 
   -- those of a family
-  family_is : (name : List ℕ) → list_any (is_viewed views) (snaps_within (world_of t) (family_of (world_of t) name)) ≡ family_viewed t views name
+  family_is : (name : List ℕ) → list_any (is_held_at t views) (snaps_within (world_of t) (family_of (world_of t) name)) ≡ family_held t views name
   family_is name = any_within (is_in_family name) (entries t.file_systems) (λ r i. at_entry name_order t.file_systems r.0 r.1 (from_entries (entries t.file_systems) r i))
 
-module _ (t : Datasets) (bare : AreBare t.file_systems) (views : Views) (name : List ℕ) (recursive defer : Bool) where
+module _ (t : Datasets) (views : Views) (name : List ℕ) (recursive defer : Bool) where
   abbrev going : List (List ℕ)
   going = file_systems_named (world_of t) name recursive
 
-  -- whether the snapshots that go are viewed, or have a clone outside
-  abbrev viewed_of : Option FileSystem → Option Refusal
-  viewed_of x = cond {A = Option Refusal} (not (is_some x)) (Some NoDataset) (cond (same_name name root_name) (Some IsRoot) (cond defer (Some NotSnapshot)
+  -- whether one of the snapshots that go is kept, or has a clone outside
+  abbrev held_of : Option FileSystem → Option Refusal
+  held_of x = cond {A = Option Refusal} (not (is_some x)) (Some NoDataset) (cond (same_name name root_name) (Some IsRoot) (cond defer (Some NotSnapshot)
       (cond (not recursive && (has_children t name || nat_lt 0 (length (option_map_or (λ (f : FileSystem). map {A = Snap} id_of f.snaps) x [] ++ [])))) (Some HasChildren)
-      (cond (list_any (is_viewed views) (snaps_within (world_of t) going)) (Some Busy)
+      (cond (list_any (is_held_at t views) (snaps_within (world_of t) going)) (Some Busy)
       (cond (has_clone_outside (world_of t) going (snaps_within (world_of t) going)) (Some HasClones) None)))))
 
-  first-of : (there root parts busy viewed clones : Bool) → busy ≡ viewed
-      → cond {A = Option Refusal} (not there) (Some NoDataset) (cond root (Some IsRoot) (cond defer (Some NotSnapshot) (cond parts (Some HasChildren) (cond busy (Some Busy) (cond clones (Some HasClones) None)))))
-      ≡ cond {A = Option Refusal} (not there) (Some NoDataset) (cond root (Some IsRoot) (cond defer (Some NotSnapshot) (cond parts (Some HasChildren) (cond viewed (Some Busy) (cond clones (Some HasClones) None)))))
-  first-of there root parts busy viewed clones e =
-      ap (λ b. cond {A = Option Refusal} (not there) (Some NoDataset) (cond root (Some IsRoot) (cond defer (Some NotSnapshot) (cond parts (Some HasChildren) (cond b (Some Busy) (cond clones (Some HasClones) None)))))) e
-
-  refusal_is : destroy_refusal t views (OfFileSystem name) recursive defer ≡ viewed_of (get t.file_systems name)
-  refusal_is = first-of (is_some (get t.file_systems name)) (same_name name root_name) (not recursive && (has_children t name || nat_lt 0 (length (ids_at t name ++ [])))) _
-      (list_any (is_viewed views) (snaps_within (world_of t) going)) (has_clone_outside (world_of t) going (snaps_within (world_of t) going))
-      (busy_is t bare views (snaps_within (world_of t) going))
-
   pub refused_gone : get t.file_systems name ≡ None → destroy_refusal t views (OfFileSystem name) recursive defer ≡ Some NoDataset
-  refused_gone at = refusal_is ∙ ap viewed_of at
+  refused_gone at = ap held_of at
 
-module _ (t : Datasets) (good : AreFileSystems t.file_systems t.group) (bare : AreBare t.file_systems) (views : Views) (name : List ℕ) (defer : Bool) (f : FileSystem) (at : get t.file_systems name ≡ Some f) where
+module _ (t : Datasets) (good : AreFileSystems t.file_systems t.group) (views : Views) (name : List ℕ) (defer : Bool) (f : FileSystem) (at : get t.file_systems name ≡ Some f) where
   -- of one alone
   abbrev busy : Bool
-  busy = list_any (is_viewed views) (snaps_within (world_of t) (name ∷ []))
+  busy = list_any (is_held_at t views) (snaps_within (world_of t) (name ∷ []))
 
   abbrev cloned : Bool
   cloned = has_clone_outside (world_of t) (name ∷ []) (snaps_within (world_of t) (name ∷ []))
 
   pub refused_there : (recursive : Bool) → destroy_refusal t views (OfFileSystem name) recursive defer
       ≡ refusal_with (same_name name root_name) recursive defer (nat_lt 0 (length (children_of (world_of t) name))) (length f.snaps) (family_refusal t views name)
-  refused_there true = refusal_is t bare views name true defer ∙ ap (viewed_of t bare views name true defer) at
+  refused_there true = ap (held_of t views name true defer) at
       ∙ (λ i. cond {A = Option Refusal} (same_name name root_name) (Some IsRoot) (cond defer (Some NotSnapshot)
       (cond (family_is t good views name i) (Some Busy) (cond (cloned_outside t good name i) (Some HasClones) None))))
-  refused_there false = refusal_is t bare views name false defer ∙ ap (viewed_of t bare views name false defer) at
+  refused_there false = ap (held_of t views name false defer) at
       ∙ ap (λ (r : Option Refusal). cond {A = Option Refusal} (same_name name root_name) (Some IsRoot) (cond defer (Some NotSnapshot) r))
       (by_count f.snaps refl (has_children t name))
     where
-      none_viewed : f.snaps ≡ [] → busy ≡ false
-      none_viewed e = ap (λ x. list_any (is_viewed views) (option_map_or (λ (g : FileSystem). map {A = Snap} id_of g.snaps) x [] ++ [])) at ∙ ap (λ l. list_any (is_viewed views) (map {A = Snap} id_of l ++ [])) e
+      none_held : f.snaps ≡ [] → busy ≡ false
+      none_held e = ap (λ x. list_any (is_held_at t views) (option_map_or (λ (g : FileSystem). map {A = Snap} id_of g.snaps) x [] ++ [])) at ∙ ap (λ l. list_any (is_held_at t views) (map {A = Snap} id_of l ++ [])) e
 
       none_cloned : f.snaps ≡ [] → cloned ≡ false
       none_cloned e = ap (λ x. has_clone_outside (world_of t) (name ∷ []) (option_map_or (λ (g : FileSystem). map {A = Snap} id_of g.snaps) x [] ++ [])) at
@@ -135,7 +124,7 @@ module _ (t : Datasets) (good : AreFileSystems t.file_systems t.group) (bare : A
           ≡ cond {A = Option Refusal} (children || nat_lt 0 (length f.snaps)) (Some HasChildren) None
       by_count l e true = refl
       by_count [] e false =
-          (λ i. cond {A = Option Refusal} (nat_lt 0 (length (map {A = Snap} id_of (e i) ++ []))) (Some HasChildren) (cond (none_viewed e i) (Some Busy) (cond (none_cloned e i) (Some HasClones) None)))
+          (λ i. cond {A = Option Refusal} (nat_lt 0 (length (map {A = Snap} id_of (e i) ++ []))) (Some HasChildren) (cond (none_held e i) (Some Busy) (cond (none_cloned e i) (Some HasClones) None)))
           ∙ sym (ap (λ (l : List Snap). cond {A = Option Refusal} (nat_lt 0 (length l)) (Some HasChildren) None) e)
       by_count (u ∷ us) e false =
           ap (λ (l : List Snap). cond {A = Option Refusal} (nat_lt 0 (length (map {A = Snap} id_of l ++ []))) (Some HasChildren) (cond busy (Some Busy) (cond cloned (Some HasClones) None))) e
@@ -175,7 +164,7 @@ pub other_name : (name : List ℕ) → same_name name root_name ≡ false → ¬
 other_name name other e = true≢false (sym (ap (same_name name) e ∙ name_itself name) ∙ other)
 
 -- where the destroy of one isn't refused, it isn't the root; and without its descendants it may be removed
-module _ (t : Datasets) (good : AreFileSystems t.file_systems t.group) (bare : AreBare t.file_systems) (views : Views) (name : List ℕ) (recursive defer : Bool)
+module _ (t : Datasets) (good : AreFileSystems t.file_systems t.group) (views : Views) (name : List ℕ) (recursive defer : Bool)
     (none : destroy_refusal t views (OfFileSystem name) recursive defer ≡ None) where
   pub root_stays : same_name name root_name ≡ false
   root_stays = by_system (get t.file_systems name) refl
@@ -185,8 +174,8 @@ module _ (t : Datasets) (good : AreFileSystems t.file_systems t.group) (bare : A
       by_root false f e = refl
 
       by_system : (x : Option FileSystem) → get t.file_systems name ≡ x → same_name name root_name ≡ false
-      by_system None at = absurd (no_refusal NoDataset (sym (refused_gone t bare views name recursive defer at) ∙ none))
-      by_system (Some f) at = by_root (same_name name root_name) f (sym (refused_there t good bare views name defer f at recursive) ∙ none)
+      by_system None at = absurd (no_refusal NoDataset (sym (refused_gone t views name recursive defer at) ∙ none))
+      by_system (Some f) at = by_root (same_name name root_name) f (sym (refused_there t good views name defer f at recursive) ∙ none)
 
   pub not_root : ¬ (name ≡ root_name)
   not_root e = other_name name root_stays (sym e)
@@ -195,19 +184,19 @@ module _ (t : Datasets) (good : AreFileSystems t.file_systems t.group) (bare : A
   pub inside : recursive ≡ true → AreClonesInside t name
   inside all = by_system (get t.file_systems name) refl
     where
-      by_tests : (root d viewed outside : Bool) (children : Bool) (snaps : ℕ)
-          → refusal_with root true d children snaps (cond {A = Option Refusal} viewed (Some Busy) (cond outside (Some HasClones) None)) ≡ None → outside ≡ false
-      by_tests true d viewed outside children snaps e = absurd (no_refusal IsRoot e)
-      by_tests false true viewed outside children snaps e = absurd (no_refusal NotSnapshot e)
+      by_tests : (root d held outside : Bool) (children : Bool) (snaps : ℕ)
+          → refusal_with root true d children snaps (cond {A = Option Refusal} held (Some Busy) (cond outside (Some HasClones) None)) ≡ None → outside ≡ false
+      by_tests true d held outside children snaps e = absurd (no_refusal IsRoot e)
+      by_tests false true held outside children snaps e = absurd (no_refusal NotSnapshot e)
       by_tests false false true outside children snaps e = absurd (no_refusal Busy e)
       by_tests false false false true children snaps e = absurd (no_refusal HasClones e)
       by_tests false false false false children snaps e = refl
 
       by_system : (x : Option FileSystem) → get t.file_systems name ≡ x → AreClonesInside t name
-      by_system None at = absurd (no_refusal NoDataset (sym (refused_gone t bare views name recursive defer at) ∙ none))
-      by_system (Some f) at = clones_inside t good name (by_tests (same_name name root_name) defer (family_viewed t views name) (list_any (is_outside_clone t name) (entries t.file_systems))
+      by_system None at = absurd (no_refusal NoDataset (sym (refused_gone t views name recursive defer at) ∙ none))
+      by_system (Some f) at = clones_inside t good name (by_tests (same_name name root_name) defer (family_held t views name) (list_any (is_outside_clone t name) (entries t.file_systems))
           (has_children t name) (length f.snaps)
-          (sym (refused_there t good bare views name defer f at true) ∙ subst (λ b. destroy_refusal t views (OfFileSystem name) b defer ≡ None) all none))
+          (sym (refused_there t good views name defer f at true) ∙ subst (λ b. destroy_refusal t views (OfFileSystem name) b defer ≡ None) all none))
 
   pub may_remove : recursive ≡ false → CanRemove t name
   may_remove single = by_system (get t.file_systems name) refl
@@ -222,9 +211,9 @@ module _ (t : Datasets) (good : AreFileSystems t.file_systems t.group) (bare : A
           by_test false k = refl
 
       by_system : (x : Option FileSystem) → get t.file_systems name ≡ x → CanRemove t name
-      by_system None at = absurd (no_refusal NoDataset (sym (refused_gone t bare views name recursive defer at) ∙ none))
+      by_system None at = absurd (no_refusal NoDataset (sym (refused_gone t views name recursive defer at) ∙ none))
       by_system (Some f) at =
-          let free = bare_of (same_name name root_name) defer f (sym (refused_there t good bare views name defer f at false) ∙ subst (λ b. destroy_refusal t views (OfFileSystem name) b defer ≡ None) single none) in
+          let free = bare_of (same_name name root_name) defer f (sym (refused_there t good views name defer f at false) ∙ subst (λ b. destroy_refusal t views (OfFileSystem name) b defer ≡ None) single none) in
           record {
             system = f;
             there = at;

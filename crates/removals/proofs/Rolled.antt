@@ -7,15 +7,16 @@ use Rattle.std.specs.List.{find, filter, last_or, list_any}
 use Rattle.std.proofs.lemmas.Bool.{lt-ltb, ltb-true}
 use Rattle.std.specs.Option.{option_map, option_map_or, option_and_then}
 use Rattle.std.specs.FinMap as finmap
-use Rattle.std.specs.FinMap.{get, insert, entries, from_entries, same_map, get-from_entries, get-empty, len-entries, len-empty}
+use Rattle.std.specs.FinMap.{get, insert, same_map}
 use Rattle.name.specs.declared.member.Member.{Member}
 use Rattle.name.specs.declared.target.Target.TheVariants.{Snapshot as OfSnapshot}
-use Rattle.name.specs.Names.{same_name, name_cmp}
+use Rattle.name.specs.Names.{same_name}
 use Rattle.base.specs.Surveys.{IsIn}
+use Rattle.bookmarks.specs.Marks.{Marks, has_newer, without_newer}
 use Rattle.base.specs.Map.{Map}
-use Rattle.model.specs.World.{World, FileSystem, Snap, SnapId, Bookmark, id_of, snap_named}
+use Rattle.model.specs.World.{World, FileSystem, Snap, SnapId, id_of, snap_named}
 use Rattle.model.specs.Edits.{without_snaps, with_file_system}
-use Rattle.model.specs.State.{Views, is_viewed}
+use Rattle.model.specs.State.{Views}
 use Rattle.model.specs.requests.Rollback.{snaps_upto, snaps_after, back_at, after_rollback, placed, newer_snaps}
 use Rattle.file_system.specs.Losses.{newest_map}
 use Rattle.file_system.specs.Origins.{origin_group}
@@ -32,10 +33,11 @@ use Rattle.world.proofs.Promotions.{split_at, upto_is, after_is, append_assoc}
 use Rattle.world.proofs.Put.{put_here, put_other}
 use Rattle.world.proofs.Bridge.{start, rising, rising_above, one_snap, snap_is_at, in_middle}
 use Rattle.world.proofs.WithoutSnaps.{get-without, any_in, any_from}
-use Rattle.removals.specs.Named.{without_all, member_of, newer_members, has_clone, is_named_cloned, is_viewed_after, is_cloned_after}
-use Rattle.removals.specs.Requests.{rolled, rollback_refusal, refusal_at, AreBare}
-use Rattle.removals.proofs.Bare.{busy_is, no_newer_bookmark}
+use Rattle.removals.specs.Named.{without_all, member_of, newer_members, has_clone, is_named_cloned, is_held_after, is_cloned_after}
+use Rattle.removals.specs.Requests.{rolled, rollback_refusal, refusal_at, with_marks}
 use Rattle.removals.proofs.Clones.{outside_is}
+use Rattle.removals.proofs.Marked.{marks_put}
+use Rattle.removals.proofs.Needed.{is_held_at, later_held}
 use Rattle.removals.proofs.Seen.{any_later}
 use Rattle.removals.proofs.Named.{AreNamesOnce, names_once, ids_of, all_are}
 
@@ -134,13 +136,6 @@ some_there : (older : List Snap) (u : Snap) → length (older ++ u ∷ []) ≡ 0
 some_there [] u e = absurd (omega arith)
 some_there (v ∷ vs) u e = absurd (omega arith)
 
-none_of : {A : Type 0} (xs : List A) → length xs ≡ 0 → xs ≡ []
-none_of [] e = refl
-none_of (x ∷ xs) e = absurd (omega arith)
-
-no_entries : entries (finmap.empty {K = List ℕ} {X = Bookmark} {R = name_cmp}) ≡ []
-no_entries = none_of (entries (finmap.empty {K = List ℕ} {X = Bookmark} {R = name_cmp})) (sym (len-entries finmap.empty) ∙ len-empty name_cmp Bookmark)
-
 -- a file system goes back to a snapshot that stands between these
 module _ (t : Datasets) (good : AreFileSystems t.file_systems t.group) (r : Entry) (at : get t.file_systems r.0 ≡ Some r.1) (older : List Snap) (s : Snap) (newer : List Snap) (is : r.1.snaps ≡ older ++ s ∷ newer) where
   rises : AreRising (start t.file_systems t.group good.lines r.0 r.1 at).base (older ++ s ∷ newer)
@@ -155,16 +150,13 @@ module _ (t : Datasets) (good : AreFileSystems t.file_systems t.group) (r : Entr
   abbrev back : FileSystem
   back = record r.1 { live = s.map; snaps = older ++ s ∷ [] }
 
-  back_is : r.1.bookmarks ≡ finmap.empty → back_at r.1 s ≡ record r.1 { live = s.map; snaps = older ++ s ∷ [] }
-  back_is none = λ i. record r.1 { live = s.map; snaps = upto i; bookmarks = marks i }
-    where
-      upto : snaps_upto r.1 s.group ≡ older ++ s ∷ []
-      upto = ap (filter (λ (u : Snap). nat_le u.group s.group)) is ∙ upto_is _ older s newer rises
+  -- the bookmarks up to the snapshot's group stay
+  abbrev up_to : Marks → Marks
+  up_to marks = without_newer marks s.group
 
-      marks : from_entries {R = name_cmp} (filter (λ (m : List ℕ × Bookmark). nat_le m.1.group s.group) (entries r.1.bookmarks)) ≡ r.1.bookmarks
-      marks = ap (λ (x : finmap.FinMap name_cmp Bookmark). from_entries {R = name_cmp} (filter (λ (m : List ℕ × Bookmark). nat_le m.1.group s.group) (entries x))) none
-          ∙ ap (λ (l : List (List ℕ × Bookmark)). from_entries {R = name_cmp} (filter (λ (m : List ℕ × Bookmark). nat_le m.1.group s.group) l)) no_entries
-          ∙ same_map name_order.total name_order.exact _ _ (λ q. get-from_entries name_order.total [] q ∙ sym (get-empty name_cmp q)) ∙ sym none
+  back_is : back_at r.1 s ≡ record r.1 { live = s.map; snaps = older ++ s ∷ []; bookmarks = without_newer r.1.bookmarks s.group }
+  back_is = ap (λ l. record r.1 { live = s.map; snaps = l; bookmarks = without_newer r.1.bookmarks s.group })
+      (ap (filter (λ (u : Snap). nat_le u.group s.group)) is ∙ upto_is _ older s newer rises)
 
   there : IsIn r.1.snaps s
   there = subst (λ l. IsIn l s) (sym is) (in_middle older s newer)
@@ -187,14 +179,22 @@ module _ (t : Datasets) (good : AreFileSystems t.file_systems t.group) (r : Entr
     pub has_snaps : length (snaps_at u.file_systems r.0) ≡ 0 → ⊥
     has_snaps e = some_there older s (sym (ap (λ (x : Option FileSystem). length (option_map_or (λ (f : FileSystem). f.snaps) x [])) shorter_there) ∙ e)
 
-    pub rolled_is : r.1.bookmarks ≡ finmap.empty → (component : List ℕ) → find (λ (v : Snap). same_name v.name component) r.1.snaps ≡ Some s
-        → record u { file_systems = with_live u.file_systems r.0 (newest_map (live_of u.file_systems r.0) (snaps_at u.file_systems r.0)) } ≡ rolled t (OfSnapshot (record { file_system = r.0; component = component }))
-    rolled_is none component found =
+    -- the live map is the snapshot's
+    live_is : record u { file_systems = with_live u.file_systems r.0 (newest_map (live_of u.file_systems r.0) (snaps_at u.file_systems r.0)) } ≡ record t { file_systems = insert t.file_systems r.0 back }
+    live_is =
         (λ i. record u { file_systems = option_map_or (λ (f : FileSystem). insert u.file_systems r.0 (record f { live = newest_map (option_map_or (λ (g : FileSystem). g.live) (shorter_there i) finmap.empty) (option_map_or (λ (g : FileSystem). g.snaps) (shorter_there i) []) })) (shorter_there i) u.file_systems })
         ∙ ap (λ m. record u { file_systems = insert u.file_systems r.0 (record r.1 { live = m; snaps = older ++ s ∷ [] }) }) (newest_is r.1.live older s)
         ∙ ap (λ (x : Datasets). record x { file_systems = insert x.file_systems r.0 (record r.1 { live = s.map; snaps = older ++ s ∷ [] }) }) (to ∙ newer_gone)
         ∙ ap (λ ss. record t { file_systems = ss }) (insert_twice t.file_systems r.0 (record r.1 { snaps = older ++ s ∷ [] }) (record r.1 { live = s.map; snaps = older ++ s ∷ [] }))
-        ∙ ap (λ f. record t { file_systems = insert t.file_systems r.0 f }) (sym (back_is none))
+
+    pub rolled_is : (component : List ℕ) → find (λ (v : Snap). same_name v.name component) r.1.snaps ≡ Some s
+        → (v : Datasets) → v ≡ record u { file_systems = with_live u.file_systems r.0 (newest_map (live_of u.file_systems r.0) (snaps_at u.file_systems r.0)) }
+        → with_marks v r.0 up_to ≡ rolled t (OfSnapshot (record { file_system = r.0; component = component }))
+    rolled_is component found v is =
+        ap (λ (x : Datasets). with_marks x r.0 up_to) (is ∙ live_is)
+        ∙ marks_put (record t { file_systems = insert t.file_systems r.0 back }) r.0 up_to back (put_here t.file_systems r.0 back)
+        ∙ ap (λ ss. record t { file_systems = ss }) (insert_twice t.file_systems r.0 back (record r.1 { live = s.map; snaps = older ++ s ∷ []; bookmarks = without_newer r.1.bookmarks s.group }))
+        ∙ ap (λ f. record t { file_systems = insert t.file_systems r.0 f }) (sym back_is)
         ∙ sym (rolled_at component found)
 
 -- ---- whether a snapshot is the newest
@@ -235,22 +235,27 @@ is_newer g base low (t ∷ ts) s i up = by_list (filter (λ (u : Snap). nat_lt g
 
 -- ---- what a rollback finds
 
-pub back_of : (t : Datasets) → AreFileSystems t.file_systems t.group → (r : Entry) → get t.file_systems r.0 ≡ Some r.1 → r.1.bookmarks ≡ finmap.empty → (component : List ℕ) (g : ℕ)
+pub back_of : (t : Datasets) → AreFileSystems t.file_systems t.group → (r : Entry) → get t.file_systems r.0 ≡ Some r.1 → (component : List ℕ) (g : ℕ)
     → option_map (λ (u : Snap). u.group) (find (λ (v : Snap). same_name v.name component) r.1.snaps) ≡ Some g
     → (u : Datasets) → u ≡ without_all t (newer_members r g)
     → (length (snaps_at u.file_systems r.0) ≡ 0 → ⊥)
-    × (record u { file_systems = with_live u.file_systems r.0 (newest_map (live_of u.file_systems r.0) (snaps_at u.file_systems r.0)) } ≡ rolled t (OfSnapshot (record { file_system = r.0; component = component })))
-back_of t good r at none component g told u to = by_snap (find (λ (v : Snap). same_name v.name component) r.1.snaps) refl told
+    × ((v : Datasets) → v ≡ record u { file_systems = with_live u.file_systems r.0 (newest_map (live_of u.file_systems r.0) (snaps_at u.file_systems r.0)) }
+    → with_marks v r.0 (λ marks. without_newer marks g) ≡ rolled t (OfSnapshot (record { file_system = r.0; component = component })))
+back_of t good r at component g told u to = by_snap (find (λ (v : Snap). same_name v.name component) r.1.snaps) refl told
   where
     by_snap : (x : Option Snap) → find (λ (v : Snap). same_name v.name component) r.1.snaps ≡ x → option_map (λ (u : Snap). u.group) x ≡ Some g
         → (length (snaps_at u.file_systems r.0) ≡ 0 → ⊥)
-        × (record u { file_systems = with_live u.file_systems r.0 (newest_map (live_of u.file_systems r.0) (snaps_at u.file_systems r.0)) } ≡ rolled t (OfSnapshot (record { file_system = r.0; component = component })))
+        × ((v : Datasets) → v ≡ record u { file_systems = with_live u.file_systems r.0 (newest_map (live_of u.file_systems r.0) (snaps_at u.file_systems r.0)) }
+        → with_marks v r.0 (λ marks. without_newer marks g) ≡ rolled t (OfSnapshot (record { file_system = r.0; component = component })))
     by_snap None e k = absurd (no_value g k)
     by_snap (Some s) e k =
         let there = (from_find (λ (v : Snap). same_name v.name component) r.1.snaps s e).0 in
         let parts = split_at r.1.snaps s there in
-        let to' : u ≡ without_all t (newer_members r s.group) = to ∙ ap (λ n. without_all t (newer_members r n)) (sym (same_value s.group g k)) in
-        (has_snaps t good r at parts.0 s parts.1 parts.2 u to', rolled_is t good r at parts.0 s parts.1 parts.2 u to' none component e)
+        let same : g ≡ s.group = sym (same_value s.group g k) in
+        let to' : u ≡ without_all t (newer_members r s.group) = to ∙ ap (λ n. without_all t (newer_members r n)) same in (
+          has_snaps t good r at parts.0 s parts.1 parts.2 u to',
+          λ v is. ap (λ n. with_marks v r.0 (λ marks. without_newer marks n)) same ∙ rolled_is t good r at parts.0 s parts.1 parts.2 u to' component e v is,
+        )
 
 -- ---- why it is refused
 
@@ -261,17 +266,8 @@ newer_of p = option_map_or (λ (q : FileSystem × Snap). map {A = Snap} id_of (s
 abbrev refusal_where : Datasets → Views → Bool → Option (FileSystem × Snap) → Option Refusal
 refusal_where t views later p =
     cond (not (is_some p)) (Some NoDataset)
-    (cond (not later && nat_lt 0 (length (newer_of p))) (Some NotNewest) (cond (list_any (is_viewed views) (newer_of p)) (Some Busy) (cond (list_any (has_clone t) (newer_of p)) (Some HasClones) None)))
-
-first-back : (is_there late newer mark busy viewed outside cloned : Bool) → mark ≡ false → busy ≡ viewed → outside ≡ cloned
-    → cond {A = Option Refusal} (not is_there) (Some NoDataset) (cond (not late && (newer || mark)) (Some NotNewest) (cond busy (Some Busy) (cond outside (Some HasClones) None)))
-    ≡ cond {A = Option Refusal} (not is_there) (Some NoDataset) (cond (not late && newer) (Some NotNewest) (cond viewed (Some Busy) (cond cloned (Some HasClones) None)))
-first-back is_there late newer mark busy viewed outside cloned a b c =
-    λ i. cond {A = Option Refusal} (not is_there) (Some NoDataset) (cond (not late && (ap (λ m. newer || m) a ∙ or_none newer) i) (Some NotNewest) (cond (b i) (Some Busy) (cond (c i) (Some HasClones) None)))
-  where
-    or_none : (x : Bool) → (x || false) ≡ x
-    or_none true = refl
-    or_none false = refl
+    (cond (not later && (nat_lt 0 (length (newer_of p)) || option_map_or (λ (q : FileSystem × Snap). has_newer q.0.bookmarks q.1.group) p false)) (Some NotNewest)
+    (cond (list_any (is_held_at t views) (newer_of p)) (Some Busy) (cond (list_any (has_clone t) (newer_of p)) (Some HasClones) None)))
 
 -- what was found is the file system's
 pub told_placed : (t : Datasets) (m : Member) (f : FileSystem) (s : Snap) → placed (world_of t) (OfSnapshot m) ≡ Some (f, s)
@@ -294,33 +290,35 @@ told_placed t m f s told = by_system (get t.file_systems m.file_system) refl tol
             let system : g ≡ f = ap (λ (x : FileSystem × Snap). x.0) same in
             (at ∙ ap Some system, ap found (sym system) ∙ k ∙ ap (λ (x : FileSystem × Snap). Some x.1) same)
 
-module _ (t : Datasets) (bare : AreBare t.file_systems) (views : Views) (m : Member) (later : Bool) where
+module _ (t : Datasets) (views : Views) (m : Member) (later : Bool) where
+  abbrev found_row : Option (FileSystem × Snap)
+  found_row = placed (world_of t) (OfSnapshot m)
+
   refusal_is : rollback_refusal t views (OfSnapshot m) later ≡ refusal_where t views later (placed (world_of t) (OfSnapshot m))
-  refusal_is = first-back (is_some (placed (world_of t) (OfSnapshot m))) later (nat_lt 0 (length (newer_snaps (world_of t) (OfSnapshot m)))) _ _
-      (list_any (is_viewed views) (newer_snaps (world_of t) (OfSnapshot m))) _ (list_any (has_clone t) (newer_snaps (world_of t) (OfSnapshot m)))
-      (no_newer_bookmark t bare views m) (busy_is t bare views (newer_snaps (world_of t) (OfSnapshot m))) (outside_is t (newer_snaps (world_of t) (OfSnapshot m)))
+  refusal_is = ap
+      (λ b. cond (not (is_some found_row)) (Some NoDataset)
+      (cond (not later && (nat_lt 0 (length (newer_of found_row)) || option_map_or (λ (q : FileSystem × Snap). has_newer q.0.bookmarks q.1.group) found_row false)) (Some NotNewest)
+      (cond (list_any (is_held_at t views) (newer_of found_row)) (Some Busy) (cond b (Some HasClones) None))))
+      (outside_is t (newer_snaps (world_of t) (OfSnapshot m)))
 
-  -- there is no such snapshot
-  pub refused_missing : placed (world_of t) (OfSnapshot m) ≡ None → rollback_refusal t views (OfSnapshot m) later ≡ Some NoDataset
-  refused_missing none = refusal_is ∙ ap (refusal_where t views later) none
-
-  -- there is one
   pub refused_at : AreFileSystems t.file_systems t.group → (name : Name) (f : FileSystem) → get t.file_systems name ≡ Some f → (s : Snap) → IsIn f.snaps s → placed (world_of t) (OfSnapshot m) ≡ Some (f, s)
       → rollback_refusal t views (OfSnapshot m) later ≡ refusal_at t f s.group views later
   refused_at good name f at s i found =
       refusal_is ∙ ap (refusal_where t views later) found
-      ∙ (λ i. cond (not later && nat_lt 0 (length-mapped id_of (snaps_after f s.group) i)) (Some NotNewest)
-      (cond (any_later (is_viewed views) s.group f.snaps i) (Some Busy) (cond (any_later (has_clone t) s.group f.snaps i) (Some HasClones) None)))
-      ∙ ap (λ b. cond (not later && b) (Some NotNewest) (cond (list_any (is_viewed_after views s.group) f.snaps) (Some Busy) (cond (list_any (is_cloned_after t s.group) f.snaps) (Some HasClones) None)))
-      (sym (is_newer s.group (origin_group f.origin) _ f.snaps s i (rising t.file_systems t.group good.lines name f at)))
+      ∙ (λ j. cond (not later && (count j || has_newer f.bookmarks s.group)) (Some NotNewest)
+      (cond (later_held t good views name f at s.group j) (Some Busy) (cond (any_later (has_clone t) s.group f.snaps j) (Some HasClones) None)))
+    where
+      count : nat_lt 0 (length (map {A = Snap} id_of (snaps_after f s.group))) ≡ nat_lt s.group (newest_group (origin_group f.origin) f.snaps)
+      count = ap (nat_lt 0) (length-mapped id_of (snaps_after f s.group))
+          ∙ sym (is_newer s.group (origin_group f.origin) _ f.snaps s i (rising t.file_systems t.group good.lines name f at))
 
 -- where nothing refuses it, no newer snapshot has a clone
 pub none_cloned : (t : Datasets) (f : FileSystem) (group : ℕ) (views : Views) (later : Bool) → refusal_at t f group views later ≡ None → list_any (is_cloned_after t group) f.snaps ≡ false
 none_cloned t f group views later e =
-    by_tests (not later && nat_lt group (newest_group (origin_group f.origin) f.snaps)) (list_any (is_viewed_after views group) f.snaps) (list_any (is_cloned_after t group) f.snaps) e
+    by_tests (not later && (nat_lt group (newest_group (origin_group f.origin) f.snaps) || has_newer f.bookmarks group)) (list_any (is_held_after views group) f.snaps) (list_any (is_cloned_after t group) f.snaps) e
   where
-    by_tests : (newer viewed cloned : Bool) → cond {A = Option Refusal} newer (Some NotNewest) (cond viewed (Some Busy) (cond cloned (Some HasClones) None)) ≡ None → cloned ≡ false
-    by_tests true viewed cloned e = absurd (no_value NotNewest (sym e))
+    by_tests : (newer held cloned : Bool) → cond {A = Option Refusal} newer (Some NotNewest) (cond held (Some Busy) (cond cloned (Some HasClones) None)) ≡ None → cloned ≡ false
+    by_tests true held cloned e = absurd (no_value NotNewest (sym e))
     by_tests false true cloned e = absurd (no_value Busy (sym e))
     by_tests false false true e = absurd (no_value HasClones (sym e))
     by_tests false false false e = refl

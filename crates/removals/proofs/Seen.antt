@@ -3,7 +3,7 @@ use Rattle.std.proofs.Common.{◌≡◌, ◌⊎◌, ℕ, Bool, true, false, cond
 use Rattle.std.specs.Prelude.{nat_lt}
 use Rattle.std.specs.List.{filter, list_any}
 use Rattle.std.specs.Option.{option_map_or}
-use Rattle.std.specs.FinMap.{get, entries, remove, same_map}
+use Rattle.std.specs.FinMap.{get, entries, remove}
 use Rattle.name.specs.declared.member.Member.{Member}
 use Rattle.model.specs.World.{Snap, SnapId, id_of, same_id, snap_named}
 use Rattle.model.specs.State.{Views, is_viewed}
@@ -12,7 +12,7 @@ use Rattle.world.specs.Tables.{Datasets, world_of}
 use Rattle.world.specs.Usage.{IsEntry}
 use Rattle.world.proofs.Finding.{same_id_is}
 use Rattle.world.proofs.ViewedSteps.{viewed}
-use Rattle.world.proofs.Maps.{key_cases, at_entry, get-remove_same, get-remove_other}
+use Rattle.world.proofs.Maps.{key_cases, at_entry, get-remove_other}
 use Rattle.removals.proofs.Named.{ids_of, id_named}
 
 -- ---- a view of a snapshot
@@ -38,13 +38,6 @@ viewed_beside views number id e =
     (λ (same : k.0 ≡ number). inr (ap (get views) (sym same) ∙ k.1))
     (λ other. inl (viewed (remove views number) k.0 id (get-remove_other view_order views number k.0 other ∙ k.1)))
     (key_cases view_order k.0 number)
-
--- where none has the number, all stay
-pub none_closed : (views : Views) (number : ℕ) → get views number ≡ None → remove views number ≡ views
-none_closed views number none = same_map view_order.total view_order.exact _ _ (λ q. ⊎_elim
-    (λ (same : q ≡ number). ap (get (remove views number)) same ∙ get-remove_same view_order views number ∙ sym none ∙ ap (get views) (sym same))
-    (λ other. get-remove_other view_order views number q other)
-    (key_cases view_order q number))
 
 -- ---- of some names
 

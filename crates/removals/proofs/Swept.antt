@@ -23,20 +23,16 @@ use Rattle.world.proofs.Bridge.{from_entries, from_snap_at, in_snaps, one_snap}
 use Rattle.world.proofs.Listed.{in_map}
 use Rattle.world.proofs.Sweep.{get-with_file_systems}
 use Rattle.world.proofs.WithoutSnaps.{get-without, from_without, without_twice, without_none}
-use Rattle.removals.specs.Named.{has_clone, is_kept, is_named_cloned}
+use Rattle.removals.specs.Named.{has_clone, is_held, is_kept, is_named_cloned}
 use Rattle.removals.specs.Families.{ArePartOf, unneeded, without_unneeded, gone_origin, without_origin, without_origins}
-use Rattle.removals.specs.Requests.{swept, destroyed, AreBare, IsSweptBy}
-use Rattle.removals.proofs.Bare.{needed_is}
+use Rattle.removals.specs.Requests.{swept, destroyed, IsSweptBy}
 use Rattle.removals.proofs.Clones.{uncloned_is, is_uncloned}
 use Rattle.removals.proofs.Closed.{filter_alike, named_at}
+use Rattle.removals.proofs.Needed.{not_true, needed_is, kept_parts, if_due, unneeded_parts}
 
 and_false : (b : Bool) → (b && false) ≡ false
 and_false true = refl
 and_false false = refl
-
-not_true : (b : Bool) → not b ≡ true → b ≡ false
-not_true true e = absurd (true≢false (sym e))
-not_true false e = refl
 
 pub alike : (a b : Bool) → (a ≡ false → b ≡ false) → (b ≡ false → a ≡ false) → a ≡ b
 alike true true f g = refl
@@ -98,7 +94,7 @@ same_clones t u same id = alike (has_clone u id) (has_clone t id) (fewer_clones 
 
 -- its destroy is deferred and nothing needs it
 abbrev pub is_due : Datasets → Views → Snap → Bool
-is_due t views u = u.deferred && not (is_kept t views (id_of u))
+is_due t views u = u.deferred && not (is_kept t views u)
 
 module _ (t : Datasets) (p : Snap → Bool) where
   pub origins_stay : (n : Name) → origin_at (without t p) n ≡ origin_at t n
@@ -109,7 +105,7 @@ module _ (t : Datasets) (p : Snap → Bool) where
       by_system (Some f) = refl
 
   due_stays : (views : Views) (u : Snap) → is_due (without t p) views u ≡ is_due t views u
-  due_stays views u = ap (λ b. u.deferred && not (is_viewed views (id_of u) || b)) (same_clones t (without t p) origins_stay (id_of u))
+  due_stays views u = ap (λ b. u.deferred && not (is_held views u || b)) (same_clones t (without t p) origins_stay (id_of u))
 
   there_stays : (n : Name) → is_some (get (without t p).file_systems n) ≡ is_some (get t.file_systems n)
   there_stays n = ap is_some (get-without (world_of t) p n) ∙ by_system (get t.file_systems n)
@@ -129,41 +125,33 @@ module _ (t : Datasets) (once : IsOneToAnId t) (views : Views) (id : SnapId) whe
       by_same u true e k = ap (λ b. same_id (id_of u) id && b) (k (same_id_is (id_of u) id e)) ∙ and_false (same_id (id_of u) id)
       by_same u false e k = ap (λ b. b && is_due t views u) e
 
-  abbrev taken : Option (Name × Snap) → Option (Name × Snap)
-  taken x = option_and_then (λ p. cond p.1.deferred (Some p) None) x
-
   abbrev left_by : Option (Name × Snap) → Datasets
   left_by x = option_map_or (λ p. without_snap t (id_of p.1)) x t
 
-  -- the one that goes
-  module _ (unkept : is_kept t views id ≡ false) (p : Name × Snap) (found : snap_at (world_of t) id ≡ Some p) where
+  -- the one that may go
+  module _ (p : Name × Snap) (found : snap_at (world_of t) id ≡ Some p) where
     there : (f : FileSystem) × (get t.file_systems p.0 ≡ Some f) × IsIn f.snaps p.1 × (id_of p.1 ≡ id)
     there = from_snap_at (world_of t) id p found
 
-    goes_alike : p.1.deferred ≡ true → (n : Name) (f : FileSystem) (u : Snap) → get t.file_systems n ≡ Some f → IsIn f.snaps u → (b : Bool) → same_id (id_of u) (id_of p.1) ≡ b → same_id (id_of u) (id_of p.1) ≡ one u
+    goes_alike : is_due t views p.1 ≡ true → (n : Name) (f : FileSystem) (u : Snap) → get t.file_systems n ≡ Some f → IsIn f.snaps u → (b : Bool) → same_id (id_of u) (id_of p.1) ≡ b → same_id (id_of u) (id_of p.1) ≡ one u
     goes_alike d n f u at i true s =
         let ids = same_id_is (id_of u) (id_of p.1) s in
         let same : u ≡ p.1 = once n p.0 f there.0 u p.1 at there.1 i there.2 ids in
-        s ∙ sym (λ j. is_same_id (id_of u) id (ids ∙ there.3) j && ((ap (λ (v : Snap). v.deferred) same ∙ d) j && not ((ap (is_kept t views) (ids ∙ there.3) ∙ unkept) j)))
+        s ∙ sym (λ j. is_same_id (id_of u) id (ids ∙ there.3) j && (ap (is_due t views) same ∙ d) j)
     goes_alike d n f u at i false s = s ∙ sym (ap (λ b. b && is_due t views u) (ap (same_id (id_of u)) (sym there.3) ∙ s))
 
-    by_mark : (d : Bool) → p.1.deferred ≡ d → left_by (cond d (Some p) None) ≡ without t one
-    by_mark true d = ap (λ ss. record t { file_systems = ss })
+    by_due : (d : Bool) → is_due t views p.1 ≡ d → left_by (cond d (Some p) None) ≡ without t one
+    by_due true d = ap (λ ss. record t { file_systems = ss })
         (same_gone (world_of t) (λ u. same_id (id_of u) (id_of p.1)) one (λ n f u at i. goes_alike d n f u at i (same_id (id_of u) (id_of p.1)) refl))
-    by_mark false d = none_goes (λ n f u at i s.
-        ap (λ b. b && not (is_kept t views (id_of u))) (ap (λ (v : Snap). v.deferred) (once n p.0 f there.0 u p.1 at there.1 i there.2 (s ∙ sym there.3)) ∙ d))
+    by_due false d = none_goes (λ n f u at i s. ap (is_due t views) (once n p.0 f there.0 u p.1 at there.1 i there.2 (s ∙ sym there.3)) ∙ d)
 
-  by_found : is_kept t views id ≡ false → (x : Option (Name × Snap)) → snap_at (world_of t) id ≡ x → left_by (taken x) ≡ without t one
-  by_found unkept None e = none_goes (λ n f u at i s.
+  by_found : (x : Option (Name × Snap)) → snap_at (world_of t) id ≡ x → left_by (option_and_then (if_due t views id) x) ≡ without t one
+  by_found None e = none_goes (λ n f u at i s.
       absurd (found_none (λ (p : Name × Snap). same_id (id_of p.1) id) (snaps_of (world_of t)) e (n, u) (in_snaps (world_of t) n f u at i) (is_same_id (id_of u) id s)))
-  by_found unkept (Some p) e = by_mark unkept p e p.1.deferred refl
+  by_found (Some p) e = by_due p e (is_due t views p.1) refl
 
   one_swept : without_unneeded t views id ≡ without t one
-  one_swept = by_kept (is_kept t views id) refl
-    where
-      by_kept : (b : Bool) → is_kept t views id ≡ b → left_by (cond b None (taken (snap_at (world_of t) id))) ≡ without t one
-      by_kept true e = none_goes (λ n f u at i k. ap (λ b. u.deferred && not b) (ap (is_kept t views) k ∙ e) ∙ and_false u.deferred)
-      by_kept false e = by_found e (snap_at (world_of t) id) refl
+  one_swept = by_found (snap_at (world_of t) id) refl
 
 -- it is the origin of a file system that is gone
 abbrev pub is_gone_origin : Datasets → Snap → Entry → Bool
@@ -226,16 +214,13 @@ any_in p (y ∷ ys) x i e = ⊎_elim
     or_true true = refl
     or_true false = refl
 
-module _ (t u : Datasets) (part : ArePartOf u t) (bare : AreBare t.file_systems) (views : Views) (clean : IsSweptBy t views) where
-  bare_part : AreBare u.file_systems
-  bare_part n f at = bare n f (part n f at)
-
+module _ (t u : Datasets) (part : ArePartOf u t) (views : Views) (clean : IsSweptBy t views) where
   -- one that is due has lost a clone
   its_clone : (n : Name) (f : FileSystem) (s : Snap) → get u.file_systems n ≡ Some f → IsIn f.snaps s → is_due u views s ≡ true → list_any (is_gone_origin u s) (entries t.file_systems) ≡ true
   its_clone n f s at i e =
-      let parts = and_parts s.deferred (not (is_kept u views (id_of s))) e in
-      let free = or_none (is_viewed views (id_of s)) (has_clone u (id_of s)) (not_true (is_kept u views (id_of s)) parts.1) in
-      let kept : is_kept t views (id_of s) ≡ true = sym (needed_is t bare views n f s (part n f at) i) ∙ clean n f s (part n f at) i parts.0 in
+      let parts = and_parts s.deferred (not (is_kept u views s)) e in
+      let free = or_none (is_held views s) (has_clone u (id_of s)) (not_true (is_kept u views s) parts.1) in
+      let kept : is_kept t views s ≡ true = sym (needed_is t views s) ∙ clean n f s (part n f at) i parts.0 in
       let clone = some_clone t (id_of s) (sym (ap (λ b. b || has_clone t (id_of s)) free.0) ∙ kept) in
       any_in (is_gone_origin u s) (entries t.file_systems) clone.0 clone.1 (by_system free.1 clone.0 clone.1 clone.2 (get u.file_systems clone.0.0) refl)
     where
@@ -249,7 +234,7 @@ module _ (t u : Datasets) (part : ArePartOf u t) (bare : AreBare t.file_systems)
 
   each : (n : Name) (f : FileSystem) (s : Snap) → get u.file_systems n ≡ Some f → IsIn f.snaps s
       → (list_any (is_gone_origin u s) (entries t.file_systems) && is_due u views s) ≡ (s.deferred && not (is_needed (world_of u) views s))
-  each n f s at i = by_due (is_due u views s) refl ∙ sym (ap (λ b. s.deferred && not b) (needed_is u bare_part views n f s at i))
+  each n f s at i = by_due (is_due u views s) refl ∙ sym (ap (λ b. s.deferred && not b) (needed_is u views s))
     where
       by_due : (b : Bool) → is_due u views s ≡ b → (list_any (is_gone_origin u s) (entries t.file_systems) && is_due u views s) ≡ is_due u views s
       by_due true e = ap (λ b. b && is_due u views s) (its_clone n f s at i e)
@@ -321,27 +306,12 @@ module _ (t : Datasets) (views : Views) (clean : IsSweptBy t views) (m : Member)
 -- ---- the one that goes
 
 module _ (t : Datasets) (good : AreFileSystems t.file_systems t.group) (views : Views) (id : SnapId) (p : Name × Snap) (is : unneeded t views id ≡ Some p) where
-  unneeded_found : (is_kept t views id ≡ false) × (snap_at (world_of t) id ≡ Some p)
-  unneeded_found = by_found (is_kept t views id) refl (snap_at (world_of t) id) refl is
-    where
-      by_mark : (q : Name × Snap) (d : Bool) → cond {A = Option (Name × Snap)} d (Some q) None ≡ Some p → ◌≡◌ {A = Option (Name × Snap)} (Some q) (Some p)
-      by_mark q true e = e
-      by_mark q false e = absurd (no_value p e)
-
-      by_found : (b : Bool) → is_kept t views id ≡ b → (x : Option (Name × Snap)) → snap_at (world_of t) id ≡ x
-          → cond {A = Option (Name × Snap)} b None (option_and_then (λ q. cond q.1.deferred (Some q) None) x) ≡ Some p → (is_kept t views id ≡ false) × (snap_at (world_of t) id ≡ Some p)
-      by_found true k x a e = absurd (no_value p e)
-      by_found false k None a e = absurd (no_value p e)
-      by_found false k (Some q) a e = (k, a ∙ by_mark q q.1.deferred e)
-
   pub unneeded_named : snap_named (world_of t) (record { file_system = p.0; component = p.1.name }) ≡ Some p.1
-  unneeded_named = named_at t good id p unneeded_found.1
+  unneeded_named = named_at t good id p (unneeded_parts t views id p is).0
 
   pub unneeded_uncloned : is_named_cloned t (record { file_system = p.0; component = p.1.name }) ≡ false
   unneeded_uncloned =
-      ap (λ (x : Option Snap). option_map_or (λ (s : Snap). has_clone t (id_of s)) x false) unneeded_named
-      ∙ ap (has_clone t) (from_snap_at (world_of t) id p unneeded_found.1).3
-      ∙ (or_none (is_viewed views id) (has_clone t id) unneeded_found.0).1
+      ap (λ (x : Option Snap). option_map_or (λ (s : Snap). has_clone t (id_of s)) x false) unneeded_named ∙ (kept_parts t views p.1 (unneeded_parts t views id p is).2).2
 
   pub unneeded_goes : without_snap t (id_of p.1) ≡ without_unneeded t views id
   unneeded_goes = sym (ap (λ (x : Option (Name × Snap)). option_map_or (λ q. without_snap t (id_of q.1)) x t) is)

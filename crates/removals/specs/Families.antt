@@ -12,7 +12,7 @@ use Rattle.model.specs.Edits.{with_file_systems}
 use Rattle.file_system.specs.Rows.{Entry}
 use Rattle.snap.specs.Taking.{is_in_family}
 use Rattle.world.specs.Tables.{Datasets, world_of, without_snap}
-use Rattle.removals.specs.Named.{is_kept, is_viewed_after}
+use Rattle.removals.specs.Named.{is_kept, is_held_after}
 
 -- the datasets where the file systems of a family are empty (zfs-destroy(8), -r)
 abbrev pub emptied : Datasets → List ℕ → Datasets
@@ -37,11 +37,11 @@ is_outside_clone t name r =
 abbrev pub is_cloned_outside : Datasets → List ℕ → Snap → Bool
 is_cloned_outside t name s = list_any (λ n. not (is_in_family name n)) (clones_of (world_of t) (id_of s))
 
--- why a family isn't destroyed, if it isn't: an open view shows a snapshot of it, or one has a clone outside (zfs-destroy(8); the view is
--- profile)
+-- why a family isn't destroyed, if it isn't: a tag or an open view keeps a snapshot of it, or one has a clone outside (zfs-destroy(8); the
+-- view is profile)
 abbrev pub family_refusal : Datasets → Views → List ℕ → Option Refusal
 family_refusal t views name =
-    if list_any (λ r. is_in_family name r.0 && list_any (is_viewed_after views 0) r.1.snaps) (entries t.file_systems)
+    if list_any (λ r. is_in_family name r.0 && list_any (is_held_after views 0) r.1.snaps) (entries t.file_systems)
     then Some Busy
     else if list_any (is_outside_clone t name) (entries t.file_systems) then Some HasClones else None
 
@@ -49,10 +49,10 @@ family_refusal t views name =
 abbrev pub ArePartOf : Datasets → Datasets → Type 0
 ArePartOf u t = (n : List ℕ) (f : FileSystem) → get u.file_systems n ≡ Some f → get t.file_systems n ≡ Some f
 
--- the snapshot of this identity with the name of its file system, where its destroy is deferred and neither an open view nor a clone
--- needs it (zfs-destroy(8), -d)
+-- the snapshot of this identity with the name of its file system, where its destroy is deferred and no tag, no open view and no clone needs
+-- it (zfs-destroy(8), -d)
 abbrev pub unneeded : Datasets → Views → SnapId → Option (List ℕ × Snap)
-unneeded t views id = if is_kept t views id then None else option_and_then (λ p. if p.1.deferred then Some p else None) (snap_at (world_of t) id)
+unneeded t views id = option_and_then (λ p. if p.1.deferred && not (is_kept t views p.1) then Some p else None) (snap_at (world_of t) id)
 
 -- the datasets without it, and the same where there is none (zfs-destroy(8), -d)
 abbrev pub without_unneeded : Datasets → Views → SnapId → Datasets

@@ -26,13 +26,17 @@ abbrev pub deferred_all : Datasets → List Member → Datasets
 deferred_all t [] = t
 deferred_all t (m ∷ ms) = deferred_all (deferred_named t m) ms
 
--- a view of the snapshot of this name is open (profile)
-abbrev pub is_named_viewed : Datasets → Views → Member → Bool
-is_named_viewed t views m = option_map_or (λ s. is_viewed views (id_of s)) (snap_named (world_of t) m) false
+-- a tag or an open view keeps the snapshot (zfs-hold(8); the view is profile)
+abbrev pub is_held : Views → Snap → Bool
+is_held views s = nat_lt 0 (length s.tags) || is_viewed views (id_of s)
 
--- a snapshot of a later group than this one that an open view shows (profile)
-abbrev pub is_viewed_after : Views → ℕ → Snap → Bool
-is_viewed_after views group s = nat_lt group s.group && is_viewed views (id_of s)
+-- the same of the snapshot of this name (zfs-hold(8); the view is profile)
+abbrev pub is_named_held : Datasets → Views → Member → Bool
+is_named_held t views m = option_map_or (is_held views) (snap_named (world_of t) m) false
+
+-- a snapshot of a later group than this one that a tag or an open view keeps (zfs-hold(8); the view is profile)
+abbrev pub is_held_after : Views → ℕ → Snap → Bool
+is_held_after views group s = nat_lt group s.group && is_held views s
 
 -- the snapshot of this identity has a clone (zfsprops(7): clones)
 abbrev pub has_clone : Datasets → SnapId → Bool
@@ -46,13 +50,13 @@ is_named_cloned t m = option_map_or (λ s. has_clone t (id_of s)) (snap_named (w
 abbrev pub is_cloned_after : Datasets → ℕ → Snap → Bool
 is_cloned_after t group s = nat_lt group s.group && has_clone t (id_of s)
 
--- an open view shows the snapshot of this identity, or it has a clone (zfs-destroy(8), -d; the view is profile)
-abbrev pub is_kept : Datasets → Views → SnapId → Bool
-is_kept t views id = is_viewed views id || has_clone t id
+-- a tag, an open view or a clone needs the snapshot (zfs-destroy(8), -d; the view is profile)
+abbrev pub is_kept : Datasets → Views → Snap → Bool
+is_kept t views s = is_held views s || has_clone t (id_of s)
 
 -- the same of the snapshot of this name (zfs-destroy(8), -d; the view is profile)
 abbrev pub is_named_kept : Datasets → Views → Member → Bool
-is_named_kept t views m = is_named_viewed t views m || is_named_cloned t m
+is_named_kept t views m = is_named_held t views m || is_named_cloned t m
 
 -- a snapshot's name, under that of its file system (zfs(8))
 abbrev pub member_of : Entry → Snap → Member

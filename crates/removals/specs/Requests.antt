@@ -1,34 +1,27 @@
 -- What a rollback, a destroy and the close of a view leave of datasets, and why the first two are refused.
-use Rattle.std.specs.Prelude.{◌≡◌, ◌&&◌, ℕ, List, Bool, true, not, [], Option, None, Some, if◌then◌else◌, nat_lt}
+use Rattle.std.specs.Prelude.{◌≡◌, ◌&&◌, ◌||◌, ℕ, List, Bool, true, not, Option, None, Some, if◌then◌else◌, nat_lt}
 use Rattle.std.specs.List.{list_any}
-use Rattle.std.specs.FinMap as finmap
 use Rattle.std.specs.FinMap.{get, remove}
 use Rattle.std.specs.Option.{option_and_then}
 use Rattle.base.specs.Surveys.{IsIn}
 use Rattle.base.specs.declared.refusal.Refusal.{Refusal}
 use Rattle.base.specs.declared.refusal.Refusal.TheVariants.{NotNewest, Busy, HasClones}
+use Rattle.name.specs.declared.member.Member.{Member}
 use Rattle.name.specs.declared.target.Target.{Target}
 use Rattle.file_system.specs.Origins.{origin_group}
 use Rattle.file_system.specs.Writes.{newest_group}
 use Rattle.model.specs.World.{FileSystem, Snap, snap_at}
 use Rattle.model.specs.State.{Views}
-use Rattle.model.specs.Edits.{without_snaps}
+use Rattle.model.specs.Edits.{with_file_system, without_snaps}
 use Rattle.model.specs.Outcome.{is_needed}
 use Rattle.model.specs.Rule.{first_of}
 use Rattle.model.specs.requests.Rollback.{rolled_back, back_row}
 use Rattle.model.specs.requests.Destroy.{file_systems_named, without_file_systems, after_destroy, destroy_row}
 use Rattle.world.specs.Worlds.{FileSystems}
 use Rattle.world.specs.Tables.{Datasets, world_of}
-use Rattle.removals.specs.Named.{is_kept, is_viewed_after, is_cloned_after}
-
--- a file system without bookmarks, none of whose snapshots has a tag (profile)
-pub record IsBare (f : FileSystem) : Type 0 where
-  pub tags : (t : Snap) → IsIn f.snaps t → t.tags ≡ []
-  pub bookmarks : f.bookmarks ≡ finmap.empty
-
--- all of them are so (profile)
-abbrev pub AreBare : FileSystems → Type 0
-AreBare ss = (name : List ℕ) (f : FileSystem) → get ss name ≡ Some f → IsBare f
+use Rattle.bookmarks.specs.Marks.{Marks, has_newer}
+use Rattle.removals.specs.Named.{is_held_after, is_cloned_after}
+use Rattle.removals.specs.Families.{unneeded}
 
 -- the datasets after a rollback (zfs-rollback(8))
 abbrev pub rolled : Datasets → Target → Datasets
@@ -41,9 +34,9 @@ rollback_refusal t views target later = first_of (back_row (world_of t) views ta
 -- why a file system of these datasets can't go back to its snapshot of this group, if it can't (zfs-rollback(8); the view is profile)
 abbrev pub refusal_at : Datasets → FileSystem → ℕ → Views → Bool → Option Refusal
 refusal_at t f group views later =
-    if not later && nat_lt group (newest_group (origin_group f.origin) f.snaps)
+    if not later && (nat_lt group (newest_group (origin_group f.origin) f.snaps) || has_newer f.bookmarks group)
     then Some NotNewest
-    else if list_any (is_viewed_after views group) f.snaps then Some Busy else if list_any (is_cloned_after t group) f.snaps then Some HasClones else None
+    else if list_any (is_held_after views group) f.snaps then Some Busy else if list_any (is_cloned_after t group) f.snaps then Some HasClones else None
 
 -- the datasets after a destroy (zfs-destroy(8))
 abbrev pub destroyed : Datasets → Views → Target → Bool → Bool → Datasets
@@ -54,6 +47,14 @@ destroyed t views target recursive defer =
 abbrev pub without_family : Datasets → List ℕ → Bool → Datasets
 without_family t name recursive = record t { file_systems = (without_file_systems (world_of t) (file_systems_named (world_of t) name recursive)).file_systems }
 
+-- the datasets with the bookmarks of one file system changed, and the same where there is none of that name (zfs-bookmark(8))
+abbrev pub with_marks : Datasets → List ℕ → (Marks → Marks) → Datasets
+with_marks t name change = record t { file_systems = (with_file_system (world_of t) name (λ f. record f { bookmarks = change f.bookmarks })).file_systems }
+
+-- the datasets without the bookmark of this name, and the same where there is none (zfs-destroy(8))
+abbrev pub without_bookmark : Datasets → Member → Datasets
+without_bookmark t m = with_marks t m.file_system (λ bookmarks. remove bookmarks m.component)
+
 -- why a destroy is refused, if it is (zfs-destroy(8))
 abbrev pub destroy_refusal : Datasets → Views → Target → Bool → Bool → Option Refusal
 destroy_refusal t views target recursive defer = first_of (destroy_row (world_of t) views target recursive defer)
@@ -63,11 +64,9 @@ abbrev pub swept : Datasets → Views → Datasets
 swept t views = record t { file_systems = (without_snaps (world_of t) (λ u. u.deferred && not (is_needed (world_of t) views u))).file_systems }
 
 -- The snapshot that goes with a view of this number, with the name of its file system: the one that it shows, where its destroy is
--- deferred, no other view shows it and it has no clone (zfs-destroy(8), -d)
+-- deferred and no tag, no other view and no clone needs it (zfs-destroy(8), -d)
 abbrev pub gone_with : Datasets → Views → ℕ → Option (List ℕ × Snap)
-gone_with t views number =
-    option_and_then (λ id. if is_kept t (remove views number) id then None else option_and_then (λ p. if p.1.deferred then Some p else None) (snap_at (world_of t) id))
-    (get views number)
+gone_with t views number = option_and_then (unneeded t (remove views number)) (get views number)
 
 -- each snapshot whose destroy is deferred is needed: there is nothing to sweep (zfs-destroy(8), -d)
 abbrev pub IsSweptBy : Datasets → Views → Type 0

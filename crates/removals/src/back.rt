@@ -1,9 +1,12 @@
 //! A file system back at one of its snapshots.
-ghost use Rattle.std.specs.Prelude.{◌≡◌, ◌⊎◌, false, Some, None, IfSome, IfOk, IfErr, OnOk};
+ghost use Rattle.std.specs.Prelude.{◌≡◌, ◌⊎◌, ◌||◌, false, Some, None, IfSome, IfOk, IfErr, OnOk, nat_lt};
 ghost use Rattle.std.specs.Option.{option_map};
 ghost use Rattle.std.specs.List.{find, list_any};
 ghost use Rattle.std.specs.FinMap.{get};
 ghost use Rattle.base.specs.declared.refusal.Refusal.{Refusal};
+ghost use Rattle.bookmarks.specs.Marks.{has_newer};
+ghost use Rattle.file_system.specs.Origins.{origin_group};
+ghost use Rattle.file_system.specs.Writes.{newest_group};
 ghost use Rattle.name.specs.declared.target.Target.{Target};
 ghost use Rattle.name.specs.Names.{same_name};
 ghost use Rattle.model.specs.World.{union_of};
@@ -12,11 +15,12 @@ ghost use Rattle.world.specs.Sets.{AreDisjoint};
 ghost use Rattle.world.specs.Tables.{world_of};
 ghost use Rattle.removals.specs.Edits.{HasLost};
 ghost use Rattle.removals.specs.Named.{is_cloned_after};
-ghost use Rattle.removals.specs.Requests.{rolled, rollback_refusal, refusal_at, AreBare};
+ghost use Rattle.removals.specs.Requests.{rolled, rollback_refusal, refusal_at};
 
+use crate::bookmark::lose_newer_bookmarks;
 use crate::cloned::any_later_cloned;
 use crate::edit::Edit;
-use crate::viewed::any_later_viewed;
+use crate::held::any_later_held;
 use base::meter::SegMeter;
 use base::number::Group;
 use base::refusal::Refusal;
@@ -27,12 +31,12 @@ use name::{Component, Member, Target};
 use std::alloc::Global;
 use views::Views;
 
-/// The datasets with this file system back at a snapshot: its live map is the snapshot's again, and what is newer goes; what is lost with
-/// that is to be freed. The table and what it has to free stay as they are. Refused are NotSnapshot where the name isn't one of a
-/// snapshot, else NoDataset where there is no such snapshot, else NotNewest where it isn't the newest and not `later`, else Busy where one
-/// of these views shows a newer one, else HasClones where a newer one has a clone; else NoMemory where there is none for it
-/// (zfs-rollback(8)). It costs the number of file systems, the chunks of pieces that are to be freed, the number of the file system's
-/// snapshots, and for each newer one what its destroy does and the number of open views.
+/// The datasets with this file system back at a snapshot: its live map is the snapshot's again, and newer snapshots and bookmarks go; what
+/// is lost with that is to be freed. The table and what it has to free stay as they are. Refused are NotSnapshot where the name isn't one
+/// of a snapshot, else NoDataset where there is no such snapshot, else NotNewest where there is a newer snapshot or bookmark and not
+/// `later`, else Busy where a tag or one of these views keeps a newer snapshot, else HasClones where a newer one has a clone; else NoMemory
+/// where there is none for it (zfs-rollback(8)). It costs the number of file systems, the chunks of pieces that are to be freed, the number
+/// of the file system's snapshots and bookmarks, and for each newer snapshot what its destroy does and the number of open views.
 pub fn rollback(
     alloc: Global,
     table: &Table,
@@ -43,7 +47,6 @@ pub fn rollback(
     segments: &mut SegMeter,
 ) -> Result<Edit, Refusal>
     requires apart { AreDisjoint (union_of (world_of table.now)) freeing.now }
-    requires bare { AreBare table.now.file_systems }
     ensures ok { IfOk result (λ e. e.to ≡ rolled table.now target.now) }
     ensures lost { IfOk result (λ e. HasLost table.now freeing.now e.to e.freeing) }
     ensures can { OnOk result (rollback_refusal table.now views.now.opened target.now later ≡ None) }
@@ -85,8 +88,15 @@ fn placed<'a>(table: &'a Table, name: &Member) -> Option<(&'a FileSystem, &'a Sn
     Some((file_system, snapshot))
 }
 
-// Why this file system of the table can't go back to its snapshot of this group, if it can't. It costs what `any_later_viewed` and
-// `any_later_cloned` do.
+// Whether this file system has a snapshot or a bookmark of a later group. It costs the number of its bookmarks.
+fn has_newer(file_system: &FileSystem, group: Group) -> bool
+    ensures { result ≡ (nat_lt group.0 (newest_group (origin_group file_system.now.system.origin) file_system.now.system.snaps) || has_newer file_system.now.system.bookmarks group.0) }
+{
+    file_system.newest_group() > group || file_system.bookmarks().any_after(group)
+}
+
+// Why this file system of the table can't go back to its snapshot of this group, if it can't. It costs what `has_newer`, `any_later_held`
+// and `any_later_cloned` do.
 fn refusal_of(
     table: &Table,
     file_system: &FileSystem,
@@ -96,10 +106,10 @@ fn refusal_of(
 ) -> Option<Refusal>
     ensures { result ≡ refusal_at table.now file_system.now.system group.0 views.now.opened later }
 {
-    if !later && file_system.newest_group() > group {
+    if !later && has_newer(file_system, group) {
         return Some(Refusal::NotNewest);
     }
-    if any_later_viewed(file_system, group, views) {
+    if any_later_held(file_system, group, views) {
         return Some(Refusal::Busy);
     }
     if any_later_cloned(table, file_system, group) {
@@ -120,7 +130,6 @@ fn back_to(
     segments: &mut SegMeter,
 ) -> Result<Edit, Refusal>
     requires apart { AreDisjoint (union_of (world_of table.now)) freeing.now }
-    requires bare { AreBare table.now.file_systems }
     requires there { get table.now.file_systems file_system.now.name ≡ Some file_system.now.system }
     requires group { option_map (λ s. s.group) (find (λ s. same_name s.name component.now) file_system.now.system.snaps) ≡ Some group.0 }
     requires no_clone { list_any (is_cloned_after table.now group.0) file_system.now.system.snaps ≡ false }
@@ -133,5 +142,6 @@ fn back_to(
     let mut edit = Edit::of(table, freeing)?;
     edit.lose_newer(alloc, file_system, group, segments)?;
     edit.lose_live(alloc, file_system.name())?;
+    lose_newer_bookmarks(alloc, &mut edit.to, file_system.name(), group)?;
     Ok(edit)
 }

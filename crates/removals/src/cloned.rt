@@ -8,7 +8,7 @@ ghost use Rattle.snap.specs.Taking.{is_in_family};
 ghost use Rattle.removals.specs.Families.{is_cloned_outside, is_outside_clone};
 ghost use Rattle.removals.specs.Named.{is_named_cloned, is_named_kept, is_cloned_after};
 
-use crate::viewed::is_named_viewed;
+use crate::held::is_named_held;
 use base::number::Group;
 use datasets::Table;
 use file_systems::{CloneName, FileSystem, Snapshot};
@@ -45,7 +45,8 @@ pub(crate) fn any_named_cloned(table: &Table, all: &[Named]) -> bool
     all.iter().any(|name| is_cloned(table, name))
 }
 
-/// Whether an open view shows the snapshot of this name, or it has a clone. It costs what `is_named_viewed` and `is_named_cloned` do.
+/// Whether a tag or an open view keeps the snapshot of this name, or it has a clone. It costs what `is_named_held` and `is_named_cloned`
+/// do.
 pub(crate) fn is_named_kept(
     table: &Table,
     views: &Views,
@@ -54,7 +55,7 @@ pub(crate) fn is_named_kept(
 ) -> bool
     ensures { result ≡ is_named_kept table.now views.now.opened (record { file_system = file_system.now; component = component.now }) }
 {
-    is_named_viewed(table, views, file_system, component)
+    is_named_held(table, views, file_system, component)
         || is_named_cloned(table, file_system, component)
 }
 

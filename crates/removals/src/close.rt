@@ -7,7 +7,7 @@ ghost use Rattle.model.specs.World.{union_of};
 ghost use Rattle.world.specs.Sets.{AreDisjoint};
 ghost use Rattle.world.specs.Tables.{world_of};
 ghost use Rattle.removals.specs.Edits.{HasLost};
-ghost use Rattle.removals.specs.Requests.{swept, gone_with, AreBare, IsSweptBy};
+ghost use Rattle.removals.specs.Requests.{swept, gone_with, IsSweptBy};
 
 use crate::edit::Edit;
 use base::meter::SegMeter;
@@ -18,8 +18,8 @@ use file_systems::{FileSystem, Snapshot};
 use std::alloc::Global;
 use views::Views;
 
-// The snapshot that goes with the view of this number, with its file system: the one that it shows, where its destroy is deferred, no
-// other view shows it and it has no clone. It costs the number of open views, and the number of file systems times the logarithm of that
+// The snapshot that goes with the view of this number, with its file system: the one that it shows, where its destroy is deferred and no
+// tag, no other view and no clone needs it. It costs the number of open views, and the number of file systems times the logarithm of that
 // of the snapshots of one.
 fn goes_with<'a>(
     table: &'a Table,
@@ -33,14 +33,14 @@ fn goes_with<'a>(
         return None;
     }
     let (file_system, snapshot) = table.snapshot_of(id)?;
-    if !snapshot.is_deferred() {
+    if !snapshot.is_deferred() || snapshot.is_held() {
         return None;
     }
     Some((file_system, snapshot))
 }
 
 /// The datasets once the view of this number is closed, where something goes with it: the snapshot that it shows, if its destroy is
-/// deferred, no other view shows it and it has no clone (zfs-destroy(8), -d); what they have no more is to be freed. None where nothing
+/// deferred and no tag, no other view and no clone needs it (zfs-destroy(8), -d); what they have no more is to be freed. None where nothing
 /// goes. The table and what it has to free stay as they are. NoMemory where there is none for it. It costs the number of open views and
 /// the number of file systems times the logarithm of that of the snapshots of one; and where a snapshot goes, what `Edit::of` and
 /// `Edit::lose_snapshot` do.
@@ -53,7 +53,6 @@ pub fn close_view(
     segments: &mut SegMeter,
 ) -> Result<Option<Edit>, Refusal>
     requires apart { AreDisjoint (union_of (world_of table.now)) freeing.now }
-    requires bare { AreBare table.now.file_systems }
     requires swept { IsSweptBy table.now views.now.opened }
     ensures some { IfOk result (λ o. IfSome o (λ e. e.to ≡ swept table.now (remove views.now.opened number))) }
     ensures lost { IfOk result (λ o. IfSome o (λ e. HasLost table.now freeing.now e.to e.freeing)) }

@@ -102,9 +102,9 @@ impl Edit {
         self.lose_snapshot(alloc, &name, segments)
     }
 
-    // Lets the snapshots of all these names go that are there, but for those that one of these views shows or that have a clone; the table
-    // is the one that the names are of. NoMemory where there is none for it, and then the edit is of no use. It costs what `lose_snapshot`
-    // does for each, and the number of open views.
+    // Lets the snapshots of all these names go that are there, but for those that a tag or one of these views keeps or that have a clone;
+    // the table is the one that the names are of. NoMemory where there is none for it, and then the edit is of no use. It costs what
+    // `lose_snapshot` does for each, and the number of open views.
     pub(crate) fn lose_unneeded(
         &mut self,
         alloc: Global,

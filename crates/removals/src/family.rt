@@ -8,14 +8,15 @@ ghost use Rattle.world.specs.Sets.{AreDisjoint};
 ghost use Rattle.world.specs.Tables.{CanRemove, world_of, without_system};
 ghost use Rattle.removals.specs.Edits.{HasLost};
 ghost use Rattle.removals.specs.Families.{family_refusal, AreClonesInside, IsBareFamily};
-ghost use Rattle.removals.specs.Requests.{destroyed, destroy_refusal, without_family, swept, AreBare, IsSweptBy};
+ghost use Rattle.removals.specs.Requests.{destroyed, destroy_refusal, without_family, swept, IsSweptBy};
 
+use crate::bookmark::without_bookmark;
 use crate::cloned::any_cloned_outside;
 use crate::edit::Edit;
 use crate::emptied::empty_family;
 use crate::gone::destroy_snapshots;
+use crate::held::any_of_family_held;
 use crate::sweep::sweep;
-use crate::viewed::any_of_family_viewed;
 use base::meter::SegMeter;
 use base::refusal::Refusal;
 use datasets::Table;
@@ -95,12 +96,12 @@ fn has_parts(table: &Table, file_system: &FileSystem, name: &DsName) -> bool
     table.has_child(name) || file_system.snapshots().len() > 0
 }
 
-// Why a family isn't destroyed, if it isn't: an open view shows a snapshot of it, or a clone of one is outside. It costs what
-// `any_of_family_viewed` and `any_cloned_outside` do.
+// Why a family isn't destroyed, if it isn't: a tag or an open view keeps a snapshot of it, or a clone of one is outside. It costs what
+// `any_of_family_held` and `any_cloned_outside` do.
 fn family_refusal(table: &Table, views: &Views, name: &DsName) -> Option<Refusal>
     ensures { result ≡ family_refusal table.now views.now.opened name.now }
 {
-    if any_of_family_viewed(table, views, name) {
+    if any_of_family_held(table, views, name) {
         return Some(Refusal::Busy);
     }
     if any_cloned_outside(table, name) {
@@ -117,7 +118,6 @@ pub(crate) fn refusal_of(
     recursive: bool,
     defer: bool,
 ) -> Option<Refusal>
-    requires bare { AreBare table.now.file_systems }
     ensures { result ≡ destroy_refusal table.now views.now.opened (Target.FileSystem name.now) recursive defer }
 {
     // It tells of the snapshots that none is of group 0.
@@ -178,7 +178,6 @@ fn without_systems_swept(
     segments: &mut SegMeter,
 ) -> Result<Edit, Refusal>
     requires apart { AreDisjoint (union_of (world_of table.now)) freeing.now }
-    requires bare { AreBare table.now.file_systems }
     requires swept { IsSweptBy table.now views.now.opened }
     requires not_root { ¬ (name.now ≡ root_name) }
     requires inside { recursive ≡ true → AreClonesInside table.now name.now }
@@ -194,14 +193,15 @@ fn without_systems_swept(
 
 /// The datasets without what this name is of (zfs-destroy(8)); what they have no more is to be freed. The table and what it has to free
 /// stay as they are. With `recursive` a file system goes with its descendants and all their snapshots, or with a snapshot those of its name
-/// of each descendant of its file system. With `defer` a snapshot that one of these views shows or that has a clone stays, and goes once
-/// nothing needs it: so with a clone goes its origin, where that waits for it alone. Refused are NoDataset where nothing has the name; of a
-/// file system IsRoot for the root, else NotSnapshot with `defer`, else HasChildren where it has a child or a snapshot and not `recursive`;
-/// else Busy where one of these views shows a snapshot that would go, else HasClones where such a one has a clone that wouldn't. NoMemory,
-/// where there is none for it, may come before the refusals of a snapshot. It costs the number n of file systems times its logarithm, the
-/// chunks of pieces that are to be freed, for each snapshot that goes what `Edit::lose_snapshot` does and the number of open views, for
-/// each clone that goes n times the logarithm of the number of snapshots of one, and with `recursive` for each snapshot of the family the
-/// logarithm of the number of clones and the number of its own.
+/// of each descendant of its file system. With `defer` a snapshot that a tag or one of these views keeps or that has a clone stays, and
+/// goes once nothing needs it: so with a clone goes its origin, where that waits for it alone. A bookmark goes alone, whatever `recursive`
+/// and `defer` are. Refused are NoDataset where nothing has the name; of a file system IsRoot for the root, else NotSnapshot with `defer`,
+/// else HasChildren where it has a child or a snapshot and not `recursive`; else Busy where a tag or one of these views keeps a snapshot
+/// that would go, else HasClones where such a one has a clone that wouldn't. NoMemory, where there is none for it, may come before the
+/// refusals of a snapshot. It costs the number n of file systems times its logarithm, the chunks of pieces that are to be freed, for each
+/// snapshot that goes what `Edit::lose_snapshot` does and the number of open views, for each clone that goes n times the logarithm of the
+/// number of snapshots of one, and with `recursive` for each snapshot of the family the logarithm of the number of clones and the number of
+/// its own; of a bookmark what `without_bookmark` does.
 pub fn destroy(
     alloc: Global,
     table: &Table,
@@ -213,7 +213,6 @@ pub fn destroy(
     segments: &mut SegMeter,
 ) -> Result<Edit, Refusal>
     requires apart { AreDisjoint (union_of (world_of table.now)) freeing.now }
-    requires bare { AreBare table.now.file_systems }
     requires swept { IsSweptBy table.now views.now.opened }
     ensures ok { IfOk result (λ e. e.to ≡ swept (destroyed table.now views.now.opened target.now recursive defer) views.now.opened) }
     ensures lost { IfOk result (λ e. HasLost table.now freeing.now e.to e.freeing) }
@@ -233,6 +232,6 @@ pub fn destroy(
         Target::Snapshot(name) => destroy_snapshots(
             alloc, table, freeing, views, name, recursive, defer, segments,
         ),
-        Target::Bookmark(_) => Err(Refusal::NoDataset),
+        Target::Bookmark(name) => without_bookmark(alloc, table, freeing, name),
     }
 }

@@ -7,12 +7,12 @@ ghost use Rattle.model.specs.World.{union_of};
 ghost use Rattle.world.specs.Sets.{AreDisjoint};
 ghost use Rattle.world.specs.Tables.{world_of};
 ghost use Rattle.removals.specs.Edits.{HasLost};
-ghost use Rattle.removals.specs.Named.{is_named_viewed, is_named_cloned};
-ghost use Rattle.removals.specs.Requests.{destroyed, destroy_refusal, AreBare};
+ghost use Rattle.removals.specs.Named.{is_named_held, is_named_cloned};
+ghost use Rattle.removals.specs.Requests.{destroyed, destroy_refusal};
 
 use crate::cloned::any_named_cloned;
 use crate::edit::Edit;
-use crate::viewed::any_named_viewed;
+use crate::held::any_named_held;
 use base::meter::SegMeter;
 use base::refusal::Refusal;
 use datasets::Table;
@@ -23,11 +23,11 @@ use std::alloc::Global;
 use std::slice::from_ref;
 use views::Views;
 
-// Whether one of these can't be destroyed, not even later, for an open view shows it. It costs what `any_named_viewed` does.
+// Whether one of these can't be destroyed, not even later, for a tag or an open view keeps it. It costs what `any_named_held` does.
 fn any_busy(table: &Table, views: &Views, all: &[Named], defer: bool) -> bool
-    ensures { result ≡ (not defer && list_any (is_named_viewed table.now views.now.opened) all.now) }
+    ensures { result ≡ (not defer && list_any (is_named_held table.now views.now.opened) all.now) }
 {
-    !defer && any_named_viewed(table, views, all)
+    !defer && any_named_held(table, views, all)
 }
 
 // Whether one of these can't be destroyed, not even later, for it has a clone. It costs what `any_named_cloned` does.
@@ -38,11 +38,11 @@ fn any_cloned(table: &Table, all: &[Named], defer: bool) -> bool
 }
 
 /// The datasets without the snapshot of this name, or with `recursive` without those of that name of its file system and of each
-/// descendant; with `defer` those that one of these views shows or that have a clone stay, and go once nothing needs them. The blocks that
-/// no dataset has then are to be freed. The table and what it has to free stay as they are. Refused are NoDataset where there is none of
-/// them; else, where not `defer`, Busy where one of these views shows one of them, else HasClones where one of them has a clone; NoMemory,
-/// where there is none for it, may come before these (zfs-destroy(8)). It costs the number of file systems, the chunks of pieces that are
-/// to be freed, and for each name what `Edit::lose_snapshot` does and the number of open views.
+/// descendant; with `defer` those that a tag or one of these views keeps or that have a clone stay, and go once nothing needs them. The
+/// blocks that no dataset has then are to be freed. The table and what it has to free stay as they are. Refused are NoDataset where there
+/// is none of them; else, where not `defer`, Busy where a tag or one of these views keeps one of them, else HasClones where one of them has
+/// a clone; NoMemory, where there is none for it, may come before these (zfs-destroy(8)). It costs the number of file systems, the chunks
+/// of pieces that are to be freed, and for each name what `Edit::lose_snapshot` does and the number of open views.
 pub fn destroy_snapshots(
     alloc: Global,
     table: &Table,
@@ -54,7 +54,6 @@ pub fn destroy_snapshots(
     segments: &mut SegMeter,
 ) -> Result<Edit, Refusal>
     requires apart { AreDisjoint (union_of (world_of table.now)) freeing.now }
-    requires bare { AreBare table.now.file_systems }
     ensures ok { IfOk result (λ e. e.to ≡ destroyed table.now views.now.opened (Target.Snapshot name.now) recursive defer) }
     ensures lost { IfOk result (λ e. HasLost table.now freeing.now e.to e.freeing) }
     ensures can { OnOk result (destroy_refusal table.now views.now.opened (Target.Snapshot name.now) recursive defer ≡ None) }

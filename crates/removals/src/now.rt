@@ -7,8 +7,9 @@ ghost use Rattle.world.specs.Sets.{AreDisjoint};
 ghost use Rattle.world.specs.Tables.{CanRemove, world_of, without_system};
 ghost use Rattle.removals.specs.Edits.{HasLost};
 ghost use Rattle.removals.specs.Families.{has_deferred_origin};
-ghost use Rattle.removals.specs.Requests.{destroyed, destroy_refusal, swept, AreBare, IsSweptBy};
+ghost use Rattle.removals.specs.Requests.{destroyed, destroy_refusal, swept, IsSweptBy};
 
+use crate::bookmark::destroy_bookmark;
 use crate::edit::Edit;
 use crate::family::{destroy, refusal_of};
 use base::meter::SegMeter;
@@ -64,7 +65,6 @@ fn destroy_alone(
     defer: bool,
 ) -> Result<(), Refusal>
     requires apart { AreDisjoint (union_of (world_of table.old)) freeing.old }
-    requires bare { AreBare table.old.file_systems }
     requires swept { IsSweptBy table.old views.now.opened }
     requires stays { has_deferred_origin table.old name.now ≡ false }
     ensures ok { OnOk result (table.new ≡ swept (destroyed table.old views.now.opened (Target.FileSystem name.now) false defer) views.now.opened) }
@@ -85,8 +85,8 @@ fn destroy_alone(
 
 /// The same as `destroy`, in this table and on what it has to free (zfs-destroy(8)): it is refused as that is, and at `Err` both are as
 /// they were. A file system without `recursive` goes in place, and nothing is copied, unless its origin's destroy is deferred. That costs
-/// the number of file systems, and for a clone also that number times the logarithm of the number of snapshots of one; everything else
-/// costs what `destroy` does.
+/// the number of file systems, and for a clone also that number times the logarithm of the number of snapshots of one. A bookmark goes in
+/// place too, which costs what `destroy_bookmark` does. Everything else costs what `destroy` does.
 pub fn destroy_now(
     alloc: Global,
     table: &mut Table,
@@ -98,7 +98,6 @@ pub fn destroy_now(
     segments: &mut SegMeter,
 ) -> Result<(), Refusal>
     requires apart { AreDisjoint (union_of (world_of table.old)) freeing.old }
-    requires bare { AreBare table.old.file_systems }
     requires swept { IsSweptBy table.old views.now.opened }
     ensures ok { OnOk result (table.new ≡ swept (destroyed table.old views.now.opened target.now recursive defer) views.now.opened) }
     ensures lost { OnOk result (HasLost table.old freeing.old table.new freeing.new) }
@@ -112,6 +111,9 @@ pub fn destroy_now(
         if !recursive && !has_deferred_origin(table, name) {
             return destroy_alone(table, freeing, views, name, defer);
         }
+    }
+    if let Target::Bookmark(name) = target {
+        return destroy_bookmark(alloc, table, name);
     }
     let Edit { to, freeing: left } = destroy(
         alloc, table, freeing, views, target, recursive, defer, segments,

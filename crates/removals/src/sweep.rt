@@ -9,7 +9,7 @@ ghost use Rattle.world.specs.Sets.{AreDisjoint};
 ghost use Rattle.world.specs.Tables.{world_of};
 ghost use Rattle.removals.specs.Edits.{HasLost};
 ghost use Rattle.removals.specs.Families.{ArePartOf, unneeded, gone_origin, without_origin, without_unneeded};
-ghost use Rattle.removals.specs.Requests.{swept, AreBare, IsSweptBy};
+ghost use Rattle.removals.specs.Requests.{swept, IsSweptBy};
 
 use crate::edit::{Edit, member};
 use base::meter::SegMeter;
@@ -20,7 +20,7 @@ use model::snapshot_id::SnapshotId;
 use std::alloc::Global;
 use views::Views;
 
-// The snapshot of this identity with its file system, where its destroy is deferred and neither an open view nor a clone needs it. It
+// The snapshot of this identity with its file system, where its destroy is deferred and no tag, no open view and no clone needs it. It
 // costs the number of open views, and the number of file systems times the logarithm of that of the snapshots of one.
 fn unneeded<'a>(
     table: &'a Table,
@@ -33,7 +33,7 @@ fn unneeded<'a>(
         return None;
     }
     let (owner, snapshot) = table.snapshot_of(id)?;
-    if snapshot.is_deferred() {
+    if snapshot.is_deferred() && !snapshot.is_held() {
         Some((owner, snapshot))
     } else {
         None
@@ -104,7 +104,6 @@ pub(crate) fn sweep(
     segments: &mut SegMeter,
 ) -> Result<(), Refusal>
     requires apart { AreDisjoint (union_of (world_of edit.old.to)) edit.old.freeing }
-    requires bare { AreBare table.now.file_systems }
     requires part { ArePartOf edit.old.to table.now }
     requires swept { IsSweptBy table.now views.now.opened }
     ensures ok { OnOk result (edit.new.to ≡ swept edit.old.to views.now.opened) }

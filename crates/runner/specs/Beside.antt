@@ -5,7 +5,7 @@ use Rattle.std.specs.List.Sorted.{IsPermutation}
 use Rattle.base.specs.declared.refusal.Refusal.{Refusal}
 use Rattle.base.specs.declared.refusal.Refusal.TheVariants.{NoView}
 use Rattle.model.specs.declared.request.Request.{Request}
-use Rattle.model.specs.declared.request.Request.TheVariants.{Create, Write, Punch, FreeObject, Snapshot, Read, Get, PoolGet, List as ToList, Rollback, Destroy, Slice, Sync, OpenView, CloseView, Clone, Promote}
+use Rattle.model.specs.declared.request.Request.TheVariants.{Create, Write, Punch, FreeObject, Snapshot, Read, Get, PoolGet, List as ToList, Rollback, Destroy, Slice, Sync, OpenView, CloseView, Clone, Promote, Hold, Release, Holds, Bookmark}
 use Rattle.model.specs.declared.reply.Reply.{Reply}
 use Rattle.model.specs.declared.reply.Reply.TheVariants.{Done, Refused, Data, Value, Group, Names, Count, Opened}
 use Rattle.model.specs.declared.entry.Entry.{Entry}
@@ -58,6 +58,10 @@ opened_by (OpenView target) r = where_opened r
 opened_by (CloseView view) r = []
 opened_by (Clone target name) r = []
 opened_by (Promote name) r = []
+opened_by (Hold tag target) r = []
+opened_by (Release tag target) r = []
+opened_by (Holds target) r = []
+opened_by (Bookmark target mark) r = []
 
 -- the view that a request closed with this reply (profile)
 abbrev pub closed_by : Request → Reply → List ℕ
@@ -78,6 +82,10 @@ closed_by (OpenView target) r = []
 closed_by (CloseView view) r = where_done view r
 closed_by (Clone target name) r = []
 closed_by (Promote name) r = []
+closed_by (Hold tag target) r = []
+closed_by (Release tag target) r = []
+closed_by (Holds target) r = []
+closed_by (Bookmark target mark) r = []
 
 -- a request to close a view that the seat doesn't hold (profile)
 abbrev pub IsUnheld : Request → List ℕ → Type 0

@@ -30,6 +30,8 @@ impl Caller for Served {
     ghost asks = { Serves };
 
     fn ask(&mut self, request: Request) -> Option<Reply> {
-        Some(self.pool.apply(self.alloc, &request))
+        let reply = self.pool.apply(self.alloc, &request);
+        drop(request);
+        Some(reply)
     }
 }

@@ -43,6 +43,7 @@ fn copy_of_value(alloc: Global, value: &Value) -> Option<Value>
             let bytes = Vec::from_slice(alloc, text.as_slice()).ok()?;
             Some(Value::Named(Bytes::from(bytes)))
         }
+        Value::Truth(truth) => Some(Value::Truth(*truth)),
         Value::NotApplicable => Some(Value::NotApplicable),
     }
 }

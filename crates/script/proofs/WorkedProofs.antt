@@ -2,14 +2,14 @@
 use Rattle.std.proofs.Common.{refl}
 use Rattle.std.specs.Fmt.{digits}
 use Rattle.hex.proofs.OnLiterals.{hex_on_literals}
-use Rattle.name.specs.Reading.{name_of, snap_of, target_of}
+use Rattle.name.specs.Reading.{name_of, snap_of, mark_of, tag_of, target_of}
 use Rattle.script.specs.Lines.{lines, line_limit}
 use Rattle.script.specs.Words.{number_of_word, block_of_word, property_of_word, pool_property_of_word}
-use Rattle.script.specs.Meaning.{meaning, request_of, words_meaning, command_of, name_request_of, clone_of, write_of, block_request_of, free_object_of, snapshots_of, snapshot_of, target_request_of, rollback_of, destroyed_of, destroy_of, number_request_of, get_of, pool_get_of}
+use Rattle.script.specs.Meaning.{meaning, request_of, words_meaning, command_of, name_request_of, clone_of, tag_request_of, bookmark_of, write_of, block_request_of, free_object_of, snapshots_of, snapshot_of, target_request_of, rollback_of, destroyed_of, destroy_of, number_request_of, get_of, pool_get_of}
 use Rattle.script.specs.Examples.{WorkedLines}
 
 pub worked_lines : WorkedLines
-unfolding lines line_limit meaning request_of words_meaning command_of name_request_of clone_of write_of block_request_of free_object_of snapshots_of snapshot_of target_request_of rollback_of destroyed_of destroy_of number_request_of get_of pool_get_of number_of_word block_of_word property_of_word pool_property_of_word name_of snap_of target_of digits hex_on_literals
+unfolding lines line_limit meaning request_of words_meaning command_of name_request_of clone_of tag_request_of bookmark_of write_of block_request_of free_object_of snapshots_of snapshot_of target_request_of rollback_of destroyed_of destroy_of number_request_of get_of pool_get_of number_of_word block_of_word property_of_word pool_property_of_word name_of snap_of mark_of tag_of target_of digits hex_on_literals
 worked_lines = record {
   three = refl;
   ended = refl;
@@ -54,6 +54,15 @@ worked_lines = record {
   promote_snapshot = refl;
   origin = refl;
   clones = refl;
+  hold = refl;
+  hold_tag = refl;
+  hold_bare = refl;
+  release = refl;
+  holds = refl;
+  bookmark = refl;
+  bookmark_snapshot = refl;
+  user_refs = refl;
+  defer_destroy = refl;
   slice = refl;
   slice_of_none = refl;
   slice_greatest = refl;
@@ -85,5 +94,7 @@ worked_lines = record {
   names = refl;
   text = refl;
   no_text = refl;
+  on = refl;
+  off = refl;
   refused = refl;
 }

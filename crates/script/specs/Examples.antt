@@ -4,11 +4,11 @@ use Rattle.std.specs.Fmt.{decimal}
 use Rattle.std.specs.FinMap as finmap
 use Rattle.base.specs.declared.refusal.Refusal.TheVariants.{BadName, NoDataset, BadLine}
 use Rattle.name.specs.declared.target.Target.TheVariants.{FileSystem, Snapshot, Bookmark}
-use Rattle.model.specs.declared.request.Property.TheVariants.{Referenced, Written, Guid, CreateTxg, Origin, Clones}
+use Rattle.model.specs.declared.request.Property.TheVariants.{Referenced, Written, Guid, CreateTxg, Origin, Clones, UserRefs, DeferDestroy}
 use Rattle.model.specs.declared.request.PoolProperty.TheVariants.{Free, Freeing}
-use Rattle.model.specs.declared.request.Request.TheVariants.{Create, Write, Punch, FreeObject, Snapshot as TakeSnapshots, Read, Get, PoolGet, List as ListNames, Rollback, Destroy, Slice, Sync, OpenView, CloseView, Clone, Promote}
+use Rattle.model.specs.declared.request.Request.TheVariants.{Create, Write, Punch, FreeObject, Snapshot as TakeSnapshots, Read, Get, PoolGet, List as ListNames, Rollback, Destroy, Slice, Sync, OpenView, CloseView, Clone, Promote, Hold, Release, Holds, Bookmark as MakeBookmark}
 use Rattle.model.specs.declared.reply.Reply.TheVariants.{Done, Refused, Value as ValueIs, Group, Names, Count, Opened}
-use Rattle.model.specs.declared.reply.Value.TheVariants.{Named}
+use Rattle.model.specs.declared.reply.Value.TheVariants.{Named, Truth}
 use Rattle.script.specs.Lines.{lines}
 use Rattle.script.specs.Words.{number_of_word}
 use Rattle.script.specs.Meaning.{meaning, Silent, Faulty, Asks}
@@ -73,6 +73,17 @@ pub record WorkedLines : Type 0 where
   pub promote_snapshot : meaning (codes "promote p/c@s") ≡ Faulty BadName
   pub origin : meaning (codes "get origin p/c") ≡ Asks (Get (FileSystem (codes "p/c")) Origin)
   pub clones : meaning (codes "get clones p/a@s") ≡ Asks (Get (Snapshot (record { file_system = codes "p/a"; component = codes "s" })) Clones)
+  pub hold : meaning (codes "hold .x p/a@s") ≡ Asks (Hold (codes ".x") (Snapshot (record { file_system = codes "p/a"; component = codes "s" })))
+  pub hold_tag : meaning (codes "hold / p@") ≡ Faulty BadName
+  pub hold_bare : meaning (codes "hold /") ≡ Faulty BadLine
+  pub release : meaning (codes "release x p") ≡ Asks (Release (codes "x") (FileSystem (codes "p")))
+  pub holds : meaning (codes "holds p@s") ≡ Asks (Holds (Snapshot (record { file_system = codes "p"; component = codes "s" })))
+  pub bookmark :
+      meaning (codes "bookmark p@s p#b")
+      ≡ Asks (MakeBookmark (Snapshot (record { file_system = codes "p"; component = codes "s" })) (record { file_system = codes "p"; component = codes "b" }))
+  pub bookmark_snapshot : meaning (codes "bookmark p@s p@b") ≡ Faulty BadName
+  pub user_refs : meaning (codes "get userrefs p") ≡ Asks (Get (FileSystem (codes "p")) UserRefs)
+  pub defer_destroy : meaning (codes "get defer_destroy p") ≡ Asks (Get (FileSystem (codes "p")) DeferDestroy)
   pub slice : meaning (codes "slice 20") ≡ Asks (Slice 20)
   pub slice_of_none : meaning (codes "slice 0") ≡ Asks (Slice 0)
   pub slice_greatest : meaning (codes "slice 4294967295") ≡ Asks (Slice 4294967295)
@@ -104,6 +115,8 @@ pub record WorkedLines : Type 0 where
   pub names : line_of (Names (codes "p" ∷ codes "p/a" ∷ [])) ≡ codes "p p/a" ++ 10 ∷ []
   pub text : line_of (ValueIs (Named (codes "p/c,p/d"))) ≡ codes "p/c,p/d" ++ 10 ∷ []
   pub no_text : line_of (ValueIs (Named [])) ≡ codes "-" ++ 10 ∷ []
+  pub on : line_of (ValueIs (Truth true)) ≡ codes "on" ++ 10 ∷ []
+  pub off : line_of (ValueIs (Truth false)) ≡ codes "off" ++ 10 ∷ []
   pub refused : line_of (Refused NoDataset) ≡ codes "error 2 NoDataset" ++ 10 ∷ []
 
 -- a number has one spelling, the one in which it is printed (profile)

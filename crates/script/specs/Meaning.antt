@@ -7,9 +7,9 @@ use Rattle.base.specs.declared.refusal.Refusal.{Refusal}
 use Rattle.base.specs.declared.refusal.Refusal.TheVariants.{BadName, BadLine}
 use Rattle.name.specs.declared.member.Member.{Member}
 use Rattle.name.specs.declared.target.Target.{Target}
-use Rattle.name.specs.Reading.{name_of, snap_of, target_of}
+use Rattle.name.specs.Reading.{name_of, snap_of, mark_of, tag_of, target_of}
 use Rattle.model.specs.declared.request.Request.{Request}
-use Rattle.model.specs.declared.request.Request.TheVariants.{Create, Write, Punch, FreeObject, Snapshot, Read, Get, PoolGet, List as ListNames, Rollback, Destroy, Slice, Sync, OpenView, CloseView, Clone, Promote}
+use Rattle.model.specs.declared.request.Request.TheVariants.{Create, Write, Punch, FreeObject, Snapshot, Read, Get, PoolGet, List as ListNames, Rollback, Destroy, Slice, Sync, OpenView, CloseView, Clone, Promote, Hold, Release, Holds, Bookmark}
 use Rattle.script.specs.Lines.{line_limit}
 use Rattle.script.specs.Words.{is_printable, words_of, is_word, number_of_word, block_of_word, property_of_word, pool_property_of_word}
 
@@ -63,6 +63,16 @@ name_request_of request operands = shaped (one_of operands) (λ w. named (name_o
 -- `clone TARGET NAME` (zfs-clone(8))
 unfoldable pub clone_of : List (List ℕ) → Meaning
 clone_of operands = shaped (two_of operands) (λ w. named (target_of w.0) (λ target. named (name_of w.1) (λ name. Asks (Clone target name))))
+
+-- `TAG TARGET`: a request of a tag (zfs-hold(8))
+unfoldable pub tag_request_of : (List ℕ → Target → Request) → List (List ℕ) → Meaning
+tag_request_of request operands =
+    shaped (two_of operands) (λ w. named (tag_of w.0) (λ tag. named (target_of w.1) (λ target. Asks (request tag target))))
+
+-- `bookmark TARGET MARK` (zfs-bookmark(8))
+unfoldable pub bookmark_of : List (List ℕ) → Meaning
+bookmark_of operands =
+    shaped (two_of operands) (λ w. named (target_of w.0) (λ target. named (mark_of w.1) (λ mark. Asks (Bookmark target mark))))
 
 -- `write TARGET NUM NUM HEX` (profile)
 unfoldable pub write_of : List (List ℕ) → Meaning
@@ -151,6 +161,10 @@ command_of command operands =
     else if bytes_eq command (codes "sync") then bare Sync operands
     else if bytes_eq command (codes "view") then target_request_of OpenView operands
     else if bytes_eq command (codes "unview") then number_request_of CloseView operands
+    else if bytes_eq command (codes "hold") then tag_request_of Hold operands
+    else if bytes_eq command (codes "release") then tag_request_of Release operands
+    else if bytes_eq command (codes "holds") then target_request_of Holds operands
+    else if bytes_eq command (codes "bookmark") then bookmark_of operands
     else Faulty BadLine
 
 -- by the words (profile)

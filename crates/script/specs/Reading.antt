@@ -5,7 +5,7 @@ use Rattle.base.specs.declared.refusal.Refusal.TheVariants.{NoMemory}
 use Rattle.name.specs.declared.target.Target.{Target}
 use Rattle.model.specs.declared.request.Request.{Request}
 use Rattle.script.specs.Words.{words_of}
-use Rattle.script.specs.Meaning.{Meaning, Faulty, Asks, block_request_of, target_request_of, name_request_of, number_request_of}
+use Rattle.script.specs.Meaning.{Meaning, Faulty, Asks, block_request_of, tag_request_of, target_request_of, name_request_of, number_request_of, bare}
 
 -- nothing is left of a line, or these bytes after a space (profile)
 abbrev pub words_left : Option (List ℕ) → List (List ℕ)
@@ -22,6 +22,11 @@ abbrev pub MeansBlock : Result (Target × ℕ × ℕ) Refusal → List (List ℕ
 MeansBlock (Ok place) words request = block_request_of request words ≡ Asks (request place.0 place.1 place.2)
 MeansBlock (Err refusal) words request = (refusal ≡ NoMemory) ⊎ (block_request_of request words ≡ Faulty refusal)
 
+-- a request of a tag that a line asks, or its fault, unless memory ran out
+abbrev pub MeansTagged : Result (List ℕ × Target) Refusal → List (List ℕ) → (List ℕ → Target → Request) → Type 0
+MeansTagged (Ok tagged) words request = tag_request_of request words ≡ Asks (request tagged.0 tagged.1)
+MeansTagged (Err refusal) words request = (refusal ≡ NoMemory) ⊎ (tag_request_of request words ≡ Faulty refusal)
+
 -- a request of one dataset or bookmark that a line asks, or its fault, unless memory ran out
 abbrev pub MeansTarget : Result Target Refusal → List (List ℕ) → (Target → Request) → Type 0
 MeansTarget (Ok target) words request = target_request_of request words ≡ Asks (request target)
@@ -36,3 +41,8 @@ MeansName (Err refusal) words request = (refusal ≡ NoMemory) ⊎ (name_request
 abbrev pub MeansNumber : Result ℕ Refusal → List (List ℕ) → (ℕ → Request) → Type 0
 MeansNumber (Ok n) words request = number_request_of request words ≡ Asks (request n)
 MeansNumber (Err refusal) words request = number_request_of request words ≡ Faulty refusal
+
+-- a request without operands that a line asks, or its fault
+abbrev pub MeansBare : Result (Unit {0}) Refusal → List (List ℕ) → Request → Type 0
+MeansBare (Ok _) words request = bare request words ≡ Asks request
+MeansBare (Err refusal) words request = bare request words ≡ Faulty refusal

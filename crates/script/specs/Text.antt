@@ -1,11 +1,11 @@
 -- The text of each reply.
-use Rattle.std.specs.Prelude.{ℕ, List, [], ◌∷◌, ◌++◌, Option, Some, None, codes}
+use Rattle.std.specs.Prelude.{ℕ, Bool, List, [], ◌∷◌, ◌++◌, Option, Some, None, codes, if◌then◌else◌}
 use Rattle.std.specs.List.{join_by}
 use Rattle.std.specs.Fmt.{decimal}
 use Rattle.hex.specs.Hex.{encode_lower}
 use Rattle.base.specs.Refusals.{number_of, name_of}
 use Rattle.model.specs.declared.reply.Value.{Value}
-use Rattle.model.specs.declared.reply.Value.TheVariants.{Size, Number, Named, NotApplicable}
+use Rattle.model.specs.declared.reply.Value.TheVariants.{Size, Number, Named, Truth, NotApplicable}
 use Rattle.model.specs.declared.reply.Reply.{Reply}
 use Rattle.model.specs.declared.reply.Reply.TheVariants.{Done, Refused, Data, Value as ValueIs, Group, Names, Count, Opened}
 
@@ -14,11 +14,16 @@ abbrev pub named_text : List ℕ → List ℕ
 named_text [] = codes "-"
 named_text (b ∷ bs) = b ∷ bs
 
+-- whether something is so, as a property's value (zfsprops(7))
+abbrev pub truth_text : Bool → List ℕ
+truth_text is_so = if is_so then codes "on" else codes "off"
+
 -- a property's value (profile)
 abbrev pub value_text : Value → List ℕ
 value_text (Size bytes) = decimal bytes
 value_text (Number n) = decimal n
 value_text (Named text) = named_text text
+value_text (Truth is_so) = truth_text is_so
 value_text NotApplicable = codes "-"
 
 -- a block's bytes, or `hole` (profile)

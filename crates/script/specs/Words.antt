@@ -5,7 +5,7 @@ use Rattle.std.specs.Str.{bytes_eq}
 use Rattle.hex.specs.Hex.{decode_of}
 use Rattle.hex.specs.declared.error.FromHexError.{FromHexError}
 use Rattle.model.specs.declared.request.Property.{Property}
-use Rattle.model.specs.declared.request.Property.TheVariants.{Referenced, Written, Guid, CreateTxg, Origin, Clones}
+use Rattle.model.specs.declared.request.Property.TheVariants.{Referenced, Written, Guid, CreateTxg, Origin, Clones, UserRefs, DeferDestroy}
 use Rattle.model.specs.declared.request.PoolProperty.{PoolProperty}
 use Rattle.model.specs.declared.request.PoolProperty.TheVariants.{Size, Allocated, Free, Freeing, Waiting, Group}
 
@@ -59,6 +59,8 @@ property_of_word word =
     else if bytes_eq word (codes "createtxg") then Some CreateTxg
     else if bytes_eq word (codes "origin") then Some Origin
     else if bytes_eq word (codes "clones") then Some Clones
+    else if bytes_eq word (codes "userrefs") then Some UserRefs
+    else if bytes_eq word (codes "defer_destroy") then Some DeferDestroy
     else None
 
 -- PROP of a pool: a property's name (zpoolprops(7); `waiting` and `group` are profile)

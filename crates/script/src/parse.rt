@@ -7,8 +7,8 @@ ghost use Rattle.hex.specs.Hex.{decode_of};
 ghost use Rattle.name.specs.Reading.{Reads};
 ghost use Rattle.model.specs.declared.request.Request.{Request};
 ghost use Rattle.script.specs.Words.{is_printable, is_word, words_of, number_of_word, number_without_zero, number_from, block_of_word, filled, property_of_word, pool_property_of_word};
-ghost use Rattle.script.specs.Meaning.{request_of, command_of, clone_of, name_request_of, write_of, block_request_of, free_object_of, snap_names_of, snapshots_of, snapshot_of, get_of, rollback_of, destroyed_of, destroy_of, number_request_of, target_request_of, pool_get_of, has_option, after_option, bare, one_of, two_of, three_of, four_of};
-ghost use Rattle.script.specs.Reading.{words_left, Means, MeansBlock, MeansTarget, MeansName, MeansNumber};
+ghost use Rattle.script.specs.Meaning.{request_of, command_of, clone_of, tag_request_of, bookmark_of, name_request_of, write_of, block_request_of, free_object_of, snap_names_of, snapshots_of, snapshot_of, get_of, rollback_of, destroyed_of, destroy_of, number_request_of, target_request_of, pool_get_of, has_option, after_option, bare, one_of, two_of, three_of, four_of};
+ghost use Rattle.script.specs.Reading.{words_left, Means, MeansBlock, MeansTagged, MeansTarget, MeansName, MeansNumber, MeansBare};
 
 use crate::lines::LINE_LIMIT;
 use base::data::Data;
@@ -16,7 +16,7 @@ use base::refusal::Refusal;
 use memchr::memchr;
 use model::request::{PoolProperty, Property, Request};
 use model::snap_names::SnapNames;
-use name::{DsName, SnapName, Target};
+use name::{DsName, MarkName, SnapName, Tag, Target};
 use std::alloc::Global;
 
 /// Reads the request of a line, or its fault; NoMemory where there is no memory for its name or its bytes.
@@ -146,7 +146,7 @@ fn command_at(alloc: Global, command: &[u8], operands: Option<&[u8]>) -> Result<
     } else if command == b"pget".as_slice() {
         pool_get(operands)
     } else if command == b"list".as_slice() {
-        bare(Request::List, operands)
+        list(operands)
     } else if command == b"rollback".as_slice() {
         rollback(alloc, operands)
     } else if command == b"destroy".as_slice() {
@@ -158,11 +158,19 @@ fn command_at(alloc: Global, command: &[u8], operands: Option<&[u8]>) -> Result<
     } else if command == b"slice".as_slice() {
         slice(operands)
     } else if command == b"sync".as_slice() {
-        bare(Request::Sync, operands)
+        sync(operands)
     } else if command == b"view".as_slice() {
         open_view(alloc, operands)
     } else if command == b"unview".as_slice() {
         close_view(operands)
+    } else if command == b"hold".as_slice() {
+        hold(alloc, operands)
+    } else if command == b"release".as_slice() {
+        release(alloc, operands)
+    } else if command == b"holds".as_slice() {
+        holds(alloc, operands)
+    } else if command == b"bookmark".as_slice() {
+        bookmark(alloc, operands)
     } else {
         Err(Refusal::BadLine)
     }
@@ -206,6 +214,48 @@ fn clone(alloc: Global, operands: Option<&[u8]>) -> Result<Request, Refusal>
     let target = Target::read(alloc, target)?;
     let name = DsName::read(alloc, name)?;
     Ok(Request::Clone { target, name })
+}
+
+// The tag and target of a request of a tag.
+#[tactic(auto, unfolding(crate::specs::Meaning::tag_request_of))]
+fn tagged(alloc: Global, operands: Option<&[u8]>) -> Result<(Tag, Target), Refusal>
+    ensures { (request : List ℕ → Target → Request) → MeansTagged result (words_left (option_copied operands.entry)) request }
+{
+    let Some((tag, target)) = two(operands) else {
+        return Err(Refusal::BadLine);
+    };
+    let tag = Tag::read(alloc, tag)?;
+    let target = Target::read(alloc, target)?;
+    Ok((tag, target))
+}
+
+#[inline(never)]
+fn hold(alloc: Global, operands: Option<&[u8]>) -> Result<Request, Refusal>
+    ensures { Means result (tag_request_of Request.Hold (words_left (option_copied operands.entry))) }
+{
+    let (tag, target) = tagged(alloc, operands)?;
+    Ok(Request::Hold { tag, target })
+}
+
+#[inline(never)]
+fn release(alloc: Global, operands: Option<&[u8]>) -> Result<Request, Refusal>
+    ensures { Means result (tag_request_of Request.Release (words_left (option_copied operands.entry))) }
+{
+    let (tag, target) = tagged(alloc, operands)?;
+    Ok(Request::Release { tag, target })
+}
+
+#[inline(never)]
+#[tactic(auto, unfolding(crate::specs::Meaning::bookmark_of))]
+fn bookmark(alloc: Global, operands: Option<&[u8]>) -> Result<Request, Refusal>
+    ensures { Means result (bookmark_of (words_left (option_copied operands.entry))) }
+{
+    let Some((target, mark)) = two(operands) else {
+        return Err(Refusal::BadLine);
+    };
+    let target = Target::read(alloc, target)?;
+    let mark = MarkName::read(alloc, mark)?;
+    Ok(Request::Bookmark { target, mark })
 }
 
 #[inline(never)]
@@ -402,6 +452,14 @@ fn open_view(alloc: Global, operands: Option<&[u8]>) -> Result<Request, Refusal>
 }
 
 #[inline(never)]
+fn holds(alloc: Global, operands: Option<&[u8]>) -> Result<Request, Refusal>
+    ensures { Means result (target_request_of Request.Holds (words_left (option_copied operands.entry))) }
+{
+    let target = lone_target(alloc, operands)?;
+    Ok(Request::Holds { target })
+}
+
+#[inline(never)]
 fn close_view(operands: Option<&[u8]>) -> Result<Request, Refusal>
     ensures { Means result (number_request_of Request.CloseView (words_left (option_copied operands.entry))) }
 {
@@ -438,15 +496,31 @@ fn pool_get(operands: Option<&[u8]>) -> Result<Request, Refusal>
     Ok(Request::PoolGet { property })
 }
 
-// A request without operands.
-fn bare(request: Request, operands: Option<&[u8]>) -> Result<Request, Refusal>
-    ensures { Means result (bare request (words_left (option_copied operands.entry))) }
+// That a request has no operand.
+fn no_operand(operands: Option<&[u8]>) -> Result<(), Refusal>
+    ensures { (request : Request) → MeansBare result (words_left (option_copied operands.entry)) request }
 {
     if let Some(more) = operands {
         let _ = next_word(more);
         return Err(Refusal::BadLine);
     }
-    Ok(request)
+    Ok(())
+}
+
+#[inline(never)]
+fn list(operands: Option<&[u8]>) -> Result<Request, Refusal>
+    ensures { Means result (bare Request.List (words_left (option_copied operands.entry))) }
+{
+    no_operand(operands)?;
+    Ok(Request::List)
+}
+
+#[inline(never)]
+fn sync(operands: Option<&[u8]>) -> Result<Request, Refusal>
+    ensures { Means result (bare Request.Sync (words_left (option_copied operands.entry))) }
+{
+    no_operand(operands)?;
+    Ok(Request::Sync)
 }
 
 #[tactic(auto, unfolding(crate::specs::Words::property_of_word))]
@@ -465,6 +539,10 @@ fn property_named(word: &[u8]) -> Option<Property>
         Some(Property::Origin)
     } else if word == b"clones".as_slice() {
         Some(Property::Clones)
+    } else if word == b"userrefs".as_slice() {
+        Some(Property::UserRefs)
+    } else if word == b"defer_destroy".as_slice() {
+        Some(Property::DeferDestroy)
     } else {
         None
     }

@@ -1,7 +1,7 @@
 //! Replies as lines.
 ghost use Rattle.std.specs.Prelude.{◌++◌, ◌∷◌, [], Some, OnOk};
 ghost use Rattle.std.specs.Io.KnownBytes.{Appends};
-ghost use Rattle.script.specs.Text.{line_of, data_text, named_text, names_text};
+ghost use Rattle.script.specs.Text.{line_of, data_text, truth_text, named_text, names_text};
 
 use base::text::Bytes;
 use model::reply::{Reply, Value};
@@ -29,6 +29,7 @@ pub(crate) fn write_reply<W: Write>(writer: &mut W, reply: &Reply) -> io::Result
             writeln!(writer, "{number}")
         }
         Reply::Value(Value::Named(text)) => write_text(writer, text),
+        Reply::Value(Value::Truth(is_so)) => write_truth(writer, *is_so),
         Reply::Group(group) => {
             let group = *group;
             writeln!(writer, "{group}")
@@ -53,6 +54,16 @@ fn write_block<W: Write>(writer: &mut W, bytes: &[u8; 512]) -> io::Result<()>
     let _ = hex::encode_to_slice(bytes.as_slice(), &mut text[..1024]);
     text[1024] = b'\n';
     writer.write_all(&text)
+}
+
+fn write_truth<W: Write>(writer: &mut W, is_so: bool) -> io::Result<()>
+    ensures { OnOk result (Appends (W.contents writer.old) (W.contents writer.new) (truth_text is_so ++ 10 ∷ [])) }
+{
+    if is_so {
+        writer.write_all(b"on\n")
+    } else {
+        writer.write_all(b"off\n")
+    }
 }
 
 fn write_text<W: Write>(writer: &mut W, text: &Bytes) -> io::Result<()>

@@ -39,6 +39,28 @@ fn view_of(alloc: Global, name: &[u8]) -> Result<Request, Refusal> {
     Ok(Request::OpenView { target })
 }
 
+// Writes a block of 97s into p, as the first call of a session. Tells whether it is done.
+fn writes_a_block<K: Opening, R: Wait + Abort>(
+    rt: &R,
+    alloc: Global,
+    session: &Session<K>,
+    seat: &mut Seat<K>,
+) -> bool {
+    let write = write_of(alloc, 0, 0, 97);
+    runs(rt, alloc, session, seat, write, 0, Wanted::Done)
+}
+
+// Takes the snapshot p@s, as the second call of a session. Tells whether it is done.
+fn snaps<K: Opening, R: Wait + Abort>(
+    rt: &R,
+    alloc: Global,
+    session: &Session<K>,
+    seat: &mut Seat<K>,
+) -> bool {
+    let snapshot = snapshot_of(alloc, b"p@s");
+    runs(rt, alloc, session, seat, snapshot, 1, Wanted::Done)
+}
+
 // Writes a block of 97s into p, and takes the snapshot p@s: the first two calls of a session. Tells whether both are done.
 fn takes_a_snapshot<K: Opening, R: Wait + Abort>(
     rt: &R,
@@ -46,10 +68,7 @@ fn takes_a_snapshot<K: Opening, R: Wait + Abort>(
     session: &Session<K>,
     seat: &mut Seat<K>,
 ) -> bool {
-    let write = write_of(alloc, 0, 0, 97);
-    let written = runs(rt, alloc, session, seat, write, 0, Wanted::Done);
-    let snapshot = snapshot_of(alloc, b"p@s");
-    written && runs(rt, alloc, session, seat, snapshot, 1, Wanted::Done)
+    writes_a_block(rt, alloc, session, seat) && snaps(rt, alloc, session, seat)
 }
 
 // Opens a view of p@s.

@@ -23,10 +23,6 @@ pub once_past : (xs ks : List Kept) → AreNamesOnce (xs ++ ks) → AreNamesOnce
 once_past [] ks once = once
 once_past (x ∷ xs) ks once = once_past xs ks once.1
 
--- none is done
-pub move_none : (all others : List Kept) (by_name : Option (List Kept)) → IsIndex by_name others → IsMoving all all others by_name
-move_none all others by_name index = record { done = []; split = sym (append-nil all); index = index }
-
 -- the last one that is left is put before those that are done
 pub move_one : (all left rest others : List Kept) (k : Kept) (was now : Option (List Kept)) → left ≡ rest ++ k ∷ [] → AreNamesOnce (all ++ others) → IsMoving all left others was
     → ((ks : List Kept) → find (λ j. same_name j.snapshot.name k.snapshot.name) ks ≡ None → IsIndex was ks → IsIndex now (k ∷ ks))
@@ -35,10 +31,6 @@ move_one all left rest others k was now e once m put =
     let split : all ≡ rest ++ k ∷ m.done = m.split ∙ ap (λ ks. ks ++ m.done) e ∙ append_assoc rest (k ∷ []) m.done in
     let whole : AreNamesOnce (rest ++ k ∷ (m.done ++ others)) = subst AreNamesOnce (ap (λ ks. ks ++ others) split ∙ append_assoc rest (k ∷ m.done) others) once in
     record { done = k ∷ m.done; split = split; index = put (m.done ++ others) (once_past rest (k ∷ (m.done ++ others)) whole).0 m.index }
-
--- all are
-pub move_all : (all others : List Kept) (by_name : Option (List Kept)) → IsMoving all [] others by_name → IsIndex by_name (all ++ others)
-move_all all others by_name m = subst (λ ks. IsIndex by_name (ks ++ others)) (sym m.split) m.index
 
 -- what snapshots have of a name an index over them has
 pub in_index : (by_name : Option (List Kept)) (ks : List Kept) (name : List ℕ) → IsIndex by_name ks → IsSome (find (λ k. same_name k.snapshot.name name) ks)

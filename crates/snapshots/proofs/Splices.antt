@@ -1,5 +1,5 @@
 -- The snapshots once one is gone, or another is in its place, and an index over them.
-use Rattle.std.proofs.Common.{◌≡◌, ℕ, zero, suc, ◌+◌, ◌<◌, Bool, true, false, cond, List, [], ◌∷◌, length, set, slice_get, Option, Some, None, is_some, refl, sym, ap, subst, ◌∙◌, true≢false, arith, add-one, ◌++◌}
+use Rattle.std.proofs.Common.{◌≡◌, ℕ, zero, suc, ◌+◌, Bool, true, false, cond, List, [], ◌∷◌, set, slice_get, Option, Some, None, is_some, refl, sym, ap, subst, ◌∙◌, true≢false, add-one, ◌++◌}
 use Rattle.std.specs.Prelude.{remove, IfSome}
 use Rattle.std.specs.List.{find}
 use Rattle.std.specs.Option.{IsSome, option_map}
@@ -21,14 +21,6 @@ nothing i k e = cc
 pub named_at : (o : Option Kept) (n : List ℕ) → option_map (λ (k : Kept). k.snapshot.name) o ≡ Some n → (k : Kept) × (o ≡ Some k) × (k.snapshot.name ≡ n)
 named_at None n e = absurd (cc)
 named_at (Some k) n e = (k, refl, cc)
-
-pub inside_at : (ks : List Kept) (i : ℕ) (k : Kept) → slice_get ks i ≡ Some k → i < length ks
-inside_at [] i k e = absurd (nothing i k e)
-inside_at (x ∷ ks) zero k e = omega arith
-inside_at (x ∷ ks) (suc i) k e = let l = inside_at ks i k e in omega arith
-
-pub inside_named : (ks : List Kept) (i : ℕ) (n : List ℕ) → option_map (λ (k : Kept). k.snapshot.name) (slice_get ks i) ≡ Some n → i < length ks
-inside_named ks i n e = let k = named_at (slice_get ks i) n e in inside_at ks i k.0 k.1
 
 pub same_itself : (n : List ℕ) → same_name n n ≡ true
 same_itself n = texts_ties n n ∙ ap is_eq (tied_itself nat_list_cmp_total n)

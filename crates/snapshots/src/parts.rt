@@ -57,8 +57,8 @@ impl Line {
     }
 }
 
-// The indexes of two parts, from that of both: of the greater one what the smaller one leaves of it, and of the smaller one a new one. Where
-// memory for an index is refused there is none; NoMemory where there is none to take the smaller part one after another.
+// The indexes of two parts, from that of both: of the greater one what the smaller one leaves of it, and of the smaller one a new one.
+// Where memory for an index is refused there is none; NoMemory where there is none to take the smaller part one after another.
 fn parted(
     alloc: Global,
     by_name: Option<ByName>,
@@ -101,8 +101,8 @@ fn index_of_both(line: &Line, others: &Line) -> Result<Option<ByName>, Refusal>
     with(copy_of_index(&line.by_name)?, &others.kept, &line.kept)
 }
 
-// The index of the others, with these before them, whose names none of them has. Where memory for it is refused there is none; NoMemory where there is none to take these
-// one after another.
+// The index of the others, with these before them, whose names none of them has. Where memory for it is refused there is none; NoMemory
+// where there is none to take these one after another.
 fn with(
     mut by_name: Option<ByName>,
     kept: &SharedList<Kept>,

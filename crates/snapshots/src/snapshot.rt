@@ -1,19 +1,25 @@
 //! One snapshot of a file system.
-ghost use Rattle.std.specs.Prelude.{◌≡◌, true, IfOk, IfErr};
+ghost use Rattle.std.specs.Prelude.{◌≡◌, true, IfOk, IfErr, length, nat_lt};
+ghost use Rattle.std.specs.Arc.{arc_value};
+ghost use Rattle.std.specs.Option.{option_map};
 ghost use Rattle.base.specs.declared.refusal.Refusal.{Refusal};
+ghost use Rattle.holds.specs.Tags.{texts};
 ghost use Rattle.model.specs.World.{id_of};
 ghost use Rattle.model.specs.Ids.{snap_id};
 ghost use Rattle.snapshots.specs.Snaps.{plain_snap};
 
 use base::number::{Group, Guid};
 use base::refusal::Refusal;
+use holds::Holds;
 use model::snapshot_id::SnapshotId;
 use name::Component;
+use std::alloc::Global;
 use std::marker::Model;
+use std::sync::Arc;
 use tree::Tree;
 
-/// A snapshot: its name within its file system, its map, its guid, its creation group, and whether its destroy is deferred (On-Disk
-/// Specification, chapter 4; zfs-destroy(8), -d). Its map never changes. Contracts see a snapshot without tags.
+/// A snapshot: its name within its file system, its map, its guid, its creation group, its tags, and whether its destroy is deferred
+/// (On-Disk Specification, chapter 4; zfs-hold(8); zfs-destroy(8), -d). Its map never changes. Copies share the map and the tags.
 #[derive(Drop)]
 pub struct Snapshot {
     name: Component,
@@ -21,22 +27,28 @@ pub struct Snapshot {
     guid: Guid,
     group: Group,
     deferred: bool,
+    tags: Option<Arc<Holds>>,
 }
 
 impl Model for Snapshot {
     ghost use Rattle.model.specs.World.{Snap};
     ghost use Rattle.model.specs.Codes.{snap_code};
-    ghost use Rattle.snapshots.specs.Snaps.{plain_snap};
+    ghost use Rattle.std.specs.Arc.{arc_value};
+    ghost use Rattle.std.specs.Option.{option_map};
+    ghost use Rattle.snapshots.specs.Snaps.{plain_snap, tags_in};
 
     ghost Value = { Snap };
 
     ghost coded = { snap_code };
 
-    ghost view = { λ s. record (plain_snap s.name s.tree s.guid.0 s.group.0) { deferred = s.deferred } };
+    ghost view = { λ s. record (plain_snap s.name s.tree s.guid.0 s.group.0) {
+      deferred = s.deferred;
+      tags = tags_in (option_map arc_value s.tags);
+    } };
 }
 
 impl Snapshot {
-    /// A snapshot of this name, map, guid and creation group, whose destroy isn't deferred. Constant time.
+    /// A snapshot of this name, map, guid and creation group, which has no tag and whose destroy isn't deferred. Constant time.
     pub fn new(name: Component, tree: Tree, guid: Guid, group: Group) -> Snapshot
         ensures { result ≡ plain_snap name tree guid.0 group.0 }
     {
@@ -46,11 +58,12 @@ impl Snapshot {
             guid,
             group,
             deferred: false,
+            tags: None,
         }
     }
 
-    /// An equal snapshot, by a name of its own and one more owner of its tree. NoMemory where there is none for that. It costs the
-    /// length of the name.
+    /// An equal snapshot, by a name of its own and one more owner of its tree and of its tags. NoMemory where there is none for that. It
+    /// costs the length of the name.
     pub fn copy(&self) -> Result<Snapshot, Refusal>
         ensures ok { IfOk result (λ s. s ≡ self.now) }
         ensures err { IfErr result (λ e. e ≡ Refusal.NoMemory) }
@@ -61,6 +74,7 @@ impl Snapshot {
             guid: self.guid,
             group: self.group,
             deferred: self.deferred,
+            tags: copy_of_tags(&self.tags)?,
         })
     }
 
@@ -76,6 +90,51 @@ impl Snapshot {
         ensures { result ≡ self.now.deferred }
     {
         self.deferred
+    }
+
+    /// Its tags in the order in which they were made (zfs-holds(8)), none where it has none. Constant time.
+    pub fn tags(&self) -> &[Vec<u8>]
+        ensures { texts result.now ≡ self.now.tags }
+    {
+        match &self.tags {
+            Some(tags) => tags.as_slice(),
+            None => &[],
+        }
+    }
+
+    /// Whether it has a tag, which keeps it from being destroyed (zfs-hold(8)). Constant time.
+    pub fn is_held(&self) -> bool
+        ensures { result ≡ nat_lt 0 (length self.now.tags) }
+    {
+        self.tag_count() > 0
+    }
+
+    /// How many tags it has, at most 256 (zfsprops(7): userrefs). Constant time.
+    pub fn tag_count(&self) -> usize
+        ensures { result ≡ length self.now.tags }
+    {
+        match &self.tags {
+            Some(tags) => tags.len(),
+            None => 0,
+        }
+    }
+
+    /// Its tags as a value of their own (zfs-holds(8)). NoMemory where there is none for it. It costs the bytes of the tags.
+    pub fn holds(&self, alloc: Global) -> Result<Holds, Refusal>
+        ensures ok { IfOk result (λ h. h ≡ self.now.tags) }
+        ensures err { IfErr result (λ e. e ≡ Refusal.NoMemory) }
+    {
+        match &self.tags {
+            Some(tags) => tags.copy(),
+            None => Ok(Holds::new(alloc)),
+        }
+    }
+
+    /// From now on it has these tags (zfs-hold(8), zfs-release(8)). Constant time.
+    pub fn set_tags(&mut self, tags: Arc<Holds>)
+        ensures { self.new ≡ record self.old { tags = arc_value tags } }
+    {
+        self.tags = Some(tags);
     }
 
     /// What names it wherever it stands. Constant time.
@@ -114,5 +173,16 @@ impl Snapshot {
         ensures { result.0 ≡ self.now.group }
     {
         self.group
+    }
+}
+
+// One more owner of tags, or none where there are none. NoMemory where there is none for an owner. Constant time.
+fn copy_of_tags(tags: &Option<Arc<Holds>>) -> Result<Option<Arc<Holds>>, Refusal>
+    ensures ok { IfOk result (λ t. option_map arc_value t ≡ option_map arc_value tags.now) }
+    ensures err { IfErr result (λ e. e ≡ Refusal.NoMemory) }
+{
+    match tags {
+        Some(tags) => Ok(Some(Arc::try_clone(tags)?)),
+        None => Ok(None),
     }
 }

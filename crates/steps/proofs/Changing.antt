@@ -19,9 +19,9 @@ use Rattle.model.specs.Refusals.{refusal_of, state_asked}
 use Rattle.model.specs.Step.{Step}
 use Rattle.world.specs.Shapes.{Name}
 use Rattle.world.specs.Tables.{Datasets}
-use Rattle.steps.specs.Steady.{IsSteady, IsAbsent}
+use Rattle.steps.specs.Steady.{IsSteady, HasNoDataset}
 use Rattle.steps.specs.Edits.{with_datasets}
-use Rattle.steps.proofs.Plain.{has_file_system, no_dataset}
+use Rattle.steps.proofs.Unlimited.{has_file_system, no_dataset}
 use Rattle.steps.proofs.Ruled.{refused_by, no_memory_by, done_by}
 
 -- the first of a row, by what its conditions are
@@ -51,9 +51,9 @@ module _ (s : State) (steady : IsSteady s) (q : Request) (target : Target) (ch :
   pub change_no_memory : Step s q (Refused NoMemory) s
   change_no_memory = no_memory_by q rule is s refl
 
-  pub change_no_dataset : IsAbsent s.now.file_systems target → Step s q (Refused NoDataset) s
+  pub change_no_dataset : HasNoDataset s.now.file_systems target → Step s q (Refused NoDataset) s
   unfolding refusal_of
-  change_no_dataset absent = refused_by q rule is s NoDataset (first-absent _ _ (no_dataset s steady.plain target absent))
+  change_no_dataset absent = refused_by q rule is s NoDataset (first-absent _ _ (no_dataset s target absent))
 
   -- a snapshot that is there
   pub change_read_only : has_dataset s target ≡ true → is_snapshot_name target ≡ true → Step s q (Refused ReadOnly) s
@@ -67,7 +67,7 @@ module _ (s : State) (steady : IsSteady s) (q : Request) (target : Target) (ch :
 
   module _ (name : Name) (f : FileSystem) (named : target ≡ OfFileSystem name) (was : get s.now.file_systems name ≡ Some f) where
     there : has_dataset s target ≡ true
-    there = ap (has_dataset s) named ∙ has_file_system s steady.plain name f was
+    there = ap (has_dataset s) named ∙ has_file_system s name f was
 
     live_name : is_snapshot_name target ≡ false
     live_name = ap is_snapshot_name named

@@ -31,7 +31,7 @@ use Rattle.clones.specs.Requests.{cloned, clone_refusal}
 use Rattle.steps.specs.Steady.{IsSteady}
 use Rattle.steps.specs.Edits.{datasets_of, with_datasets, put, CanPut}
 use Rattle.steps.proofs.Creating.{CanAdd, can_add}
-use Rattle.steps.proofs.Plain.{plain_put, plain_swept, same_known, put_known, new_origins}
+use Rattle.steps.proofs.Unlimited.{unlimited_put, still_swept, same_known, put_known, new_origins}
 use Rattle.steps.proofs.Putting.{put_none}
 use Rattle.steps.proofs.Ruled.{no_choice, refused_by, no_memory_by, done_by}
 use Rattle.steps.proofs.Seeing.{once}
@@ -101,10 +101,10 @@ module _ (s : State) (steady : IsSteady s) (target : Target) (name : List ℕ) (
   with_clone_steady : IsSteady (with_now s (with_clone s.now (id_of can.found.1) name))
   with_clone_steady = record {
     good = clone_before s steady.good name add.absent add.parent add.room id (owner.0, can.found.1) there;
-    swept = plain_swept s (with_now s (with_clone s.now id name)) steady refl
+    swept = still_swept s (with_now s (with_clone s.now id name)) steady refl
         (put_known s.now.file_systems s.now.file_systems (same_known s.now.file_systems) name clone (λ t i. absurd i))
         (new_origins s.now.file_systems name clone add.absent);
-    plain = plain_put s.now.file_systems steady.plain name clone (record { tags = λ t i. absurd i; limits = refl; bookmarks = refl });
+    unlimited = unlimited_put s.now.file_systems steady.unlimited name clone refl;
   }
 
   clone_reach : reach_of (put s (cloned (datasets_of s) target name) 0).now ≡ reach_of s.now

@@ -20,7 +20,7 @@ use Rattle.world.proofs.Kept.{reach_is}
 use Rattle.world.proofs.StateSteps.{begun, create_before}
 use Rattle.steps.specs.Steady.{IsSteady}
 use Rattle.steps.specs.Edits.{datasets_of, with_datasets, put, CanPut}
-use Rattle.steps.proofs.Plain.{plain_empty, plain_put, plain_swept, same_known, put_known, new_origins}
+use Rattle.steps.proofs.Unlimited.{unlimited_put, still_swept, same_known, put_known, new_origins}
 use Rattle.steps.proofs.Putting.{put_none}
 use Rattle.steps.proofs.Ruled.{no_choice, refused_by, no_memory_by, done_by}
 
@@ -53,12 +53,11 @@ module _ (s : State) (steady : IsSteady s) (name : List ℕ) (may : create_refus
   with_new_steady : IsSteady (with_datasets s (with_system (datasets_of s) name empty_file_system))
   with_new_steady =
       let can = can_add s.now.file_systems name may in
-      let plain = plain_put s.now.file_systems steady.plain name empty_file_system plain_empty in
       record {
         good = create_before s steady.good name can.absent can.parent can.room;
-        swept = plain_swept s (with_datasets s created) steady refl (put_known s.now.file_systems s.now.file_systems (same_known s.now.file_systems) name empty_file_system (λ t i. absurd i))
+        swept = still_swept s (with_datasets s created) steady refl (put_known s.now.file_systems s.now.file_systems (same_known s.now.file_systems) name empty_file_system (λ t i. absurd i))
             (new_origins s.now.file_systems name empty_file_system can.absent);
-        plain = plain;
+        unlimited = unlimited_put s.now.file_systems steady.unlimited name empty_file_system refl;
       }
 
   create_steady : IsSteady (put s (with_system (datasets_of s) name empty_file_system) 0)

@@ -1,13 +1,12 @@
 -- A destroy: the datasets after it, why it is refused, and its steps.
-use Rattle.std.proofs.Common.{◌≡◌, ◌⊎◌, Bool, not, ◌&&◌, map, Option, Some, None, refl, sym, ap, subst, ◌∙◌, cond, inl, ⊎_elim, true≢false}
+use Rattle.std.proofs.Common.{◌≡◌, ◌⊎◌, Bool, not, ◌&&◌, ◌||◌, map, Option, Some, None, refl, sym, ap, subst, ◌∙◌, inl, inr, ⊎_elim, true≢false}
 use Rattle.std.specs.Prelude.{nat_lt, length}
 use Rattle.std.specs.List.{filter, list_any}
-use Rattle.std.specs.Option.{option_map_or, is_some}
+use Rattle.std.specs.Option.{option_map_or}
 use Rattle.std.specs.FinMap.{get, insert, remove}
 use Rattle.std.proofs.lemmas.Bool.{or_left, or_right, and_parts}
 use Rattle.base.specs.declared.refusal.Refusal.{Refusal}
-use Rattle.base.specs.declared.refusal.Refusal.TheVariants.{NoDataset, NoMemory}
-use Rattle.base.specs.Map.{blocks}
+use Rattle.base.specs.declared.refusal.Refusal.TheVariants.{NoMemory}
 use Rattle.base.specs.Surveys.{IsIn}
 use Rattle.name.specs.Names.{same_name}
 use Rattle.name.specs.declared.member.Member.{Member}
@@ -15,34 +14,36 @@ use Rattle.name.specs.declared.target.Target.{Target}
 use Rattle.name.specs.declared.target.Target.TheVariants.{FileSystem as OfFileSystem, Snapshot as OfSnapshot, Bookmark as OfBookmark}
 use Rattle.model.specs.declared.request.Request.TheVariants.{Destroy}
 use Rattle.model.specs.declared.reply.Reply.TheVariants.{Done, Refused}
-use Rattle.model.specs.World.{World, FileSystem, Snap, id_of, maps_of, union_of}
+use Rattle.model.specs.World.{World, FileSystem, Snap, id_of, maps_of}
 use Rattle.model.specs.State.{State, is_viewed}
 use Rattle.model.specs.Outcome.{is_needed, state_after_sweep}
 use Rattle.model.specs.Refusals.{refusal_of}
-use Rattle.model.specs.Edits.{with_now, with_losses, without_snaps}
+use Rattle.model.specs.Edits.{with_now, with_file_system, with_losses, without_snaps}
 use Rattle.model.specs.Step.{Step}
 use Rattle.model.specs.requests.Destroy.{file_systems_named, snaps_named, is_one_of, with_deferred, after_destroy, destroy_rule}
 use Rattle.world.specs.Shapes.{Name}
-use Rattle.world.specs.Sets.{Has, IsSubset}
 use Rattle.world.specs.Worlds.{AreFileSystems, AreMapsFrom, IsSwept}
 use Rattle.world.specs.Tables.{Datasets, world_of}
-use Rattle.world.proofs.Bridge.{no_block, in_union_of, from_union_of}
 use Rattle.world.proofs.Families.{from_retained, retained_maps}
-use Rattle.world.proofs.Finding.{from_filter}
-use Rattle.world.proofs.Listed.{in_map}
+use Rattle.world.proofs.Groups.{same_maps}
+use Rattle.world.proofs.Put.{put_maps}
 use Rattle.world.proofs.StateSteps.{sweep_swept}
 use Rattle.world.proofs.Viewed.{IsSafe, safe_then, some_gone}
 use Rattle.world.proofs.ViewedRequests.{not_true, destroy_asked}
 use Rattle.world.proofs.WithoutSnaps.{from_without, without_from, losses_twice}
+use Rattle.accounts.specs.Limits.{IsUnlimited}
 use Rattle.removals.specs.Requests.{destroyed, destroy_refusal, swept}
-use Rattle.removals.proofs.Bare.{no_bookmark}
-use Rattle.removals.proofs.Deferring.{in_before, maps_stay, marked_by}
-use Rattle.steps.specs.Steady.{IsPlain, ArePlain, IsSteady}
+use Rattle.steps.specs.Steady.{IsSteady}
 use Rattle.steps.specs.Edits.{datasets_of, lose, CanLose}
+use Rattle.steps.proofs.Labelling.{from_changed, changed_maps, maps_fewer}
 use Rattle.steps.proofs.Losing.{can_lose}
-use Rattle.steps.proofs.Plain.{bare, plain_without}
+use Rattle.steps.proofs.Unlimited.{unlimited_put, unlimited_without}
 use Rattle.steps.proofs.Ruled.{no_choice, refused_by, no_memory_by, swept_by}
 use Rattle.steps.proofs.Seeing.{once, closed, seen_after}
+
+-- a snapshot whose destroy is deferred, where it is one of some
+abbrev marked_by : (Snap → Bool) → Snap → Snap
+marked_by p t = record t { deferred = t.deferred || p t }
 
 -- the world after a destroy is that of the datasets, with what is to be freed
 destroyed_world : (s : State) (target : Target) (recursive defer : Bool)
@@ -82,57 +83,51 @@ module _ (s : State) (steady : IsSteady s) (recursive defer : Bool) where
     was : (n : Name) (f : FileSystem) → get (with_deferred (without_snaps s.now goes) stays).file_systems n ≡ Some f
         → (g : FileSystem) × (get s.now.file_systems n ≡ Some g) × (f ≡ record g { snaps = map (marked_by stays) (filter (λ t. not (goes t)) g.snaps) })
     was n f at =
-        let a = in_before (without_snaps s.now goes) stays n f at in
+        let a = from_changed (without_snaps s.now goes) (marked_by stays) n f at in
         let b = from_without s.now goes n a.0 a.1 in
         (b.0, b.1, a.2 ∙ ap (λ (x : FileSystem). record x { snaps = map (marked_by stays) x.snaps }) b.2)
 
-    was_snap : (g : FileSystem) (u : Snap) → IsIn (map (marked_by stays) (filter (λ t. not (goes t)) g.snaps)) u → (v : Snap) × IsIn g.snaps v × (u ≡ marked_by stays v)
-    was_snap g u h =
-        let k = in_map (marked_by stays) (filter (λ t. not (goes t)) g.snaps) u h in
-        (k.0, (from_filter (λ t. not (goes t)) g.snaps k.0 k.1).0, k.2)
-
     left_from : AreMapsFrom s.now.file_systems (with_deferred (without_snaps s.now goes) stays).file_systems
     left_from n f m' at h =
-        let a = in_before (without_snaps s.now goes) stays n f at in
-        without_from s.now goes n a.0 m' a.1 (subst (λ l. IsIn l m') (ap maps_of a.2 ∙ maps_stay (without_snaps s.now goes) stays a.0) h)
+        let a = from_changed (without_snaps s.now goes) (marked_by stays) n f at in
+        without_from s.now goes n a.0 m' a.1 (subst (λ l. IsIn l m') (ap maps_of a.2 ∙ changed_maps (marked_by stays) (λ t. refl) a.0) h)
 
-    left_plain : ArePlain (with_deferred (without_snaps s.now goes) stays).file_systems
-    left_plain n f at =
-        let k = was n f at in
-        let plain = steady.plain n k.0 k.1 in
-        subst IsPlain (sym k.2) (record {
-          tags = λ u h. let v = was_snap k.0 u h in ap (λ (x : Snap). x.tags) v.2 ∙ plain.tags v.0 v.1;
-          limits = plain.limits;
-          bookmarks = plain.bookmarks;
-        })
+    left_unlimited : IsUnlimited (with_deferred (without_snaps s.now goes) stays).file_systems
+    left_unlimited n f at = let k = was n f at in ap (λ (x : FileSystem). x.limits) k.2 ∙ steady.unlimited n k.0 k.1
 
-  no_refusal : (e : Refusal) → ◌≡◌ {A = Option Refusal} (Some e) None → ⊥
-  no_refusal e k = cc
+  -- of a bookmark, which has no map
+  module _ (m : Member) where
+    abbrev unmarked : FileSystem → FileSystem
+    unmarked f = record f { bookmarks = remove f.bookmarks m.component }
 
-  -- a bookmark there isn't
-  not_bookmark : (m : Member) → destroy_refusal (datasets_of s) s.views (OfBookmark m) recursive defer ≡ Some NoDataset
-  not_bookmark m = ap (λ b. cond {A = Option Refusal} (not (is_some b)) (Some NoDataset) None) (no_bookmark (datasets_of s) (bare (datasets_of s) steady.plain) s.views m)
+    unmarked_from : AreMapsFrom s.now.file_systems (with_file_system (world_of (datasets_of s)) m.file_system (λ f. record f { bookmarks = remove f.bookmarks m.component })).file_systems
+    unmarked_from = at (get s.now.file_systems m.file_system) refl
+      where
+        at : (x : Option FileSystem) → get s.now.file_systems m.file_system ≡ x
+            → AreMapsFrom s.now.file_systems (option_map_or (λ (f : FileSystem). record (world_of (datasets_of s)) { file_systems = insert s.now.file_systems m.file_system (unmarked f) }) x (world_of (datasets_of s))).file_systems
+        at None e = same_maps s.now.file_systems
+        at (Some f) e = put_maps s.now.file_systems m.file_system (unmarked f) (λ x h. inr (m.file_system, f, e, h))
 
-  -- what a destroy that nothing refuses leaves has maps of what was there, and is plain
-  destroy_from : (target : Target) → destroy_refusal (datasets_of s) s.views target recursive defer ≡ None → AreMapsFrom s.now.file_systems (destroyed (datasets_of s) s.views target recursive defer).file_systems
-  destroy_from (OfFileSystem name) none = retained_maps s.now.file_systems (λ n. not (list_any (same_name n) (file_systems_named s.now name recursive)))
-  destroy_from (OfSnapshot m) none = left_from m
-  destroy_from (OfBookmark m) none = absurd (no_refusal NoDataset (sym (not_bookmark m) ∙ none))
+    unmarked_unlimited : IsUnlimited (with_file_system (world_of (datasets_of s)) m.file_system (λ f. record f { bookmarks = remove f.bookmarks m.component })).file_systems
+    unmarked_unlimited = at (get s.now.file_systems m.file_system) refl
+      where
+        at : (x : Option FileSystem) → get s.now.file_systems m.file_system ≡ x
+            → IsUnlimited (option_map_or (λ (f : FileSystem). record (world_of (datasets_of s)) { file_systems = insert s.now.file_systems m.file_system (unmarked f) }) x (world_of (datasets_of s))).file_systems
+        at None e = steady.unlimited
+        at (Some f) e = unlimited_put s.now.file_systems steady.unlimited m.file_system (unmarked f) (steady.unlimited m.file_system f e)
 
-  destroy_plain : (target : Target) → destroy_refusal (datasets_of s) s.views target recursive defer ≡ None → ArePlain (destroyed (datasets_of s) s.views target recursive defer).file_systems
-  destroy_plain (OfFileSystem name) none = λ q x at. steady.plain q x (from_retained s.now.file_systems (λ n. not (list_any (same_name n) (file_systems_named s.now name recursive))) q x at).1
-  destroy_plain (OfSnapshot m) none = left_plain m
-  destroy_plain (OfBookmark m) none = absurd (no_refusal NoDataset (sym (not_bookmark m) ∙ none))
+  -- what a destroy leaves has maps of what was there, and no limit
+  destroy_from : (target : Target) → AreMapsFrom s.now.file_systems (destroyed (datasets_of s) s.views target recursive defer).file_systems
+  destroy_from (OfFileSystem name) = retained_maps s.now.file_systems (λ n. not (list_any (same_name n) (file_systems_named s.now name recursive)))
+  destroy_from (OfSnapshot m) = left_from m
+  destroy_from (OfBookmark m) = unmarked_from m
+
+  destroy_unlimited : (target : Target) → IsUnlimited (destroyed (datasets_of s) s.views target recursive defer).file_systems
+  destroy_unlimited (OfFileSystem name) = λ q x at. steady.unlimited q x (from_retained s.now.file_systems (λ n. not (list_any (same_name n) (file_systems_named s.now name recursive))) q x at).1
+  destroy_unlimited (OfSnapshot m) = left_unlimited m
+  destroy_unlimited (OfBookmark m) = unmarked_unlimited m
 
 -- ---- the sweep after it
-
--- a world each of whose maps is another's has no other blocks
-maps_fewer : (w v : World) → AreMapsFrom w.file_systems v.file_systems → IsSubset (union_of v) (union_of w)
-maps_fewer w v from b h =
-    let r = from_union_of v b h in ⊎_elim
-    (λ e. absurd (no_block b (subst (λ m. Has (blocks m) b) e r.5)))
-    (λ k. in_union_of w k.0 k.1 r.2 b k.2 k.3 r.5)
-    (from r.0 r.1 r.2 r.3 r.4)
 
 module _ (s : State) (t : Datasets) (from : AreMapsFrom s.now.file_systems t.file_systems) where
   abbrev unneeded : Snap → Bool
@@ -145,7 +140,7 @@ module _ (s : State) (t : Datasets) (from : AreMapsFrom s.now.file_systems t.fil
   swept_to = record s.now { file_systems = (swept t s.views).file_systems; group = t.group }
 
   -- what is lost first and what the sweep loses are lost together
-  swept_state : lose s (swept t s.views) ≡ state_after_sweep (lose s t)
+  pub swept_state : lose s (swept t s.views) ≡ state_after_sweep (lose s t)
   unfolding state_after_sweep
   swept_state = ap (with_now s) (sym (losses_twice s.now gone_to swept_to refl refl (maps_fewer s.now gone_to from) (maps_fewer gone_to swept_to (without_from (world_of t) unneeded))))
 
@@ -161,10 +156,10 @@ module _ (s : State) (t : Datasets) (from : AreMapsFrom s.now.file_systems t.fil
       ∙ ap not (or_right (nat_lt 0 (length u.tags)) _ (or_left (is_viewed s.views (id_of u)) _ seen))))))
 
   -- so the datasets can be put in place once they are swept
-  swept_can : IsSteady s → AreFileSystems (swept t s.views).file_systems s.now.group → t.group ≡ s.now.group → ArePlain t.file_systems → IsSafe s.views s.now (lose s t).now
+  pub swept_can : IsSteady s → AreFileSystems (swept t s.views).file_systems s.now.group → t.group ≡ s.now.group → IsUnlimited t.file_systems → IsSafe s.views s.now (lose s t).now
       → CanLose s (swept t s.views)
-  swept_can steady good open_is plain safe = can_lose s steady (swept t s.views) (subst (AreFileSystems (swept t s.views).file_systems) (sym open_is) good) open_is swept_from
-      (plain_without (world_of t) plain unneeded)
+  swept_can steady good open_is unlimited safe = can_lose s steady (swept t s.views) (subst (AreFileSystems (swept t s.views).file_systems) (sym open_is) good) open_is swept_from
+      (unlimited_without (world_of t) unlimited unneeded)
       (λ v id e. seen_after s steady (without_snaps (lose s t).now unneeded) (swept_safe safe) v id e)
       (subst IsSwept (sym swept_state) (sweep_swept (lose s t)))
 
@@ -186,8 +181,8 @@ module _ (s : State) (steady : IsSteady s) (target : Target) (recursive defer : 
       → CanLose s (swept (destroyed (datasets_of s) s.views target recursive defer) s.views)
   destroy_can none good =
       let safe = destroy_asked s target recursive defer (once s.size s.now steady.good.now) (closed s.size s.now steady.good.now) (row_is ∙ none) in
-      swept_can s (destroyed (datasets_of s) s.views target recursive defer) (destroy_from s steady recursive defer target none) steady good refl
-      (destroy_plain s steady recursive defer target none)
+      swept_can s (destroyed (datasets_of s) s.views target recursive defer) (destroy_from s steady recursive defer target) steady good refl
+      (destroy_unlimited s steady recursive defer target)
       (subst (λ (x : World). IsSafe s.views s.now (with_losses s.now x)) (destroyed_world s target recursive defer) safe)
 
   -- a destroy that is refused, or has no memory
@@ -204,6 +199,6 @@ module _ (s : State) (steady : IsSteady s) (target : Target) (recursive defer : 
       → Step s (Destroy target recursive defer) Done (lose s (swept (destroyed (datasets_of s) s.views target recursive defer) s.views))
   destroy_done none can = swept_by (Destroy target recursive defer) (destroy_rule target recursive defer) refl s no_choice
       (lose s (swept (destroyed (datasets_of s) s.views target recursive defer) s.views)) Done refl refl (row_is ∙ none) refl
-      (swept_state s (destroyed (datasets_of s) s.views target recursive defer) (destroy_from s steady recursive defer target none)
+      (swept_state s (destroyed (datasets_of s) s.views target recursive defer) (destroy_from s steady recursive defer target)
       ∙ ap state_after_sweep (sym (destroyed_state s target recursive defer)))
       can.steady

@@ -5,7 +5,7 @@ pub mod States
 pub mod Lookups
 pub mod Ruled
 pub mod Room
-pub mod Plain
+pub mod Unlimited
 pub mod Named
 pub mod Questions
 pub mod Identities
@@ -35,3 +35,9 @@ pub mod Slicing
 pub mod Cloning
 pub mod Promoting
 pub mod Texts
+pub mod Labelling
+pub mod Tagging
+pub mod Holding
+pub mod Releasing
+pub mod Marking
+pub mod Tags

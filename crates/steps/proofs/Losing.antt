@@ -12,14 +12,15 @@ use Rattle.model.specs.requests.Change.{limit_row}
 use Rattle.world.specs.Worlds.{AreFileSystems, AreMapsFrom, IsSwept}
 use Rattle.world.specs.Tables.{Datasets}
 use Rattle.world.proofs.Kept.{world_losses, pair_losses, losses_reach}
+use Rattle.accounts.specs.Limits.{IsUnlimited}
 use Rattle.steps.specs.Settles.{AreStatesOf}
-use Rattle.steps.specs.Steady.{IsSteady, ArePlain}
+use Rattle.steps.specs.Steady.{IsSteady}
 use Rattle.steps.specs.Edits.{lose, CanLose}
 use Rattle.steps.proofs.Known.{states_of, of_states}
 use Rattle.steps.proofs.Snapping.{limits_hold}
 
 module _ (s : State) (steady : IsSteady s) (t : Datasets) (good : AreFileSystems t.file_systems t.group) (open_is : t.group ≡ s.now.group)
-    (from : AreMapsFrom s.now.file_systems t.file_systems) (plain : ArePlain t.file_systems)
+    (from : AreMapsFrom s.now.file_systems t.file_systems) (unlimited : IsUnlimited t.file_systems)
     (seen : (v : ℕ) (id : SnapId) → get s.views v ≡ Some id → IsSome (snap_at (record s.now { file_systems = t.file_systems; group = t.group }) id)) (clean : IsSwept (lose s t)) where
   abbrev new : World
   new = record s.now { file_systems = t.file_systems; group = t.group }
@@ -34,7 +35,7 @@ module _ (s : State) (steady : IsSteady s) (t : Datasets) (good : AreFileSystems
         views = seen;
       };
       swept = clean;
-      plain = plain;
+      unlimited = unlimited;
     };
     reach = losses_reach s.size s.now new steady.good.now from good refl;
   }

@@ -1,6 +1,6 @@
 -- A live map changed, as its tree prepares it: the facts of the worlds hold again, and the numbers are settled.
-use Rattle.std.proofs.Common.{◌≡◌, ℕ, ◌+◌, ◌<◌, ◌≤◌, true, List, Option, Some, None, refl, sym, ap, subst, ◌∙◌, ◌⊎◌, inl, inr, ⊎_elim, length, arith}
-use Rattle.std.specs.Prelude.{nat_le, nat_lt, count_by, slice_get, IfSome, max}
+use Rattle.std.proofs.Common.{◌≡◌, ℕ, ◌+◌, ◌<◌, ◌≤◌, true, List, Some, refl, sym, ap, subst, ◌∙◌, ◌⊎◌, inl, inr, ⊎_elim, length, arith}
+use Rattle.std.specs.Prelude.{nat_le, nat_lt, count_by, slice_get, max}
 use Rattle.std.specs.List.{filter}
 use Rattle.std.specs.Option.{option_map_or}
 use Rattle.std.specs.FinMap.{get, insert}
@@ -9,15 +9,15 @@ use Rattle.std.proofs.lemmas.Bool.{le-leb, lt-ltb}
 use Rattle.std.proofs.lemmas.Bool.Decides.{leb_tells}
 use Rattle.std.proofs.lemmas.Option.{slice_get_within}
 use Rattle.base.specs.declared.number.Key.{Key}
-use Rattle.base.specs.Map.{Map, Cell, Block, BlockSet, block_of, blocks}
+use Rattle.base.specs.Map.{Map, Block, BlockSet, blocks}
 use Rattle.base.specs.Rewrite.{Changes, rewrite}
 use Rattle.base.specs.Surveys.{IsIn, IsSurvey}
 use Rattle.zalloc.specs.declared.BlockState.{BlockState}
-use Rattle.zalloc.specs.declared.BlockState.TheVariants.{Free, Allocated}
+use Rattle.zalloc.specs.declared.BlockState.TheVariants.{Free}
 use Rattle.zalloc.specs.States.{is_free}
 use Rattle.tree.specs.Change.{Shown, IsChange, young_count}
 use Rattle.file_system.specs.Rows.{with_live}
-use Rattle.model.specs.World.{World, FileSystem, Live, union_of, reach_of}
+use Rattle.model.specs.World.{World, FileSystem, Live, no_limits, union_of, reach_of}
 use Rattle.model.specs.State.{State}
 use Rattle.model.specs.Hierarchy.{FileSystems}
 use Rattle.model.specs.Edits.{with_now, after_change}
@@ -34,21 +34,21 @@ use Rattle.world.specs.Worlds.{AreFileSystems, IsPoolState}
 use Rattle.world.specs.Dead.{base_of}
 use Rattle.world.proofs.Maps.{same_value}
 use Rattle.world.proofs.SetCounts.{in_union_left, in_union_right}
-use Rattle.world.proofs.Cells.{in_blocks}
 use Rattle.world.proofs.Finding.{in_filter}
 use Rattle.world.proofs.Kept.{reach_is}
 use Rattle.world.proofs.Plans.{plan_settles}
 use Rattle.world.proofs.StateSteps.{change_is, change_before}
 use Rattle.world.proofs.TableWrites.{live_systems}
+use Rattle.accounts.specs.Limits.{IsUnlimited}
 use Rattle.accounts.proofs.Unlimited.{quotas_unlimited, refquotas_unlimited, pool_unlimited}
 use Rattle.steps.specs.Settles.{state_at}
-use Rattle.steps.specs.Steady.{IsPlain, ArePlain, IsSteady}
+use Rattle.steps.specs.Steady.{IsSteady}
 use Rattle.steps.specs.Edits.{datasets_of, with_datasets, CanChange}
-use Rattle.steps.proofs.States.{state_at-now, not_free}
+use Rattle.steps.proofs.States.{not_free}
 use Rattle.steps.proofs.Known.{states_of}
 use Rattle.steps.proofs.Room.{room_of_change, fresh_or_old, dropped_reached}
 use Rattle.steps.proofs.Counts.{count-free, len-young}
-use Rattle.steps.proofs.Plain.{plain_with, plain_put, plain_swept, AreKnown, AreOriginsIn, same_known, put_known, same_origins, put_origins, plain_unlimited, live_once}
+use Rattle.steps.proofs.Unlimited.{unlimited_put, still_swept, AreKnown, AreOriginsIn, same_known, put_known, same_origins, put_origins, live_once}
 use Rattle.steps.proofs.Gives.{gives_way, live_there, union_comes}
 
 -- a bound moved by the same number on both sides
@@ -57,10 +57,6 @@ le_shift a r t n e = ⊎_elim
     (λ x. x.0 ∙ sym (le-leb t (n + r) (let l = x.1 in omega arith)))
     (λ x. x.0 ∙ ⊎_elim (λ y. let l = x.1 in let m = y.1 in absurd (omega arith)) (λ y. sym y.0) (leb_tells t (n + r)))
     (leb_tells a n)
-
-if_some : {P : Cell → Type 0} (x : Option Cell) → ((y : Cell) → x ≡ Some y → P y) → IfSome x P
-if_some None h = tt
-if_some (Some y) h = h y refl
 
 -- the file systems with another live map
 pub with_live_is : (ss : FileSystems) (name : Name) (f : FileSystem) (m : Map) → get ss name ≡ Some f → with_live ss name m ≡ insert ss name (record f { live = m })
@@ -77,22 +73,8 @@ module _ (s : State) (steady : IsSteady s) (name : Name) (f : FileSystem) (was :
   inside b h = subst (λ y. Has y b) (sym (reach_is s.now)) (in_union_left o (union_of s.now) s.now.freeing b
       (live_there s.size s.now steady.good.now name f was f.live (λ c i. inl i) b h))
 
-  plain : IsPlain f
-  plain = steady.plain name f was
-
-  -- ---- what a tree asks before it changes
-
-  module _ (states : List BlockState) (known : HasStates s states) where
-    cell_allocated : (k : Key) (x : Cell) → get f.live k ≡ Some x → slice_get states x.number ≡ Some Allocated
-    cell_allocated k x e =
-        let h = inside (block_of x) (in_blocks f.live k x e) in
-        (states_of s states known).each x.number (steady.good.pair.reached.small (block_of x) (in_union_left o A L (block_of x) h)) ∙ ap Some (state_at-now A L (block_of x) h)
-
-    pub cells_allocated : (k : Key) → IfSome (get f.live k) (λ x. slice_get states x.number ≡ Some Allocated)
-    cells_allocated k = if_some (get f.live k) (λ x e. cell_allocated k x e)
-
-  pub cells_born : (k : Key) → IfSome (get f.live k) (λ x. x.birth ≤ s.now.group)
-  cells_born k = if_some (get f.live k) (λ x e. steady.good.pair.reached.born (block_of x) (inside (block_of x) (in_blocks f.live k x e)))
+  unlimited : f.limits ≡ no_limits
+  unlimited = steady.unlimited name f was
 
   -- ---- the limits after a change, with any fresh numbers
 
@@ -138,8 +120,8 @@ module _ (s : State) (steady : IsSteady s) (name : Name) (f : FileSystem) (was :
     asked_systems : AreFileSystems (insert s.now.file_systems name (record f { live = rewrite f.live ch s.now.group (fresh_number s) })) s.now.group
     asked_systems = live_systems s.now steady.good.now.systems name f was m new
 
-    asked_plain : ArePlain asked.file_systems
-    asked_plain = plain_put s.now.file_systems steady.plain name (record f { live = m }) (plain_with f plain m)
+    asked_unlimited : IsUnlimited asked.file_systems
+    asked_unlimited = unlimited_put s.now.file_systems steady.unlimited name (record f { live = m }) unlimited
 
     asked_apart : AreDisjoint (union_of asked) s.now.freeing
     asked_apart b h k = ⊎_elim
@@ -148,10 +130,10 @@ module _ (s : State) (steady : IsSteady s) (name : Name) (f : FileSystem) (was :
         (union_comes s.size s.now steady.good.now name f was m new b h)
 
     pub quotas_asked : quotas_hold asked ≡ true
-    quotas_asked = quotas_unlimited asked (plain_unlimited asked.file_systems asked_plain)
+    quotas_asked = quotas_unlimited asked asked_unlimited
 
     pub refquotas_asked : refquotas_hold asked ≡ true
-    refquotas_asked = refquotas_unlimited asked (plain_unlimited asked.file_systems asked_plain)
+    refquotas_asked = refquotas_unlimited asked asked_unlimited
 
     -- the pool has room after the change where the Free numbers and the dropped young blocks are enough for what it makes
     pub room_asked : (young : ℕ) → young ≡ max s.last.group (base_of s.now (Live name) + 1) → (states : List BlockState) → HasStates s states
@@ -160,7 +142,7 @@ module _ (s : State) (steady : IsSteady s) (name : Name) (f : FileSystem) (was :
         let free = count-free A L s.last.group s.now.group s.size steady.good.pair.reached states (states_of s states known) in
         let young = len-young A L s.last.group s.now.group s.size steady.good.pair.reached states (states_of s states known) (base_of s.now (Live name)) young young_is dropped survey.gone_once
         (dropped_reached f.live (base_of s.now (Live name)) A L s.now.group (live_once s steady name f was) inside ch dropped made survey (fresh_number s) fresh_once fresh_free) in
-        pool_unlimited (with_now s asked) asked_systems asked_apart (plain_unlimited asked.file_systems asked_plain)
+        pool_unlimited (with_now s asked) asked_systems asked_apart asked_unlimited
         ∙ le_shift _ _ _ s.size (room_of_change f.live (base_of s.now (Live name)) A L s.now.group (live_once s steady name f was) inside ch dropped made survey (fresh_number s) fresh_once fresh_free
         (reach_of asked) (gives_way s.size s.now steady.good.now name f was m new))
         ∙ sym (le_shift (length made) (len (union A L)) _ _ (swap (length made) (len (union A L)))
@@ -207,19 +189,19 @@ module _ (s : State) (steady : IsSteady s) (name : Name) (f : FileSystem) (was :
     pub leads_to : with_datasets s after_it ≡ with_now s (after_change s.now name ch is.number)
     leads_to = ap (with_now s) (to_planned ∙ sym (change_is s steady.good name f was ch young late own_late states v is takable))
 
-    after_plain : ArePlain (with_live s.now.file_systems name v.new)
-    after_plain = subst ArePlain (sym (with_live_is s.now.file_systems name f v.new was))
-        (plain_put s.now.file_systems steady.plain name (record f { live = v.new }) (plain_with f plain v.new))
+    after_unlimited : IsUnlimited (with_live s.now.file_systems name v.new)
+    after_unlimited = subst IsUnlimited (sym (with_live_is s.now.file_systems name f v.new was))
+        (unlimited_put s.now.file_systems steady.unlimited name (record f { live = v.new }) unlimited)
 
     -- what holds of the pool between two steps holds again
     pub change_steady : IsSteady (with_datasets s after_it)
     change_steady = record {
       good = subst IsPoolState (sym leads_to) (change_before s steady.good name f was ch young late own_late states v is takable);
-      swept = plain_swept s (with_datasets s after_it) steady refl (subst (AreKnown s.now.file_systems) (sym (with_live_is s.now.file_systems name f v.new was))
+      swept = still_swept s (with_datasets s after_it) steady refl (subst (AreKnown s.now.file_systems) (sym (with_live_is s.now.file_systems name f v.new was))
           (put_known s.now.file_systems s.now.file_systems (same_known s.now.file_systems) name (record f { live = v.new }) (λ t i. inr (name, f, was, i))))
           (subst (AreOriginsIn s.now.file_systems) (sym (with_live_is s.now.file_systems name f v.new was))
           (put_origins s.now.file_systems s.now.file_systems (same_origins s.now.file_systems) name f (record f { live = v.new }) was refl));
-      plain = after_plain;
+      unlimited = after_unlimited;
     }
 
     young_stays : (b : Block) → IsIn v.released b → young ≤ b.birth → IsIn (filter (λ b. nat_lt (base_of s.now (Live name)) b.birth) v.released) b

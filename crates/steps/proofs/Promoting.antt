@@ -30,11 +30,12 @@ use Rattle.world.proofs.Promotions.{IsPromotion, promotion_is, promote_union}
 use Rattle.world.proofs.Put.{put_here, put_other}
 use Rattle.world.proofs.StateSteps.{promote_before}
 use Rattle.world.proofs.ViewedRequests.{row_false}
+use Rattle.accounts.specs.Limits.{IsUnlimited}
 use Rattle.datasets.specs.Clones.{with_promoted}
 use Rattle.clones.specs.Requests.{promoted as promoted_datasets, promote_refusal}
-use Rattle.steps.specs.Steady.{IsPlain, ArePlain, IsSteady}
+use Rattle.steps.specs.Steady.{IsSteady}
 use Rattle.steps.specs.Edits.{datasets_of, with_datasets, put, CanPut}
-use Rattle.steps.proofs.Plain.{plain_put, plain_swept, AreKnown, AreOriginsIn, same_known, put_known}
+use Rattle.steps.proofs.Unlimited.{unlimited_put, still_swept, AreKnown, AreOriginsIn, same_known, put_known}
 use Rattle.steps.proofs.Putting.{put_none, kept_states}
 use Rattle.steps.proofs.Rolling.{first_then}
 use Rattle.steps.proofs.Ruled.{no_choice, refused_by, no_memory_by, done_by}
@@ -78,17 +79,9 @@ module _ (s : State) (steady : IsSteady s) (name : List ℕ) (p : Promotion) (is
   stayed : (t : Snap) → IsIn (demoted p).snaps t → IsIn p.system.snaps t
   stayed t i = (from_filter (λ (u : Snap). nat_lt p.origin.group u.group) p.system.snaps t i).0
 
-  turned_plain : ArePlain (insert (insert s.now.file_systems p.owner (demoted p)) name (promoted p))
-  turned_plain =
-      let of_owner = steady.plain p.owner p.system P.owner_at in
-      let of_clone = steady.plain name p.clone P.clone_at in
-      let lower : IsPlain (demoted p) = record { tags = λ t i. of_owner.tags t (stayed t i); limits = of_owner.limits; bookmarks = of_owner.bookmarks } in
-      let upper : IsPlain (promoted p) = record {
-        tags = λ t i. ⊎_elim (λ k. of_owner.tags t (came t k)) (λ k. of_clone.tags t k) (in_either (promoted_snaps p) p.clone.snaps t i);
-        limits = of_clone.limits;
-        bookmarks = of_clone.bookmarks;
-      } in
-      plain_put mid (plain_put ss steady.plain p.owner (demoted p) lower) name (promoted p) upper
+  turned_unlimited : IsUnlimited (insert (insert s.now.file_systems p.owner (demoted p)) name (promoted p))
+  turned_unlimited = unlimited_put mid (unlimited_put ss steady.unlimited p.owner (demoted p) (steady.unlimited p.owner p.system P.owner_at))
+      name (promoted p) (steady.unlimited name p.clone P.clone_at)
 
   turned_known : AreKnown s.now.file_systems (insert (insert s.now.file_systems p.owner (demoted p)) name (promoted p))
   turned_known = put_known ss mid
@@ -136,8 +129,8 @@ module _ (s : State) (steady : IsSteady s) (name : List ℕ) (p : Promotion) (is
     turned_steady : IsSteady (with_now s (after_promotion s.now name p))
     turned_steady = record {
       good = promote_before s steady.good name p is clash;
-      swept = plain_swept s (with_now s (after_promotion s.now name p)) steady refl turned_known turned_origins;
-      plain = turned_plain;
+      swept = still_swept s (with_now s (after_promotion s.now name p)) steady refl turned_known turned_origins;
+      unlimited = turned_unlimited;
     }
 
     turned_reach : reach_of (after_promotion s.now name p) ≡ reach_of s.now

@@ -28,8 +28,8 @@ use Rattle.model.specs.Step.{Step}
 use Rattle.world.specs.Worlds.{InNow}
 use Rattle.world.proofs.Maps.{same_value, no_value}
 use Rattle.steps.specs.Room.{AreKeysOne}
-use Rattle.steps.specs.Steady.{IsSteady, IsAbsent, IsNamed}
-use Rattle.steps.proofs.Plain.{no_dataset, no_target}
+use Rattle.steps.specs.Steady.{IsSteady, IsAbsent, HasNoDataset, IsNamed}
+use Rattle.steps.proofs.Unlimited.{no_dataset, no_target}
 use Rattle.steps.proofs.Ruled.{refused_by, answered_by}
 use Rattle.world.proofs.BlockCounts.{len-blocks}
 
@@ -56,8 +56,8 @@ module _ (s : State) (good : IsSteady s) where
         at true false = refl
         at false i = refl
 
-    pub read_no_dataset : IsAbsent s.now.file_systems target → Step s (Read target object block) (Refused NoDataset) s
-    read_no_dataset absent = refused_by (Read target object block) (read_rule target object block) refl s NoDataset (read_row false (no_dataset s good.plain target absent))
+    pub read_no_dataset : HasNoDataset s.now.file_systems target → Step s (Read target object block) (Refused NoDataset) s
+    read_no_dataset absent = refused_by (Read target object block) (read_rule target object block) refl s NoDataset (read_row false (no_dataset s target absent))
 
     module _ (m : Map) (named : IsNamed s target m) where
       read_row_there : (i : Bool) → is_block object block ≡ i → refusal_of s (read_rule target object block) ≡ cond i None (Some BadKey)
@@ -89,7 +89,7 @@ module _ (s : State) (good : IsSteady s) where
         at false = refl
 
     pub get_no_dataset : (property : Property) → IsAbsent s.now.file_systems target → Step s (Get target property) (Refused NoDataset) s
-    get_no_dataset property absent = refused_by (Get target property) (get_rule target property) refl s NoDataset (get_row property false (no_target s good.plain target absent))
+    get_no_dataset property absent = refused_by (Get target property) (get_rule target property) refl s NoDataset (get_row property false (no_target s target absent))
 
     -- the value of any property, where something has the name
     pub get_done : (property : Property) (v : Value) → has_target s target ≡ true → property_value s target property ≡ v

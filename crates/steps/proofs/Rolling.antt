@@ -1,19 +1,17 @@
 -- A rollback: the datasets after it, why it is refused, and its steps.
 use Rattle.std.proofs.Common.{◌≡◌, ◌⊎◌, ◌<◌, Bool, true, false, cond, List, [], ◌∷◌, ◌++◌, Option, Some, None, refl, sym, ap, subst, ◌∙◌, inl, inr, ⊎_elim, map}
 use Rattle.std.specs.Prelude.{nat_le, nat_lt}
-use Rattle.std.specs.List.{filter}
 use Rattle.std.specs.Option.{option_map_or}
-use Rattle.std.specs.FinMap.{get, insert, entries, from_entries}
+use Rattle.std.specs.FinMap.{get, insert}
 use Rattle.std.proofs.lemmas.Bool.{lt-ltb}
 use Rattle.base.specs.Surveys.{IsIn}
 use Rattle.base.specs.declared.refusal.Refusal.{Refusal}
 use Rattle.base.specs.declared.refusal.Refusal.TheVariants.{Busy, HasClones, NoMemory}
-use Rattle.name.specs.Names.{name_cmp}
 use Rattle.name.specs.declared.target.Target.{Target}
 use Rattle.zalloc.specs.declared.BlockState.{BlockState}
 use Rattle.model.specs.declared.request.Request.TheVariants.{Rollback}
 use Rattle.model.specs.declared.reply.Reply.TheVariants.{Done, Refused}
-use Rattle.model.specs.World.{World, FileSystem, Snap, SnapId, Bookmark, id_of, snap_at}
+use Rattle.model.specs.World.{World, FileSystem, Snap, SnapId, id_of, snap_at}
 use Rattle.model.specs.State.{State}
 use Rattle.model.specs.Numbers.{HasStates}
 use Rattle.model.specs.Rule.{Row, first_of}
@@ -31,15 +29,15 @@ use Rattle.world.proofs.Groups.{same_maps}
 use Rattle.world.proofs.Listed.{map_in}
 use Rattle.world.proofs.Maps.{same_value}
 use Rattle.world.proofs.Rollbacks.{rollback_systems, rollback_from}
-use Rattle.steps.specs.Steady.{IsPlain, ArePlain, IsSteady}
+use Rattle.steps.specs.Steady.{IsSteady}
 use Rattle.steps.specs.Edits.{datasets_of, lose, CanLose}
+use Rattle.accounts.specs.Limits.{IsUnlimited}
 use Rattle.removals.specs.Named.{has_clone}
 use Rattle.removals.specs.Requests.{rolled, rollback_refusal}
 use Rattle.steps.proofs.Losing.{can_lose, lose_limits}
-use Rattle.steps.proofs.Plain.{plain_put, plain_swept, AreKnown, AreOriginsIn, same_known, put_known, same_origins, put_origins}
+use Rattle.steps.proofs.Unlimited.{unlimited_put, still_swept, AreKnown, AreOriginsIn, same_known, put_known, same_origins, put_origins}
 use Rattle.steps.proofs.Ruled.{no_choice, refused_by, no_memory_by, done_by}
 use Rattle.steps.proofs.Seeing.{once, closed, seen_after}
-use Rattle.removals.proofs.Bare.{no_entries}
 use Rattle.removals.proofs.Clones.{uncloned_is, outside_is}
 use Rattle.world.proofs.Viewed.{snap_found}
 use Rattle.world.proofs.ViewedRequests.{row_false, from_placed, rollback_safe}
@@ -83,25 +81,15 @@ rolled_state s target = ap (λ x. with_now s (with_losses s.now x)) (rolled_worl
 
 -- ---- the datasets after it
 
--- a plain file system back at a snapshot
-plain_back : (f : FileSystem) → IsPlain f → (t : Snap) → IsPlain (back_at f t)
-plain_back f plain t = record {
-  tags = λ u i. plain.tags u (from_filter (λ (v : Snap). nat_le v.group t.group) f.snaps u i).0;
-  limits = plain.limits;
-  bookmarks =
-      ap (λ m. from_entries {R = name_cmp} (filter (λ (b : Name × Bookmark). nat_le b.1.group t.group) (entries m))) plain.bookmarks
-      ∙ ap (λ (l : List (Name × Bookmark)). from_entries {R = name_cmp} (filter (λ (b : Name × Bookmark). nat_le b.1.group t.group) l)) (no_entries name_cmp);
-}
-
 module _ (s : State) (steady : IsSteady s) where
   -- of a file system
-  back_plain : (name : Name) (t : Snap) → ArePlain (with_file_system s.now name (λ f. back_at f t)).file_systems
-  back_plain name t = at (get s.now.file_systems name) refl
+  back_unlimited : (name : Name) (t : Snap) → IsUnlimited (with_file_system s.now name (λ f. back_at f t)).file_systems
+  back_unlimited name t = at (get s.now.file_systems name) refl
     where
       at : (x : Option FileSystem) → get s.now.file_systems name ≡ x
-          → ArePlain (option_map_or (λ (f : FileSystem). record s.now { file_systems = insert s.now.file_systems name (back_at f t) }) x s.now).file_systems
-      at None e = steady.plain
-      at (Some f) e = plain_put s.now.file_systems steady.plain name (back_at f t) (plain_back f (steady.plain name f e) t)
+          → IsUnlimited (option_map_or (λ (f : FileSystem). record s.now { file_systems = insert s.now.file_systems name (back_at f t) }) x s.now).file_systems
+      at None e = steady.unlimited
+      at (Some f) e = unlimited_put s.now.file_systems steady.unlimited name (back_at f t) (steady.unlimited name f e)
 
   back_known : (name : Name) (t : Snap) → AreKnown s.now.file_systems (with_file_system s.now name (λ f. back_at f t)).file_systems
   back_known name t = at (get s.now.file_systems name) refl
@@ -123,7 +111,7 @@ module _ (s : State) (steady : IsSteady s) where
   record IsBack (to : World) : Type 0 where
     systems : AreFileSystems to.file_systems s.now.group
     from : AreMapsFrom s.now.file_systems to.file_systems
-    plain : ArePlain to.file_systems
+    unlimited : IsUnlimited to.file_systems
     known : AreKnown s.now.file_systems to.file_systems
     origins : AreOriginsIn s.now.file_systems to.file_systems
 
@@ -131,7 +119,7 @@ module _ (s : State) (steady : IsSteady s) where
   same_world = record {
     systems = steady.good.now.systems;
     from = same_maps s.now.file_systems;
-    plain = steady.plain;
+    unlimited = steady.unlimited;
     known = same_known s.now.file_systems;
     origins = same_origins s.now.file_systems;
   }
@@ -156,7 +144,7 @@ module _ (s : State) (steady : IsSteady s) where
     is_back = record {
       systems = rollback_systems s.size s.now steady.good.now (id_of p.1) (name, p.1) found uncloned;
       from = rollback_from s.size s.now steady.good.now (id_of p.1) (name, p.1) found uncloned;
-      plain = subst (λ x. ArePlain (by_snap x).file_systems) (sym found) (back_plain name p.1);
+      unlimited = subst (λ x. IsUnlimited (by_snap x).file_systems) (sym found) (back_unlimited name p.1);
       known = subst (λ x. AreKnown s.now.file_systems (by_snap x).file_systems) (sym found) (back_known name p.1);
       origins = subst (λ x. AreOriginsIn s.now.file_systems (by_snap x).file_systems) (sym found) (back_origins name p.1);
     }
@@ -181,9 +169,9 @@ module _ (s : State) (steady : IsSteady s) where
         let back = is_rolled bare in
         let to = record (datasets_of s) { file_systems = (rolled_back s.now target).file_systems } in
         subst (λ ss. CanLose s (record (datasets_of s) { file_systems = ss })) (ap (λ (x : World). x.file_systems) (rolled_world s target))
-        (can_lose s steady to back.systems refl back.from back.plain
+        (can_lose s steady to back.systems refl back.from back.unlimited
         (λ v id e. seen_after s steady (rolled_back s.now target) safe v id e)
-        (plain_swept s (lose s to) steady refl back.known back.origins))
+        (still_swept s (lose s to) steady refl back.known back.origins))
 
 -- ---- its refusals
 

@@ -1,5 +1,5 @@
 -- Snapshots taken: what nothing refuses can be put in place, and the steps of a request that takes them.
-use Rattle.std.proofs.Common.{◌≡◌, ℕ, ◌+◌, Bool, true, false, cond, not, List, [], ◌∷◌, ◌++◌, Option, Some, None, refl, sym, ap, subst, ◌∙◌, true≢false, ◌⊎◌, inl, ⊎_elim, length, arith}
+use Rattle.std.proofs.Common.{◌≡◌, ℕ, ◌+◌, Bool, true, false, cond, not, List, [], ◌∷◌, ◌++◌, Option, Some, None, refl, sym, ap, subst, ◌∙◌, true≢false, ◌⊎◌, inl, inr, ⊎_elim, length, arith}
 use Rattle.std.specs.Prelude.{nat_lt}
 use Rattle.std.specs.Option.{option_map_or}
 use Rattle.std.specs.FinMap.{get, insert}
@@ -8,6 +8,7 @@ use Rattle.std.proofs.lemmas.Bool.{le-leb, ltb-true, ltb-false}
 use Rattle.base.specs.declared.refusal.Refusal.{Refusal}
 use Rattle.base.specs.declared.refusal.Refusal.TheVariants.{Quota, RefQuota, NoSpace, NoMemory}
 use Rattle.base.specs.Map.{BlockSet}
+use Rattle.base.specs.Surveys.{IsIn}
 use Rattle.name.specs.declared.member.Member.{Member}
 use Rattle.zalloc.specs.declared.BlockState.{BlockState}
 use Rattle.model.specs.declared.request.Request.{Request}
@@ -29,29 +30,35 @@ use Rattle.world.proofs.SnapshotLists.{snapshots_union}
 use Rattle.world.proofs.StateSteps.{snapshots_before}
 use Rattle.world.proofs.Takings.{takable, snapshots_leave}
 use Rattle.datasets.specs.Snapshots.{taken_of}
+use Rattle.accounts.specs.Limits.{IsUnlimited}
 use Rattle.accounts.proofs.Unlimited.{quotas_unlimited, refquotas_unlimited, pool_unlimited}
-use Rattle.steps.specs.Steady.{ArePlain, IsSteady}
+use Rattle.steps.specs.Steady.{IsSteady}
 use Rattle.steps.specs.Edits.{datasets_of, with_datasets, put, CanPut}
 use Rattle.steps.proofs.Known.{states_of}
 use Rattle.steps.proofs.Counts.{count-free}
-use Rattle.steps.proofs.Plain.{plain_put, plain_swept, AreKnown, AreOriginsIn, same_known, put_known, same_origins, put_origins, in_appended, plain_snapped, plain_unlimited}
+use Rattle.steps.proofs.Unlimited.{unlimited_put, still_swept, AreKnown, AreOriginsIn, same_known, put_known, same_origins, put_origins}
 use Rattle.steps.proofs.Putting.{kept_states}
 use Rattle.steps.proofs.Ruled.{no_choice, refused_by, no_memory_by, done_by}
 
--- ---- what snapshots of a list leave: plain file systems, and what is to be freed apart
+-- ---- what snapshots of a list leave: no limits, and what is to be freed apart
+
+-- one snapshot more, after the others
+in_appended : (ts : List Snap) (u t : Snap) → IsIn (ts ++ u ∷ []) t → IsIn ts t ⊎ (t ≡ u)
+in_appended [] u t h = ⊎_elim inr (λ i. absurd i) h
+in_appended (x ∷ ts) u t h = ⊎_elim (λ e. inl (inl e)) (λ i. ⊎_elim (λ k. inl (inr k)) inr (in_appended ts u t i)) h
 
 abbrev longer : World → Member → ℕ → FileSystem → World
 longer w m guid f = record w { file_systems = insert w.file_systems m.file_system (record f { snaps = f.snaps ++ snap_of_live w f m.component guid ∷ [] }) }
 
-snapshots_plain : (ms : List Member) (guid : ℕ) (w : World) → ArePlain w.file_systems → ArePlain (with_snapshots w guid ms).file_systems
-snapshots_plain [] guid w plain = plain
-snapshots_plain (m ∷ ms) guid w plain = by_name (λ v. snapshots_plain ms (guid + 1) v) (get w.file_systems m.file_system) refl
+snapshots_unlimited : (ms : List Member) (guid : ℕ) (w : World) → IsUnlimited w.file_systems → IsUnlimited (with_snapshots w guid ms).file_systems
+snapshots_unlimited [] guid w none = none
+snapshots_unlimited (m ∷ ms) guid w none = by_name (λ v. snapshots_unlimited ms (guid + 1) v) (get w.file_systems m.file_system) refl
   where
-    by_name : ((v : World) → ArePlain v.file_systems → ArePlain (with_snapshots v (guid + 1) ms).file_systems)
-        → (x : Option FileSystem) → get w.file_systems m.file_system ≡ x → ArePlain (with_snapshots (option_map_or (longer w m guid) x w) (guid + 1) ms).file_systems
-    by_name rest None e = rest w plain
-    by_name rest (Some f) e = rest (longer w m guid f) (plain_put w.file_systems plain m.file_system (record f { snaps = f.snaps ++ snap_of_live w f m.component guid ∷ [] })
-        (plain_snapped f (plain m.file_system f e) (snap_of_live w f m.component guid) refl))
+    by_name : ((v : World) → IsUnlimited v.file_systems → IsUnlimited (with_snapshots v (guid + 1) ms).file_systems)
+        → (x : Option FileSystem) → get w.file_systems m.file_system ≡ x → IsUnlimited (with_snapshots (option_map_or (longer w m guid) x w) (guid + 1) ms).file_systems
+    by_name rest None e = rest w none
+    by_name rest (Some f) e = rest (longer w m guid f) (unlimited_put w.file_systems none m.file_system (record f { snaps = f.snaps ++ snap_of_live w f m.component guid ∷ [] })
+        (none m.file_system f e))
 
 snapshots_known : (ss : FileSystems) (ms : List Member) (guid : ℕ) (w : World) → AreKnown ss w.file_systems → AreKnown ss (with_snapshots w guid ms).file_systems
 snapshots_known ss [] guid w known = known
@@ -109,10 +116,9 @@ first_none (r ∷ rs) ys e = at r.0 e (first_none rs ys)
 -- the limits hold between two steps
 pub limits_hold : (s : State) → IsSteady s → (numbers : List BlockState) → HasStates s numbers → first_of (limit_row s) ≡ None
 limits_hold s steady numbers known =
-    let unlimited = plain_unlimited s.now.file_systems steady.plain in
     let free = count-free (reach_of s.now) (reach_of s.last) s.last.group s.now.group s.size steady.good.pair.reached numbers (states_of s numbers known) in
-    row-value _ _ _ (quotas_unlimited s.now unlimited) (refquotas_unlimited s.now unlimited)
-    (pool_unlimited s steady.good.now.systems steady.good.now.freeing_apart unlimited ∙ le-leb (len (union (reach_of s.now) (reach_of s.last))) s.size (omega (arith, free)))
+    row-value _ _ _ (quotas_unlimited s.now steady.unlimited) (refquotas_unlimited s.now steady.unlimited)
+    (pool_unlimited s steady.good.now.systems steady.good.now.freeing_apart steady.unlimited ∙ le-leb (len (union (reach_of s.now) (reach_of s.last))) s.size (omega (arith, free)))
   where
     row-value : (q f p : Bool) → q ≡ true → f ≡ true → p ≡ true
         → cond {A = Option Refusal} (not q) (Some Quota) (cond (not f) (Some RefQuota) (cond (not p) (Some NoSpace) None)) ≡ None
@@ -155,8 +161,8 @@ module _ (s : State) (steady : IsSteady s) (names : List Member) (recursive : Bo
   good = subst (λ w. IsPoolState (with_now s w)) (sym (now_is s all))
       (snapshots_before s steady.good (guid_by s.pool s.next_guid) all (takable s.now s.next_guid names recursive none))
 
-  plain : ArePlain (taken_of (datasets_of s) (guid_by s.pool s.next_guid) (snapshot_names s.now names recursive)).file_systems
-  plain = snapshots_plain all (guid_by s.pool s.next_guid) (world_of (datasets_of s)) steady.plain
+  unlimited : IsUnlimited (taken_of (datasets_of s) (guid_by s.pool s.next_guid) (snapshot_names s.now names recursive)).file_systems
+  unlimited = snapshots_unlimited all (guid_by s.pool s.next_guid) (world_of (datasets_of s)) steady.unlimited
 
   known : AreKnown s.now.file_systems (taken_of (datasets_of s) (guid_by s.pool s.next_guid) (snapshot_names s.now names recursive)).file_systems
   known = snapshots_known s.now.file_systems all (guid_by s.pool s.next_guid) (world_of (datasets_of s)) (same_known s.now.file_systems)
@@ -177,8 +183,8 @@ module _ (s : State) (steady : IsSteady s) (names : List Member) (recursive : Bo
   taking_can = record {
     steady = record {
       good = record { now = good.now; last = good.last; pair = good.pair; views = good.views };
-      swept = plain_swept s (put s t (length all)) steady refl known origins;
-      plain = plain;
+      swept = still_swept s (put s t (length all)) steady refl known origins;
+      unlimited = unlimited;
     };
     reach = snapshot_reach;
   }

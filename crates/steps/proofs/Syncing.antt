@@ -5,7 +5,7 @@ use Rattle.std.specs.FinSet.{difference}
 use Rattle.std.proofs.lemmas.Bool.{false_from_ne_true, lt-ltb}
 use Rattle.std.proofs.lemmas.List.{length-map}
 use Rattle.std.proofs.lemmas.Option.{slice_get-map}
-use Rattle.base.specs.declared.refusal.Refusal.TheVariants.{TooMany, NoMemory}
+use Rattle.base.specs.declared.refusal.Refusal.TheVariants.{TooMany}
 use Rattle.base.specs.Map.{BlockSet}
 use Rattle.zalloc.specs.declared.BlockState.{BlockState}
 use Rattle.zalloc.specs.declared.BlockState.TheVariants.{Free, Allocated, Waiting}
@@ -30,8 +30,8 @@ use Rattle.steps.specs.Steady.{IsSteady}
 use Rattle.world.specs.Tables.{Datasets}
 use Rattle.steps.specs.Edits.{datasets_of, synced, CanSync}
 use Rattle.steps.proofs.Known.{states_of, of_states}
-use Rattle.steps.proofs.Plain.{plain_swept, same_known, same_origins}
-use Rattle.steps.proofs.Ruled.{no_choice, refused_by, no_memory_by, done_by}
+use Rattle.steps.proofs.Unlimited.{still_swept, same_known, same_origins}
+use Rattle.steps.proofs.Ruled.{no_choice, refused_by, done_by}
 
 -- ---- numbers
 
@@ -73,8 +73,8 @@ module _ (s : State) (steady : IsSteady s) where
       pair = sync_pairs s.size s.now steady.good.now s.last steady.good.pair;
       views = λ v id e. snap_stays s.now (with_next_group s.now) (s.now.group + 1) (next_keeps s.size s.now steady.good.now).systems.lines (λ q x u at h. (q, x, u, at, h, refl)) id (steady.good.views v id e);
     };
-    swept = plain_swept s (synced s (next_of s)) steady refl (same_known s.now.file_systems) (same_origins s.now.file_systems);
-    plain = steady.plain;
+    swept = still_swept s (synced s (next_of s)) steady refl (same_known s.now.file_systems) (same_origins s.now.file_systems);
+    unlimited = steady.unlimited;
   }
 
   next_states : (numbers : List BlockState) → HasStates s numbers → HasStates (synced s (next_of s)) (map after_group numbers)
@@ -96,9 +96,6 @@ module _ (s : State) where
   row_is : (b : Bool) → has_no_next_group s.now ≡ b → refusal_of s sync_rule ≡ cond b (Some TooMany) None
   unfolding refusal_of
   row_is b e = ap (λ t. cond t (Some TooMany) None) e
-
-  pub sync_no_memory : Step s Sync (Refused NoMemory) s
-  sync_no_memory = no_memory_by Sync sync_rule refl s refl
 
   pub sync_too_many : number_limit ≤ s.now.group → Step s Sync (Refused TooMany) s
   sync_too_many l = refused_by Sync sync_rule refl s TooMany (row_is true (lt-ltb number_limit (s.now.group + 1) (omega arith)))

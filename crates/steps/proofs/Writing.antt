@@ -43,7 +43,7 @@ use Rattle.world.specs.Dead.{base_of}
 use Rattle.world.specs.Tables.{Datasets, world_of}
 use Rattle.world.proofs.SetCounts.{in_union_left}
 use Rattle.world.proofs.Kept.{reach_is, union-fields}
-use Rattle.steps.specs.Steady.{IsSteady, IsAbsent}
+use Rattle.steps.specs.Steady.{IsSteady, HasNoDataset}
 use Rattle.steps.specs.Edits.{datasets_of, with_datasets, CanChange}
 use Rattle.steps.proofs.Known.{states_of}
 use Rattle.steps.proofs.States.{state_at-now}
@@ -161,7 +161,7 @@ module _ (s : State) (steady : IsSteady s) (numbers : List BlockState) (known : 
     no_space lacks = refused_by q rule is s NoSpace (refusal_is lacks.dropped lacks.made lacks.survey false (not_le _ _ lacks.short))
 
   no_dataset_here : get s.now.file_systems name ≡ None → Step s q (Refused NoDataset) s
-  no_dataset_here none = change_no_dataset s steady q target ch in_range is (subst (IsAbsent s.now.file_systems) (sym named) none)
+  no_dataset_here none = change_no_dataset s steady q target ch in_range is (subst (HasNoDataset s.now.file_systems) (sym named) none)
 
   -- a write that the table refused
   pub write_refused : (why : Refusal) → (why ≡ NoDataset) ↔ (get s.now.file_systems name ≡ None)

@@ -14,14 +14,14 @@ use Rattle.world.proofs.SetCounts.{same_members, in_union_left, in_union_right, 
 use Rattle.world.proofs.Lists.{in_listed, from_listed, len-from_list}
 use Rattle.world.proofs.Deadlists.{dead_counts}
 
-to_contains : {A : Type 0} (xs : List A) (x : A) → IsIn xs x → Contains xs x
+pub to_contains : {A : Type 0} (xs : List A) (x : A) → IsIn xs x → Contains xs x
 to_contains [] x h = absurd h
 to_contains (y ∷ ys) x h = ⊎_elim
     (λ (e : x ≡ y). Contains-append_left (y ∷ []) ys x (subst (Contains (y ∷ [])) (sym e) (Contains-push [] y)))
     (λ k. Contains-append_right (y ∷ []) ys x (to_contains ys x k))
     h
 
-from_contains : {A : Type 0} (xs : List A) (x : A) → Contains xs x → IsIn xs x
+pub from_contains : {A : Type 0} (xs : List A) (x : A) → Contains xs x → IsIn xs x
 from_contains [] x h = let l = h.1 in absurd (omega arith)
 from_contains (y ∷ ys) x h = ⊎_elim
     (λ k. ⊎_elim (λ n. let l = n.1 in absurd (omega arith)) (λ e. inl (sym e)) (Contains-push_cases [] y x k))
@@ -29,7 +29,7 @@ from_contains (y ∷ ys) x h = ⊎_elim
     (Contains-append_cases (y ∷ []) ys x h)
 
 -- the elements stay
-stays_in : {A : Type 0} (xs ys : List A) (x : A) → IsPermutation xs ys → IsIn xs x → IsIn ys x
+pub stays_in : {A : Type 0} (xs ys : List A) (x : A) → IsPermutation xs ys → IsIn xs x → IsIn ys x
 stays_in xs ys x p h = from_contains ys x (Contains-permutation xs ys x p (to_contains xs x h))
 
 abbrev set_of : List Block → BlockSet

@@ -1,5 +1,6 @@
 -- Worlds in which the snapshots of open views stand: what each edit of a world does to its snapshots.
-use Rattle.std.proofs.Common.{◌≡◌, ℕ, ◌≤◌, ◌<◌, Bool, true, not, ◌||◌, List, Option, Some, None, refl, sym, ap, subst, ◌∙◌, ⊎_elim, map, arith}
+use Rattle.std.proofs.Common.{◌≡◌, ℕ, ◌≤◌, ◌<◌, Bool, true, false, not, ◌||◌, List, Option, Some, None, refl, sym, ap, subst, ◌∙◌, ⊎_elim, map, arith}
+use Rattle.std.specs.Prelude.{if◌then◌else◌}
 use Rattle.std.specs.List.{filter}
 use Rattle.std.specs.Option.{option_map, option_map_or}
 use Rattle.std.specs.FinMap.{get, insert}
@@ -7,7 +8,7 @@ use Rattle.base.specs.Map.{Map}
 use Rattle.base.specs.Surveys.{IsIn}
 use Rattle.model.specs.World.{World, FileSystem, Snap, SnapId, id_of, same_id, snap_at, snaps_of}
 use Rattle.model.specs.State.{Views, is_viewed}
-use Rattle.model.specs.Edits.{with_file_system, with_losses, without_snaps}
+use Rattle.model.specs.Edits.{with_file_system, with_file_systems, with_losses, with_tags, without_snaps}
 use Rattle.model.specs.requests.Destroy.{with_deferred}
 use Rattle.world.specs.RunLaws.{HasSnap}
 use Rattle.world.specs.Shapes.{Name, name_order}
@@ -142,26 +143,39 @@ some_gone views w goes once closed stay = safe_fewer views w (without_snaps w go
     (k.0, k.1, (from_filter (λ t. not (goes t)) k.0.snaps t (subst (λ (x : FileSystem). IsIn x.snaps t) k.2 h.2)).0))
     (λ q t h seen. (record h.0 { snaps = filter (λ t. not (goes t)) h.0.snaps }, without_at w goes q h.0 h.1, in_filter (λ t. not (goes t)) h.0.snaps t h.2 (stay q t h seen)))
 
--- some snapshots that are to go
-module _ (w : World) (some : Snap → Bool) where
-  abbrev change : Snap → Snap
-  change t = record t { deferred = t.deferred || some t }
+-- each snapshot changed, but not what a view shows of it
+module _ (w : World) (change : Snap → Snap) (same : (t : Snap) → kept_of (change t) ≡ kept_of t) where
+  abbrev changed : FileSystem → FileSystem
+  changed f = record f { snaps = map {A = Snap} change f.snaps }
 
-  abbrev marked : FileSystem → FileSystem
-  marked f = record f { snaps = map {A = Snap} (λ t. record t { deferred = t.deferred || some t }) f.snaps }
+  abbrev after : World
+  after = with_file_systems w (λ _ f. record f { snaps = map {A = Snap} change f.snaps })
 
-  all_marked : (q : Name) → get (with_deferred w some).file_systems q ≡ option_map marked (get w.file_systems q)
-  all_marked q = get-with_file_systems w (λ _ f. record f { snaps = map {A = Snap} (λ t. record t { deferred = t.deferred || some t }) f.snaps }) q
+  all_changed : (q : Name) → get after.file_systems q ≡ option_map changed (get w.file_systems q)
+  all_changed q = get-with_file_systems w (λ _ f. record f { snaps = map {A = Snap} change f.snaps }) q
 
-  from_marked : (q : Name) (t : Snap) → HasSnap (with_deferred w some) q t → (u : Snap) × HasSnap w q u × (t ≡ change u)
-  from_marked q t h = by_system (get w.file_systems q) refl (sym (all_marked q) ∙ h.1)
+  from_changed : (q : Name) (t : Snap) → HasSnap after q t → (u : Snap) × HasSnap w q u × (t ≡ change u)
+  from_changed q t h = by_system (get w.file_systems q) refl (sym (all_changed q) ∙ h.1)
     where
-      by_system : (x : Option FileSystem) → get w.file_systems q ≡ x → option_map marked x ≡ Some h.0 → (u : Snap) × HasSnap w q u × (t ≡ change u)
+      by_system : (x : Option FileSystem) → get w.file_systems q ≡ x → option_map changed x ≡ Some h.0 → (u : Snap) × HasSnap w q u × (t ≡ change u)
       by_system None e k = absurd (no_value h.0 k)
       by_system (Some f) e k =
-          let i = in_map change f.snaps t (subst (λ (x : FileSystem). IsIn x.snaps t) (sym (same_value (marked f) h.0 k)) h.2) in
+          let i = in_map change f.snaps t (subst (λ (x : FileSystem). IsIn x.snaps t) (sym (same_value (changed f) h.0 k)) h.2) in
           (i.0, (f, e, i.1), i.2)
 
-  pub some_deferred : (views : Views) → AreOnce w → AreClosed w → IsSafe views w (with_deferred w some)
-  some_deferred views once closed = safe_from views w (with_deferred w some) change (λ t. refl) once closed (omega arith) from_marked
-      (λ q t h seen. (marked h.0, all_marked q ∙ ap (option_map marked) h.1, map_in change h.0.snaps t h.2))
+  pub each_changed : (views : Views) → AreOnce w → AreClosed w → IsSafe views w (with_file_systems w (λ _ f. record f { snaps = map {A = Snap} change f.snaps }))
+  each_changed views once closed = safe_from views w after change same once closed (omega arith) from_changed
+      (λ q t h seen. (changed h.0, all_changed q ∙ ap (option_map changed) h.1, map_in change h.0.snaps t h.2))
+
+-- some snapshots that are to go
+pub some_deferred : (w : World) (some : Snap → Bool) (views : Views) → AreOnce w → AreClosed w → IsSafe views w (with_deferred w some)
+some_deferred w some = each_changed w (λ t. record t { deferred = t.deferred || some t }) (λ t. refl)
+
+-- other tags of a snapshot
+same_tagged : (b : Bool) (t : Snap) (tags : List (List ℕ)) → kept_of (if b then record t { tags = tags } else t) ≡ kept_of t
+same_tagged true t tags = refl
+same_tagged false t tags = refl
+
+pub one_tagged : (w : World) (id : SnapId) (tags : List (List ℕ)) (views : Views) → AreOnce w → AreClosed w → IsSafe views w (with_tags w id tags)
+one_tagged w id tags =
+    each_changed w (λ t. if same_id (id_of t) id then record t { tags = tags } else t) (λ t. same_tagged (same_id (id_of t) id) t tags)

@@ -1,22 +1,22 @@
 -- Each request, one by one: where it isn't refused, the views that it doesn't close keep their snapshots. So every step does.
-use Rattle.std.proofs.Common.{◌≡◌, ◌+◌, ℕ, Option, Some, Bool, true, false, ◌&&◌, List, [], ◌∷◌, length, None, refl, sym, subst}
+use Rattle.std.proofs.Common.{◌≡◌, ◌+◌, ℕ, Option, Some, Bool, true, false, ◌&&◌, List, [], ◌∷◌, ◌++◌, length, None, refl, sym, subst}
 use Rattle.std.specs.Prelude.{if◌then◌else◌}
 use Rattle.std.specs.Option.{option_map_or}
-use Rattle.std.specs.FinMap.{remove}
+use Rattle.std.specs.FinMap.{remove, insert}
 use Rattle.std.specs.FinSet.{difference}
 use Rattle.name.specs.declared.member.Member.{Member}
 use Rattle.name.specs.declared.target.Target.{Target}
 use Rattle.name.specs.declared.target.Target.TheVariants.{FileSystem as OfFileSystem, Snapshot as OfSnapshot, Bookmark as OfBookmark}
 use Rattle.base.specs.Rewrite.{Changes, rewrite}
 use Rattle.model.specs.declared.request.Request.{Request}
-use Rattle.model.specs.declared.request.Request.TheVariants.{Create as ToCreate, Write as ToWrite, Punch as ToPunch, FreeObject as ToFreeObject, Snapshot as ToSnapshot, Read as ToRead, Get as ToGet, PoolGet as ToPoolGet, List as ToList, Rollback as ToRollback, Destroy as ToDestroy, Slice as ToSlice, Sync as ToSync, OpenView as ToOpenView, CloseView as ToCloseView, Clone as ToClone, Promote as ToPromote}
+use Rattle.model.specs.declared.request.Request.TheVariants.{Create as ToCreate, Write as ToWrite, Punch as ToPunch, FreeObject as ToFreeObject, Snapshot as ToSnapshot, Read as ToRead, Get as ToGet, PoolGet as ToPoolGet, List as ToList, Rollback as ToRollback, Destroy as ToDestroy, Slice as ToSlice, Sync as ToSync, OpenView as ToOpenView, CloseView as ToCloseView, Clone as ToClone, Promote as ToPromote, Hold as ToHold, Release as ToRelease, Holds as ToHolds, Bookmark as ToBookmark}
 use Rattle.model.specs.declared.reply.Reply.{Reply}
 use Rattle.model.specs.State.{State}
 use Rattle.model.specs.Rule.{Choice, Rule}
 use Rattle.model.specs.Refusals.{refusal_of}
 use Rattle.model.specs.Outcome.{is_needed, state_after_sweep, state_after}
 use Rattle.model.specs.World.{FileSystem, Snap, id_of}
-use Rattle.model.specs.Edits.{with_now, with_losses, with_next_group, after_change}
+use Rattle.model.specs.Edits.{with_now, with_file_system, with_losses, with_next_group, with_tags, after_change}
 use Rattle.model.specs.Step.{Step, Follows, done, refused, out_of_memory}
 use Rattle.model.specs.requests.{rule_of}
 use Rattle.model.specs.requests.Change.{state_after_change}
@@ -26,8 +26,10 @@ use Rattle.model.specs.requests.Rollback.{placed, rolled_back}
 use Rattle.model.specs.requests.Clone.{with_clone, clone_rule}
 use Rattle.model.specs.requests.Promote.{Promotion, promotion_of, after_promotion}
 use Rattle.model.specs.requests.Destroy.{after_destroy}
+use Rattle.model.specs.requests.Release.{without_tag}
+use Rattle.model.specs.requests.Bookmark.{bookmarked, bookmark_of_snap}
 use Rattle.world.specs.RunLaws.{IsViewing}
-use Rattle.world.proofs.Viewed.{IsSafe, one_changed}
+use Rattle.world.proofs.Viewed.{IsSafe, one_changed, one_tagged}
 use Rattle.world.proofs.ViewedTakes.{taken_safe}
 use Rattle.world.proofs.ViewedRequests.{create_asked, clone_asked, rollback_asked, destroy_asked}
 use Rattle.world.proofs.ViewedClones.{promoted_safe}
@@ -73,6 +75,23 @@ turned r s name v = by_promotion (promotion_of s.now name) refl
     by_promotion None e = state_stays (ToPromote name) r s v
     by_promotion (Some p) e = views_stay (ToPromote name) r s (after_promotion s.now name p) s.last s.next_guid v (promoted_safe s.now name p e s.views v.once v.closed)
 
+-- other tags of a snapshot, and a bookmark of one
+tagged : (q : Request) (r : Reply) (s : State) (target : Target) (tags : Snap → List (List ℕ)) → IsViewing s
+    → IsKeeping q r s (with_now s (option_map_or (λ p. with_tags s.now (id_of p.1) (tags p.1)) (placed s.now target) s.now))
+tagged q r s target tags v = by_place (placed s.now target)
+  where
+    by_place : (x : Option (FileSystem × Snap)) → IsKeeping q r s (with_now s (option_map_or (λ p. with_tags s.now (id_of p.1) (tags p.1)) x s.now))
+    by_place None = state_stays q r s v
+    by_place (Some p) = views_stay q r s (with_tags s.now (id_of p.1) (tags p.1)) s.last s.next_guid v (one_tagged s.now (id_of p.1) (tags p.1) s.views v.once v.closed)
+
+noted : (q : Request) (r : Reply) (s : State) (target : Target) (mark : Member) → IsViewing s → IsKeeping q r s (with_now s (bookmarked s.now target mark))
+noted q r s target mark v = by_place (placed s.now target)
+  where
+    by_place : (x : Option (FileSystem × Snap)) → IsKeeping q r s (with_now s (option_map_or (λ p. with_file_system s.now mark.file_system (λ f. record f { bookmarks = insert f.bookmarks mark.component (bookmark_of_snap p.1) })) x s.now))
+    by_place None = state_stays q r s v
+    by_place (Some p) = views_stay q r s (with_file_system s.now mark.file_system (λ f. record f { bookmarks = insert f.bookmarks mark.component (bookmark_of_snap p.1) })) s.last s.next_guid v
+        (one_changed s.views s.now mark.file_system (λ f. record f { bookmarks = insert f.bookmarks mark.component (bookmark_of_snap p.1) }) v.once v.closed (λ f t e h. h) (λ f t e h seen. h))
+
 -- a rule that isn't refused
 followed : (q : Request) (r : Reply) (s new : State) (rule : Rule) → IsViewing s → ((c : Choice) → refusal_of s rule ≡ None → r ≡ rule.reply s → IsKeeping q r s (rule.after s c))
     → Follows s rule r new → IsKeeping q r s new
@@ -110,3 +129,7 @@ step_keeps q r s new v step = followed q r s new (rule_of q step.reading) v (by_
     by_request (ToClone target name) c none is = cloned r s target name v none
     by_request (ToPromote name) c none is = turned r s name v
     by_request (ToCloseView view) c none is = subst (λ x. IsKeeping (ToCloseView view) x s (record s { views = remove s.views view })) (sym is) (view_closed s view v)
+    by_request (ToHold tag target) c none is = tagged (ToHold tag target) r s target (λ t. t.tags ++ tag ∷ []) v
+    by_request (ToRelease tag target) c none is = tagged (ToRelease tag target) r s target (λ t. without_tag t.tags tag) v
+    by_request (ToHolds target) c none is = state_stays (ToHolds target) r s v
+    by_request (ToBookmark target mark) c none is = noted (ToBookmark target mark) r s target mark v

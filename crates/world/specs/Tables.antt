@@ -1,17 +1,17 @@
 -- What a table of datasets keeps beside what contracts see of it: the deadlists; and what its functions do.
 use Rattle.std.specs.Prelude.{◌≡◌, ◌<◌, ◌≤◌, ◌⊎◌, ◌++◌, ℕ, List, [], ◌∷◌, Some, IsSome, map}
 use Rattle.std.specs.Coded.{Coded, code_by, coded×, coded_ℕ, coded_list}
-use Rattle.std.specs.FinMap.{get, insert, remove}
+use Rattle.std.specs.FinMap.{FinMap, get, insert, remove}
 use Rattle.std.specs.FinMap as finmap
 use Rattle.std.specs.FinSet.{empty, difference}
 use Rattle.std.proofs.Common.{refl}
 use Rattle.base.specs.declared.number.Dead.{Dead}
-use Rattle.name.specs.Names.{root_name}
+use Rattle.name.specs.Names.{name_cmp, root_name}
 use Rattle.base.specs.Map.{Map, Block, BlockSet, blocks}
 use Rattle.base.specs.Surveys.{IsIn, dead_block}
-use Rattle.model.specs.World.{World, FileSystem, Snap, SnapId, Dataset, Live, id_of, same_id, snap_at, union_of}
+use Rattle.model.specs.World.{World, FileSystem, Snap, SnapId, Bookmark, Dataset, Live, id_of, same_id, snap_at, union_of}
 use Rattle.model.specs.Codes.{file_system_code}
-use Rattle.model.specs.Edits.{without_snaps}
+use Rattle.model.specs.Edits.{with_file_system, with_tags, without_snaps}
 use Rattle.model.specs.requests.Destroy.{with_deferred}
 use Rattle.world.specs.Sets.{Has}
 use Rattle.world.specs.Deadlists.{Lists}
@@ -57,6 +57,14 @@ without_snap t id = record t { file_systems = (without_snaps (world_of t) (λ u.
 -- a snapshot that is to go once nothing needs it (zfs-destroy(8), -d)
 abbrev pub deferred_snap : Datasets → SnapId → Datasets
 deferred_snap t id = record t { file_systems = (with_deferred (world_of t) (λ u. same_id (id_of u) id)).file_systems }
+
+-- a snapshot with other tags (zfs-hold(8), zfs-release(8))
+abbrev pub tagged_snap : Datasets → SnapId → List (List ℕ) → Datasets
+tagged_snap t id tags = record t { file_systems = (with_tags (world_of t) id tags).file_systems }
+
+-- a file system with other bookmarks, and the same where there is none of that name (zfs-bookmark(8))
+abbrev pub with_bookmarks : Datasets → List ℕ → FinMap name_cmp Bookmark → Datasets
+with_bookmarks t name bookmarks = record t { file_systems = (with_file_system (world_of t) name (λ f. record f { bookmarks = bookmarks })).file_systems }
 
 -- a file system gone (zfs-destroy(8))
 abbrev pub without_system : Datasets → List ℕ → Datasets

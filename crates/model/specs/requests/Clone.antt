@@ -6,7 +6,6 @@ use Rattle.base.specs.declared.refusal.Refusal.TheVariants.{NoDataset, NotSnapsh
 use Rattle.name.specs.declared.target.Target.{Target}
 use Rattle.model.specs.declared.reply.Reply.TheVariants.{Done}
 use Rattle.model.specs.World.{World, SnapId, id_of, empty_file_system, map_of_snap}
-use Rattle.model.specs.State.{State}
 use Rattle.model.specs.Targets.{is_snapshot_name}
 use Rattle.model.specs.Edits.{with_now}
 use Rattle.model.specs.Rule.{Row, Rule, any_choice}

@@ -10,7 +10,7 @@ use Rattle.name.specs.declared.target.Target.TheVariants.{FileSystem as OfFileSy
 use Rattle.name.specs.Names.{root_name, same_name}
 use Rattle.model.specs.declared.reply.Reply.TheVariants.{Done}
 use Rattle.model.specs.World.{World, Snap, SnapId, id_of, same_id, file_system_at, snap_named, bookmark_named, children_of, family_of}
-use Rattle.model.specs.State.{State, Views}
+use Rattle.model.specs.State.{Views}
 use Rattle.model.specs.Outcome.{is_needed}
 use Rattle.model.specs.Edits.{with_now, with_file_system, with_file_systems, with_losses, without_snaps}
 use Rattle.model.specs.Rule.{Row, Rule, any_choice}

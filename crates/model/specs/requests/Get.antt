@@ -3,7 +3,7 @@ use Rattle.std.specs.Prelude.{Bool, not, true, false, [], ◌∷◌}
 use Rattle.base.specs.declared.refusal.Refusal.TheVariants.{NoDataset}
 use Rattle.name.specs.declared.target.Target.{Target}
 use Rattle.model.specs.declared.request.Property.{Property}
-use Rattle.model.specs.declared.request.Property.TheVariants.{Referenced, Written, Guid, CreateTxg, Origin, Clones}
+use Rattle.model.specs.declared.request.Property.TheVariants.{Referenced, Written, Guid, CreateTxg, Origin, Clones, UserRefs, DeferDestroy}
 use Rattle.model.specs.declared.reply.Reply.TheVariants.{Value as ValueIs}
 use Rattle.model.specs.State.{State}
 use Rattle.model.specs.Properties.{property_value}
@@ -22,6 +22,8 @@ is_text Guid = false
 is_text CreateTxg = false
 is_text Origin = true
 is_text Clones = true
+is_text UserRefs = false
+is_text DeferDestroy = false
 
 -- the value of a property (zfsprops(7))
 abbrev pub get_rule : Target → Property → Rule

@@ -7,7 +7,6 @@ use Rattle.base.specs.declared.refusal.Refusal.TheVariants.{NoDataset, NotClone,
 use Rattle.name.specs.Names.{same_name, whole_length}
 use Rattle.model.specs.declared.reply.Reply.TheVariants.{Done}
 use Rattle.model.specs.World.{World, FileSystem, Snap, SnapId, file_system_at, snap_at}
-use Rattle.model.specs.State.{State}
 use Rattle.model.specs.Targets.{name_limit}
 use Rattle.model.specs.Edits.{with_now}
 use Rattle.model.specs.Rule.{Row, Rule, any_choice}

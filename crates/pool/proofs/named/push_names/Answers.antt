@@ -1,12 +1,10 @@
-use Rattle.std.proofs.Common.{◌∙◌, sym, ap}
-use Rattle.shared_list.specs.Left.{left}
-use Rattle.file_system.specs.Dead.{snaps_in}
+use Rattle.std.proofs.Common.{◌∙◌}
 use Rattle.file_system.specs.Rows.{entry_of}
-use Rattle.pool.proofs.Yielded.{yielded_all, own_are}
+use Rattle.pool.proofs.Yielded.{own_are}
 use Rattle.pool.proofs.named.push_names.Goals as goal
 
--- the file system's name, and then those of all its snapshots
+-- the file system's name, and then those of its snapshots and of its bookmarks
 pub returns-clause-ok : goal.returns-clause-ok
 returns-clause-ok c =
-    let all = yielded_all left c.into_iter-kept-iterator.result c.loop-kept.yielded c.loop-kept.kept-iterator c.loop-kept.yielded_by c.in-None.ensures.steps.0 in
-    c.loop-kept.invariant ∙ own_are c.args.names.now.items c.push.new.self.items c.as_bytes-name.result.now _ (entry_of c.args.file_system.now) c.loop-kept.yielded c.in_ok-push.ensures.items (c.in_ok-text_of.ensures.ok) (c.as_bytes-name.ensures ∙ c.name.ensures) (sym c.snapshots.ensures ∙ ap snaps_in (sym c.iter-kept-items.ensures ∙ ap left (sym c.into_iter-kept-iterator.ensures.into_iter_gives) ∙ all))
+    own_are c.args.names.now.items c.push.new.self.items c.push_snapshots.new.names.items c.push_bookmarks.new.names.items c.as_bytes.result.now _ (entry_of c.args.file_system.now)
+    c.in_ok-push.ensures.items c.in_ok-text_of.ensures.ok (c.as_bytes.ensures ∙ c.name.ensures) c.in_ok-push_snapshots.ensures.ok c.in_ok-push_bookmarks.ensures.ok

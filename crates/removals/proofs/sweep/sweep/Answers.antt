@@ -30,4 +30,4 @@ pub returns-clause-ok : goal.returns-clause-ok
 returns-clause-ok c =
     ap (λ l. without_origins c.loop-file_system.edit.to c.args.views.now.opened (map entry_in l)) (sym (none_left c.file_systems-file_system-items.result.now c.loop-file_system.file_system-index (omega arith)))
     ∙ c.loop-file_system.invariant.so_far
-    ∙ all_swept c.args.table.now c.args.edit.now.to c.requires.part c.requires.bare c.args.views.now.opened c.requires.swept (once_here c.args.edit.now.to c.len-count.ensures.good)
+    ∙ all_swept c.args.table.now c.args.edit.now.to c.requires.part c.args.views.now.opened c.requires.swept (once_here c.args.edit.now.to c.len-count.ensures.good)

@@ -1,29 +1,17 @@
-use Rattle.std.proofs.Common.{◌≡◌, ◌||◌, ℕ, List, Bool, true, false, cond, Option, Some, None, sym, ap, ◌∙◌}
-use Rattle.std.specs.Option.{option_and_then}
+use Rattle.std.proofs.Common.{◌||◌, sym, ap, ◌∙◌}
 use Rattle.model.specs.Ids.{snap_id}
-use Rattle.model.specs.World.{Snap, SnapId, snap_at}
-use Rattle.model.specs.State.{Views}
-use Rattle.world.specs.Tables.{Datasets, world_of}
-use Rattle.removals.specs.Families.{unneeded}
-use Rattle.removals.specs.Named.{is_kept}
+use Rattle.removals.specs.Named.{has_clone}
+use Rattle.removals.proofs.Needed.{needed_stays, unneeded_found}
 use Rattle.removals.proofs.sweep.unneeded.Goals as goal
+use Rattle.removals.proofs.sweep.unneeded.Goals.{then-is_viewed-via-then-is_viewed, then-is_viewed-via-else-is_viewed+then-has_clone}
 
--- by what was found
-by_mark : (t : Datasets) (views : Views) (id : SnapId) → is_kept t views id ≡ false → (p : List ℕ × Snap) → Some p ≡ snap_at (world_of t) id → (b : Bool) → p.1.deferred ≡ b
-    → unneeded t views id ≡ cond {A = Option (List ℕ × Snap)} b (Some p) None
-by_mark t views id kept p found b is =
-    ap (λ (k : Bool). cond {A = Option (List ℕ × Snap)} k None (option_and_then (λ (q : List ℕ × Snap). cond {A = Option (List ℕ × Snap)} q.1.deferred (Some q) None) (snap_at (world_of t) id))) kept
-    ∙ ap (λ (x : Option (List ℕ × Snap)). option_and_then (λ (q : List ℕ × Snap). cond {A = Option (List ℕ × Snap)} q.1.deferred (Some q) None) x) (sym found)
-    ∙ ap (λ (d : Bool). cond {A = Option (List ℕ × Snap)} d (Some p) None) is
+pub returns-then-is_viewed : goal.returns-then-is_viewed
+returns-then-is_viewed c = sym (needed_stays c.args.table.now c.args.views.now.opened (snap_id c.args.id)
+    (elim c.then-is_viewed.branch [
+      | then-is_viewed-via-then-is_viewed w ↦ ap (λ b. b || has_clone c.args.table.now (snap_id c.args.id)) (sym c.is_viewed.ensures ∙ w.if-is_viewed.true)
+      | then-is_viewed-via-else-is_viewed+then-has_clone w ↦ (λ j. (sym c.is_viewed.ensures ∙ w.if-is_viewed.false) j || (sym w.has_clone.ensures.clones ∙ w.if-has_clone.true) j)
+    ]))
 
-pub returns-then-is_deferred : goal.returns-then-is_deferred
-returns-then-is_deferred c =
-    sym (by_mark c.args.table.now c.args.views.now.opened (snap_id c.args.id)
-    (λ i. (sym c.is_viewed.ensures ∙ c.if-is_viewed.false) i || (sym c.has_clone.ensures.clones ∙ c.if-has_clone.false) i)
-    (c.in_ok-owner.owner.now.name, c.in_ok-owner.snapshot.now) c.in_ok-owner.ensures true (sym c.is_deferred.ensures ∙ c.if-is_deferred.true))
-
-pub returns-else-is_deferred : goal.returns-else-is_deferred
-returns-else-is_deferred c =
-    sym (by_mark c.args.table.now c.args.views.now.opened (snap_id c.args.id)
-    (λ i. (sym c.is_viewed.ensures ∙ c.if-is_viewed.false) i || (sym c.has_clone.ensures.clones ∙ c.if-has_clone.false) i)
-    (c.in_ok-owner.owner.now.name, c.in_ok-owner.snapshot.now) c.in_ok-owner.ensures false (sym c.is_deferred.ensures ∙ c.if-is_deferred.false))
+pub returns-then-not-is_held : goal.returns-then-not-is_held
+returns-then-not-is_held c = sym (unneeded_found c.args.table.now c.args.views.now.opened (snap_id c.args.id) (c.in_ok-owner.owner.now.name, c.in_ok-owner.snapshot.now) c.in_ok-owner.ensures
+    (sym c.is_viewed.ensures ∙ c.if-is_viewed.false) (sym c.has_clone.ensures.clones ∙ c.if-has_clone.false) (sym c.is_deferred.ensures ∙ c.if-is_deferred.true) (sym c.is_held.ensures ∙ c.if-not-is_held.true))

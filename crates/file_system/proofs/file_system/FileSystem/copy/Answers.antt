@@ -5,11 +5,11 @@ use Rattle.std.specs.Option.{option_map}
 use Rattle.base.specs.Map.{Map, BlockSet, blocks}
 use Rattle.base.specs.Surveys.{dead_block}
 use Rattle.deadlist.specs.Held.{Held}
-use Rattle.model.specs.World.{empty_file_system}
 use Rattle.snapshots.specs.declared.kept.Kept.{Kept}
 use Rattle.world.specs.Deadlists.{Lists}
 use Rattle.file_system.specs.Dead.{snaps_in, newest_blocks, AreAccounted}
 use Rattle.file_system.specs.Origins.{origin_id, map_below, blocks_below}
+use Rattle.file_system.specs.Rows.{system_of}
 use Rattle.file_system.proofs.file_system.FileSystem.copy.Goals as goal
 
 -- each part is the same
@@ -34,7 +34,7 @@ returns-clause-ok c =
     let origin : option_map arc_value c.in_ok-origin.origin ≡ option_map arc_value c.self.inside.origin = c.in_ok-origin.ensures.ok in
     (λ i. record {
       name = c.in_ok-name.ensures i;
-      system = record empty_file_system { live = live i; snaps = snaps_in (c.in_ok-snapshots.ensures i); origin = origin_id (origin i) };
+      system = system_of (live i) (snaps_in (c.in_ok-snapshots.ensures i)) (origin_id (origin i)) (c.in_ok-bookmarks.ensures i);
       below = map_below (origin i);
     })
     ∙ c.self.view_is

@@ -1,12 +1,12 @@
-use Rattle.std.proofs.Common.{◌≡◌, [], sym, ap, subst, ◌∙◌}
+use Rattle.std.proofs.Common.{◌≡◌, [], None, sym, ap, subst, ◌∙◌}
 use Rattle.std.specs.FinMap as finmap
 use Rattle.std.specs.FinSet.{difference}
 use Rattle.base.specs.Map.{BlockSet, blocks}
 use Rattle.deadlist.specs.Held.{Held}
-use Rattle.model.specs.World.{empty_file_system}
 use Rattle.world.specs.Deadlists.{Lists}
 use Rattle.world.proofs.Bridge.{blocks_none}
 use Rattle.file_system.specs.Dead.{snaps_in, AreAccounted}
+use Rattle.file_system.specs.Rows.{system_of}
 use Rattle.file_system.proofs.Accounts.{fresh_dead, nothing_before}
 use Rattle.file_system.proofs.file_system.FileSystem.new.Goals as goal
 
@@ -24,4 +24,4 @@ pub returns-clause-ok : goal.returns-clause-ok
 returns-clause-ok c =
     let name : c.in_ok-name.name.value ≡ c.args.name.now = c.in_ok-name.ensures.ok in
     let none = c.in_ok-snapshots.ensures.ok ∙ c.new-3.ensures in
-    λ i. record { name = name i; system = record empty_file_system { live = c.new-5.ensures i; snaps = snaps_in (none i) }; below = finmap.empty }
+    λ i. record { name = name i; system = system_of (c.new-5.ensures i) (snaps_in (none i)) None (c.in_ok-bookmarks.ensures.ok i); below = finmap.empty }

@@ -7,13 +7,12 @@ use Rattle.base.specs.Map.{Map, BlockSet, blocks}
 use Rattle.base.specs.Surveys.{dead_block}
 use Rattle.base.specs.declared.number.Dead.{Dead}
 use Rattle.deadlist.specs.Held.{Held}
-use Rattle.model.specs.World.{empty_file_system}
 use Rattle.snapshots.specs.declared.kept.Kept.{Kept}
 use Rattle.world.specs.Deadlists.{Lists}
 use Rattle.file_system.specs.Dead.{snaps_in, newest_blocks}
 use Rattle.file_system.specs.Origins.{origin_id, map_below, blocks_below}
 use Rattle.file_system.specs.Losses.{newest_map}
-use Rattle.file_system.specs.Rows.{Row, with_system}
+use Rattle.file_system.specs.Rows.{Row, system_of, with_system}
 use Rattle.file_system.proofs.Accounts.{newest_blocks_are, nothing_dead}
 use Rattle.file_system.proofs.Losses.{newest_map_is}
 use Rattle.file_system.proofs.Stacks.{some_at}
@@ -52,5 +51,5 @@ returns-clause-ok c =
     let newest : Kept = c.in-Some.newest.now in
     let last : Some newest ≡ slice_get ks (length ks - 1) = c.in-Some.ensures ∙ ap (λ (l : List Kept). slice_get l (length l - 1)) c.deref.ensures in
     let live : c.in_ok-live.live ≡ newest.snapshot.map = c.in_ok-live.ensures.ok ∙ c.tree.ensures in
-    ap (λ (m : Map). record { name = c.self.inside.name.value; system = record empty_file_system { live = m; snaps = snaps_in ks; origin = origin_id (option_map arc_value c.self.inside.origin) }; below = map_below (option_map arc_value c.self.inside.origin) }) (live ∙ sym (newest_map_is c.self.inside.live ks newest (sym last)))
+    ap (λ (m : Map). record { name = c.self.inside.name.value; system = system_of m (snaps_in ks) (origin_id (option_map arc_value c.self.inside.origin)) (arc_value c.self.inside.bookmarks); below = map_below (option_map arc_value c.self.inside.origin) }) (live ∙ sym (newest_map_is c.self.inside.live ks newest (sym last)))
     ∙ ap (λ (r : Row). with_system r (record r.system { live = newest_map r.system.live r.system.snaps })) c.self.view_is

@@ -6,13 +6,12 @@ use Rattle.std.specs.Option.{option_map, option_copied}
 use Rattle.base.specs.Map.{blocks}
 use Rattle.base.specs.Surveys.{dead_block}
 use Rattle.deadlist.specs.Held.{Held}
-use Rattle.model.specs.World.{empty_file_system}
 use Rattle.snapshots.specs.declared.kept.Kept.{Kept}
 use Rattle.world.specs.Deadlists.{Lists}
 use Rattle.world.specs.Worlds.{AreRising}
 use Rattle.file_system.specs.Dead.{snaps_in, newest_blocks, AreAccounted, IsAbove}
 use Rattle.file_system.specs.Origins.{origin_id, origin_group, map_below, blocks_below, group_below}
-use Rattle.file_system.specs.Rows.{Row, with_system}
+use Rattle.file_system.specs.Rows.{Row, system_of, with_system}
 use Rattle.file_system.specs.Splices.{lost_from, without_group, AreStacked, AreJoined, IsNext}
 use Rattle.file_system.proofs.Stacks.{above_names, rising_from, next_snaps, next_accounted, next_dead, next_lost, last_accounted, last_dead, last_lost, others_stay}
 use Rattle.file_system.proofs.file_system.FileSystem.splice.Goals as goal
@@ -75,7 +74,7 @@ returns-then-place-count-clause-ok c =
     let is : IsNext bs ks i next lost =
     subst (λ x. IsNext (blocks_below x) ks i next lost) c.origin_in-origin.ensures (subst (λ l. IsNext (blocks_below (option_copied c.origin_in-origin.result)) l i next lost) kept c.in_ok-next.ensures.ok) in
     let spliced : arc_value c.splice_in.new.line ≡ set (remove ks i) i next = c.in_ok-splice_in.ensures.ok in
-    ap (λ l. record { name = c.self.inside.name.value; system = record empty_file_system { live = live; snaps = l; origin = origin_id (option_map arc_value c.self.inside.origin) }; below = map_below (option_map arc_value c.self.inside.origin) }) (ap snaps_in spliced ∙ next_snaps bs base ks i g live next lost is rising at)
+    ap (λ l. record { name = c.self.inside.name.value; system = system_of live l (origin_id (option_map arc_value c.self.inside.origin)) (arc_value c.self.inside.bookmarks); below = map_below (option_map arc_value c.self.inside.origin) }) (ap snaps_in spliced ∙ next_snaps bs base ks i g live next lost is rising at)
     ∙ ap (λ (r : Row). with_system r (without_group r.system g)) c.self.view_is
 
 pub returns-then-place-count-clause-lost : goal.returns-then-place-count-clause-lost
@@ -145,7 +144,7 @@ returns-clause-ok c =
     let base = group_below o in
     let rising : AreRising base (snaps_in ks) = subst (λ (r : Row). AreRising (origin_group r.system.origin) r.system.snaps) (sym c.self.view_is) c.requires.above.rising in
     let at : option_map (λ (k : Kept). k.snapshot.group) (slice_get ks i) ≡ Some g = ap (λ l. option_map (λ (k : Kept). k.snapshot.group) (slice_get l i)) (sym kept) ∙ c.place_of-place.ensures.is in
-    ap (λ l. record { name = c.self.inside.name.value; system = record empty_file_system { live = live; snaps = l; origin = origin_id (option_map arc_value c.self.inside.origin) }; below = map_below (option_map arc_value c.self.inside.origin) }) (ap snaps_in c.in_ok-remove_from.ensures.ok ∙ others_stay base g i ks rising at)
+    ap (λ l. record { name = c.self.inside.name.value; system = system_of live l (origin_id (option_map arc_value c.self.inside.origin)) (arc_value c.self.inside.bookmarks); below = map_below (option_map arc_value c.self.inside.origin) }) (ap snaps_in c.in_ok-remove_from.ensures.ok ∙ others_stay base g i ks rising at)
     ∙ ap (λ (r : Row). with_system r (without_group r.system g)) c.self.view_is
 
 pub returns-clause-lost : goal.returns-clause-lost

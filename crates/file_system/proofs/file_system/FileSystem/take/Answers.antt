@@ -5,14 +5,14 @@ use Rattle.std.specs.FinSet.{difference}
 use Rattle.base.specs.Map.{blocks}
 use Rattle.base.specs.Surveys.{dead_block}
 use Rattle.deadlist.specs.Held.{Held}
-use Rattle.model.specs.World.{Snap, empty_file_system}
+use Rattle.model.specs.World.{Snap}
 use Rattle.model.specs.Sums.{size_without}
 use Rattle.snapshots.specs.Snaps.{plain_snap}
 use Rattle.snapshots.specs.declared.kept.Kept.{Kept}
 use Rattle.world.specs.Deadlists.{Lists}
 use Rattle.file_system.specs.Dead.{snaps_in, newest_blocks}
 use Rattle.file_system.specs.Origins.{origin_id, map_below, blocks_below}
-use Rattle.file_system.specs.Rows.{Row, with_system, with_snap}
+use Rattle.file_system.specs.Rows.{Row, system_of, with_system, with_snap}
 use Rattle.file_system.proofs.Accounts.{snaps_more, taken_accounted, taken_dead}
 use Rattle.file_system.proofs.file_system.FileSystem.take.Goals as goal
 
@@ -42,4 +42,4 @@ returns-clause-ok c =
     let snap : c.new-snapshot.result ≡ plain_snap c.args.name.now c.self.inside.live c.args.guid.0 c.args.group.0 = c.new-snapshot.ensures ∙ λ i. plain_snap (name i) (tree i) c.args.guid.0 c.args.group.0 in
     let pushed : arc_value c.push.new.line ≡ ks ++ k ∷ [] = c.in_ok-push.ensures.ok in
     let snaps = ap snaps_in pushed ∙ snaps_more ks k ∙ ap (λ t. snaps_in ks ++ t ∷ []) snap in
-    ap (λ l. record { name = c.self.inside.name.value; system = record empty_file_system { live = c.self.inside.live; snaps = l; origin = origin_id (option_map arc_value c.self.inside.origin) }; below = map_below (option_map arc_value c.self.inside.origin) }) snaps ∙ ap (λ (r : Row). with_system r (with_snap r.system c.args.name.now c.args.guid.0 c.args.group.0)) c.self.view_is
+    ap (λ l. record { name = c.self.inside.name.value; system = system_of c.self.inside.live l (origin_id (option_map arc_value c.self.inside.origin)) (arc_value c.self.inside.bookmarks); below = map_below (option_map arc_value c.self.inside.origin) }) snaps ∙ ap (λ (r : Row). with_system r (with_snap r.system c.args.name.now c.args.guid.0 c.args.group.0)) c.self.view_is

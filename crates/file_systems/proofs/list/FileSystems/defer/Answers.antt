@@ -1,23 +1,10 @@
-use Rattle.std.proofs.Common.{◌≡◌, Result, Ok, Err, List, [], Option, None, length, map, ap, sym, subst, ◌∙◌, is_some, true≢false}
-use Rattle.base.specs.Map.{Map}
-use Rattle.std.specs.Prelude.{OnErr, IfSome, IsSome, ◌==◌}
+use Rattle.std.proofs.Common.{Result, Ok, Err, map, refl}
+use Rattle.std.specs.Prelude.{OnErr}
 use Rattle.std.specs.Arc.{arc_value}
-use Rattle.std.specs.List.{find}
-use Rattle.std.specs.Option.{option_map_or}
-use Rattle.std.specs.FinMap.{get, from_sorted}
-use Rattle.std.proofs.lemmas.List.{map-set, length-map}
-use Rattle.std.proofs.Math.Seq.{map-set_same}
-use Rattle.model.specs.World.{FileSystem, Snap}
-use Rattle.name.specs.Names.{name_cmp}
-use Rattle.file_system.specs.Deferred.{deferred_at, deferred_if}
+use Rattle.file_system.specs.Deferred.{with_deferred, deferred_at}
 use Rattle.file_systems.specs.Places.{IsAt, IsGapFor}
-use Rattle.file_system.specs.Rows.{entry_in, entry_of, Entry, Row, snaps_at}
-use Rattle.file_system.specs.Splices.{AreAbove}
-use Rattle.file_systems.proofs.Rows.{row_of, get_gap, placed_sorted, made_is, rule_here, snaps_are}
-use Rattle.file_systems.proofs.Counts.{set_counted_same}
-use Rattle.file_systems.specs.Clones.{map_found}
-use Rattle.file_systems.proofs.Ties.{row_place, row_within, tied_set, found_deferred, below_is}
-use Rattle.file_systems.proofs.Listing.{listed_set}
+use Rattle.file_system.specs.Rows.{entry_in}
+use Rattle.file_systems.proofs.Labelled.{is_edited, no_snap_in_gap, snap_there, stands_above, labelled_sorted, labelled_is, same_sorted, same_is}
 use Rattle.file_systems.proofs.list.FileSystems.defer.Goals as goal
 
 -- what holds in any case holds on failure
@@ -29,64 +16,39 @@ on_err (Err e) p = p
 pub unreachable-requires : goal.unreachable-requires
 unreachable-requires c =
     let gap : IsGapFor (map entry_in c.self.inside.rows.items) c.args.name.now c.in_default.field-0 = rw (← c.deref.ensures.value, ← c.as_bytes.ensures) c.in_default.ensures.absent in
-    let none : get c.args.self.now c.args.name.now ≡ None = rw (← c.self.view_is) (get_gap _ c.self.invariant.sorted c.args.name.now c.in_default.field-0 gap) in
-    true≢false (sym c.requires.there ∙ ap (λ (o : Option FileSystem). is_some (find (λ (t : Snap). t.group == c.args.group.0) (option_map_or (λ (f : FileSystem). f.snaps) o []))) none)
+    no_snap_in_gap c.self.inside c.self.invariant c.args.self.now c.self.view_is c.args.name.now c.in_default.field-0 gap c.args.group.0 c.requires.there
 
 pub defer-requires-clause-there : goal.defer-requires-clause-there
 defer-requires-clause-there c =
     let at : IsAt (map entry_in c.self.inside.rows.items) c.args.name.now c.in-Ok.place = rw (← c.deref.ensures.value, ← c.as_bytes.ensures) c.in-Ok.ensures.found in
-    let is = row_of entry_in c.self.inside.rows.items c.in-Ok.place c.index_mut.result.now c.index_mut.ensures.value in
-    let snaps = ap (λ m. snaps_at m c.args.name.now) (sym c.self.view_is) ∙ snaps_are _ c.self.invariant.sorted c.args.name.now c.in-Ok.place at (entry_in c.index_mut.result.now) is in
-    subst (λ (l : List Snap). IsSome (find (λ (t : Snap). t.group == c.args.group.0) l)) snaps c.requires.there
+    snap_there c.self.inside c.self.invariant c.args.self.now c.self.view_is c.args.name.now c.in-Ok.place at c.index_mut.result.now c.index_mut.ensures.value c.args.group.0 c.requires.there
 
 pub defer-requires-clause-above : goal.defer-requires-clause-above
 defer-requires-clause-above c =
     let at : IsAt (map entry_in c.self.inside.rows.items) c.args.name.now c.in-Ok.place = rw (← c.deref.ensures.value, ← c.as_bytes.ensures) c.in-Ok.ensures.found in
-    let is = row_of entry_in c.self.inside.rows.items c.in-Ok.place c.index_mut.result.now c.index_mut.ensures.value in
-    let below = below_is c.self.inside.rows.items c.self.invariant.sorted c.self.invariant.tied c.args.name.now c.in-Ok.place at c.index_mut.result.now c.index_mut.ensures.value in
-    rule_here _ c.self.invariant.sorted c.args.name.now c.in-Ok.place at (entry_in c.index_mut.result.now) is (AreAbove (arc_value c.index_mut.result.now).below) (subst (λ (b : Map). IfSome (get (from_sorted {R = name_cmp} (map entry_in c.self.inside.rows.items)) c.args.name.now) (AreAbove b)) below (rw c.self.view_is c.requires.above))
+    stands_above c.self.inside c.self.invariant c.args.self.now c.self.view_is c.args.name.now c.in-Ok.place at c.index_mut.result.now c.index_mut.ensures.value c.requires.above
 
 -- where memory was refused the rows are the same
 pub invariant_of-self : goal.invariant_of-self
 invariant_of-self c =
-    let same = map-set_same entry_in c.self.inside.rows.items c.in-Ok.place c.defer.new.row c.index_mut.result.now (ap entry_of c.in_err-defer.ensures.err ∙ ap entry_in c.index_mut.ensures.value) in
-    let same_rows = map-set_same arc_value c.self.inside.rows.items c.in-Ok.place c.defer.new.row c.index_mut.result.now (c.in_err-defer.ensures.err ∙ ap arc_value c.index_mut.ensures.value) in
-    record { sorted = rw same c.self.invariant.sorted; counted = rw same c.self.invariant.counted; tied = rw same_rows c.self.invariant.tied; listed = rw same c.self.invariant.listed }
+    let at : IsAt (map entry_in c.self.inside.rows.items) c.args.name.now c.in-Ok.place = rw (← c.deref.ensures.value, ← c.as_bytes.ensures) c.in-Ok.ensures.found in
+    same_sorted c.self.inside c.self.invariant c.args.self.now c.self.view_is c.args.name.now c.in-Ok.place at c.index_mut.result.now c.index_mut.ensures.value c.defer.new.row c.in_err-defer.ensures.err _ refl refl refl
 
 pub returns-in_err-defer-clause-err : goal.returns-in_err-defer-clause-err
 returns-in_err-defer-clause-err c =
-    let same = map-set_same entry_in c.self.inside.rows.items c.in-Ok.place c.defer.new.row c.index_mut.result.now (ap entry_of c.in_err-defer.ensures.err ∙ ap entry_in c.index_mut.ensures.value) in
-    on_err c.from_residual.result (ap (from_sorted {R = name_cmp}) same ∙ c.self.view_is)
+    let at : IsAt (map entry_in c.self.inside.rows.items) c.args.name.now c.in-Ok.place = rw (← c.deref.ensures.value, ← c.as_bytes.ensures) c.in-Ok.ensures.found in
+    on_err c.from_residual.result
+    (same_is c.self.inside c.self.invariant c.args.self.now c.self.view_is c.args.name.now c.in-Ok.place at c.index_mut.result.now c.index_mut.ensures.value c.defer.new.row c.in_err-defer.ensures.err)
 
--- the row has as many snapshots
+-- the row has other labels
 pub invariant_of-self-2 : goal.invariant_of-self-2
 invariant_of-self-2 c =
-    let rows = map entry_in c.self.inside.rows.items in
-    let row = entry_in c.index_mut.result.now in
-    let after = entry_in c.defer.new.row in
-    let at : IsAt rows c.args.name.now c.in-Ok.place = rw (← c.deref.ensures.value, ← c.as_bytes.ensures) c.in-Ok.ensures.found in
-    let is = row_of entry_in c.self.inside.rows.items c.in-Ok.place c.index_mut.result.now c.index_mut.ensures.value in
-    let sorted = placed_sorted rows c.self.invariant.sorted c.args.name.now c.in-Ok.place at row is (deferred_at row.1 c.args.group.0) after (ap entry_of c.in_ok-defer.ensures.ok) in
-    let same = ap (λ (r : Entry). length r.1.snaps) (ap entry_of c.in_ok-defer.ensures.ok) ∙ length-map row.1.snaps (deferred_if c.args.group.0) in
-    let items = c.self.inside.rows.items in
-    let all = map arc_value items in
-    let done = c.in_ok-defer.ensures.ok in
-    let place = row_place c.self.inside.rows.items c.self.invariant.sorted c.self.invariant.tied c.args.name.now c.in-Ok.place at c.index_mut.result.now c.index_mut.ensures.value in
-    let within = row_within c.self.inside.rows.items c.self.invariant.sorted c.self.invariant.tied c.args.name.now c.in-Ok.place at c.index_mut.result.now c.index_mut.ensures.value in
-    let tied = tied_set all c.in-Ok.place (arc_value c.defer.new.row) (arc_value c.index_mut.result.now) c.self.invariant.tied within place (ap (λ (r : Row). r.system.origin) done) (ap (λ (r : Row). r.below) done)
-    (λ x id h o found. ap (λ (r : Row). map_found r.system.snaps id) c.in_ok-defer.ensures.ok
-    ∙ found_deferred c.args.group.0 (arc_value c.index_mut.result.now).system.snaps id) in
-    record {
-      sorted = rw map-set sorted;
-      counted = rw map-set (set_counted_same rows c.in-Ok.place after row c.self.inside.snapshot_count c.self.invariant.sorted sorted at.within is same c.self.invariant.counted);
-      tied = rw map-set tied;
-      listed = rw map-set (listed_set rows c.self.invariant.sorted c.args.name.now c.in-Ok.place at row is after c.self.inside.clones (ap (λ (r : Row). r.name) done) (ap (λ (r : Row). r.system.origin) done) c.self.invariant.listed);
-    }
+    let at : IsAt (map entry_in c.self.inside.rows.items) c.args.name.now c.in-Ok.place = rw (← c.deref.ensures.value, ← c.as_bytes.ensures) c.in-Ok.ensures.found in
+    labelled_sorted c.self.inside c.self.invariant c.args.self.now c.self.view_is c.args.name.now c.in-Ok.place at c.index_mut.result.now c.index_mut.ensures.value
+    (λ f. deferred_at f c.args.group.0) (is_edited with_deferred (λ t. refl) (λ t. refl) c.args.group.0 (arc_value c.index_mut.result.now).system) c.defer.new.row c.in_ok-defer.ensures.ok _ refl refl refl
 
 pub returns-clause-ok : goal.returns-clause-ok
 returns-clause-ok c =
-    let rows = map entry_in c.self.inside.rows.items in
-    let row = entry_in c.index_mut.result.now in
-    let at : IsAt rows c.args.name.now c.in-Ok.place = rw (← c.deref.ensures.value, ← c.as_bytes.ensures) c.in-Ok.ensures.found in
-    let is = row_of entry_in c.self.inside.rows.items c.in-Ok.place c.index_mut.result.now c.index_mut.ensures.value in
-    rw (← c.self.view_is, map-set) (made_is rows c.self.invariant.sorted c.args.name.now c.in-Ok.place at row is (λ f. deferred_at f c.args.group.0) (entry_in c.defer.new.row) (ap entry_of c.in_ok-defer.ensures.ok))
+    let at : IsAt (map entry_in c.self.inside.rows.items) c.args.name.now c.in-Ok.place = rw (← c.deref.ensures.value, ← c.as_bytes.ensures) c.in-Ok.ensures.found in
+    labelled_is c.self.inside c.self.invariant c.args.self.now c.self.view_is c.args.name.now c.in-Ok.place at c.index_mut.result.now c.index_mut.ensures.value
+    (λ f. deferred_at f c.args.group.0) (is_edited with_deferred (λ t. refl) (λ t. refl) c.args.group.0 (arc_value c.index_mut.result.now).system) c.defer.new.row c.in_ok-defer.ensures.ok

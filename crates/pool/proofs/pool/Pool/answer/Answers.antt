@@ -33,3 +33,6 @@ returns-in-PoolGet c = rw c.in-PoolGet.is c.pool_get.ensures
 
 pub returns-in-List : goal.returns-in-List
 returns-in-List c = rw c.in-List.is c.list.ensures
+
+pub returns-in-Holds : goal.returns-in-Holds
+returns-in-Holds c = rw c.in-Holds.is c.holds.ensures

@@ -2,15 +2,12 @@ use Rattle.std.proofs.Common.{refl}
 use Rattle.model.specs.declared.request.Request.TheVariants.{Destroy}
 use Rattle.pool.specs.Pools.{state_of}
 use Rattle.pool.specs.Shown.{shown}
-use Rattle.pool.proofs.Removing.{apart, no_clone, destroy_can, destroy_done, destroy_refused, lost_now, lost_step, kept_now, kept_step}
+use Rattle.pool.proofs.Removing.{apart, destroy_can, destroy_done, destroy_refused, lost_now, lost_step, kept_now, kept_step}
 use Rattle.pool.proofs.Sights.{clean}
 use Rattle.pool.proofs.pool.Pool.destroy_now.Goals as goal
 
 pub destroy_now-done-requires-clause-apart : goal.destroy_now-done-requires-clause-apart
 destroy_now-done-requires-clause-apart c = apart c.args.self.now (state_of c.self.inside) c.self.inside.allocator c.self.view_is c.self.invariant
-
-pub destroy_now-done-requires-clause-bare : goal.destroy_now-done-requires-clause-bare
-destroy_now-done-requires-clause-bare c = no_clone c.args.self.now (state_of c.self.inside) c.self.inside.allocator c.self.view_is c.self.invariant
 
 pub destroy_now-done-requires-clause-swept : goal.destroy_now-done-requires-clause-swept
 destroy_now-done-requires-clause-swept c = clean c.args.self.now (state_of c.self.inside) c.self.inside.allocator c.self.view_is c.self.invariant

@@ -1,5 +1,5 @@
 use Rattle.pool.specs.Pools.{state_of}
-use Rattle.pool.proofs.Removing.{apart, no_clone}
+use Rattle.pool.proofs.Removing.{apart}
 use Rattle.pool.proofs.Sights.{clean, close_missing, close_refused, close_can, close_done, sweep_can, sweep_done}
 use Rattle.pool.proofs.pool.Pool.planned_close.Goals as goal
 
@@ -10,7 +10,6 @@ returns-then-is_none-clause-step c =
 pub close_view-left-requires : goal.close_view-left-requires
 close_view-left-requires c = record {
   apart = apart c.args.self.now (state_of c.self.inside) c.self.inside.allocator c.self.view_is c.self.invariant;
-  bare = no_clone c.args.self.now (state_of c.self.inside) c.self.inside.allocator c.self.view_is c.self.invariant;
   swept = clean c.args.self.now (state_of c.self.inside) c.self.inside.allocator c.self.view_is c.self.invariant;
 }
 

@@ -1,13 +1,10 @@
 use Rattle.pool.specs.Pools.{state_of}
-use Rattle.pool.proofs.Removing.{apart, no_clone, destroy_can, destroy_done, destroy_refused}
+use Rattle.pool.proofs.Removing.{apart, destroy_can, destroy_done, destroy_refused}
 use Rattle.pool.proofs.Sights.{clean}
 use Rattle.pool.proofs.pool.Pool.planned_destroy.Goals as goal
 
 pub destroy-edit-requires-clause-apart : goal.destroy-edit-requires-clause-apart
 destroy-edit-requires-clause-apart c = apart c.args.self.now (state_of c.self.inside) c.self.inside.allocator c.self.view_is c.self.invariant
-
-pub destroy-edit-requires-clause-bare : goal.destroy-edit-requires-clause-bare
-destroy-edit-requires-clause-bare c = no_clone c.args.self.now (state_of c.self.inside) c.self.inside.allocator c.self.view_is c.self.invariant
 
 pub destroy-edit-requires-clause-swept : goal.destroy-edit-requires-clause-swept
 destroy-edit-requires-clause-swept c = clean c.args.self.now (state_of c.self.inside) c.self.inside.allocator c.self.view_is c.self.invariant

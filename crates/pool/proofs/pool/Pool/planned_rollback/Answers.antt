@@ -1,12 +1,9 @@
 use Rattle.pool.specs.Pools.{state_of}
-use Rattle.pool.proofs.Removing.{apart, no_clone, rollback_can, rollback_done, rollback_refused}
+use Rattle.pool.proofs.Removing.{apart, rollback_can, rollback_done, rollback_refused}
 use Rattle.pool.proofs.pool.Pool.planned_rollback.Goals as goal
 
-pub rollback-edit-requires-clause-apart : goal.rollback-edit-requires-clause-apart
-rollback-edit-requires-clause-apart c = apart c.args.self.now (state_of c.self.inside) c.self.inside.allocator c.self.view_is c.self.invariant
-
-pub rollback-edit-requires-clause-bare : goal.rollback-edit-requires-clause-bare
-rollback-edit-requires-clause-bare c = no_clone c.args.self.now (state_of c.self.inside) c.self.inside.allocator c.self.view_is c.self.invariant
+pub rollback-edit-requires : goal.rollback-edit-requires
+rollback-edit-requires c = record { apart = apart c.args.self.now (state_of c.self.inside) c.self.inside.allocator c.self.view_is c.self.invariant }
 
 pub returns-clause-can : goal.returns-clause-can
 returns-clause-can c =

@@ -4,7 +4,7 @@ use Rattle.name.specs.declared.member.Member.{Member}
 use Rattle.snap.proofs.Rests.{next_left}
 use Rattle.removals.specs.declared.edit.Edit.{Edit}
 use Rattle.removals.specs.Edits.{HasLost}
-use Rattle.removals.specs.Named.{without_named, without_all, is_named_viewed, is_named_cloned, is_named_kept}
+use Rattle.removals.specs.Named.{without_named, without_all, is_named_held, is_named_cloned, is_named_kept}
 use Rattle.removals.proofs.Losses.{lost_none, lost_then}
 use Rattle.removals.proofs.Clones.{IsLeftOf, left_whole, left_then}
 use Rattle.removals.proofs.edit.Edit.lose_unneeded.Goals as goal
@@ -22,10 +22,10 @@ lose_named-requires c =
     let named = is_named_cloned c.args.table.now in
     record {
       apart = c.loop-name.invariant.lost.apart;
-      no_clone = c.loop-name.invariant.left.uncloned _ (or_right (is_named_viewed c.args.table.now c.args.views.now.opened _) (named _) (sym c.is_named_kept.ensures ∙ c.if-not-is_named_kept.true));
+      no_clone = c.loop-name.invariant.left.uncloned _ (or_right (is_named_held c.args.table.now c.args.views.now.opened _) (named _) (sym c.is_named_kept.ensures ∙ c.if-not-is_named_kept.true));
     }
 
--- the next name goes, or stays where a view shows it
+-- the next name goes, or stays where it is kept
 next : (p : Member → Bool) (xs : List Member) (i : _) (m : Member) (b : Bool) → not (p m) ≡ b → drop i xs ≡ m ∷ drop (i + 1) xs
     → filter (λ m. not (p m)) (drop i xs) ≡ cond b (m ∷ filter (λ m. not (p m)) (drop (i + 1) xs)) (filter (λ m. not (p m)) (drop (i + 1) xs))
 next p xs i m b e n = ap (filter (λ m. not (p m))) n ∙ ap (λ b. cond b (m ∷ filter (λ m. not (p m)) (drop (i + 1) xs)) (filter (λ m. not (p m)) (drop (i + 1) xs))) e
@@ -33,16 +33,16 @@ next p xs i m b e n = ap (filter (λ m. not (p m))) n ∙ ap (λ b. cond b (m �
 pub loop-name-preserved : goal.loop-name-preserved
 loop-name-preserved c =
     let from = c.args.self.now in
-    let viewed : Member → Bool = is_named_kept c.args.table.now c.args.views.now.opened in
-    let stays : List Member → List Member = filter (λ m. not (viewed m)) in
+    let kept : Member → Bool = is_named_kept c.args.table.now c.args.views.now.opened in
+    let stays : List Member → List Member = filter (λ m. not (kept m)) in
     let later = stays (drop (c.loop-name.name-index + 1) c.args.all.now) in
     let left = next_left c.args.all.now c.loop-name.name-index c.name-item.result c.loop-name-test.true c.name-item.is in
-    let shown = ap viewed (sym c.name.view_is) ∙ sym c.is_named_kept.ensures in
+    let shown = ap kept (sym c.name.view_is) ∙ sym c.is_named_kept.ensures in
     elim c.if-not-is_named_kept.branch [
       | then-not-is_named_kept+in_ok-lose_named w ↦ record {
         rest = ap (λ (e : Edit). without_all e.to later) w.self-is
             ∙ ap (λ t. without_all t later) (w.in_ok-lose_named.ensures.ok ∙ ap (without_named c.loop-name.self.to) c.name.view_is)
-            ∙ ap (without_all c.loop-name.self.to) (sym (next viewed c.args.all.now c.loop-name.name-index c.name-item.result true (ap not (shown ∙ w.if-not-is_named_kept.true)) left))
+            ∙ ap (without_all c.loop-name.self.to) (sym (next kept c.args.all.now c.loop-name.name-index c.name-item.result true (ap not (shown ∙ w.if-not-is_named_kept.true)) left))
             ∙ c.loop-name.invariant.rest;
         lost = subst (λ (e : Edit). HasLost from.to from.freeing e.to e.freeing) (sym w.self-is)
             (lost_then from.to c.loop-name.self.to w.lose_named.new.self.to from.freeing c.loop-name.self.freeing w.lose_named.new.self.freeing c.loop-name.invariant.lost w.in_ok-lose_named.ensures.lost);
@@ -50,7 +50,7 @@ loop-name-preserved c =
       }
       | else-not-is_named_kept w ↦ record {
         rest = ap (λ (e : Edit). without_all e.to later) w.self-is
-            ∙ ap (without_all c.loop-name.self.to) (sym (next viewed c.args.all.now c.loop-name.name-index c.name-item.result false (ap not (shown ∙ w.if-not-is_named_kept.false)) left))
+            ∙ ap (without_all c.loop-name.self.to) (sym (next kept c.args.all.now c.loop-name.name-index c.name-item.result false (ap not (shown ∙ w.if-not-is_named_kept.false)) left))
             ∙ c.loop-name.invariant.rest;
         lost = subst (λ (e : Edit). HasLost from.to from.freeing e.to e.freeing) (sym w.self-is) c.loop-name.invariant.lost;
         left = subst (λ (e : Edit). IsLeftOf c.args.table.now e.to) (sym w.self-is) c.loop-name.invariant.left;

@@ -1,0 +1,4 @@
+use Rattle.file_system.proofs.file_system.FileSystem.set_tags.Goals as goal
+
+pub returns-clause-ok : goal.returns-clause-ok
+returns-clause-ok c = c.edit.ensures.ok

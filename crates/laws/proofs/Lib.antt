@@ -1,0 +1,9 @@
+pub mod Chains
+pub mod Reaching
+pub mod Walking
+pub mod Sources
+pub mod Edits
+pub mod Turning
+pub mod Stepping
+pub mod Making
+pub mod Marks

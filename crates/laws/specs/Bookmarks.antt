@@ -1,0 +1,57 @@
+-- What a bookmark promises in every run: the map that its snapshot had serves as a source for each later dataset of the lineage.
+use Rattle.std.specs.Prelude.{◌≡◌, ◌≤◌, ℕ, zero, suc, List, [], ◌∷◌, Some}
+use Rattle.std.specs.FinMap.{get}
+use Rattle.base.specs.declared.number.Key.{Key}
+use Rattle.base.specs.Map.{Map, Cell}
+use Rattle.name.specs.declared.member.Member.{Member}
+use Rattle.name.specs.declared.target.Target.TheVariants.{Snapshot as OfSnapshot}
+use Rattle.model.specs.declared.request.Request.{Request}
+use Rattle.model.specs.declared.request.Request.TheVariants.{Bookmark as ToBookmark}
+use Rattle.model.specs.declared.reply.Reply.{Reply}
+use Rattle.model.specs.declared.reply.Reply.TheVariants.{Done}
+use Rattle.model.specs.World.{World, Snap, SnapId, Bookmark, Dataset, Live, Snapped, previous_of, map_of, snap_named, bookmark_named}
+use Rattle.model.specs.State.{State}
+use Rattle.model.specs.Step.{Step}
+use Rattle.model.specs.requests.Bookmark.{bookmark_of_snap}
+use Rattle.world.specs.Dead.{group_of}
+use Rattle.world.specs.Worlds.{IsPoolState}
+
+-- e stands so many places before d in its lineage (On-Disk Specification, chapter 4: ds_prev_snap_obj)
+abbrev pub IsBefore : World → ℕ → Dataset → Dataset → Type 0
+IsBefore w zero d e = d ≡ e
+IsBefore w (suc k) d e = (id : SnapId) × (previous_of w d ≡ Some id) × IsBefore w k (Snapped id) e
+
+-- What was held in this group serves as a source for a file system: what its live map has, or a dataset before it whose group is not
+-- below that one, and was born by that group, is held at the same key, in the same block and with the same bytes (zfs-send(8), -i with
+-- a bookmark; On-Disk Specification, chapter 4)
+abbrev pub IsSource : World → List ℕ → ℕ → Map → Type 0
+IsSource w name group held =
+    (k : ℕ) (d : Dataset) (key : Key) (c : Cell) → IsBefore w k (Live name) d → group ≤ group_of w d → get (map_of w d) key ≡ Some c
+    → c.birth ≤ group → get held key ≡ Some c
+
+-- a pool's state, in which the bookmark stands (zfs-bookmark(8); profile)
+abbrev pub IsMarkedBy : Member → Bookmark → State → Type 0
+IsMarkedBy mark b s = IsPoolState s × (bookmark_named s.now mark ≡ Some b)
+
+-- A bookmark that is made of a snapshot has its guid and group, and what the snapshot has serves as a source for the file system; from a
+-- pool's state this leads to one (zfs-bookmark(8); zfs-send(8), -i with a bookmark)
+abbrev pub BookmarkMade : Type 0
+BookmarkMade =
+    (s u : State) (name mark : Member) (t : Snap) → IsPoolState s → snap_named s.now name ≡ Some t
+    → Step s (ToBookmark (OfSnapshot name) mark) Done u
+    → IsMarkedBy mark (bookmark_of_snap t) u × IsSource u.now mark.file_system t.group t.map
+
+-- a run of which this holds in each state, the first and the last too (profile)
+abbrev pub IsRunWithin : (State → Type 0) → State → List Request → List Reply → State → Type 0
+IsRunWithin Holds s [] [] u = Holds s × (s ≡ u)
+IsRunWithin Holds s (q ∷ qs) (r ∷ rs) u = Holds s × ((t : State) × Step s q r t × IsRunWithin Holds t qs rs u)
+IsRunWithin Holds s _ _ u = ⊥
+
+-- What serves as a source in a bookmark's group serves so after each run in which the bookmark stands: whatever is written, snapped, rolled
+-- back, cloned, promoted or destroyed meanwhile, its snapshot too. The states are a pool's: a step alone may give a new block the number
+-- that another file system's new block of the same bytes has (zfs-send(8), -i with a bookmark; profile)
+abbrev pub BookmarkStands : Type 0
+BookmarkStands =
+    (s u : State) (qs : List Request) (rs : List Reply) (mark : Member) (b : Bookmark) (held : Map)
+    → IsRunWithin (IsMarkedBy mark b) s qs rs u → IsSource s.now mark.file_system b.group held
+    → IsSource u.now mark.file_system b.group held

@@ -1,0 +1,8 @@
+//! What is true of every run of a pool.
+//!
+//! Its functions have no bodies: their contracts are the laws.
+#![tactic(auto)]
+
+mod runs;
+
+pub use runs::run_laws;

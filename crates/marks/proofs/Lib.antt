@@ -1,0 +1,4 @@
+pub mod Placed
+pub mod Tagged
+pub mod Released
+pub mod Bookmarked

@@ -1,0 +1,70 @@
+-- The release of a snapshot: it has its other tags, or goes.
+use Rattle.std.proofs.Common.{◌≡◌, ℕ, Bool, true, false, not, ◌&&◌, List, Option, Some, Result, Ok, Err, sym, ap, subst, ◌∙◌}
+use Rattle.std.specs.Prelude.{IfSome, IfOk}
+use Rattle.std.specs.Option.{option_map, option_map_or}
+use Rattle.base.specs.Map.{BlockSet}
+use Rattle.base.specs.declared.refusal.Refusal.{Refusal}
+use Rattle.holds.specs.Tags.{without_tag}
+use Rattle.name.specs.declared.member.Member.{Member}
+use Rattle.name.specs.declared.target.Target.{Target}
+use Rattle.name.specs.declared.target.Target.TheVariants.{Snapshot as OfSnapshot}
+use Rattle.model.specs.World.{FileSystem, Snap, id_of, snap_named, union_of}
+use Rattle.model.specs.State.{Views}
+use Rattle.model.specs.Outcome.{is_needed}
+use Rattle.model.specs.Edits.{with_tags}
+use Rattle.model.specs.requests.Rollback.{placed}
+use Rattle.world.specs.Sets.{AreDisjoint}
+use Rattle.world.specs.Worlds.{AreFileSystems}
+use Rattle.world.specs.Tables.{Datasets, world_of, tagged_snap, without_snap}
+use Rattle.removals.specs.Edits.{HasLost}
+use Rattle.removals.specs.Requests.{swept, IsSweptBy}
+use Rattle.removals.specs.declared.edit.Edit.{Edit}
+use Rattle.marks.specs.Requests.{released_in, is_due_with}
+use Rattle.marks.proofs.Placed.{IsPlaced, placed_with}
+use Rattle.marks.proofs.Tagged.{lost_tagged, tagged_stays, tagged_goes}
+
+module _ (t : Datasets) (target : Target) (m : Member) (is : target ≡ OfSnapshot m) (tag : List ℕ) (tags : List (List ℕ))
+    (are : option_map (λ p. without_tag p.1.tags tag) (placed (world_of t) target) ≡ Some tags) where
+  abbrev found : (u : Snap) × (p : IsPlaced t m u) × (tags ≡ without_tag u.tags tag)
+  found = placed_with t m (λ q. without_tag q.1.tags tag) tags (subst (λ x. option_map (λ p. without_tag p.1.tags tag) (placed (world_of t) x) ≡ Some tags) is are)
+
+  abbrev u : Snap
+  u = found.0
+
+  abbrev new : Datasets
+  new = tagged_snap t (id_of u) tags
+
+  released_is : released_in t tag target ≡ new
+  released_is =
+      ap (λ x. released_in t tag x) is
+      ∙ ap (λ (x : Option (FileSystem × Snap)). record t { file_systems = (option_map_or (λ (p : FileSystem × Snap). with_tags (world_of t) (id_of p.1) (without_tag p.1.tags tag)) x (world_of t)).file_systems }) found.1.found
+      ∙ ap (tagged_snap t (id_of u)) (sym found.2)
+
+  -- what is told of the snapshot of the name
+  named_is : (P : Snap → Type 0) → IfSome (snap_named (world_of t) m) P → P u
+  named_is P h = subst (λ (x : Option Snap). IfSome x P) found.1.named h
+
+  -- it stays, and nothing is lost
+  pub stays_lost : (freeing : BlockSet) → AreDisjoint (union_of (world_of t)) freeing → (to : Datasets) → IfSome (snap_named (world_of t) m) (λ v. to ≡ tagged_snap t (id_of v) tags) → HasLost t freeing to freeing
+  stays_lost freeing apart to h = subst (λ x. HasLost t freeing x freeing) (sym (named_is (λ v. to ≡ tagged_snap t (id_of v) tags) h)) (lost_tagged t (id_of u) tags freeing apart)
+
+  module _ (good : AreFileSystems t.file_systems t.group) (views : Views) (clean : IsSweptBy t views) where
+    due_is : is_due_with t views target tags ≡ (u.deferred && not (is_needed (world_of t) views (record u { tags = tags })))
+    due_is =
+        ap (λ x. is_due_with t views x tags) is
+        ∙ ap (λ (x : Option (FileSystem × Snap)). option_map_or (λ (p : FileSystem × Snap). p.1.deferred && not (is_needed (world_of t) views (record p.1 { tags = tags }))) x false) found.1.found
+
+    pub stays : is_due_with t views target tags ≡ false → (to : Datasets) → IfSome (snap_named (world_of t) m) (λ v. to ≡ tagged_snap t (id_of v) tags)
+        → to ≡ swept (released_in t tag target) views
+    stays undue to h =
+        named_is (λ v. to ≡ tagged_snap t (id_of v) tags) h
+        ∙ sym (ap (λ x. swept x views) released_is ∙ tagged_stays t good views clean m.file_system found.1.system u found.1.at found.1.among tags (sym due_is ∙ undue))
+
+    -- it goes
+    pub goes : is_due_with t views target tags ≡ true → (r : Result Edit Refusal) → IfSome (snap_named (world_of t) m) (λ v. IfOk r (λ e. e.to ≡ without_snap t (id_of v)))
+        → IfOk r (λ e. e.to ≡ swept (released_in t tag target) views)
+    goes due r h = by_result r (named_is (λ v. IfOk r (λ e. e.to ≡ without_snap t (id_of v))) h)
+      where
+        by_result : (x : Result Edit Refusal) → IfOk x (λ e. e.to ≡ without_snap t (id_of u)) → IfOk x (λ e. e.to ≡ swept (released_in t tag target) views)
+        by_result (Ok e) k = k ∙ sym (ap (λ x. swept x views) released_is ∙ tagged_goes t good views clean m.file_system found.1.system u found.1.at found.1.among tags (sym due_is ∙ due))
+        by_result (Err e) k = tt

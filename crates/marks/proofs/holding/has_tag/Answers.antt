@@ -1,0 +1,9 @@
+use Rattle.std.proofs.Common.{List, ℕ, sym, ap, ◌∙◌}
+use Rattle.holds.specs.Tags.{has_tag}
+use Rattle.holds.proofs.Lists.{any_text}
+use Rattle.marks.proofs.holding.has_tag.Goals as goal
+
+pub returns : goal.returns
+returns c =
+    c.any_is.ensures ∙ any_text c.args.tag.now c.tags.result.now
+    ∙ ap (λ (ts : List (List ℕ)). has_tag ts c.args.tag.now) c.tags.ensures

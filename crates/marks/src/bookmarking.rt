@@ -1,0 +1,125 @@
+//! A bookmark of a snapshot.
+ghost use Rattle.std.specs.Prelude.{◌≡◌, ◌⊎◌, Some, None, IfSome, IfOk, IfErr, OnOk, OnErr};
+ghost use Rattle.std.specs.Arc.{arc_value};
+ghost use Rattle.std.specs.Option.{option_map};
+ghost use Rattle.std.specs.FinMap.{insert};
+ghost use Rattle.base.specs.declared.refusal.Refusal.{Refusal};
+ghost use Rattle.bookmarks.specs.Marks.{bookmark_of};
+ghost use Rattle.model.specs.requests.Bookmark.{bookmark_of_snap, is_beside};
+ghost use Rattle.model.specs.requests.Rollback.{placed};
+ghost use Rattle.world.specs.Tables.{world_of};
+ghost use Rattle.marks.specs.Requests.{bookmarked_in, bookmark_refusal, mark_refusal};
+
+use crate::place::placed;
+use base::refusal::Refusal;
+use bookmarks::Bookmarks;
+use datasets::Table;
+use model::snapshot_id::SnapshotId;
+use name::{Component, MarkName, Target};
+use std::alloc::Global;
+use std::sync::Arc;
+
+/// A table with a bookmark more, under this name: it has the guid and the creation group of the snapshot that the target names, which is of
+/// the same file system (zfs-bookmark(8)). This table stays as it is. Refused are NotSnapshot where the target isn't the name of a
+/// snapshot, else NoDataset where there is no such snapshot, else NotAncestor where it is of another file system, else Exists where there
+/// is a bookmark of this name, else TooMany where the file system has 1,024 bookmarks; NoMemory, where there is none for it, may come
+/// before these (the file system, the order and the limit are profile). It costs the number of file systems, and what `bookmark_now` does.
+pub fn bookmark(
+    alloc: Global,
+    table: &Table,
+    target: &Target,
+    mark: &MarkName,
+) -> Result<Table, Refusal>
+    ensures ok { IfOk result (λ t. t ≡ bookmarked_in table.now target.now mark.now) }
+    ensures can { OnOk result (bookmark_refusal table.now target.now mark.now ≡ None) }
+    ensures refused { IfSome (bookmark_refusal table.now target.now mark.now) (λ e. (result ≡ Err e) ⊎ (result ≡ Err Refusal.NoMemory)) }
+    ensures only { IfErr result (λ e. (bookmark_refusal table.now target.now mark.now ≡ Some e) ⊎ (e ≡ Refusal.NoMemory)) }
+{
+    let mut to = table.copy()?;
+    bookmark_now(alloc, &mut to, target, mark)?;
+    Ok(to)
+}
+
+/// The same in this table: it is refused as `bookmark` is, and NoMemory comes last. At `Err` the table is as it was. It costs the
+/// logarithms of the numbers of file systems and of the snapshots of one, and the number of the file system's bookmarks, which are at most
+/// 1,024.
+pub fn bookmark_now(
+    alloc: Global,
+    table: &mut Table,
+    target: &Target,
+    mark: &MarkName,
+) -> Result<(), Refusal>
+    ensures ok { OnOk result (table.new ≡ bookmarked_in table.old target.now mark.now) }
+    ensures can { OnOk result (bookmark_refusal table.old target.now mark.now ≡ None) }
+    ensures refused { IfSome (bookmark_refusal table.old target.now mark.now) (λ e. result ≡ Err e) }
+    ensures unchanged { OnErr result (table.new ≡ table.old) }
+    ensures only { IfErr result (λ e. (bookmark_refusal table.old target.now mark.now ≡ Some e) ⊎ (e ≡ Refusal.NoMemory)) }
+{
+    // It tells of the bookmarks and of the snapshots that their groups are closed.
+    let _count = table.len();
+    let bookmarks = bookmarks_with(alloc, table, target, mark)?;
+    table.set_bookmarks(alloc, &mark.member().file_system, bookmarks)
+}
+
+// The bookmarks of the file system with this one more, of the snapshot that the target names. It is refused as `bookmark_now` is. It costs
+// what that does.
+fn bookmarks_with(
+    alloc: Global,
+    table: &Table,
+    target: &Target,
+    mark: &MarkName,
+) -> Result<Arc<Bookmarks>, Refusal>
+    ensures ok { IfOk result (λ b. option_map (λ p. insert p.0.bookmarks mark.now.component (bookmark_of_snap p.1)) (placed (world_of table.now) target.now) ≡ Some (arc_value b)) }
+    ensures can { OnOk result (bookmark_refusal table.now target.now mark.now ≡ None) }
+    ensures refused { IfSome (bookmark_refusal table.now target.now mark.now) (λ e. result ≡ Err e) }
+    ensures only { IfErr result (λ e. (bookmark_refusal table.now target.now mark.now ≡ Some e) ⊎ (e ≡ Refusal.NoMemory)) }
+{
+    let snapshot = placed(table, target)?;
+    if !is_beside(target, mark) {
+        return Err(Refusal::NotAncestor);
+    }
+    let mark = mark.member();
+    let Some(file_system) = table.find(&mark.file_system) else {
+        unreachable!()
+    };
+    one_more(
+        alloc,
+        file_system.bookmarks(),
+        &mark.component,
+        snapshot.id(),
+    )
+}
+
+// Whether the target names a snapshot of the file system whose bookmark it would be, there or not. It costs the length of its name.
+fn is_beside(target: &Target, mark: &MarkName) -> bool
+    ensures { result ≡ is_beside target.now mark.now }
+{
+    match target {
+        Target::Snapshot(name) => name.member().file_system.same(&mark.member().file_system),
+        _ => false,
+    }
+}
+
+// These bookmarks and one of this name more. Refused are Exists where there is one of this name, else TooMany where there are 1,024; else
+// NoMemory where there is none for it. It costs their number.
+fn one_more(
+    alloc: Global,
+    bookmarks: &Bookmarks,
+    name: &Component,
+    snapshot: SnapshotId,
+) -> Result<Arc<Bookmarks>, Refusal>
+    ensures ok { IfOk result (λ b. arc_value b ≡ insert bookmarks.now name.now (bookmark_of snapshot)) }
+    ensures can { OnOk result (mark_refusal bookmarks.now name.now ≡ None) }
+    ensures refused { IfSome (mark_refusal bookmarks.now name.now) (λ e. result ≡ Err e) }
+    ensures only { IfErr result (λ e. (mark_refusal bookmarks.now name.now ≡ Some e) ⊎ (e ≡ Refusal.NoMemory)) }
+{
+    if bookmarks.contains(name.as_bytes()) {
+        return Err(Refusal::Exists);
+    }
+    if bookmarks.is_full() {
+        return Err(Refusal::TooMany);
+    }
+    let mut more = bookmarks.copy()?;
+    more.insert(name, snapshot)?;
+    Ok(Arc::new(alloc, more)?)
+}

@@ -1,0 +1,112 @@
+//! A hold of a snapshot.
+ghost use Rattle.std.specs.Prelude.{◌≡◌, ◌⊎◌, ◌++◌, ◌∷◌, [], Some, None, IfSome, IfOk, IfErr, OnOk, OnErr};
+ghost use Rattle.std.specs.Arc.{arc_value};
+ghost use Rattle.std.specs.List.{list_any};
+ghost use Rattle.std.specs.Option.{option_map};
+ghost use Rattle.base.specs.declared.refusal.Refusal.{Refusal};
+ghost use Rattle.holds.specs.Tags.{has_tag};
+ghost use Rattle.name.specs.Names.{same_name};
+ghost use Rattle.model.specs.requests.Rollback.{placed};
+ghost use Rattle.world.specs.Tables.{world_of};
+ghost use Rattle.marks.specs.Requests.{held_in, hold_refusal, tag_refusal};
+
+use crate::place::placed;
+use base::refusal::Refusal;
+use datasets::Table;
+use file_systems::Snapshot;
+use holds::{Holds, TAG_LIMIT};
+use name::{Tag, Target};
+use std::alloc::Global;
+use std::sync::Arc;
+
+/// A table in which the snapshot that the target names has this tag behind its others (zfs-hold(8), without -r; the order is profile). This
+/// table stays as it is. Refused are NotSnapshot where the target isn't the name of a snapshot, else NoDataset where there is no such
+/// snapshot, else Deferred where its destroy is deferred, else TagExists where it has the tag, else TooMany where it has 256 tags;
+/// NoMemory, where there is none for it, may come before these (the order and the limit are profile). It costs the number of file systems,
+/// and what `hold_now` does.
+pub fn hold(alloc: Global, table: &Table, target: &Target, tag: &Tag) -> Result<Table, Refusal>
+    ensures ok { IfOk result (λ t. t ≡ held_in table.now tag.now target.now) }
+    ensures can { OnOk result (hold_refusal table.now tag.now target.now ≡ None) }
+    ensures refused { IfSome (hold_refusal table.now tag.now target.now) (λ e. (result ≡ Err e) ⊎ (result ≡ Err Refusal.NoMemory)) }
+    ensures only { IfErr result (λ e. (hold_refusal table.now tag.now target.now ≡ Some e) ⊎ (e ≡ Refusal.NoMemory)) }
+{
+    let mut to = table.copy()?;
+    hold_now(alloc, &mut to, target, tag)?;
+    Ok(to)
+}
+
+/// The same in this table: it is refused as `hold` is, and NoMemory comes last. At `Err` the table is as it was. It costs the logarithms of
+/// the numbers of file systems and of snapshots, a walk over the chunks of the snapshots of one, and the bytes of the snapshot's tags,
+/// which are at most 256.
+pub fn hold_now(alloc: Global, table: &mut Table, target: &Target, tag: &Tag) -> Result<(), Refusal>
+    ensures ok { OnOk result (table.new ≡ held_in table.old tag.now target.now) }
+    ensures can { OnOk result (hold_refusal table.old tag.now target.now ≡ None) }
+    ensures refused { IfSome (hold_refusal table.old tag.now target.now) (λ e. result ≡ Err e) }
+    ensures unchanged { OnErr result (table.new ≡ table.old) }
+    ensures only { IfErr result (λ e. (hold_refusal table.old tag.now target.now ≡ Some e) ⊎ (e ≡ Refusal.NoMemory)) }
+{
+    let tags = tags_with(alloc, table, target, tag)?;
+    let Target::Snapshot(name) = target else {
+        unreachable!()
+    };
+    table.set_tags(alloc, name.member(), tags)
+}
+
+// The tags of the snapshot that the target names with this one behind them. It is refused as `hold_now` is. It costs the logarithm of the
+// number of file systems, that of the number of snapshots of one, and the bytes of the tags.
+fn tags_with(
+    alloc: Global,
+    table: &Table,
+    target: &Target,
+    tag: &Tag,
+) -> Result<Arc<Holds>, Refusal>
+    ensures ok { IfOk result (λ tags. option_map (λ p. p.1.tags ++ tag.now ∷ []) (placed (world_of table.now) target.now) ≡ Some (arc_value tags)) }
+    ensures can { OnOk result (hold_refusal table.now tag.now target.now ≡ None) }
+    ensures refused { IfSome (hold_refusal table.now tag.now target.now) (λ e. result ≡ Err e) }
+    ensures only { IfErr result (λ e. (hold_refusal table.now tag.now target.now ≡ Some e) ⊎ (e ≡ Refusal.NoMemory)) }
+{
+    let snapshot = placed(table, target)?;
+    if let Some(refusal) = refusal_at(snapshot, tag) {
+        return Err(refusal);
+    }
+    let mut tags = snapshot.holds(alloc)?;
+    tags.add(tag)?;
+    Ok(Arc::new(alloc, tags)?)
+}
+
+// Why the snapshot doesn't get this tag, if it doesn't. It costs the number of its tags.
+fn refusal_at(snapshot: &Snapshot, tag: &Tag) -> Option<Refusal>
+    ensures { result ≡ tag_refusal snapshot.now tag.now }
+{
+    if snapshot.is_deferred() {
+        return Some(Refusal::Deferred);
+    }
+    if has_tag(snapshot, tag) {
+        return Some(Refusal::TagExists);
+    }
+    if snapshot.tag_count() >= TAG_LIMIT {
+        return Some(Refusal::TooMany);
+    }
+    None
+}
+
+// Whether the snapshot has this tag. It costs the number of its tags.
+fn has_tag(snapshot: &Snapshot, tag: &Tag) -> bool
+    ensures { result ≡ has_tag snapshot.now.tags tag.now }
+{
+    any_is(snapshot.tags(), tag)
+}
+
+// Whether one of the tags is this one. It costs their number.
+fn any_is(tags: &[Vec<u8>], tag: &Tag) -> bool
+    ensures { result ≡ list_any (λ v. same_name tag.now v.items) tags.now }
+{
+    tags.iter().any(|other| is_same(tag, other))
+}
+
+// Whether both are the same. It costs their length.
+fn is_same(tag: &Tag, other: &Vec<u8>) -> bool
+    ensures { result ≡ same_name tag.now other.now.items }
+{
+    tag.as_bytes() == other.as_slice()
+}

@@ -1,0 +1,151 @@
+//! The release of a snapshot.
+ghost use Rattle.std.specs.Prelude.{◌≡◌, ◌⊎◌, false, Some, None, IsSome, IfSome, IfOk, IfErr, OnOk, OnErr};
+ghost use Rattle.std.specs.Option.{option_map};
+ghost use Rattle.base.specs.declared.refusal.Refusal.{Refusal};
+ghost use Rattle.holds.specs.Tags.{without_tag};
+ghost use Rattle.model.specs.World.{id_of, snap_named, union_of};
+ghost use Rattle.model.specs.requests.Rollback.{placed};
+ghost use Rattle.world.specs.Sets.{AreDisjoint};
+ghost use Rattle.world.specs.Tables.{world_of, without_snap};
+ghost use Rattle.removals.specs.Edits.{HasLost};
+ghost use Rattle.removals.specs.Named.{is_named_cloned};
+ghost use Rattle.removals.specs.Requests.{swept, IsSweptBy};
+ghost use Rattle.marks.specs.Requests.{released_in, release_refusal, is_due_with};
+
+use crate::place::placed;
+use base::meter::SegMeter;
+use base::refusal::Refusal;
+use datasets::Table;
+use destroyer::Freeing;
+use holds::Holds;
+use name::{Member, Tag, Target};
+use removals::Edit;
+use std::alloc::Global;
+use std::sync::Arc;
+use views::Views;
+
+/// The datasets in which the snapshot that the target names hasn't this tag any more (zfs-release(8), without -r), and without that
+/// snapshot where its destroy is deferred and no other tag, no open view and no clone needs it (zfs-destroy(8), -d): what no dataset has
+/// then is to be freed. The table and what it has to free stay as they are. Refused are NotSnapshot where the target isn't the name of a
+/// snapshot, else NoDataset where there is no such snapshot, else NoTag where it hasn't the tag; NoMemory, where there is none for it, may
+/// come before this last one. It costs what `Edit::of` does and the bytes of the snapshot's tags, which are at most 256; where the
+/// snapshot's destroy is deferred also the number of open views, and where it goes what `Edit::lose_snapshot` does.
+pub fn release(
+    alloc: Global,
+    table: &Table,
+    freeing: &Freeing,
+    views: &Views,
+    target: &Target,
+    tag: &Tag,
+    segments: &mut SegMeter,
+) -> Result<Edit, Refusal>
+    requires apart { AreDisjoint (union_of (world_of table.now)) freeing.now }
+    requires swept { IsSweptBy table.now views.now.opened }
+    ensures ok { IfOk result (λ e. e.to ≡ swept (released_in table.now tag.now target.now) views.now.opened) }
+    ensures lost { IfOk result (λ e. HasLost table.now freeing.now e.to e.freeing) }
+    ensures can { OnOk result (release_refusal table.now tag.now target.now ≡ None) }
+    ensures refused { IfSome (release_refusal table.now tag.now target.now) (λ e. (result ≡ Err e) ⊎ (result ≡ Err Refusal.NoMemory)) }
+    ensures only { IfErr result (λ e. (release_refusal table.now tag.now target.now ≡ Some e) ⊎ (e ≡ Refusal.NoMemory)) }
+{
+    // It tells of the snapshots that each identity is one's.
+    let _count = table.len();
+    let tags = tags_without(alloc, table, target, tag)?;
+    let Target::Snapshot(name) = target else {
+        unreachable!()
+    };
+    if is_due_with(table, views, target, &tags) {
+        return lose(alloc, table, freeing, name.member(), segments);
+    }
+    let mut edit = Edit::of(table, freeing)?;
+    let tags = Arc::new(alloc, tags)?;
+    edit.to.set_tags(alloc, name.member(), tags)?;
+    Ok(edit)
+}
+
+/// The same in this table and on what it has to free: it is refused as `release` is, and at `Err` both are as they were. It costs the
+/// logarithms of the numbers of file systems and of snapshots, a walk over the chunks of the snapshots of one, and the bytes of the
+/// snapshot's tags, which are at most 256; where the snapshot's destroy is deferred the number of open views; and where it goes what
+/// `Edit::of` and `Edit::lose_snapshot` do.
+pub fn release_now(
+    alloc: Global,
+    table: &mut Table,
+    freeing: &mut Freeing,
+    views: &Views,
+    target: &Target,
+    tag: &Tag,
+    segments: &mut SegMeter,
+) -> Result<(), Refusal>
+    requires apart { AreDisjoint (union_of (world_of table.old)) freeing.old }
+    requires swept { IsSweptBy table.old views.now.opened }
+    ensures ok { OnOk result (table.new ≡ swept (released_in table.old tag.now target.now) views.now.opened) }
+    ensures lost { OnOk result (HasLost table.old freeing.old table.new freeing.new) }
+    ensures can { OnOk result (release_refusal table.old tag.now target.now ≡ None) }
+    ensures refused { IfSome (release_refusal table.old tag.now target.now) (λ e. (result ≡ Err e) ⊎ (result ≡ Err Refusal.NoMemory)) }
+    ensures unchanged { OnErr result (table.new ≡ table.old) }
+    ensures kept { OnErr result (freeing.new ≡ freeing.old) }
+    ensures only { IfErr result (λ e. (release_refusal table.old tag.now target.now ≡ Some e) ⊎ (e ≡ Refusal.NoMemory)) }
+{
+    // It tells of the snapshots that each identity is one's.
+    let _count = table.len();
+    let tags = tags_without(alloc, table, target, tag)?;
+    let Target::Snapshot(name) = target else {
+        unreachable!()
+    };
+    if !is_due_with(table, views, target, &tags) {
+        let tags = Arc::new(alloc, tags)?;
+        table.set_tags(alloc, name.member(), tags)?;
+        return Ok(());
+    }
+    let Edit { to, freeing: left } = lose(alloc, table, freeing, name.member(), segments)?;
+    *table = to;
+    *freeing = left;
+    Ok(())
+}
+
+// The other tags of the snapshot that the target names. It is refused as `release` is. It costs the logarithm of the number of file
+// systems, that of the number of snapshots of one, and the bytes of the tags.
+fn tags_without(alloc: Global, table: &Table, target: &Target, tag: &Tag) -> Result<Holds, Refusal>
+    ensures ok { IfOk result (λ tags. option_map (λ p. without_tag p.1.tags tag.now) (placed (world_of table.now) target.now) ≡ Some tags) }
+    ensures can { OnOk result (release_refusal table.now tag.now target.now ≡ None) }
+    ensures refused { IfSome (release_refusal table.now tag.now target.now) (λ e. (result ≡ Err e) ⊎ (result ≡ Err Refusal.NoMemory)) }
+    ensures only { IfErr result (λ e. (release_refusal table.now tag.now target.now ≡ Some e) ⊎ (e ≡ Refusal.NoMemory)) }
+{
+    let snapshot = placed(table, target)?;
+    let mut tags = snapshot.holds(alloc)?;
+    tags.remove(tag.as_bytes())?;
+    Ok(tags)
+}
+
+// Whether the snapshot that the target names goes once it has these tags: there is none of them, its destroy is deferred, and neither an
+// open view nor a clone needs it. It costs the logarithms of the numbers of file systems, of clones and of the snapshots of one, and where
+// its destroy is deferred the number of open views.
+fn is_due_with(table: &Table, views: &Views, target: &Target, tags: &Holds) -> bool
+    ensures { result ≡ is_due_with table.now views.now.opened target.now tags.now }
+{
+    let Ok(snapshot) = placed(table, target) else {
+        return false;
+    };
+    let id = snapshot.id();
+    snapshot.is_deferred() && tags.is_empty() && !views.is_viewed(id) && !table.has_clone(id)
+}
+
+// The datasets without the snapshot of this name, which is there and has no clone: what no dataset has then is to be freed. NoMemory where
+// there is none for it. It costs what `Edit::of` and `Edit::lose_snapshot` do.
+fn lose(
+    alloc: Global,
+    table: &Table,
+    freeing: &Freeing,
+    name: &Member,
+    segments: &mut SegMeter,
+) -> Result<Edit, Refusal>
+    requires apart { AreDisjoint (union_of (world_of table.now)) freeing.now }
+    requires there { IsSome (snap_named (world_of table.now) name.now) }
+    requires no_clone { is_named_cloned table.now name.now ≡ false }
+    ensures ok { IfSome (snap_named (world_of table.now) name.now) (λ u. IfOk result (λ e. e.to ≡ without_snap table.now (id_of u))) }
+    ensures lost { IfOk result (λ e. HasLost table.now freeing.now e.to e.freeing) }
+    ensures err { IfErr result (λ e. e ≡ Refusal.NoMemory) }
+{
+    let mut edit = Edit::of(table, freeing)?;
+    edit.lose_snapshot(alloc, name, segments)?;
+    Ok(edit)
+}

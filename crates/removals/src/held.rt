@@ -1,0 +1,93 @@
+//! What tags and the open views of a pool keep.
+ghost use Rattle.std.specs.Prelude.{◌≡◌, ◌&&◌};
+ghost use Rattle.std.specs.List.{list_any};
+ghost use Rattle.std.specs.FinMap.{entries};
+ghost use Rattle.file_system.specs.Rows.{entry_in};
+ghost use Rattle.snap.specs.Taking.{is_in_family};
+ghost use Rattle.removals.specs.Named.{is_held, is_named_held, is_held_after};
+
+use base::number::Group;
+use datasets::Table;
+use file_systems::{FileSystem, Snapshot};
+use name::{Component, DsName};
+use snap::{Named, is_in_family};
+use std::sync::Arc;
+use views::Views;
+
+// Whether a tag or an open view keeps it. It costs the number of open views.
+fn is_held(views: &Views, snapshot: &Snapshot) -> bool
+    ensures { result ≡ is_held views.now.opened snapshot.now }
+{
+    snapshot.is_held() || views.is_viewed(snapshot.id())
+}
+
+/// Whether a tag or an open view keeps the snapshot of this name. It costs the logarithm of the number of file systems, that of the number
+/// of snapshots of this one, and the number of open views.
+pub(crate) fn is_named_held(
+    table: &Table,
+    views: &Views,
+    file_system: &DsName,
+    component: &Component,
+) -> bool
+    ensures { result ≡ is_named_held table.now views.now.opened (record { file_system = file_system.now; component = component.now }) }
+{
+    let Some(file_system) = table.find(file_system) else {
+        return false;
+    };
+    match file_system.snapshot_named(component.as_bytes()) {
+        Some(snapshot) => is_held(views, snapshot),
+        None => false,
+    }
+}
+
+// The same of a name that is lent.
+fn is_one_held(table: &Table, views: &Views, name: &Named) -> bool
+    ensures { result ≡ is_named_held table.now views.now.opened name.now }
+{
+    is_named_held(table, views, name.file_system, name.component)
+}
+
+/// Whether a tag or an open view keeps the snapshot of one of these names. It costs what `is_named_held` does for each.
+pub(crate) fn any_named_held(table: &Table, views: &Views, all: &[Named]) -> bool
+    ensures { result ≡ list_any (is_named_held table.now views.now.opened) all.now }
+{
+    all.iter().any(|name| is_one_held(table, views, name))
+}
+
+/// Whether a tag or an open view keeps a snapshot of this file system of a later group. It costs the number of its snapshots, and for each
+/// that is later that of the open views.
+pub(crate) fn any_later_held(file_system: &FileSystem, group: Group, views: &Views) -> bool
+    ensures { result ≡ list_any (is_held_after views.now.opened group.0) file_system.now.system.snaps }
+{
+    for kept in file_system.snapshots().iter() {
+        if kept.snapshot.group() > group && is_held(views, &kept.snapshot) {
+            return true;
+        }
+    }
+    false
+}
+
+// Whether it is the file system of that name or a descendant, and a tag or an open view keeps a snapshot of it.
+fn is_held_within(file_system: &FileSystem, name: &DsName, views: &Views) -> bool
+    ensures { result ≡ (is_in_family name.now file_system.now.name && list_any (is_held_after views.now.opened 0) file_system.now.system.snaps) }
+{
+    is_in_family(name.as_bytes(), file_system.name().as_bytes())
+        && any_later_held(file_system, Group(0), views)
+}
+
+// Whether that holds of one of these file systems.
+fn any_held_within(file_systems: &[Arc<FileSystem>], name: &DsName, views: &Views) -> bool
+    ensures { result ≡ list_any (λ a. is_in_family name.now (entry_in a).0 && list_any (is_held_after views.now.opened 0) (entry_in a).1.snaps) file_systems.now }
+{
+    file_systems
+        .iter()
+        .any(|file_system| is_held_within(file_system, name, views))
+}
+
+/// Whether a tag or an open view keeps a snapshot of the file system of this name or of a descendant. It costs the number of file systems,
+/// that of the snapshots of those, and for each of these that of the open views.
+pub(crate) fn any_of_family_held(table: &Table, views: &Views, name: &DsName) -> bool
+    ensures { result ≡ list_any (λ r. is_in_family name.now r.0 && list_any (is_held_after views.now.opened 0) r.1.snaps) (entries table.now.file_systems) }
+{
+    any_held_within(table.file_systems(), name, views)
+}
