@@ -3,3 +3,14 @@ pub mod Names
 pub mod Space
 pub mod Root
 pub mod Unlimited
+pub mod Written
+pub mod Older
+pub mod Next
+pub mod Walks
+pub mod Snapshots
+pub mod Clones
+pub mod Ranges
+pub mod Descendants
+pub mod Family
+pub mod Rooms
+pub mod Bounds

@@ -36,7 +36,7 @@ total_none t v (x ∷ xs) none = at (t x) refl (total_none t v xs (λ y i. none 
     at false e r = omega (arith, r)
 
 -- where one name alone passes a test, the sum over those that pass is its number
-total_one : (t : List ℕ → Bool) (v : List ℕ → ℕ) (xs : List (List ℕ)) (p : List ℕ) → AreDifferent xs → IsIn xs p → t p ≡ true
+pub total_one : (t : List ℕ → Bool) (v : List ℕ → ℕ) (xs : List (List ℕ)) (p : List ℕ) → AreDifferent xs → IsIn xs p → t p ≡ true
     → ((x : List ℕ) → IsIn xs x → t x ≡ true → x ≡ p) → total (λ x. cond (t x) (v x) 0) xs ≡ v p
 total_one t v [] p d i e only = absurd i
 total_one t v (x ∷ xs) p d i e only = ⊎_elim
@@ -65,7 +65,8 @@ total_passing p f g (x ∷ xs) h = at (p x) (total_passing p f g xs h)
     at false r = omega (arith, r)
 
 module _ (w : World) where
-  own : List ℕ → ℕ
+  -- what the file system of a name has of its own, where it is there
+  unfoldable pub own : List ℕ → ℕ
   own name = option_map_or (own_of w) (get w.file_systems name) 0
 
   own_sum : total own (keys w.file_systems) ≡ total (λ e. own_of w e.1) (entries w.file_systems)
@@ -90,7 +91,7 @@ module _ (w : World) where
         at (Some s) e = ap (λ l. unwrap_or l.reservation 0) (unlimited name s e)
 
     -- what of `used` isn't its children's is what it has of its own
-    own_here : (name : List ℕ) → used_here w name ≡ own name
+    pub own_here : (name : List ℕ) → used_here w name ≡ own name
     unfolding own
     own_here name = at (get w.file_systems name) refl
       where
@@ -104,7 +105,8 @@ module _ (w : World) where
             let z : used_by_refreservation w name s ≡ 0 = ap (λ l. unwrap_or l.refreservation 0 - written_of w (Live name)) (unlimited name s e) ∙ nothing (written_of w (Live name)) in
             omega (arith, z)
 
-    within_same : (k : ℕ) (name : List ℕ) → used_here w name + children_within w k name ≡ used_within own is_child (keys w.file_systems) k name
+    -- what is used to a depth is the sum to that depth
+    pub within_same : (k : ℕ) (name : List ℕ) → used_here w name + children_within w k name ≡ used_within own is_child (keys w.file_systems) k name
     within_same zero name = let h = own_here name in omega (arith, h)
     within_same (suc k) name =
         let h = own_here name in

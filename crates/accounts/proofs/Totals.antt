@@ -27,9 +27,23 @@ module _ {A : Type 0} where
       weight true = omega arith
       weight false = omega arith
 
-  total_plus : (f g : A → ℕ) (xs : List A) → total (λ x. f x + g x) xs ≡ total f xs + total g xs
+  pub total_plus : (f g : A → ℕ) (xs : List A) → total (λ x. f x + g x) xs ≡ total f xs + total g xs
   total_plus f g [] = refl
   total_plus f g (x ∷ xs) = let a = total_plus f g xs in omega (arith, a)
+
+  pub total_zero : (xs : List A) → total (λ x. 0) xs ≡ 0
+  total_zero [] = refl
+  total_zero (x ∷ xs) = let a = total_zero xs in omega (arith, a)
+
+  -- a sum of sums, the other way round
+  pub total_swap : (h : A → A → ℕ) (xs ys : List A) → total (λ x. total (λ y. h x y) ys) xs ≡ total (λ y. total (λ x. h x y) xs) ys
+  total_swap h [] ys = sym (total_zero ys)
+  total_swap h (x ∷ xs) ys = ap (λ n. total (λ y. h x y) ys + n) (total_swap h xs ys) ∙ sym (total_plus (λ y. h x y) (λ y. total (λ x. h x y) xs) ys)
+
+  -- a sum where a test holds
+  pub cond_total : (b : Bool) (f : A → ℕ) (xs : List A) → cond b (total f xs) 0 ≡ total (λ x. cond b (f x) 0) xs
+  cond_total true f xs = refl
+  cond_total false f xs = sym (total_zero xs)
 
 -- a node of level d stands under d others, so there are more nodes than levels
 module _ {A : Type 0} (depth : A → ℕ) (xs : List A) (up : (c : A) → IsIn xs c → (d : ℕ) → depth c ≡ d + 1 → (p : A) × IsIn xs p × (depth p ≡ d)) where

@@ -13,6 +13,7 @@ ghost use Rattle.world.specs.Worlds.{AreRising};
 ghost use Rattle.file_system.specs.Promotions.{promotion_between};
 ghost use Rattle.clones.specs.Requests.{promoted, promote_refusal, KeepsPrevious};
 
+use base::meter::SegMeter;
 use base::number::Group;
 use base::refusal::Refusal;
 use datasets::Table;
@@ -28,11 +29,16 @@ const NAME_LIMIT: usize = 255;
 /// that, and the other's origin; the other keeps its newer snapshots, and the clone's origin is its own then. This table stays as it is.
 /// Refused are NoDataset where no file system has the name, else NotClone where it has no origin, else BadName where the whole name of a
 /// snapshot that the clone would get would be over 255 bytes under the clone's name, else NameClash where the clone has a snapshot of the
-/// name of one of these; else NoMemory where there is none for it (the order and the limit are profile). What stood before each dataset
-/// stands before it (On-Disk Specification, chapter 4: ds_prev_snap_obj), and no block is visited. It costs for each file system the
-/// logarithm of the number of its snapshots, the chunks of the snapshots of both, and for each snapshot that changes its file system the
-/// logarithms of the numbers of both.
-pub fn promote(alloc: Global, table: &Table, name: &DsName) -> Result<Table, Refusal>
+/// name of one of these; else NoMemory where there is none for it, or as `Table::promote` says (the order and the limit are profile).
+/// What stood before each dataset stands before it (On-Disk Specification, chapter 4: ds_prev_snap_obj), and no block is visited. It costs
+/// for each file system the logarithm of the number of its snapshots, the number of the snapshots of both with the segments of their dead
+/// lists, and for each snapshot that changes its file system the logarithms of the numbers of both.
+pub fn promote(
+    alloc: Global,
+    table: &Table,
+    name: &DsName,
+    segments: &mut SegMeter,
+) -> Result<Table, Refusal>
     ensures ok { IfOk result (λ t. t ≡ promoted table.now name.now) }
     ensures can { OnOk result (promote_refusal table.now name.now ≡ None) }
     ensures refused { IfSome (promote_refusal table.now name.now) (λ e. result ≡ Err e) }
@@ -45,12 +51,17 @@ pub fn promote(alloc: Global, table: &Table, name: &DsName) -> Result<Table, Ref
         return Err(refusal);
     }
     let mut to = table.copy()?;
-    to.promote(alloc, name)?;
+    to.promote(alloc, name, segments)?;
     Ok(to)
 }
 
 /// The same in this table. At `Err` it is as it was. It costs what `promote` does, but for the copy.
-pub fn promote_now(alloc: Global, table: &mut Table, name: &DsName) -> Result<(), Refusal>
+pub fn promote_now(
+    alloc: Global,
+    table: &mut Table,
+    name: &DsName,
+    segments: &mut SegMeter,
+) -> Result<(), Refusal>
     ensures ok { OnOk result (table.new ≡ promoted table.old name.now) }
     ensures can { OnOk result (promote_refusal table.old name.now ≡ None) }
     ensures refused { IfSome (promote_refusal table.old name.now) (λ e. result ≡ Err e) }
@@ -63,7 +74,7 @@ pub fn promote_now(alloc: Global, table: &mut Table, name: &DsName) -> Result<()
     if let Some(refusal) = refusal_of(table, name) {
         return Err(refusal);
     }
-    table.promote(alloc, name)
+    table.promote(alloc, name, segments)
 }
 
 // Why the promote is refused, if it is. It costs for each file system the logarithm of the number of its snapshots, and for each snapshot

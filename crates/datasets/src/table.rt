@@ -233,23 +233,30 @@ impl Table {
 
     /// Promotes the clone of this name (zfs-promote(8)): it gets the snapshots of the file system of its origin up to the origin, and the
     /// other's origin; the other keeps its newer snapshots, and has the clone's origin as its own. No block is visited, and none is lost.
-    /// NoMemory where there is none for it, and then the table is as it was. It costs for each file system the logarithm of the number of
-    /// its snapshots, the chunks of the snapshots of both, and for each snapshot that changes its file system the logarithm of their
-    /// number and at most three chunks of an index.
-    pub fn promote(&mut self, alloc: Global, name: &DsName) -> Result<(), Refusal>
+    /// NoMemory where there is none for it, or the snapshots of one have more blocks than a u64 counts, and then the table is as it was. It
+    /// costs for each file system the logarithm of the number of its snapshots, the number of the snapshots of both with the segments of
+    /// their dead lists, and for each snapshot that changes its file system the logarithm of their number and at most three chunks of an
+    /// index.
+    pub fn promote(
+        &mut self,
+        alloc: Global,
+        name: &DsName,
+        segments: &mut SegMeter,
+    ) -> Result<(), Refusal>
         requires there { IsSome (promotion_of (world_of self.old) name.now) }
         requires can { IfSome (promotion_of (world_of self.old) name.now) (CanPromote self.old name.now) }
         ensures ok { IfSome (promotion_of (world_of self.old) name.now) (λ p. OnOk result (self.new ≡ with_promoted self.old name.now p)) }
         ensures err { OnErr result (self.new ≡ self.old) }
         ensures only { IfErr result (λ e. e ≡ Refusal.NoMemory) }
     {
-        self.systems.promote(alloc, name)
+        self.systems.promote(alloc, name, segments)
     }
 
     /// Puts a batch of changes of the live tree of this file system in force at once, where the last sync left group `synced` open:
     /// the answer names the numbers that the new blocks have, and takes none; of the blocks that the tree drops it names those that
     /// no snapshot has. NoDataset exactly where there is no file system of this name; else NoSpace exactly where the Free numbers
-    /// and those of the dropped young blocks are too few; else NoMemory where there is no memory. At `Err` the table is as it was.
+    /// and those of the dropped young blocks are too few; else NoMemory where there is no memory, or the snapshots would have more blocks
+    /// than a u64 counts. At `Err` the table is as it was.
     /// It costs the logarithm of the number of file systems, and the change.
     pub fn apply_live(
         &mut self,
@@ -411,9 +418,15 @@ impl Table {
 
     /// Makes the map of its newest snapshot the live map of this file system (zfs-rollback(8)), by one more owner of its tree, and answers
     /// what no dataset has any more: of the blocks of the tree that was live those that were born after the snapshot. Nobody has walked
-    /// them. NoDataset exactly where there is no file system of this name or it has no snapshot; else NoMemory where there is none for
-    /// it. At `Err` the table is as it was. It costs the logarithm of the number of file systems.
-    pub fn rollback(&mut self, alloc: Global, name: &DsName) -> Result<Lost, Refusal>
+    /// them. NoDataset exactly where there is no file system of this name or it has no snapshot; else NoMemory where there is none for it,
+    /// or the snapshots have more blocks than a u64 counts. At `Err` the table is as it was. It costs the logarithm of the number of file
+    /// systems, the number of the file system's snapshots, and the segments of their dead lists.
+    pub fn rollback(
+        &mut self,
+        alloc: Global,
+        name: &DsName,
+        segments: &mut SegMeter,
+    ) -> Result<Lost, Refusal>
         ensures ok { OnOk result (self.new ≡ record self.old { file_systems = with_live self.old.file_systems name.now (newest_map (live_of self.old.file_systems name.now) (snaps_at self.old.file_systems name.now)) }) }
         ensures lost { IfOk result (Loses self.old self.new) }
         ensures no_dataset { (result ≡ Err Refusal.NoDataset) ↔ (length (snaps_at self.old.file_systems name.now) ≡ 0) }
@@ -423,7 +436,7 @@ impl Table {
         if self.snapshots_of(name) == 0 {
             return Err(Refusal::NoDataset);
         }
-        self.systems.rollback(alloc, name)
+        self.systems.rollback(alloc, name, segments)
     }
 
     /// Takes out this file system, which is there and has no snapshot, and is neither the root nor a parent (zfs-destroy(8)); and answers

@@ -1,6 +1,7 @@
 //! Clones of a table's snapshots, and their promotes.
 use crate::tables::{family, is_out_of_memory, name};
 use crate::takings::take;
+use base::meter::SegMeter;
 use base::number::Group;
 use base::refusal::Refusal;
 use clones::{clone_snapshot, promote};
@@ -10,6 +11,7 @@ use name::{DsName, SnapName, Target};
 use snap::{Guids, snapshot_one};
 use std::alloc::Global;
 use std::process::Abort;
+use toll::Toll;
 
 /// A clone of the snapshot of this name, under that name.
 fn cloned(
@@ -110,10 +112,11 @@ fn is_promoted(rt: &impl Abort, alloc: Global, table: &Table) -> bool {
 
 /// Whether `p/c` is promoted, and the table that it was promoted in stays as it was.
 fn changes_places(rt: &impl Abort, alloc: Global, table: &Table, clone: &DsName) -> bool {
-    let promoted = promote(alloc, table, clone).expect(rt, "memory for a promote");
+    let mut segments = SegMeter::new(Toll::new());
+    let promoted = promote(alloc, table, clone, &mut segments).expect(rt, "memory for a promote");
     is_promoted(rt, alloc, &promoted)
         && is_a_clone(rt, alloc, table)
-        && promote(alloc, &promoted, clone).err() == Some(Refusal::NotClone)
+        && promote(alloc, &promoted, clone, &mut segments).err() == Some(Refusal::NotClone)
 }
 
 #[test]
@@ -135,7 +138,8 @@ fn is_cloned_or_refused(alloc: Global) -> Result<bool, Refusal> {
     let mut table = Table::new(alloc)?;
     snapshot_one(alloc, &mut table, &one, Guids { pool: 7, next: 1 })?;
     let with_clone = clone_snapshot(&table, &target, &clone)?;
-    let is_left = is_out_of_memory(promote(alloc, &with_clone, &clone));
+    let mut segments = SegMeter::new(Toll::new());
+    let is_left = is_out_of_memory(promote(alloc, &with_clone, &clone, &mut segments));
     Ok(is_left && with_clone.len() == 2 && table.len() == 1)
 }
 

@@ -46,7 +46,8 @@ fn left_without(alloc: Global, table: &Table, bytes: &[u8]) -> Result<(usize, u6
 fn left_back(alloc: Global, table: &Table, bytes: &[u8]) -> Result<(usize, u64), Refusal> {
     let name = SnapName::read(alloc, bytes)?;
     let mut edit = edit_of(alloc, table)?;
-    edit.lose_live(alloc, &name.member().file_system)?;
+    let mut segments = SegMeter::new(Toll::new());
+    edit.lose_live(alloc, &name.member().file_system, &mut segments)?;
     Ok((edit.to.snapshot_count(), edit.freeing.len()))
 }
 

@@ -140,7 +140,8 @@ fn rolled_back(
     bytes: &[u8],
 ) -> Result<(u32, Group), Refusal> {
     let file_system = name(rt, alloc, bytes);
-    let lost = table.rollback(alloc, &file_system);
+    let mut segments = SegMeter::new(Toll::new());
+    let lost = table.rollback(alloc, &file_system, &mut segments);
     drop(file_system);
     lost_of(lost)
 }
@@ -183,7 +184,7 @@ fn loses_or_keeps(alloc: Global, table: &mut Table, first: &SnapName, second: &S
     let is_refused = is_out_of_memory(gone);
     is_refused
         && table.snapshot_count() == count
-        && is_out_of_memory(table.rollback(alloc, &second.member().file_system))
+        && is_out_of_memory(table.rollback(alloc, &second.member().file_system, &mut segments))
         && table.snapshot_count() == count
 }
 

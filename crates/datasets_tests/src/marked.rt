@@ -1,6 +1,7 @@
 //! Tags and bookmarks in a table.
 use crate::now::{cloned, take, with_child};
 use crate::removing::{destroy_named, release_named};
+use base::meter::SegMeter;
 use base::refusal::Refusal;
 use bookmarks::Bookmarks;
 use clones::promote;
@@ -11,6 +12,7 @@ use marks::{bookmark_now, hold_now};
 use name::{DsName, MarkName, SnapName, Tag, Target};
 use std::alloc::Global;
 use std::sync::Arc;
+use toll::Toll;
 use views::Views;
 
 /// Gives this snapshot a tag more.
@@ -186,7 +188,8 @@ fn with_marked_clone(alloc: Global) -> Result<Table, Refusal> {
 fn is_promoted(alloc: Global) -> Result<bool, Refusal> {
     let table = with_marked_clone(alloc)?;
     let clone = DsName::read(alloc, b"p/c")?;
-    let to = promote(alloc, &table, &clone)?;
+    let mut segments = SegMeter::new(Toll::new());
+    let to = promote(alloc, &table, &clone, &mut segments)?;
     let after = marks_at(&to, 1) == (0, 1) && marks_at(&to, 2) == (1, 0);
     Ok(after && marks_at(&table, 1) == (1, 1) && marks_at(&table, 2) == (0, 0))
 }

@@ -99,3 +99,9 @@ module _ (change : Snap → Snap) (same_map : (t : Snap) → (change t).map ≡ 
   edited_newest bs [] i next is = absurd (nothing_there change i next is)
   edited_newest bs (k ∷ ks) zero next is = ap (λ m. newest_blocks (blocks m) (snaps_in ks)) (first_map k ks next is)
   edited_newest bs (k ∷ ks) (suc i) next is = edited_newest (blocks k.snapshot.map) ks i next (behind change k ks i next is)
+
+  -- nor does any map change
+  pub edited_maps : (ks : List Kept) (i : ℕ) (next : Kept) → IsEdited change ks i next → map (λ (t : Snap). t.map) (snaps_in ks) ≡ map (λ (t : Snap). t.map) (snaps_in (set ks i next))
+  edited_maps [] i next is = absurd (nothing_there change i next is)
+  edited_maps (k ∷ ks) zero next is = ap (λ m. m ∷ map (λ (t : Snap). t.map) (snaps_in ks)) (sym (first_map k ks next is))
+  edited_maps (k ∷ ks) (suc i) next is = ap (λ l. k.snapshot.map ∷ l) (edited_maps ks i next (behind change k ks i next is))

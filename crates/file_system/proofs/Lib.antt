@@ -6,3 +6,10 @@ pub mod Stacks
 pub mod Losses
 pub mod Deferred
 pub mod Promotions
+pub mod Lines
+pub mod Rewritten
+pub mod Fewer
+pub mod Sizes
+pub mod Recounts
+pub mod Counted
+pub mod Alones

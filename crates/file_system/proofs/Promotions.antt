@@ -18,6 +18,8 @@ use Rattle.file_system.specs.Origins.{origin_group}
 use Rattle.file_system.specs.Promotions.{CanPromote}
 use Rattle.file_system.specs.Rows.{Row}
 use Rattle.file_system.specs.Writes.{newest_group}
+use Rattle.file_system.specs.Counts.{AreInLine, AreLined}
+use Rattle.file_system.proofs.Lines.{line_above, line_joined, line_rest, born_at}
 use Rattle.file_system.proofs.Stacks.{is_it, nothing_at, group_above, some_group, newest_taken, above_names, names_once, rising_from}
 
 -- ---- groups that rise
@@ -220,3 +222,32 @@ module _ (clone owner : Row) (id : SnapId) (can : CanPromote clone owner id) (ks
     pub joined_once : AreNamesOnce (take (suc i) ks ++ cs)
     joined_once = names_once 0 (take (suc i) ks ++ cs) all_rise
         (subst (λ (l : List Snap). (t u : Snap) → IsIn l t → IsIn l u → t.name ≡ u.name → t ≡ u) (sym joined_snaps) all_named)
+
+    -- ---- the lines of both
+
+    owner_line : AreLined owner.below (origin_group owner.system.origin) (snaps_in ks) owner.system.live
+    owner_line = subst (λ (l : List Snap). AreLined owner.below (origin_group owner.system.origin) l owner.system.live) (sym ks_are) (line_above owner.below owner.system can.others)
+
+    clone_line : AreLined clone.below (origin_group clone.system.origin) (snaps_in cs) clone.system.live
+    clone_line = subst (λ (l : List Snap). AreLined clone.below (origin_group clone.system.origin) l clone.system.live) (sym cs_are) (line_above clone.below clone.system can.own)
+
+    same_map : both.0.snapshot.map ≡ clone.below
+    same_map = ap (λ (t : Snap). t.map) it ∙ sym can.map
+
+    same_group : both.0.snapshot.group ≡ origin_group clone.system.origin
+    same_group = both.2 ∙ sym (ap origin_group can.is)
+
+    pub joined_line : AreLined owner.below (origin_group owner.system.origin) (snaps_in (take (suc i) ks ++ cs)) clone.system.live
+    joined_line = record {
+      born = owner_line.born;
+      line = line_joined (blocks owner.below) (origin_group owner.system.origin) i ks cs both.0 owner.system.live clone.system.live both.1 owner_line.line
+          (subst (λ (n : ℕ). AreInLine (blocks both.0.snapshot.map) n (snaps_in cs) clone.system.live) (sym same_group)
+          (subst (λ (m : Map). AreInLine (blocks m) (origin_group clone.system.origin) (snaps_in cs) clone.system.live) (sym same_map) clone_line.line));
+    }
+
+    pub rest_line : AreLined clone.below (origin_group clone.system.origin) (snaps_in (drop (suc i) ks)) owner.system.live
+    rest_line = subst (λ (n : ℕ). AreLined clone.below n (snaps_in (drop (suc i) ks)) owner.system.live) same_group
+        (subst (λ (m : Map). AreLined m both.0.snapshot.group (snaps_in (drop (suc i) ks)) owner.system.live) same_map (record {
+          born = born_at (blocks owner.below) (origin_group owner.system.origin) i ks both.0 owner.system.live both.1 owner_line.line;
+          line = line_rest (blocks owner.below) (origin_group owner.system.origin) i ks both.0 owner.system.live both.1 owner_line.line;
+        }))

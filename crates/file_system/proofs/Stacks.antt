@@ -52,7 +52,7 @@ none_above low g (t ∷ ts) up le =
     ap (λ b. cond b (Some t) (find (λ (u : Snap). u.group == g) ts)) (is_other t.group g (λ e. absurd (omega arith))) ∙ none_above t.group g ts up.1 (omega arith)
 
 -- all stay where one of a lower group goes
-all_above : (low g : ℕ) (ts : List Snap) → AreRising low ts → g ≤ low → filter (λ (t : Snap). not (t.group == g)) ts ≡ ts
+pub all_above : (low g : ℕ) (ts : List Snap) → AreRising low ts → g ≤ low → filter (λ (t : Snap). not (t.group == g)) ts ≡ ts
 all_above low g [] up le = refl
 all_above low g (t ∷ ts) up le =
     let l = up.0 in
@@ -179,7 +179,7 @@ names_once low (k ∷ ks) up names = (
 
 -- ---- a place among them
 
-no_item : (i : ℕ) (k : Kept) → slice_get {X = Kept} [] i ≡ Some k → ⊥
+pub no_item : (i : ℕ) (k : Kept) → slice_get {X = Kept} [] i ≡ Some k → ⊥
 no_item i k e = cc
 
 -- what stands there has what is told of its place
@@ -267,7 +267,7 @@ accounted_taken bs (k ∷ ks) (suc i) each = (each.0, accounted_taken (blocks k.
 
 -- ---- what is lost
 
-lost_at : (low g : ℕ) (bs : BlockSet) (ks : List Kept) (i : ℕ) (t : Kept) (live : Map) → AreRising low (snaps_in ks) → slice_get ks i ≡ Some t → t.snapshot.group ≡ g
+pub lost_at : (low g : ℕ) (bs : BlockSet) (ks : List Kept) (i : ℕ) (t : Kept) (live : Map) → AreRising low (snaps_in ks) → slice_get ks i ≡ Some t → t.snapshot.group ≡ g
     → lost_from bs (snaps_in ks) live g ≡ difference (difference (blocks t.snapshot.map) (newest_blocks bs (snaps_in (take i ks)))) (oldest_blocks live (snaps_in (drop (suc i) ks)))
 lost_at low g bs [] i t live up e is = absurd (no_item i t e)
 lost_at low g bs (k ∷ ks) zero t live up e is =
@@ -281,7 +281,7 @@ lost_at low g bs (k ∷ ks) (suc i) t live up e is =
     (is_other k.snapshot.group g (λ x. absurd (omega arith)))
     ∙ lost_at k.snapshot.group g (blocks k.snapshot.map) ks i t live up.1 e is
 
-oldest_next : (live : Map) (ks : List Kept) (i : ℕ) (n : Kept) → slice_get ks (suc i) ≡ Some n → oldest_blocks live (snaps_in (drop (suc i) ks)) ≡ blocks n.snapshot.map
+pub oldest_next : (live : Map) (ks : List Kept) (i : ℕ) (n : Kept) → slice_get ks (suc i) ≡ Some n → oldest_blocks live (snaps_in (drop (suc i) ks)) ≡ blocks n.snapshot.map
 oldest_next live [] i n e = absurd (no_item (suc i) n e)
 oldest_next live (k ∷ []) zero n e = absurd (no_item zero n e)
 oldest_next live (k ∷ x ∷ ks) zero n e = let same : x ≡ n = cc in ap (λ (y : Kept). blocks y.snapshot.map) same

@@ -17,7 +17,8 @@ use Rattle.world.specs.Deadlists.{Lists}
 use Rattle.zalloc.specs.declared.BlockState.{BlockState}
 use Rattle.batch.specs.declared.update.Update.{Update}
 use Rattle.tree.specs.Asking.{AllowsChange}
-use Rattle.file_system.specs.Origins.{blocks_below}
+use Rattle.file_system.specs.Counts.{IsCounted}
+use Rattle.file_system.specs.Origins.{map_below, blocks_below}
 use Rattle.file_system.specs.Writes.{newest_group, young_after}
 use Rattle.file_system.specs.declared.file_system.FileSystem.TheInside.{Inside}
 
@@ -58,12 +59,13 @@ AreAccounted bs [] = Unit {0}
 AreAccounted bs (k ∷ ks) = IsAccounted bs k × AreAccounted (blocks k.snapshot.map) ks
 
 -- What a file system keeps, above its origin: the dead lists of its snapshots, and that of its live map, each block once (On-Disk
--- Specification, chapter 4: ds_deadlist_obj)
+-- Specification, chapter 4: ds_deadlist_obj); and two counts of blocks (zfsprops(7): usedbydataset, usedbysnapshots)
 pub record IsKeeping (f : Inside) : Type 0 where
   pub accounted : AreAccounted (blocks_below (option_map arc_value f.origin)) (arc_value f.snapshots)
   pub dead :
       Lists (map dead_block (arc_value f.dead).entries)
       (difference (newest_blocks (blocks_below (option_map arc_value f.origin)) (snaps_in (arc_value f.snapshots))) (blocks f.live))
+  pub counted : IsCounted (map_below (option_map arc_value f.origin)) (snaps_in (arc_value f.snapshots)) f.live f.counts
 
 -- These snapshots stand below a map, and these blocks with this group below them: the newest, or else the blocks below, have none that
 -- was born after their group, and have each block of the map that was born by then (On-Disk Specification, chapter 4: ds_prev_snap_txg)

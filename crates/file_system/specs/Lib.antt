@@ -6,3 +6,6 @@ pub mod Splices
 pub mod Losses
 pub mod Deferred
 pub mod Promotions
+pub mod Counts
+pub mod Gone
+pub mod Alone

@@ -16,7 +16,7 @@ use std::sync::Arc;
 use tree::{Changed, Draft, Tree, Update};
 
 /// How many of these entries were born by the group. It costs their number.
-fn count_upto(entries: &[Dead], newest: Group) -> usize
+pub fn count_upto(entries: &[Dead], newest: Group) -> usize
     ensures { result ≡ length (filter (is_upto newest.0) entries.now) }
 {
     entries

@@ -8,7 +8,7 @@ ghost use Rattle.name.specs.Names.{name_cmp, same_name};
 ghost use Rattle.base.specs.declared.refusal.Refusal.{Refusal};
 ghost use Rattle.base.specs.Map.{blocks};
 ghost use Rattle.base.specs.Surveys.{dead_block};
-ghost use Rattle.model.specs.World.{id_of, same_id};
+ghost use Rattle.model.specs.World.{id_of, same_id, blocks_of_all};
 ghost use Rattle.model.specs.Ids.{snap_id};
 ghost use Rattle.model.specs.Sums.{size_without};
 ghost use Rattle.tree.specs.Asking.{IsNoSpaceOrNoMemory};
@@ -26,6 +26,7 @@ ghost use Rattle.file_system.specs.Splices.{lost_from, without_group, AreAbove};
 ghost use Rattle.file_system.specs.Deferred.{deferred_at, edit_of, edited_at, tagged_at};
 ghost use Rattle.file_system.specs.Writes.{newest_group, young_after, IsWritten};
 
+use crate::counts::{Counts, counts_with, no_counts, recounted, rest_of};
 use crate::dead::put;
 use crate::lost::Lost;
 use crate::mark::{Edit, edited};
@@ -52,7 +53,7 @@ use zalloc::Allocator;
 /// A file system: its name, its live dataset, its snapshots in order of their creation groups, its origin where it is a clone, and its
 /// bookmarks (On-Disk Specification, chapter 4; zfs-bookmark(8)). Contracts see its name, what a world has under that name, and the map of
 /// the origin, which is the empty one where there is none. Copies share the name, the tree, the dead lists, the snapshots, the origin and
-/// the bookmarks.
+/// the bookmarks. It keeps two counts of blocks: of its live map without its origin's, and of its snapshots without those of either.
 #[derive(Drop)]
 pub struct FileSystem {
     pub(crate) name: Arc<DsName>,
@@ -61,6 +62,7 @@ pub struct FileSystem {
     pub(crate) snapshots: Arc<Line>,
     pub(crate) origin: Option<Arc<Origin>>,
     pub(crate) bookmarks: Arc<Bookmarks>,
+    pub(crate) counts: Counts,
 }
 
 impl Model for FileSystem {
@@ -102,6 +104,7 @@ impl FileSystem {
             snapshots,
             origin: None,
             bookmarks,
+            counts: no_counts(),
         })
     }
 
@@ -128,6 +131,7 @@ impl FileSystem {
             snapshots,
             origin: Some(origin),
             bookmarks,
+            counts: no_counts(),
         })
     }
 
@@ -224,6 +228,21 @@ impl FileSystem {
         self.kept_named(component).map(|kept| kept.written)
     }
 
+    /// How many blocks its live dataset has that its origin hasn't, and all of them where it has no origin (zfsprops(7): usedbydataset).
+    /// Constant time.
+    pub fn used_by_dataset(&self) -> u32
+        ensures { result ≡ size_without (blocks self.now.system.live) (blocks self.now.below) }
+    {
+        self.counts.by_dataset
+    }
+
+    /// How many blocks its snapshots have that neither its live dataset nor its origin has (zfsprops(7): usedbysnapshots). Constant time.
+    pub fn used_by_snapshots(&self) -> u64
+        ensures { result ≡ size_without (blocks_of_all (map (λ t. t.map) self.now.system.snaps)) (blocks_of_all (self.now.system.live ∷ self.now.below ∷ [])) }
+    {
+        self.counts.by_snapshots
+    }
+
     /// An equal file system, by one more owner of its name, of its tree, of its dead list, of its snapshots, of its origin and of its
     /// bookmarks. NoMemory where there is none for that. Constant time.
     pub fn copy(&self) -> Result<FileSystem, Refusal>
@@ -243,6 +262,7 @@ impl FileSystem {
             snapshots,
             origin,
             bookmarks,
+            counts: self.counts,
         })
     }
 
@@ -309,12 +329,14 @@ impl FileSystem {
         if place + 1 < count {
             let (next, lost) = joined_next(kept, origin, alloc, place, segments)?;
             splice_in(&mut self.snapshots, alloc, place, next)?;
+            self.counts.by_snapshots -= lost.len();
             return Ok(lost);
         }
         let (dead, lost) = joined(kept, base_group(origin), place, &self.dead, segments)?;
         let dead = Arc::new(alloc, dead)?;
         remove_from(&mut self.snapshots, alloc, place)?;
         self.dead = dead;
+        self.counts.by_snapshots -= lost.len();
         Ok(lost)
     }
 
@@ -372,10 +394,12 @@ impl FileSystem {
         })
     }
 
-    /// The live map becomes that of the newest snapshot, which shares its tree.
-    pub fn rollback(&mut self, alloc: Global) -> Result<Lost, Refusal>
+    /// The live map becomes that of the newest snapshot, which shares its tree, and the blocks are counted again. NoMemory where there is
+    /// none for it, or the snapshots have more blocks than a u64 counts; then all is as it was. It costs the number of snapshots, and the
+    /// segments of their dead lists.
+    pub fn rollback(&mut self, alloc: Global, segments: &mut SegMeter) -> Result<Lost, Refusal>
         requires there { 0 < length self.old.system.snaps }
-        requires above { IsAbove (blocks self.old.below) (origin_group self.old.system.origin) self.old.system.live self.old.system.snaps }
+        requires above { AreAbove self.old.below self.old.system }
         ensures ok { OnOk result (self.new ≡ with_system self.old (record self.old.system { live = newest_map self.old.system.live self.old.system.snaps })) }
         ensures lost { IfOk result (IsLost (blocks self.old.below) (origin_group self.old.system.origin) self.old.system.live self.old.system.snaps) }
         ensures err { OnErr result (self.new ≡ self.old) }
@@ -387,13 +411,18 @@ impl FileSystem {
         };
         let live = newest.snapshot.tree().copy()?;
         let dead = Arc::new(alloc, Deadlist::new(alloc))?;
+        let (kept, origin) = (self.snapshots.list(), origin_in(&self.origin));
+        let counts = recounted(kept, origin, &live, &dead, segments)?;
         self.live = live;
         self.dead = dead;
+        self.counts = counts;
         Ok(lost)
     }
 
     /// Puts a batch of changes of the live tree in force at once, where the last sync left group `synced` open. It takes no number,
-    /// and of the blocks that the tree drops it releases those that no snapshot has; the others go onto the dead list.
+    /// and of the blocks that the tree drops it releases those that no snapshot has; the others go onto the dead list, and those that the
+    /// origin hasn't are from then on counted as the snapshots'. NoSpace where the numbers are too few, NoMemory where there is none for it
+    /// or the snapshots have more blocks than a u64 counts; then all is as it was. It costs what the draft and the put of the tree do.
     pub fn apply(
         &mut self,
         alloc: Global,
@@ -404,7 +433,8 @@ impl FileSystem {
         meter: &mut Meter,
         segments: &mut SegMeter,
     ) -> Result<Changed, Refusal>
-        requires { AllowsLive (blocks self.old.below) (origin_group self.old.system.origin) self.old.system.live self.old.system.snaps updates.now group.0 synced.0 allocator.now }
+        requires allowed { AllowsLive (blocks self.old.below) (origin_group self.old.system.origin) self.old.system.live self.old.system.snaps updates.now group.0 synced.0 allocator.now }
+        requires above { AreAbove self.old.below self.old.system }
         ensures ok { IfOk result (IsWritten self.old.system.live self.new.system.live (origin_group self.old.system.origin) self.old.system.snaps (changes_of updates.now) group.0 synced.0 allocator.now) }
         ensures others { self.new ≡ with_system self.old (record self.old.system { live = self.new.system.live }) }
         ensures room { OnOk result (HasRoom self.old.system.live (changes_of updates.now) (young_after (origin_group self.old.system.origin) self.old.system.snaps synced.0) allocator.now) }
@@ -417,8 +447,12 @@ impl FileSystem {
         let newest = self.newest_group();
         let young = young_from(newest, synced);
         let draft = self.live.draft(alloc, updates, young, allocator, meter)?;
+        let base = base_group(origin_in(&self.origin));
+        let nodes = self.live.node_count();
+        let rest = rest_of(self.counts, nodes, &draft.released, base, newest)?;
         let (dead, live) = (&mut self.dead, &mut self.live);
         let mut changed = put(dead, live, alloc, updates, group, draft, newest, segments)?;
+        self.counts = counts_with(rest, self.live.node_count());
         changed.released.retain(|dead| is_born_after(dead, newest));
         Ok(changed)
     }

@@ -6,13 +6,16 @@ ghost use Rattle.base.specs.Map.{blocks};
 ghost use Rattle.base.specs.declared.refusal.Refusal.{Refusal};
 ghost use Rattle.model.specs.Ids.{snap_id};
 ghost use Rattle.snapshots.specs.Index.{AreNamesOnce};
+ghost use Rattle.file_system.specs.Counts.{AreLined};
 ghost use Rattle.file_system.specs.Dead.{snaps_in, newest_blocks, AreAccounted};
-ghost use Rattle.file_system.specs.Origins.{origin_id, map_below, blocks_below};
+ghost use Rattle.file_system.specs.Origins.{origin_id, map_below, blocks_below, group_below};
 ghost use Rattle.file_system.specs.Promotions.{promoted_row, demoted_row, CanPromote};
 
+use crate::counts::recounted;
 use crate::file_system::FileSystem;
-use crate::origin::{Origin, copy_of_origin};
+use crate::origin::{Origin, copy_of_origin, origin_in};
 use crate::splice::place_of;
+use base::meter::SegMeter;
 use base::refusal::Refusal;
 use model::snapshot_id::SnapshotId;
 use snapshots::Line;
@@ -56,14 +59,16 @@ impl FileSystem {
     /// This file system, whose origin is that snapshot of the other, and the other after a promote (zfs-promote(8)): the first has the
     /// snapshots of the other up to its origin before its own, and the other's origin; the other has its newer snapshots, and that snapshot
     /// as its origin. Each keeps its bookmarks. No block is visited, and each dead list stays as it is, since no dataset has another before
-    /// it. NoMemory where there is none for it. Where the origin is the other's newest snapshot and the first has none, it costs the
-    /// logarithm of their number; else the chunks of the snapshots of both, and for each snapshot of the smaller part the logarithm of
-    /// their number and at most three chunks of an index.
+    /// it; what the live map and the snapshots of each have alone is counted again. NoMemory where there is none for it, or the
+    /// snapshots of one have more blocks than a u64 counts. It costs the number of snapshots of both and the segments of their dead lists,
+    /// for the counts; and where the origin isn't the other's newest snapshot or the first has some, for each snapshot of the smaller part
+    /// the logarithm of their number and at most three chunks of an index.
     pub fn promoted(
         &self,
         alloc: Global,
         owner: &FileSystem,
         origin: SnapshotId,
+        segments: &mut SegMeter,
     ) -> Result<(FileSystem, FileSystem), Refusal>
         requires { CanPromote self.now owner.now (snap_id origin) }
         ensures promoted { IfOk result (λ both. both.0 ≡ promoted_row self.now owner.now (snap_id origin)) }
@@ -74,18 +79,22 @@ impl FileSystem {
         let (place, _count) = (place_of(kept, origin.group), kept.len());
         let (older, newer) = parted(alloc, &owner.snapshots, place + 1)?;
         let all = appended(alloc, older, &self.snapshots)?;
-        let clone = self.with_line(all, &owner.origin)?;
-        let rest = owner.with_line(newer, &self.origin)?;
+        let clone = self.with_line(all, &owner.origin, segments)?;
+        let rest = owner.with_line(newer, &self.origin, segments)?;
         Ok((clone, rest))
     }
 
-    // This file system with these snapshots above this origin, of which the newest has the blocks that its newest snapshot has.
+    // This file system with these snapshots above this origin, of which the newest has the blocks that its newest snapshot has. NoMemory
+    // where there is none for it, or they have more blocks than a u64 counts. It costs the number of these snapshots, and the segments of
+    // all their dead lists and of its own.
     fn with_line(
         &self,
         snapshots: Arc<Line>,
         origin: &Option<Arc<Origin>>,
+        segments: &mut SegMeter,
     ) -> Result<FileSystem, Refusal>
         requires accounted { AreAccounted (blocks_below (option_map arc_value origin.now)) (arc_value snapshots) }
+        requires line { AreLined (map_below (option_map arc_value origin.now)) (group_below (option_map arc_value origin.now)) (snaps_in (arc_value snapshots)) self.now.system.live }
         requires newest { newest_blocks (blocks_below (option_map arc_value origin.now)) (snaps_in (arc_value snapshots)) ≡ newest_blocks (blocks self.now.below) self.now.system.snaps }
         ensures name { IfOk result (λ f. f.name ≡ self.now.name) }
         ensures system { IfOk result (λ f. f.system ≡ record self.now.system { snaps = snaps_in (arc_value snapshots); origin = origin_id (option_map arc_value origin.now) }) }
@@ -95,6 +104,7 @@ impl FileSystem {
         let name = Arc::try_clone(&self.name)?;
         let live = self.live.copy()?;
         let dead = Arc::try_clone(&self.dead)?;
+        let counts = recounted(snapshots.list(), origin_in(origin), &live, &dead, segments)?;
         let origin = copy_of_origin(origin)?;
         let bookmarks = Arc::try_clone(&self.bookmarks)?;
         Ok(FileSystem {
@@ -104,6 +114,7 @@ impl FileSystem {
             snapshots,
             origin,
             bookmarks,
+            counts,
         })
     }
 }

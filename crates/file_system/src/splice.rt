@@ -62,7 +62,7 @@ pub fn kept_of(kept: &SharedList<Kept>, id: SnapshotId) -> Option<&Kept>
 }
 
 /// The snapshot before that place, or None where the first stands there. It costs a walk over the chunks before it.
-fn before(kept: &SharedList<Kept>, place: usize) -> Option<&Kept>
+pub fn before(kept: &SharedList<Kept>, place: usize) -> Option<&Kept>
     requires { place ≤ length kept.now }
     ensures { option_copied result ≡ last_or None (take place kept.now) }
 {

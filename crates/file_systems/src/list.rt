@@ -179,11 +179,17 @@ impl FileSystems {
         Ok(())
     }
 
-    /// Promotes the clone of this name (zfs-promote(8)): it has the snapshots of the file system of its origin up to that before its own, and
-    /// the other's origin; the other has its newer snapshots, and the origin of the clone as its own. No block is visited. NoMemory where there
-    /// is none for it; then all are as they were. It costs for each file system the logarithm of the number of its snapshots, the chunks of the
-    /// snapshots of both, and for each snapshot that changes its file system the logarithm of their number and at most three chunks of an index.
-    pub fn promote(&mut self, alloc: Global, name: &DsName) -> Result<(), Refusal>
+    /// Promotes the clone of this name (zfs-promote(8)): it has the snapshots of the file system of its origin up to that before its own,
+    /// and the other's origin; the other has its newer snapshots, and the origin of the clone as its own. No block is visited. NoMemory
+    /// where there is none for it, or the snapshots of one have more blocks than a u64 counts; then all are as they were. It costs for each
+    /// file system the logarithm of the number of its snapshots, the number of the snapshots of both with the segments of their dead lists,
+    /// and for each snapshot that changes its file system the logarithm of their number and at most three chunks of an index.
+    pub fn promote(
+        &mut self,
+        alloc: Global,
+        name: &DsName,
+        segments: &mut SegMeter,
+    ) -> Result<(), Refusal>
         requires { CanPromoteIn self.old name.now }
         ensures ok { OnOk result ((p : Promotion) → IsPromotion self.old name.now p → self.new ≡ promoted_in self.old name.now p) }
         ensures err { OnErr result (self.new ≡ self.old) }
@@ -198,7 +204,13 @@ impl FileSystems {
         let Some(other) = owner_place(&self.rows, origin) else {
             unreachable!()
         };
-        let (clone, owner) = promoted(alloc, &self.rows[place], &self.rows[other], origin)?;
+        let (clone, owner) = promoted(
+            alloc,
+            &self.rows[place],
+            &self.rows[other],
+            origin,
+            segments,
+        )?;
         self.clones
             .promote(origin, &self.rows[place], &self.rows[other])?;
         self.rows[other] = owner;
@@ -209,7 +221,8 @@ impl FileSystems {
     /// Puts a batch of changes of the live tree of this file system in force at once, where the last sync left group `synced` open:
     /// the answer names the numbers that the new blocks have, and takes none; of the blocks that the tree drops it names those that
     /// no snapshot has. NoDataset exactly where there is no file system of this name; else NoSpace exactly where the Free numbers
-    /// and those of the dropped young blocks are too few; else NoMemory where there is no memory. At `Err` all are as they were.
+    /// and those of the dropped young blocks are too few; else NoMemory where there is no memory, or the snapshots would have more blocks
+    /// than a u64 counts. At `Err` all are as they were.
     /// Where others share the file system, a copy of it, by one more owner of its name, its tree and its snapshots, is changed and
     /// takes its place. It costs the logarithm of the number of file systems, and the change.
     pub fn apply_live(
@@ -223,7 +236,8 @@ impl FileSystems {
         meter: &mut Meter,
         segments: &mut SegMeter,
     ) -> Result<Changed, Refusal>
-        requires { AllowsLive (blocks (below_at self.old name.now)) (origin_group (origin_at self.old name.now)) (live_of self.old name.now) (snaps_at self.old name.now) updates.now group.0 synced.0 allocator.now }
+        requires allowed { AllowsLive (blocks (below_at self.old name.now)) (origin_group (origin_at self.old name.now)) (live_of self.old name.now) (snaps_at self.old name.now) updates.now group.0 synced.0 allocator.now }
+        requires above { IfSome (get self.old name.now) (AreAbove (below_at self.old name.now)) }
         ensures ok { IfOk result (IsWritten (live_of self.old name.now) (live_of self.new name.now) (origin_group (origin_at self.old name.now)) (snaps_at self.old name.now) (changes_of updates.now) group.0 synced.0 allocator.now) }
         ensures others { OnOk result (self.new ≡ with_live self.old name.now (live_of self.new name.now)) }
         ensures room { OnOk result (HasRoom (live_of self.old name.now) (changes_of updates.now) (young_after (origin_group (origin_at self.old name.now)) (snaps_at self.old name.now) synced.0) allocator.now) }
@@ -362,12 +376,18 @@ impl FileSystems {
     }
 
     /// Makes the map of its newest snapshot, which is there, the live map of this file system, by one more owner of its tree
-    /// (zfs-rollback(8)), and answers what is lost with the one before: its blocks that the snapshot hasn't. NoMemory where there is none for
-    /// it; then all are as they were. Where others share the file system, a copy of it takes its place. It costs the logarithm of the number of
-    /// file systems.
-    pub fn rollback(&mut self, alloc: Global, name: &DsName) -> Result<Lost, Refusal>
+    /// (zfs-rollback(8)), and answers what is lost with the one before: its blocks that the snapshot hasn't. NoMemory where there is none
+    /// for it, or the snapshots have more blocks than a u64 counts; then all are as they were. Where others share the file system, a copy
+    /// of it takes its place. It costs the logarithm of the number of file systems, the number of its snapshots, and the segments of their
+    /// dead lists.
+    pub fn rollback(
+        &mut self,
+        alloc: Global,
+        name: &DsName,
+        segments: &mut SegMeter,
+    ) -> Result<Lost, Refusal>
         requires there { 0 < length (snaps_at self.old name.now) }
-        requires above { IsAbove (blocks (below_at self.old name.now)) (origin_group (origin_at self.old name.now)) (live_of self.old name.now) (snaps_at self.old name.now) }
+        requires above { IfSome (get self.old name.now) (AreAbove (below_at self.old name.now)) }
         ensures ok { OnOk result (self.new ≡ with_live self.old name.now (newest_map (live_of self.old name.now) (snaps_at self.old name.now))) }
         ensures lost { IfOk result (IsLost (blocks (below_at self.old name.now)) (origin_group (origin_at self.old name.now)) (live_of self.old name.now) (snaps_at self.old name.now)) }
         ensures err { OnErr result (self.new ≡ self.old) }
@@ -376,7 +396,7 @@ impl FileSystems {
         let Ok(place) = place(&self.rows, name.as_bytes()) else {
             unreachable!()
         };
-        let lost = rollback(&mut self.rows[place], alloc)?;
+        let lost = rollback(&mut self.rows[place], alloc, segments)?;
         Ok(lost)
     }
 

@@ -12,7 +12,7 @@ ghost use Rattle.base.specs.declared.refusal.Refusal.{Refusal};
 ghost use Rattle.tree.specs.Asking.{IsNoSpaceOrNoMemory};
 ghost use Rattle.tree.specs.Change.{HasRoom, LacksRoom, CountsDropped};
 ghost use Rattle.tree.specs.Updates.{changes_of};
-ghost use Rattle.file_system.specs.Dead.{AllowsLive, IsAbove};
+ghost use Rattle.file_system.specs.Dead.{AllowsLive};
 ghost use Rattle.file_system.specs.Losses.{newest_map, IsLost};
 ghost use Rattle.file_system.specs.Origins.{origin_group};
 ghost use Rattle.file_system.specs.Rows.{Row, with_system, with_snap};
@@ -83,7 +83,8 @@ pub fn apply(
     meter: &mut Meter,
     segments: &mut SegMeter,
 ) -> Result<Changed, Refusal>
-    requires { AllowsLive (blocks (arc_value row.old).below) (origin_group (arc_value row.old).system.origin) (arc_value row.old).system.live (arc_value row.old).system.snaps updates.now group.0 synced.0 allocator.now }
+    requires allowed { AllowsLive (blocks (arc_value row.old).below) (origin_group (arc_value row.old).system.origin) (arc_value row.old).system.live (arc_value row.old).system.snaps updates.now group.0 synced.0 allocator.now }
+    requires above { AreAbove (arc_value row.old).below (arc_value row.old).system }
     ensures ok { IfOk result (IsWritten (arc_value row.old).system.live (arc_value row.new).system.live (origin_group (arc_value row.old).system.origin) (arc_value row.old).system.snaps (changes_of updates.now) group.0 synced.0 allocator.now) }
     ensures others { arc_value row.new ≡ with_system (arc_value row.old) (record (arc_value row.old).system { live = (arc_value row.new).system.live }) }
     ensures room { OnOk result (HasRoom (arc_value row.old).system.live (changes_of updates.now) (young_after (origin_group (arc_value row.old).system.origin) (arc_value row.old).system.snaps synced.0) allocator.now) }
@@ -150,20 +151,24 @@ pub fn splice(
 }
 
 /// Makes the map of its newest snapshot a row's live map, as `FileSystem::rollback` does: in the row, if it has no other owner, and else in
-/// a copy of it, which comes to its place.
-pub fn rollback(row: &mut Arc<FileSystem>, alloc: Global) -> Result<Lost, Refusal>
+/// a copy of it, which comes to its place. It costs the number of the row's snapshots, and the segments of their dead lists.
+pub fn rollback(
+    row: &mut Arc<FileSystem>,
+    alloc: Global,
+    segments: &mut SegMeter,
+) -> Result<Lost, Refusal>
     requires there { 0 < length (arc_value row.old).system.snaps }
-    requires above { IsAbove (blocks (arc_value row.old).below) (origin_group (arc_value row.old).system.origin) (arc_value row.old).system.live (arc_value row.old).system.snaps }
+    requires above { AreAbove (arc_value row.old).below (arc_value row.old).system }
     ensures ok { OnOk result (arc_value row.new ≡ with_system (arc_value row.old) (record (arc_value row.old).system { live = newest_map (arc_value row.old).system.live (arc_value row.old).system.snaps })) }
     ensures lost { IfOk result (IsLost (blocks (arc_value row.old).below) (origin_group (arc_value row.old).system.origin) (arc_value row.old).system.live (arc_value row.old).system.snaps) }
     ensures err { OnErr result (arc_value row.new ≡ arc_value row.old) }
     ensures only { IfErr result (λ e. e ≡ Refusal.NoMemory) }
 {
     if let Some(file_system) = Arc::get_mut(row) {
-        return file_system.rollback(alloc);
+        return file_system.rollback(alloc, segments);
     }
     let mut file_system = row.copy()?;
-    let lost = file_system.rollback(alloc)?;
+    let lost = file_system.rollback(alloc, segments)?;
     *row = Arc::new(alloc, file_system)?;
     Ok(lost)
 }
@@ -230,19 +235,21 @@ pub fn set_bookmarks(
     Ok(())
 }
 
-/// A clone and the file system that has its origin, as rows, after a promote, as `FileSystem::promoted` makes them.
+/// A clone and the file system that has its origin, as rows, after a promote, as `FileSystem::promoted` makes them. It costs the number of
+/// the snapshots of both, and the segments of their dead lists.
 pub fn promoted(
     alloc: Global,
     clone: &FileSystem,
     owner: &FileSystem,
     origin: SnapshotId,
+    segments: &mut SegMeter,
 ) -> Result<(Arc<FileSystem>, Arc<FileSystem>), Refusal>
     requires { CanPromote clone.now owner.now (snap_id origin) }
     ensures promoted { IfOk result (λ both. arc_value both.0 ≡ promoted_row clone.now owner.now (snap_id origin)) }
     ensures demoted { IfOk result (λ both. arc_value both.1 ≡ demoted_row clone.now owner.now (snap_id origin)) }
     ensures err { IfErr result (λ e. e ≡ Refusal.NoMemory) }
 {
-    let (clone, owner) = clone.promoted(alloc, owner, origin)?;
+    let (clone, owner) = clone.promoted(alloc, owner, origin, segments)?;
     let clone = Arc::new(alloc, clone)?;
     let owner = Arc::new(alloc, owner)?;
     Ok((clone, owner))

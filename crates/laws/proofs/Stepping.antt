@@ -13,7 +13,7 @@ use Rattle.name.specs.declared.member.Member.{Member}
 use Rattle.name.specs.declared.target.Target.{Target}
 use Rattle.name.specs.declared.target.Target.TheVariants.{FileSystem as OfFileSystem, Snapshot as OfSnapshot, Bookmark as OfBookmark}
 use Rattle.model.specs.declared.request.Request.{Request}
-use Rattle.model.specs.declared.request.Request.TheVariants.{Create as ToCreate, Write as ToWrite, Punch as ToPunch, FreeObject as ToFreeObject, Snapshot as ToSnapshot, Read as ToRead, Get as ToGet, PoolGet as ToPoolGet, List as ToList, Rollback as ToRollback, Destroy as ToDestroy, Slice as ToSlice, Sync as ToSync, OpenView as ToOpenView, CloseView as ToCloseView, Clone as ToClone, Promote as ToPromote, Hold as ToHold, Release as ToRelease, Holds as ToHolds, Bookmark as ToBookmark}
+use Rattle.model.specs.declared.request.Request.TheVariants.{Create as ToCreate, Write as ToWrite, Punch as ToPunch, FreeObject as ToFreeObject, Snapshot as ToSnapshot, Read as ToRead, Get as ToGet, PoolGet as ToPoolGet, List as ToList, Rollback as ToRollback, Destroy as ToDestroy, Slice as ToSlice, Sync as ToSync, OpenView as ToOpenView, CloseView as ToCloseView, Clone as ToClone, Promote as ToPromote, Hold as ToHold, Release as ToRelease, Holds as ToHolds, Bookmark as ToBookmark, WrittenSince as ToWrittenSince, WouldFree as ToWouldFree}
 use Rattle.model.specs.declared.reply.Reply.{Reply}
 use Rattle.model.specs.World.{World, FileSystem, Snap, Bookmark, id_of, empty_file_system, map_of_snap}
 use Rattle.model.specs.State.{State}
@@ -211,3 +211,5 @@ step_became q r s new good step = followed s new r (rule_of q step.reading) (by_
     by_request (ToRelease tag target) c none = went (tagged s target (λ t. without_tag t.tags tag))
     by_request (ToHolds target) c none = went (same_later s.now)
     by_request (ToBookmark target mark) c none = went (noted s.now target mark)
+    by_request (ToWrittenSince target since) c none = went (same_later s.now)
+    by_request (ToWouldFree name first last) c none = went (same_later s.now)

@@ -4,11 +4,11 @@ use Rattle.std.specs.List.{flat_map, join_with_byte}
 use Rattle.std.specs.declared.cmp.Ordering.{Ordering}
 use Rattle.std.specs.Ordering.{nat_cmp, ordering_then}
 use Rattle.std.specs.FinMap.{entries, keys, from_entries}
-use Rattle.std.specs.Option.{option_map_or, option_and_then}
+use Rattle.std.specs.Option.{option_map_or, unwrap_or}
 use Rattle.name.specs.declared.target.Target.{Target}
 use Rattle.name.specs.declared.target.Target.TheVariants.{FileSystem as OfFileSystem, Snapshot as OfSnapshot, Bookmark as OfBookmark}
 use Rattle.model.specs.declared.request.Property.{Property}
-use Rattle.model.specs.declared.request.Property.TheVariants.{Referenced, Written, Guid, CreateTxg, Origin, Clones, UserRefs, DeferDestroy}
+use Rattle.model.specs.declared.request.Property.TheVariants.{Used, Available, Referenced, Written, UsedByDataset, UsedBySnapshots, UsedByChildren, UsedByRefReservation, Quota, RefQuota, Reservation, RefReservation, Guid, CreateTxg, Origin, Clones, UserRefs, DeferDestroy}
 use Rattle.model.specs.declared.request.PoolProperty.{PoolProperty}
 use Rattle.model.specs.declared.request.PoolProperty.TheVariants.{Size as PoolSize, Allocated, Free, Freeing, Waiting, Group}
 use Rattle.model.specs.declared.reply.Value.{Value}
@@ -16,35 +16,55 @@ use Rattle.model.specs.declared.reply.Value.TheVariants.{Size, Number, Named, Tr
 use Rattle.name.specs.Names.{name_cmp, snap_text, mark_text}
 use Rattle.model.specs.World.{World, FileSystem, Snap, SnapId, Bookmark, Live, Snapped, id_of, file_system_at, snap_at, snap_named, bookmark_named, clones_of}
 use Rattle.model.specs.State.{State}
-use Rattle.model.specs.Sums.{referenced_of, written_of, allocated_of, free_of, freeing_of, waiting_count}
+use Rattle.model.specs.Sums.{used_of, room_of, referenced_of, written_of, used_by_snap, used_by_dataset, used_by_snapshots, used_by_children, used_by_refreservation, allocated_of, free_of, freeing_of, waiting_count}
 
 -- a size in bytes, 512 a block (profile)
 abbrev pub in_bytes : ℕ → Value
 in_bytes n = Size (512 * n)
 
--- the origin of the file system of this name, where it has one (zfsprops(7): origin)
-abbrev pub origin_of : World → List ℕ → Option SnapId
-origin_of w name = option_and_then (λ f. f.origin) (file_system_at w name)
-
 -- a snapshot's name in print, by its identity; empty where there is none (zfs(8))
 abbrev pub text_of_snap : World → SnapId → List ℕ
 text_of_snap w id = option_map_or (λ p. snap_text (record { file_system = p.0; component = p.1.name })) (snap_at w id) []
 
+-- a limit in bytes, 0 where there is none (zfsprops(7): quota, refquota, reservation, refreservation)
+abbrev pub limit_value : Option ℕ → Value
+limit_value limit = in_bytes (unwrap_or limit 0)
+
 -- a property of a file system (zfsprops(7))
-unfoldable pub file_system_value : World → List ℕ → Property → Value
-file_system_value w name Referenced = in_bytes (referenced_of w (Live name))
-file_system_value w name Written = in_bytes (written_of w (Live name))
-file_system_value w name Guid = NotApplicable
-file_system_value w name CreateTxg = NotApplicable
-file_system_value w name Origin = option_map_or (λ id. Named (text_of_snap w id)) (origin_of w name) NotApplicable
-file_system_value w name Clones = NotApplicable
-file_system_value w name UserRefs = NotApplicable
-file_system_value w name DeferDestroy = NotApplicable
+unfoldable pub file_system_value : State → List ℕ → FileSystem → Property → Value
+file_system_value s name f Used = in_bytes (used_of s.now name)
+file_system_value s name f Available = in_bytes (room_of s name)
+file_system_value s name f Referenced = in_bytes (referenced_of s.now (Live name))
+file_system_value s name f Written = in_bytes (written_of s.now (Live name))
+file_system_value s name f UsedByDataset = in_bytes (used_by_dataset s.now f)
+file_system_value s name f UsedBySnapshots = in_bytes (used_by_snapshots s.now f)
+file_system_value s name f UsedByChildren = in_bytes (used_by_children s.now name)
+file_system_value s name f UsedByRefReservation = in_bytes (used_by_refreservation s.now name f)
+file_system_value s name f Quota = limit_value f.limits.quota
+file_system_value s name f RefQuota = limit_value f.limits.refquota
+file_system_value s name f Reservation = limit_value f.limits.reservation
+file_system_value s name f RefReservation = limit_value f.limits.refreservation
+file_system_value s name f Guid = NotApplicable
+file_system_value s name f CreateTxg = NotApplicable
+file_system_value s name f Origin = option_map_or (λ id. Named (text_of_snap s.now id)) f.origin NotApplicable
+file_system_value s name f Clones = NotApplicable
+file_system_value s name f UserRefs = NotApplicable
+file_system_value s name f DeferDestroy = NotApplicable
 
 -- a property of a snapshot (zfsprops(7))
 unfoldable pub snap_value : World → Snap → Property → Value
+snap_value w t Used = in_bytes (used_by_snap w (id_of t))
+snap_value w t Available = NotApplicable
 snap_value w t Referenced = in_bytes (referenced_of w (Snapped (id_of t)))
 snap_value w t Written = in_bytes (written_of w (Snapped (id_of t)))
+snap_value w t UsedByDataset = NotApplicable
+snap_value w t UsedBySnapshots = NotApplicable
+snap_value w t UsedByChildren = NotApplicable
+snap_value w t UsedByRefReservation = NotApplicable
+snap_value w t Quota = NotApplicable
+snap_value w t RefQuota = NotApplicable
+snap_value w t Reservation = NotApplicable
+snap_value w t RefReservation = NotApplicable
 snap_value w t Guid = Number t.guid
 snap_value w t CreateTxg = Number t.group
 snap_value w t Origin = NotApplicable
@@ -54,19 +74,14 @@ snap_value w t DeferDestroy = Truth t.deferred
 
 -- a property of a bookmark, which keeps its snapshot's guid and creation group (zfsprops(7), zfs-bookmark(8))
 unfoldable pub bookmark_value : Bookmark → Property → Value
-bookmark_value b Referenced = NotApplicable
-bookmark_value b Written = NotApplicable
 bookmark_value b Guid = Number b.guid
 bookmark_value b CreateTxg = Number b.group
-bookmark_value b Origin = NotApplicable
-bookmark_value b Clones = NotApplicable
-bookmark_value b UserRefs = NotApplicable
-bookmark_value b DeferDestroy = NotApplicable
+bookmark_value b _ = NotApplicable
 
 -- a property of what the name stands for (zfs-get(8))
 unfoldable pub property_value : State → Target → Property → Value
 property_value s (OfFileSystem name) property =
-    option_map_or (λ _. file_system_value s.now name property) (file_system_at s.now name) NotApplicable
+    option_map_or (λ f. file_system_value s name f property) (file_system_at s.now name) NotApplicable
 property_value s (OfSnapshot m) property = option_map_or (λ t. snap_value s.now t property) (snap_named s.now m) NotApplicable
 property_value s (OfBookmark m) property = option_map_or (λ b. bookmark_value b property) (bookmark_named s.now m) NotApplicable
 

@@ -1,5 +1,5 @@
 -- File systems, snapshots and their lineage (On-Disk Specification, chapter 4).
-use Rattle.std.specs.Prelude.{ℕ, Bool, false, ◌&&◌, ◌||◌, List, [], ◌∷◌, Option, None, map, ◌==◌, nat_lt}
+use Rattle.std.specs.Prelude.{ℕ, zero, suc, Bool, false, ◌&&◌, ◌||◌, List, [], ◌∷◌, Option, None, Some, map, ◌==◌, nat_lt}
 use Rattle.std.specs.List.{find, filter, flat_map, last_or}
 use Rattle.std.specs.Option.{option_map, option_or, option_and_then, option_map_or}
 use Rattle.std.specs.FinMap.{FinMap, get, entries, values, keys}
@@ -109,6 +109,18 @@ unfoldable pub previous_of : World → Dataset → Option SnapId
 previous_of w (Live name) = option_and_then (λ s. newest_or_origin s s.snaps) (file_system_at w name)
 previous_of w (Snapped id) =
     option_and_then (λ p. option_and_then (λ s. newest_or_origin s (snaps_before s id.group)) (file_system_at w p.0)) (snap_at w id)
+
+-- a snapshot and those before it in its lineage, the newest first, and no more than so many (On-Disk Specification, chapter 4:
+-- ds_prev_snap_obj)
+abbrev pub chain : World → ℕ → Option SnapId → List SnapId
+chain w zero s = []
+chain w (suc most) None = []
+chain w (suc most) (Some id) = id ∷ chain w most (previous_of w (Snapped id))
+
+-- the snapshots before a dataset in its lineage, the newest first. Their groups fall from below the open group, so that they are fewer
+-- than its number (On-Disk Specification, chapter 4: ds_prev_snap_obj)
+unfoldable pub older_of : World → Dataset → List SnapId
+older_of w d = chain w w.group (previous_of w d)
 
 -- the map of a dataset that is there, and else the empty one (On-Disk Specification, chapter 4)
 unfoldable pub map_of : World → Dataset → Map

@@ -3,15 +3,37 @@ ghost use Rattle.std.specs.Prelude.{◌≡◌, ◌↔◌, IsTrue};
 
 use crate::snap_names::SnapNames;
 use base::data::Data;
-use name::{DsName, MarkName, Tag, Target};
+use name::{Component, DsName, MarkName, SnapName, Tag, Target};
 
 /// What `Get` may ask of a dataset or bookmark (zfsprops(7)).
 #[derive(Clone, Copy, PartialEq, Eq, Debug)]
 pub enum Property {
+    /// What a file system uses with all its descendants, in bytes: the sum of the four parts below. Of a snapshot, the blocks that no
+    /// other dataset has.
+    Used,
+    /// What a file system and its descendants may still come to use, in bytes; a refquota and what isn't spent of a refreservation don't
+    /// enter it.
+    Available,
     /// The blocks of a file system's live map or of a snapshot's, in bytes.
     Referenced,
     /// The blocks that a file system's live map or a snapshot's has and the snapshot's before it hasn't, in bytes.
     Written,
+    /// The blocks that a file system's live map has and its origin hasn't, in bytes.
+    UsedByDataset,
+    /// The blocks that a file system's snapshots have and neither its live map nor its origin has, in bytes.
+    UsedBySnapshots,
+    /// The sum over a file system's children of what each uses, or of its reservation where that is more, in bytes.
+    UsedByChildren,
+    /// What of a file system's refreservation isn't written yet, in bytes.
+    UsedByRefReservation,
+    /// The most that a file system may use with all its descendants, in bytes; 0 where there is no such limit.
+    Quota,
+    /// The most that a file system's live map may have, in bytes; 0 where there is no such limit.
+    RefQuota,
+    /// What is kept for a file system and its descendants, in bytes; 0 where nothing is.
+    Reservation,
+    /// What is kept for a file system's live map, in bytes; 0 where nothing is.
+    RefReservation,
     /// A snapshot's guid, a number; also a bookmark's, which is its snapshot's.
     Guid,
     /// A snapshot's creation group, a number; also a bookmark's, which is its snapshot's.
@@ -183,6 +205,21 @@ pub enum Request {
         target: Target,
         mark: MarkName,
     },
+    /// How many bytes of blocks a dataset has that an older snapshot of its lineage hasn't (zfsprops(7): written@snapshot). The reply is
+    /// Value. It is refused NoDataset where no dataset has the first name or no snapshot the second, NotAncestor where the snapshot isn't
+    /// before the dataset in its lineage.
+    WrittenSince {
+        target: Target,
+        since: SnapName,
+    },
+    /// How many bytes of blocks would be freed with a file system's snapshots from one to another (zfs-destroy(8), -nv). The reply is Value.
+    /// It is refused NoDataset where one of the two isn't there, NotAncestor where the first is newer than the last, HasClones where a
+    /// file system is a clone of one of them.
+    WouldFree {
+        name: DsName,
+        first: Component,
+        last: Component,
+    },
 }
 
 impl Request {
@@ -301,6 +338,28 @@ impl Request {
             (Request::Holds { target: t }, Request::Holds { target: u }) => t.same(u),
             (Request::Bookmark { target: t, mark: a }, Request::Bookmark { target: u, mark: b }) =>
                 t.same(u) && a.same(b),
+            (
+                Request::WrittenSince {
+                    target: t,
+                    since: a,
+                },
+                Request::WrittenSince {
+                    target: u,
+                    since: b,
+                },
+            ) => t.same(u) && a.same(b),
+            (
+                Request::WouldFree {
+                    name: n,
+                    first: a,
+                    last: b,
+                },
+                Request::WouldFree {
+                    name: m,
+                    first: c,
+                    last: d,
+                },
+            ) => n.same(m) && a.same(c) && b.same(d),
             _ => false,
         }
     }

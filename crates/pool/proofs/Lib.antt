@@ -1,9 +1,11 @@
 pub mod Yielded
 pub mod Names
+pub mod Fitting
 pub mod Values
 pub mod Commits
 pub mod Changes
 pub mod Steps
+pub mod Measured
 pub mod Slicing
 pub mod Removing
 pub mod Asking

@@ -13,8 +13,7 @@ use Rattle.base.specs.Map.{Map, BlockSet, contents}
 use Rattle.zalloc.specs.declared.BlockState.{BlockState}
 use Rattle.zalloc.specs.States.{is_free, is_allocated, is_waiting}
 use Rattle.model.specs.declared.request.Request.{Request}
-use Rattle.model.specs.declared.request.Request.TheVariants.{Create, Snapshot, Read, Get, PoolGet, List as ListNames, Sync}
-use Rattle.model.specs.declared.request.Property.{Property}
+use Rattle.model.specs.declared.request.Request.TheVariants.{Create, Snapshot, Read, PoolGet, List as ListNames, Sync}
 use Rattle.model.specs.declared.request.PoolProperty.{PoolProperty}
 use Rattle.model.specs.declared.request.PoolProperty.TheVariants.{Size as SizeAsked, Allocated, Free, Freeing, Waiting, Group}
 use Rattle.model.specs.declared.reply.Reply.{Reply}
@@ -30,7 +29,6 @@ use Rattle.model.specs.Sums.{IsBalanced}
 use Rattle.model.specs.Numbers.{IsNumbered, HasStates}
 use Rattle.world.specs.Worlds.{IsPoolState}
 use Rattle.model.specs.requests.Create.{create_refusal}
-use Rattle.model.specs.requests.Get.{is_text}
 use Rattle.model.specs.requests.Snapshot.{snapshot_names, taking_row, guid_by}
 use Rattle.model.specs.State.{State}
 use Rattle.world.specs.Tables.{Datasets, with_system}
@@ -46,14 +44,12 @@ use Rattle.steps.proofs.Snapping as snaps
 use Rattle.steps.proofs.Questions as reads
 use Rattle.steps.proofs.Listing.{list_no_memory, list_done}
 use Rattle.steps.proofs.Properties as properties
-use Rattle.steps.proofs.Texts.{get_no_memory}
 use Rattle.steps.proofs.Syncing as sync
-use Rattle.pool.specs.Named.{map_named, value_named}
+use Rattle.pool.specs.Named.{map_named}
 use Rattle.pool.specs.Pools.{IsSound}
 use Rattle.pool.specs.Shown.{Shown, shown}
 use Rattle.pool.proofs.Changes.{not_false, block_tells}
 use Rattle.pool.proofs.Names.{found, absent}
-use Rattle.pool.proofs.Values.{nothing_named, value_told}
 
 -- a read that was refused
 abbrev no_bytes : (B : Type 0) → Refusal → Result B Refusal
@@ -113,17 +109,7 @@ module _ (seen : Shown) (s : State) (numbers : List BlockState) (view : shown s 
           no_refusal : Ok bytes_found ≡ Err BadKey → ⊥
           no_refusal h = cc
 
-  -- ---- properties
-
-  module _ (t : Target) (property : Property) where
-    pub get_absent : None ≡ value_named (datasets_of s) t property → Step seen.state (Get t property) (Refused NoDataset) seen.state
-    get_absent none = at _ _ (reads.get_no_dataset s sound.steady t property (nothing_named (datasets_of s) t property none))
-
-    pub get_told : (v : Value) → Some v ≡ value_named (datasets_of s) t property → Step seen.state (Get t property) (ValueIs v) seen.state
-    get_told v is = at _ _ (value_told s sound.steady t property v is)
-
-    pub get_wanting : (why : Refusal) → (is_text property ≡ true) × (why ≡ NoMemory) → Step seen.state (Get t property) (Refused why) seen.state
-    get_wanting why is = refused_for (Get t property) why NoMemory is.1 (get_no_memory s sound.steady t property is.0)
+  -- ---- properties of the pool
 
   -- each block is allocated, free or waiting
   pub balanced : IsBalanced seen.state

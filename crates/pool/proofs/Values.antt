@@ -1,7 +1,7 @@
 -- The values of properties that it tells, of what a name stands for.
-use Rattle.std.proofs.Common.{◌≡◌, ℕ, ◌*◌, List, Option, Some, None, refl, sym, ap, subst}
-use Rattle.std.specs.List.{find}
-use Rattle.std.specs.Prelude.{length, is_some}
+use Rattle.std.proofs.Common.{◌≡◌, ℕ, ◌*◌, List, Option, Some, None, true, refl, sym, ap, subst, ◌∙◌}
+use Rattle.std.specs.List.{find, join_with_byte}
+use Rattle.std.specs.Prelude.{length, is_some, count_by}
 use Rattle.std.specs.Option.{option_map_or, option_and_then}
 use Rattle.std.specs.FinMap.{get}
 use Rattle.std.specs.FinMap.{len as map_len}
@@ -10,48 +10,47 @@ use Rattle.name.specs.Names.{same_name}
 use Rattle.name.specs.declared.member.Member.{Member}
 use Rattle.name.specs.declared.target.Target.{Target}
 use Rattle.name.specs.declared.target.Target.TheVariants.{FileSystem as OfFileSystem, Snapshot as OfSnapshot, Bookmark as OfBookmark}
+use Rattle.zalloc.specs.declared.BlockState.{BlockState}
+use Rattle.zalloc.specs.States.{is_free}
 use Rattle.model.specs.declared.request.Request.TheVariants.{Get}
 use Rattle.model.specs.declared.request.Property.{Property}
-use Rattle.model.specs.declared.request.Property.TheVariants.{Referenced, Written, Guid, CreateTxg, Origin, Clones, UserRefs, DeferDestroy}
+use Rattle.model.specs.declared.request.Property.TheVariants.{Used, Available, Referenced, Written, UsedByDataset, UsedBySnapshots, UsedByChildren, UsedByRefReservation, Quota, RefQuota, Reservation, RefReservation, Guid, CreateTxg, Origin, Clones, UserRefs, DeferDestroy}
 use Rattle.model.specs.declared.reply.Reply.TheVariants.{Value as ValueIs}
 use Rattle.model.specs.declared.reply.Value.{Value}
 use Rattle.model.specs.declared.reply.Value.TheVariants.{Size, Number, Truth, NotApplicable}
 use Rattle.model.specs.World.{FileSystem, Snap, SnapId, Bookmark, id_of, clones_of}
-use Rattle.std.specs.List.{join_with_byte}
+use Rattle.model.specs.Numbers.{HasStates}
 use Rattle.model.specs.Properties.{text_of_snap, property_value, file_system_value, snap_value, bookmark_value}
-use Rattle.model.specs.Sums.{size_without}
+use Rattle.model.specs.Sums.{size_without, used_of, used_by_children, used_by_snap}
 use Rattle.model.specs.State.{State}
 use Rattle.model.specs.Step.{Step}
 use Rattle.world.proofs.Maps.{same_value, no_value}
-use Rattle.world.specs.Tables.{Datasets}
+use Rattle.world.specs.Tables.{Datasets, world_of}
 use Rattle.file_systems.specs.Clones.{row_in, below_in}
 use Rattle.file_system.specs.Dead.{newest_blocks}
 use Rattle.steps.specs.Edits.{datasets_of}
+use Rattle.steps.specs.Spaces.{is_of_live}
 use Rattle.steps.specs.Steady.{IsSteady, IsAbsent, snap_in, bookmark_in}
 use Rattle.steps.proofs.Named.{named_live, named_snap, snap_there, snap_absent, system_absent}
 use Rattle.steps.proofs.Questions.{get_done, get_referenced}
-use Rattle.steps.proofs.Identities as identities
-use Rattle.steps.proofs.Identities.{get_guid_of_live, get_group_of_live, get_guid_of_snap, get_group_of_snap}
+use Rattle.steps.proofs.Identities.{get_live, get_snap}
 use Rattle.steps.proofs.WrittenBy.{get_written_live, get_written_snap, none_counted}
-use Rattle.steps.proofs.Texts.{get_origin, get_no_origin, get_no_clones, get_no_origin_of_snap, get_clones}
+use Rattle.steps.proofs.Texts.{get_origin, get_no_origin, get_clones}
+use Rattle.steps.proofs.Spaces.{get_used_of_live, get_available, get_used_by_dataset, get_used_by_snapshots, get_used_by_children, get_used_by_refreservation, get_limit, get_used_of_snap, get_no_space_of_snap}
+use Rattle.steps.proofs.Alike.{used_alike, used_by_children_alike, used_by_snap_alike}
 use Rattle.pool.specs.Named.{origin_value, live_value, kept_value, snapshot_value, value_in, value_named}
+use Rattle.pool.proofs.Fitting.{free_is_room}
 use Rattle.pool.proofs.Names.{mapped, unmapped}
 
 -- nothing has the name where it has no value
-pub nothing_named : (t : Datasets) (target : Target) (property : Property) → None ≡ value_named t target property → IsAbsent t.file_systems target
-nothing_named t (OfFileSystem name) property none = unmapped (λ (f : FileSystem). live_value t (row_in t.file_systems (name, f)) property) (get t.file_systems name) none
-nothing_named t (OfSnapshot m) property none = at (get t.file_systems m.file_system) refl none
+pub nothing_named : (t : Datasets) (free : ℕ) (target : Target) (property : Property) → None ≡ value_named t free target property → IsAbsent t.file_systems target
+nothing_named t free (OfFileSystem name) property none = unmapped (λ (f : FileSystem). live_value t free (row_in t.file_systems (name, f)) property) (get t.file_systems name) none
+nothing_named t free (OfSnapshot m) property none = at (get t.file_systems m.file_system) refl none
   where
     kept : (f : FileSystem) → get t.file_systems m.file_system ≡ Some f → (u : Snap) (p : Property) → None ≡ kept_value t (row_in t.file_systems (m.file_system, f)) m.component u p
         → snap_in t.file_systems m ≡ None
-    kept f was u Referenced e = absurd (no_value _ e)
     kept f was u Written e = snap_absent t.file_systems m f was (none_counted m.component (blocks (below_in t.file_systems f.origin)) f.snaps (unmapped (λ n. Size (512 * n)) _ e))
-    kept f was u Guid e = absurd (no_value _ e)
-    kept f was u CreateTxg e = absurd (no_value _ e)
-    kept f was u Origin e = absurd (no_value _ e)
-    kept f was u Clones e = absurd (no_value _ e)
-    kept f was u UserRefs e = absurd (no_value _ e)
-    kept f was u DeferDestroy e = absurd (no_value _ e)
+    kept f was u _ e = absurd (no_value _ e)
 
     within : (f : FileSystem) → get t.file_systems m.file_system ≡ Some f → (x : Option Snap) → find (λ (u : Snap). same_name u.name m.component) f.snaps ≡ x
         → None ≡ option_and_then (λ u. kept_value t (row_in t.file_systems (m.file_system, f)) m.component u property) x → snap_in t.file_systems m ≡ None
@@ -62,70 +61,57 @@ nothing_named t (OfSnapshot m) property none = at (get t.file_systems m.file_sys
         → None ≡ option_and_then (λ f. snapshot_value t (row_in t.file_systems (m.file_system, f)) m.component property) x → snap_in t.file_systems m ≡ None
     at None was e = system_absent t.file_systems m was
     at (Some f) was e = within f was (find (λ (u : Snap). same_name u.name m.component) f.snaps) refl e
-nothing_named t (OfBookmark m) property none = unmapped (λ (b : Bookmark). bookmark_value b property) (bookmark_in t.file_systems m) none
+nothing_named t free (OfBookmark m) property none = unmapped (λ (b : Bookmark). bookmark_value b property) (bookmark_in t.file_systems m) none
 
 module _ (s : State) (steady : IsSteady s) where
-  -- tags and a deferred destroy are a snapshot's
-  module _ (name : List ℕ) (f : FileSystem) (was : get s.now.file_systems name ≡ Some f) where
-    get_no_userrefs : Step s (Get (OfFileSystem name) UserRefs) (ValueIs NotApplicable) s
-    unfolding file_system_value
-    get_no_userrefs = get_done s steady (OfFileSystem name) UserRefs NotApplicable (ap is_some was) (identities.live_value s steady name f was UserRefs)
-
-    get_not_deferred : Step s (Get (OfFileSystem name) DeferDestroy) (ValueIs NotApplicable) s
-    unfolding file_system_value
-    get_not_deferred = get_done s steady (OfFileSystem name) DeferDestroy NotApplicable (ap is_some was) (identities.live_value s steady name f was DeferDestroy)
-
-  module _ (m : Member) (t : Snap) (there : snap_in s.now.file_systems m ≡ Some t) where
-    get_userrefs : Step s (Get (OfSnapshot m) UserRefs) (ValueIs (Number (length t.tags))) s
-    unfolding snap_value
-    get_userrefs = get_done s steady (OfSnapshot m) UserRefs (Number (length t.tags)) (ap is_some there) (identities.kept_value s steady m t there 0 UserRefs)
-
-    get_deferred : Step s (Get (OfSnapshot m) DeferDestroy) (ValueIs (Truth t.deferred)) s
-    unfolding snap_value
-    get_deferred = get_done s steady (OfSnapshot m) DeferDestroy (Truth t.deferred) (ap is_some there) (identities.kept_value s steady m t there 0 DeferDestroy)
-
   -- a bookmark's
   get_of_bookmark : (m : Member) (b : Bookmark) (property : Property) → bookmark_in s.now.file_systems m ≡ Some b → Step s (Get (OfBookmark m) property) (ValueIs (bookmark_value b property)) s
   unfolding property_value
   get_of_bookmark m b property there = get_done s steady (OfBookmark m) property (bookmark_value b property) (ap is_some there)
       (ap (λ (x : Option Bookmark). option_map_or (λ k. bookmark_value k property) x NotApplicable) there)
 
-  -- a file system's, of its live map or its origin
-  live_told : (name : List ℕ) (f : FileSystem) → get s.now.file_systems name ≡ Some f → (property : Property)
-      → Step s (Get (OfFileSystem name) property) (ValueIs (live_value (datasets_of s) (row_in s.now.file_systems (name, f)) property)) s
-  live_told name f was Referenced = get_referenced s steady (OfFileSystem name) f.live (named_live s name f was) (map_len f.live) refl
-  live_told name f was Written = get_written_live s steady name f was (size_without (blocks f.live) (newest_blocks (blocks (below_in s.now.file_systems f.origin)) f.snaps)) refl
-  live_told name f was Guid = get_guid_of_live s steady name f was
-  live_told name f was CreateTxg = get_group_of_live s steady name f was
-  live_told name f was Origin = by_origin f.origin refl
-    where
-      by_origin : (x : Option SnapId) → f.origin ≡ x → Step s (Get (OfFileSystem name) Origin) (ValueIs (origin_value (datasets_of s) x)) s
-      by_origin None e = get_no_origin s steady name f was e
-      by_origin (Some id) e = get_origin s steady name f was id e (text_of_snap s.now id) refl
-  live_told name f was Clones = get_no_clones s steady name f was
-  live_told name f was UserRefs = get_no_userrefs name f was
-  live_told name f was DeferDestroy = get_not_deferred name f was
-
   module _ (m : Member) where
     -- as a value that it is told as
     told : (p : Property) (u v : Value) → u ≡ v → Step s (Get (OfSnapshot m) p) (ValueIs u) s → Step s (Get (OfSnapshot m) p) (ValueIs v) s
     told p u v e step = subst (λ x. Step s (Get (OfSnapshot m) p) (ValueIs x) s) e step
 
+    module _ (u : Snap) (there : snap_in s.now.file_systems m ≡ Some u) (v : Value) where
+      -- a property of space that file systems alone have
+      blank : (p : Property) → is_of_live p ≡ true → Some v ≡ Some NotApplicable → Step s (Get (OfSnapshot m) p) (ValueIs v) s
+      blank p live e = told p _ v (same_value _ v (sym e)) (get_no_space_of_snap s steady m u there p live)
+
+      -- one that the snapshot keeps
+      of_kept : (p : Property) (w : Value) → Some v ≡ Some w → snap_value s.now u p ≡ w → Step s (Get (OfSnapshot m) p) (ValueIs v) s
+      of_kept p w e is = told p w v (same_value w v (sym e)) (get_snap s steady m u there p w is)
+
     -- a snapshot's, within its file system
-    told_kept : (f : FileSystem) → get s.now.file_systems m.file_system ≡ Some f → (u : Snap) → find (λ (u : Snap). same_name u.name m.component) f.snaps ≡ Some u → (p : Property) (v : Value)
+    told_kept : (f : FileSystem) → get s.now.file_systems m.file_system ≡ Some f → (u : Snap) → find (λ (u : Snap). same_name u.name m.component) f.snaps ≡ Some u
+        → snap_in s.now.file_systems m ≡ Some u → (p : Property) (v : Value)
         → Some v ≡ kept_value (datasets_of s) (row_in s.now.file_systems (m.file_system, f)) m.component u p → Step s (Get (OfSnapshot m) p) (ValueIs v) s
-    told_kept f was u found Referenced v e =
-        told Referenced _ v (same_value _ v (sym e)) (get_referenced s steady (OfSnapshot m) u.map (named_snap s steady m u (snap_there s.now.file_systems m f u was found)) (map_len u.map) refl)
-    told_kept f was u found Written v e =
+    unfolding snap_value
+    told_kept f was u found there Used v e =
+        told Used _ v (same_value _ v (sym e)) (get_used_of_snap s steady m u there (used_by_snap (world_of (datasets_of s)) (id_of u)) (used_by_snap_alike s (id_of u)))
+    told_kept f was u found there Referenced v e =
+        told Referenced _ v (same_value _ v (sym e)) (get_referenced s steady (OfSnapshot m) u.map (named_snap s steady m u there) (map_len u.map) refl)
+    told_kept f was u found there Written v e =
         let n = mapped (λ n. Size (512 * n)) _ v e in
         told Written _ v n.2 (get_written_snap s steady m f was n.0 n.1)
-    told_kept f was u found Guid v e = told Guid _ v (same_value _ v (sym e)) (get_guid_of_snap s steady m u (snap_there s.now.file_systems m f u was found) u.guid refl)
-    told_kept f was u found CreateTxg v e = told CreateTxg _ v (same_value _ v (sym e)) (get_group_of_snap s steady m u (snap_there s.now.file_systems m f u was found) u.group refl)
-    told_kept f was u found Origin v e = told Origin _ v (same_value _ v (sym e)) (get_no_origin_of_snap s steady m u (snap_there s.now.file_systems m f u was found))
-    told_kept f was u found Clones v e =
-        told Clones _ v (same_value _ v (sym e)) (get_clones s steady m u (snap_there s.now.file_systems m f u was found) (join_with_byte 44 (clones_of s.now (id_of u))) refl)
-    told_kept f was u found UserRefs v e = told UserRefs _ v (same_value _ v (sym e)) (get_userrefs m u (snap_there s.now.file_systems m f u was found))
-    told_kept f was u found DeferDestroy v e = told DeferDestroy _ v (same_value _ v (sym e)) (get_deferred m u (snap_there s.now.file_systems m f u was found))
+    told_kept f was u found there Guid v e = of_kept u there v Guid (Number u.guid) e refl
+    told_kept f was u found there CreateTxg v e = of_kept u there v CreateTxg (Number u.group) e refl
+    told_kept f was u found there Clones v e =
+        told Clones _ v (same_value _ v (sym e)) (get_clones s steady m u there (join_with_byte 44 (clones_of s.now (id_of u))) refl)
+    told_kept f was u found there UserRefs v e = of_kept u there v UserRefs (Number (length u.tags)) e refl
+    told_kept f was u found there DeferDestroy v e = of_kept u there v DeferDestroy (Truth u.deferred) e refl
+    told_kept f was u found there Origin v e = of_kept u there v Origin NotApplicable e refl
+    told_kept f was u found there Available v e = blank u there v Available refl e
+    told_kept f was u found there UsedByDataset v e = blank u there v UsedByDataset refl e
+    told_kept f was u found there UsedBySnapshots v e = blank u there v UsedBySnapshots refl e
+    told_kept f was u found there UsedByChildren v e = blank u there v UsedByChildren refl e
+    told_kept f was u found there UsedByRefReservation v e = blank u there v UsedByRefReservation refl e
+    told_kept f was u found there Quota v e = blank u there v Quota refl e
+    told_kept f was u found there RefQuota v e = blank u there v RefQuota refl e
+    told_kept f was u found there Reservation v e = blank u there v Reservation refl e
+    told_kept f was u found there RefReservation v e = blank u there v RefReservation refl e
 
     -- a snapshot's, among file systems
     snapshot_told : (property : Property) (v : Value) → Some v ≡ value_in (datasets_of s) m property → Step s (Get (OfSnapshot m) property) (ValueIs v) s
@@ -134,19 +120,47 @@ module _ (s : State) (steady : IsSteady s) where
         within : (f : FileSystem) → get s.now.file_systems m.file_system ≡ Some f → (x : Option Snap) → find (λ (u : Snap). same_name u.name m.component) f.snaps ≡ x
             → Some v ≡ option_and_then (λ u. kept_value (datasets_of s) (row_in s.now.file_systems (m.file_system, f)) m.component u property) x → Step s (Get (OfSnapshot m) property) (ValueIs v) s
         within f was None found e = absurd (no_value v (sym e))
-        within f was (Some u) found e = told_kept f was u found property v e
+        within f was (Some u) found e = told_kept f was u found (snap_there s.now.file_systems m f u was found) property v e
 
         at : (x : Option FileSystem) → get s.now.file_systems m.file_system ≡ x
             → Some v ≡ option_and_then (λ f. snapshot_value (datasets_of s) (row_in s.now.file_systems (m.file_system, f)) m.component property) x → Step s (Get (OfSnapshot m) property) (ValueIs v) s
         at None was e = absurd (no_value v (sym e))
         at (Some f) was e = within f was (find (λ (u : Snap). same_name u.name m.component) f.snaps) refl e
 
-  -- of what has the name
-  pub value_told : (target : Target) (property : Property) (v : Value) → Some v ≡ value_named (datasets_of s) target property → Step s (Get target property) (ValueIs v) s
-  value_told (OfFileSystem name) property v e =
-      let f = mapped (λ (f : FileSystem). live_value (datasets_of s) (row_in s.now.file_systems (name, f)) property) (get s.now.file_systems name) v e in
-      subst (λ x. Step s (Get (OfFileSystem name) property) (ValueIs x) s) f.2 (live_told name f.0 f.1 property)
-  value_told (OfSnapshot m) property v e = snapshot_told m property v e
-  value_told (OfBookmark m) property v e =
-      let b = mapped (λ (b : Bookmark). bookmark_value b property) (bookmark_in s.now.file_systems m) v e in
-      subst (λ x. Step s (Get (OfBookmark m) property) (ValueIs x) s) b.2 (get_of_bookmark m b.0 property b.1)
+  module _ (numbers : List BlockState) (known : HasStates s numbers) (free : ℕ) (counted : free ≡ count_by is_free numbers) where
+    -- a file system's, of its live map or its origin, or of its space
+    live_told : (name : List ℕ) (f : FileSystem) → get s.now.file_systems name ≡ Some f → (property : Property)
+        → Step s (Get (OfFileSystem name) property) (ValueIs (live_value (datasets_of s) free (row_in s.now.file_systems (name, f)) property)) s
+    unfolding file_system_value
+    live_told name f was Used = get_used_of_live s steady name f was (used_of (world_of (datasets_of s)) name) (used_alike s name)
+    live_told name f was Available = get_available s steady name f was free (counted ∙ free_is_room s steady numbers known name f was)
+    live_told name f was Referenced = get_referenced s steady (OfFileSystem name) f.live (named_live s name f was) (map_len f.live) refl
+    live_told name f was Written = get_written_live s steady name f was (size_without (blocks f.live) (newest_blocks (blocks (below_in s.now.file_systems f.origin)) f.snaps)) refl
+    live_told name f was UsedByDataset = get_used_by_dataset s steady name f was _ refl
+    live_told name f was UsedBySnapshots = get_used_by_snapshots s steady name f was _ refl
+    live_told name f was UsedByChildren = get_used_by_children s steady name f was (used_by_children (world_of (datasets_of s)) name) (used_by_children_alike s name)
+    live_told name f was UsedByRefReservation = get_used_by_refreservation s steady name f was
+    live_told name f was Quota = get_limit s steady name f was Quota refl
+    live_told name f was RefQuota = get_limit s steady name f was RefQuota refl
+    live_told name f was Reservation = get_limit s steady name f was Reservation refl
+    live_told name f was RefReservation = get_limit s steady name f was RefReservation refl
+    live_told name f was Origin = by_origin f.origin refl
+      where
+        by_origin : (x : Option SnapId) → f.origin ≡ x → Step s (Get (OfFileSystem name) Origin) (ValueIs (origin_value (datasets_of s) x)) s
+        by_origin None e = get_no_origin s steady name f was e
+        by_origin (Some id) e = get_origin s steady name f was id e (text_of_snap s.now id) refl
+    live_told name f was Guid = get_live s steady name f was Guid NotApplicable refl
+    live_told name f was CreateTxg = get_live s steady name f was CreateTxg NotApplicable refl
+    live_told name f was Clones = get_live s steady name f was Clones NotApplicable refl
+    live_told name f was UserRefs = get_live s steady name f was UserRefs NotApplicable refl
+    live_told name f was DeferDestroy = get_live s steady name f was DeferDestroy NotApplicable refl
+
+    -- of what has the name
+    pub value_told : (target : Target) (property : Property) (v : Value) → Some v ≡ value_named (datasets_of s) free target property → Step s (Get target property) (ValueIs v) s
+    value_told (OfFileSystem name) property v e =
+        let f = mapped (λ (f : FileSystem). live_value (datasets_of s) free (row_in s.now.file_systems (name, f)) property) (get s.now.file_systems name) v e in
+        subst (λ x. Step s (Get (OfFileSystem name) property) (ValueIs x) s) f.2 (live_told name f.0 f.1 property)
+    value_told (OfSnapshot m) property v e = snapshot_told m property v e
+    value_told (OfBookmark m) property v e =
+        let b = mapped (λ (b : Bookmark). bookmark_value b property) (bookmark_in s.now.file_systems m) v e in
+        subst (λ x. Step s (Get (OfBookmark m) property) (ValueIs x) s) b.2 (get_of_bookmark m b.0 property b.1)

@@ -1,5 +1,5 @@
 -- What a name stands for among file systems.
-use Rattle.std.specs.Prelude.{◌≡◌, ◌⊎◌, ◌*◌, ℕ, List, Option, None, Some, length, map}
+use Rattle.std.specs.Prelude.{◌≡◌, ◌⊎◌, ◌*◌, ℕ, List, [], ◌∷◌, Option, None, Some, length, map}
 use Rattle.std.specs.List.{find, join_with_byte}
 use Rattle.std.specs.Option.{option_map, option_map_or, option_and_then}
 use Rattle.std.specs.FinMap.{get, len}
@@ -11,11 +11,11 @@ use Rattle.name.specs.declared.member.Member.{Member}
 use Rattle.name.specs.declared.target.Target.{Target}
 use Rattle.name.specs.declared.target.Target.TheVariants.{FileSystem as OfFileSystem, Snapshot as OfSnapshot, Bookmark as OfBookmark}
 use Rattle.model.specs.Hierarchy.{FileSystems}
-use Rattle.model.specs.World.{Snap, SnapId, id_of, clones_of, bookmark_named}
+use Rattle.model.specs.World.{Snap, SnapId, id_of, clones_of, bookmark_named, blocks_of_all}
 use Rattle.model.specs.Properties.{text_of_snap, bookmark_value, bookmarks_in_order}
-use Rattle.model.specs.Sums.{size_without}
+use Rattle.model.specs.Sums.{size_without, used_of, used_by_children, used_by_snap}
 use Rattle.model.specs.declared.request.Property.{Property}
-use Rattle.model.specs.declared.request.Property.TheVariants.{Referenced, Written, Guid, CreateTxg, Origin, Clones, UserRefs, DeferDestroy}
+use Rattle.model.specs.declared.request.Property.TheVariants.{Used, Available, Referenced, Written, UsedByDataset, UsedBySnapshots, UsedByChildren, UsedByRefReservation, Quota, RefQuota, Reservation, RefReservation, Guid, CreateTxg, Origin, Clones, UserRefs, DeferDestroy}
 use Rattle.model.specs.declared.reply.Value.{Value}
 use Rattle.model.specs.declared.reply.Value.TheVariants.{Size, Number, Named, Truth, NotApplicable}
 use Rattle.world.specs.Tables.{Datasets, world_of}
@@ -47,27 +47,48 @@ bookmark_names e = map (λ b. mark_text (record { file_system = e.0; component =
 abbrev pub origin_value : Datasets → Option SnapId → Value
 origin_value t origin = option_map_or (λ id. Named (text_of_snap (world_of t) id)) origin NotApplicable
 
--- a property of a file system: of its live dataset, or its origin; it has no property of a snapshot alone (zfsprops(7))
-abbrev pub live_value : Datasets → Row → Property → Value
-live_value t r Referenced = Size (512 * len r.system.live)
-live_value t r Written = Size (512 * size_without (blocks r.system.live) (newest_blocks (blocks r.below) r.system.snaps))
-live_value t r Guid = NotApplicable
-live_value t r CreateTxg = NotApplicable
-live_value t r Origin = origin_value t r.system.origin
-live_value t r Clones = NotApplicable
-live_value t r UserRefs = NotApplicable
-live_value t r DeferDestroy = NotApplicable
+-- a property of a file system of these, of a pool with so many free blocks: it has no limit, and no property of a snapshot alone
+-- (zfsprops(7))
+abbrev pub live_value : Datasets → ℕ → Row → Property → Value
+live_value t free r Used = Size (512 * used_of (world_of t) r.name)
+live_value t free r Available = Size (512 * free)
+live_value t free r Referenced = Size (512 * len r.system.live)
+live_value t free r Written = Size (512 * size_without (blocks r.system.live) (newest_blocks (blocks r.below) r.system.snaps))
+live_value t free r UsedByDataset = Size (512 * size_without (blocks r.system.live) (blocks r.below))
+live_value t free r UsedBySnapshots = Size (512 * size_without (blocks_of_all (map (λ t. t.map) r.system.snaps)) (blocks_of_all (r.system.live ∷ r.below ∷ [])))
+live_value t free r UsedByChildren = Size (512 * used_by_children (world_of t) r.name)
+live_value t free r UsedByRefReservation = Size 0
+live_value t free r Quota = Size 0
+live_value t free r RefQuota = Size 0
+live_value t free r Reservation = Size 0
+live_value t free r RefReservation = Size 0
+live_value t free r Origin = origin_value t r.system.origin
+live_value t free r Guid = NotApplicable
+live_value t free r CreateTxg = NotApplicable
+live_value t free r Clones = NotApplicable
+live_value t free r UserRefs = NotApplicable
+live_value t free r DeferDestroy = NotApplicable
 
 -- a property of a snapshot of a file system, which has this name within it (zfsprops(7))
 abbrev pub kept_value : Datasets → Row → List ℕ → Snap → Property → Option Value
+kept_value t r name u Used = Some (Size (512 * used_by_snap (world_of t) (id_of u)))
 kept_value t r name u Referenced = Some (Size (512 * len u.map))
 kept_value t r name u Written = option_map (λ n. Size (512 * n)) (written_from (blocks r.below) r.system.snaps name)
 kept_value t r name u Guid = Some (Number u.guid)
 kept_value t r name u CreateTxg = Some (Number u.group)
-kept_value t r name u Origin = Some NotApplicable
 kept_value t r name u Clones = Some (Named (join_with_byte 44 (clones_of (world_of t) (id_of u))))
 kept_value t r name u UserRefs = Some (Number (length u.tags))
 kept_value t r name u DeferDestroy = Some (Truth u.deferred)
+kept_value t r name u Available = Some NotApplicable
+kept_value t r name u UsedByDataset = Some NotApplicable
+kept_value t r name u UsedBySnapshots = Some NotApplicable
+kept_value t r name u UsedByChildren = Some NotApplicable
+kept_value t r name u UsedByRefReservation = Some NotApplicable
+kept_value t r name u Quota = Some NotApplicable
+kept_value t r name u RefQuota = Some NotApplicable
+kept_value t r name u Reservation = Some NotApplicable
+kept_value t r name u RefReservation = Some NotApplicable
+kept_value t r name u Origin = Some NotApplicable
 
 -- a property of the snapshot of this name within a file system, none where there is no such snapshot (zfs-get(8))
 abbrev pub snapshot_value : Datasets → Row → List ℕ → Property → Option Value
@@ -77,8 +98,8 @@ snapshot_value t r name property = option_and_then (λ u. kept_value t r name u 
 abbrev pub value_in : Datasets → Member → Property → Option Value
 value_in t m property = option_and_then (λ f. snapshot_value t (row_in t.file_systems (m.file_system, f)) m.component property) (get t.file_systems m.file_system)
 
--- a property of what has the name, none where nothing has it (zfs-get(8))
-abbrev pub value_named : Datasets → Target → Property → Option Value
-value_named t (OfFileSystem name) property = option_map (λ f. live_value t (row_in t.file_systems (name, f)) property) (get t.file_systems name)
-value_named t (OfSnapshot m) property = value_in t m property
-value_named t (OfBookmark m) property = option_map (λ b. bookmark_value b property) (bookmark_named (world_of t) m)
+-- a property of what has the name in a pool with so many free blocks, none where nothing has it (zfs-get(8))
+abbrev pub value_named : Datasets → ℕ → Target → Property → Option Value
+value_named t free (OfFileSystem name) property = option_map (λ f. live_value t free (row_in t.file_systems (name, f)) property) (get t.file_systems name)
+value_named t free (OfSnapshot m) property = value_in t m property
+value_named t free (OfBookmark m) property = option_map (λ b. bookmark_value b property) (bookmark_named (world_of t) m)

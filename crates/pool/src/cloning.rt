@@ -22,15 +22,18 @@ impl Pool {
         }
     }
 
-    pub(crate) fn planned_promote(&self, alloc: Global, name: &DsName) -> (Reply, Plan)
-        ensures can { CanDo self.now.state result.1 }
-        ensures step { Step self.now.state (Request.Promote name.now) result.0 (state_after_plan self.now.state result.1) }
+    pub(crate) fn planned_promote(&mut self, alloc: Global, name: &DsName) -> (Reply, Plan)
+        ensures same { self.new ≡ self.old }
+        ensures can { CanDo self.old.state result.1 }
+        ensures step { Step self.old.state (Request.Promote name.now) result.0 (state_after_plan self.old.state result.1) }
     {
         let _size = self.size;
-        match promote(alloc, &self.present, name) {
-            Ok(to) => (Reply::Done, Plan::Put { to, guids: 0 }),
-            Err(refusal) => (Reply::Refused(refusal), Plan::Nothing),
-        }
+        let promoted = promote(alloc, &self.present, name, &mut self.segments);
+        let to = match promoted {
+            Ok(to) => to,
+            Err(refusal) => return (Reply::Refused(refusal), Plan::Nothing),
+        };
+        (Reply::Done, Plan::Put { to, guids: 0 })
     }
 
     // Clones at once, or answers why it can't, and then nothing has changed.
@@ -49,7 +52,8 @@ impl Pool {
         ensures { Step self.old.state (Request.Promote name.now) result self.new.state }
     {
         let _size = self.size;
-        if let Err(refusal) = promote_now(alloc, &mut self.present, name) {
+        let done = promote_now(alloc, &mut self.present, name, &mut self.segments);
+        if let Err(refusal) = done {
             return Reply::Refused(refusal);
         }
         Reply::Done

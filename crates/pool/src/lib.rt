@@ -7,6 +7,7 @@
 mod cloning;
 mod destroying;
 mod marking;
+mod measuring;
 mod named;
 mod pool;
 mod viewing;

@@ -1,21 +1,26 @@
 //! File systems by a name of any kind, and what is told of them.
-ghost use Rattle.std.specs.Prelude.{◌≡◌, ◌*◌, ◌++◌, ◌∷◌, true, IfOk, IfErr, OnOk, map};
+ghost use Rattle.std.specs.Prelude.{◌≡◌, ◌<◌, ◌*◌, ◌^◌, ◌++◌, ◌∷◌, true, Some, IfOk, IfErr, OnOk, map};
 ghost use Rattle.std.specs.Arc.{arc_value};
 ghost use Rattle.std.specs.Option.{option_copied, option_map, option_map_or};
 ghost use Rattle.std.specs.List.{flat_map, join_with_byte};
+ghost use Rattle.std.specs.FinMap.{get};
+ghost use Rattle.std.specs.FinSet.{len};
 ghost use Rattle.base.specs.declared.refusal.Refusal.{Refusal};
 ghost use Rattle.file_systems.specs.CloneNames.{name_of};
 ghost use Rattle.file_system.specs.Rows.{entry_of, entry_in};
 ghost use Rattle.model.specs.Ids.{snap_id};
 ghost use Rattle.model.specs.Properties.{text_of_snap, bookmark_value};
-ghost use Rattle.model.specs.World.{clones_of, bookmark_named};
-ghost use Rattle.model.specs.requests.Get.{is_text};
+ghost use Rattle.model.specs.World.{clones_of, bookmark_named, union_of};
+ghost use Rattle.model.specs.declared.request.Property.{Property};
+ghost use Rattle.model.specs.requests.Get.{needs_memory};
+ghost use Rattle.accounts.specs.Limits.{IsUnlimited};
 ghost use Rattle.steps.specs.Steady.{snap_in};
 ghost use Rattle.steps.specs.Listed.{own_names};
 ghost use Rattle.bookmarks.specs.Marks.{bookmark_of};
 ghost use Rattle.world.specs.Tables.{world_of};
 ghost use Rattle.pool.specs.Named.{map_named, snapshot_names, bookmark_names, live_value, origin_value, snapshot_value, value_in, value_named};
 
+use base::meter::SegMeter;
 use base::refusal::Refusal;
 use base::text::Bytes;
 use datasets::Table;
@@ -24,6 +29,7 @@ use model::reply::Value;
 use model::request::Property;
 use model::snapshot_id::SnapshotId;
 use name::{Member, Target};
+use space::{used, used_by_children, used_by_snapshot};
 use std::alloc::Global;
 use std::sync::Arc;
 use tree::Tree;
@@ -191,20 +197,35 @@ fn value_of_origin(alloc: Global, table: &Table, file_system: &FileSystem) -> Re
     }
 }
 
-// A property of a file system of the table: of its live dataset, or its origin. It has no property of a snapshot alone.
-// NoMemory where there is none for a text. Constant time, but for the origin what `value_of_origin` costs.
+// A property of a file system of the table, of a pool with so many free blocks. It has no limit, and no property of a snapshot alone.
+// NoMemory where there is none for a text. Constant time, but for what is used, which costs the number of file systems, and for the
+// origin what `value_of_origin` costs.
 fn value_of_live(
     alloc: Global,
     table: &Table,
     file_system: &FileSystem,
     property: Property,
+    free: u32,
 ) -> Result<Value, Refusal>
-    ensures ok { IfOk result (λ value. value ≡ live_value table.now file_system.now property) }
-    ensures err { IfErr result (λ e. (is_text property ≡ true) × (e ≡ Refusal.NoMemory)) }
+    requires there { get table.now.file_systems file_system.now.name ≡ Some file_system.now.system }
+    requires unlimited { IsUnlimited table.now.file_systems }
+    requires few { len (union_of (world_of table.now)) < 2 ^ 32 }
+    ensures ok { IfOk result (λ value. value ≡ live_value table.now free file_system.now property) }
+    ensures err { IfErr result (λ e. (needs_memory property ≡ true) × (e ≡ Refusal.NoMemory)) }
 {
     match property {
+        Property::Used => Ok(in_bytes(used(table, file_system.name()))),
+        Property::Available => Ok(in_bytes(free)),
         Property::Referenced => Ok(in_bytes(file_system.live().node_count())),
         Property::Written => Ok(in_bytes(file_system.written())),
+        Property::UsedByDataset => Ok(in_bytes(file_system.used_by_dataset())),
+        Property::UsedBySnapshots => Ok(in_bytes(file_system.used_by_snapshots() as u32)),
+        Property::UsedByChildren => Ok(in_bytes(used_by_children(table, file_system.name()))),
+        Property::UsedByRefReservation
+        | Property::Quota
+        | Property::RefQuota
+        | Property::Reservation
+        | Property::RefReservation => Ok(in_bytes(0)),
         Property::Origin => value_of_origin(alloc, table, file_system),
         Property::Guid
         | Property::CreateTxg
@@ -214,8 +235,8 @@ fn value_of_live(
     }
 }
 
-// A property of the snapshot of this name within its file system of the table, or none where there is no such snapshot. NoMemory where
-// there is none for a text.
+// A property of the snapshot of this name within its file system of the table, which isn't what it uses; or none where there is no such
+// snapshot. NoMemory where there is none for a text.
 fn value_within(
     alloc: Global,
     table: &Table,
@@ -223,36 +244,52 @@ fn value_within(
     component: &[u8],
     property: Property,
 ) -> Result<Option<Value>, Refusal>
+    requires { ¬ (property ≡ Property.Used) }
     ensures ok { IfOk result (λ value. value ≡ snapshot_value table.now file_system.now component.now property) }
-    ensures err { IfErr result (λ e. (is_text property ≡ true) × (e ≡ Refusal.NoMemory)) }
+    ensures err { IfErr result (λ e. (needs_memory property ≡ true) × (e ≡ Refusal.NoMemory)) }
 {
     let Some(snapshot) = file_system.snapshot_named(component) else {
         return Ok(None);
     };
     let value = match property {
+        Property::Used => unreachable!(),
         Property::Referenced => in_bytes(snapshot.tree().node_count()),
         Property::Written => return Ok(file_system.written_at(component).map(in_bytes)),
         Property::Guid => Value::Number(snapshot.guid().0),
         Property::CreateTxg => Value::Number(snapshot.group().0),
-        Property::Origin => Value::NotApplicable,
         Property::Clones => Value::Named(clones_text(alloc, table, snapshot.id())?),
         Property::UserRefs => Value::Number(snapshot.tag_count() as u64),
         Property::DeferDestroy => Value::Truth(snapshot.is_deferred()),
+        Property::Available
+        | Property::UsedByDataset
+        | Property::UsedBySnapshots
+        | Property::UsedByChildren
+        | Property::UsedByRefReservation
+        | Property::Quota
+        | Property::RefQuota
+        | Property::Reservation
+        | Property::RefReservation
+        | Property::Origin => Value::NotApplicable,
     };
     Ok(Some(value))
 }
 
-// A property of the snapshot of this name, or none where there is no such snapshot. NoMemory where there is none for a text. It costs the
-// logarithm of the number of file systems, that of the number of its file system's snapshots, and for its clones what `clones_text` does.
+// A property of the snapshot of this name, or none where there is no such snapshot. NoMemory where there is none for a text, or to find
+// what it alone has. It costs the logarithm of the number of file systems, that of the number of its file system's snapshots, for its
+// clones what `clones_text` does, and for what it uses what `used_by_snapshot` does.
 fn value_of_snapshot(
     alloc: Global,
     table: &Table,
     member: &Member,
     property: Property,
+    segments: &mut SegMeter,
 ) -> Result<Option<Value>, Refusal>
     ensures ok { IfOk result (λ value. value ≡ value_in table.now member.now property) }
-    ensures err { IfErr result (λ e. (is_text property ≡ true) × (e ≡ Refusal.NoMemory)) }
+    ensures err { IfErr result (λ e. (needs_memory property ≡ true) × (e ≡ Refusal.NoMemory)) }
 {
+    if let Property::Used = property {
+        return Ok(used_by_snapshot(alloc, table, member, segments)?.map(in_bytes));
+    }
     let Some(file_system) = table.find(&member.file_system) else {
         return Ok(None);
     };
@@ -265,24 +302,31 @@ fn value_of_snapshot(
     )
 }
 
-/// A property of what has the name, or none where nothing has it. NoMemory where there is none for a text. It costs the logarithm of the
-/// number of file systems, and for a snapshot that of the number of its file system's; an origin costs the number of file systems times
-/// the logarithm of that of the snapshots of one, and clones their names.
+/// A property of what has the name in a pool with so many free blocks and no limit, or none where nothing has it. NoMemory where there is
+/// none for a text, or to find what a snapshot alone has. It costs the logarithm of the number of file systems, and for a snapshot that of
+/// the number of its file system's; an origin costs the number of file systems times the logarithm of that of the snapshots of one, clones
+/// their names, what a file system or its children use the number of file systems, and what a snapshot uses what `used_by_snapshot` does.
 pub fn value_named(
     alloc: Global,
     table: &Table,
     target: &Target,
     property: Property,
+    free: u32,
+    segments: &mut SegMeter,
 ) -> Result<Option<Value>, Refusal>
-    ensures ok { IfOk result (λ value. value ≡ value_named table.now target.now property) }
-    ensures err { IfErr result (λ e. (is_text property ≡ true) × (e ≡ Refusal.NoMemory)) }
+    requires unlimited { IsUnlimited table.now.file_systems }
+    requires few { len (union_of (world_of table.now)) < 2 ^ 32 }
+    ensures ok { IfOk result (λ value. value ≡ value_named table.now free target.now property) }
+    ensures err { IfErr result (λ e. (needs_memory property ≡ true) × (e ≡ Refusal.NoMemory)) }
 {
     match target {
         Target::FileSystem(name) => match table.find(name) {
-            Some(file_system) => Ok(Some(value_of_live(alloc, table, file_system, property)?)),
+            Some(found) => Ok(Some(value_of_live(alloc, table, found, property, free)?)),
             None => Ok(None),
         },
-        Target::Snapshot(name) => value_of_snapshot(alloc, table, name.member(), property),
+        Target::Snapshot(name) => {
+            value_of_snapshot(alloc, table, name.member(), property, segments)
+        }
         Target::Bookmark(name) => {
             Ok(bookmark_named(table, name.member()).map(|mark| value_of_mark(mark, property)))
         }

@@ -17,7 +17,7 @@ ghost use Rattle.pool.specs.Asked.{Asks};
 ghost use Rattle.pool.specs.Named.{IsNoLive};
 ghost use Rattle.pool.specs.Plans.{state_after_plan, CanDo};
 
-use crate::named::{in_bytes, names_of, tree_named, value_named};
+use crate::named::{in_bytes, names_of, tree_named};
 use base::meter::{Meter, SegMeter};
 use base::number::{Dead, Group};
 use base::refusal::Refusal;
@@ -25,7 +25,7 @@ use datasets::Table;
 use destroyer::{Freeing, Slice};
 use model::names::Names;
 use model::reply::{Reply, Value};
-use model::request::{PoolProperty, Property, Request};
+use model::request::{PoolProperty, Request};
 use model::snap_names::SnapNames;
 use model::snapshot_id::SnapshotId;
 use name::{DsName, SnapName, Target};
@@ -55,7 +55,7 @@ pub struct Pool {
     next_guid: u64,
     pub(crate) size: u32,
     id: u32,
-    allocator: Allocator,
+    pub(crate) allocator: Allocator,
     meter: Meter,
     pub(crate) segments: SegMeter,
 }
@@ -176,10 +176,14 @@ impl Pool {
     /// number of file systems, and a snapshot's also that of the number of its file system's snapshots. What changes file systems is
     /// made on a copy of them, which costs a count for each: beside it a write or a punch costs the path to its leaf, to free an object
     /// costs its nodes, a snapshot costs its names and a 32nd of the snapshots of its file system, a clone costs its name, and a promote
-    /// the logarithm of the number of each file system's snapshots and of those of the two for each snapshot that changes sides, but no
-    /// block. A read costs the path, and takes no memory. A list costs the names, and so do a snapshot's clones; an origin costs what a
-    /// promote finds it by. To open a view costs what its name does; to close one costs the number of open views and of file systems, and
-    /// where its snapshot goes with it what to destroy that does. Nothing else grows.
+    /// the logarithm of the number of each file system's snapshots, the snapshots of the two with the segments of their dead lists, and
+    /// for each snapshot that changes sides the logarithm of those numbers, but no block. A read costs the path, and takes no memory. A
+    /// list costs the names. A property is known once its name is found, but: an origin costs what a promote finds it by, a snapshot's
+    /// clones their names, what a file system or its children use the number of file systems, and what a snapshot uses what
+    /// `space::used_by_snapshot` says. What was written since a snapshot costs what `space::written_since` says, and what a range of
+    /// snapshots would free what `space::would_free` does: they visit no block, and take no memory. To open a view costs what its name
+    /// does; to close one costs the number of open views and of file systems, and where its snapshot goes with it what to destroy that
+    /// does. Nothing else grows.
     pub fn prepare(&mut self, alloc: Global, request: &Request) -> (Reply, Ready)
         ensures same { self.new ≡ self.old }
         ensures from { result.1.from ≡ self.new }
@@ -226,6 +230,12 @@ impl Pool {
             } => (self.read(target, *object, *block), Plan::Nothing),
             Request::Get { target, property } => {
                 (self.get(alloc, target, *property), Plan::Nothing)
+            }
+            Request::WrittenSince { target, since } => {
+                (self.written_since(target, since), Plan::Nothing)
+            }
+            Request::WouldFree { name, first, last } => {
+                (self.would_free(name, first, last), Plan::Nothing)
             }
             Request::PoolGet { property } => (self.pool_get(*property), Plan::Nothing),
             Request::List => (self.list(alloc), Plan::Nothing),
@@ -377,17 +387,6 @@ impl Pool {
         }
     }
 
-    fn get(&self, alloc: Global, target: &Target, property: Property) -> Reply
-        ensures { Step self.now.state (Request.Get target.now property) result self.now.state }
-    {
-        let _size = self.size;
-        match value_named(alloc, &self.present, target, property) {
-            Ok(Some(value)) => Reply::Value(value),
-            Ok(None) => Reply::Refused(Refusal::NoDataset),
-            Err(refusal) => Reply::Refused(refusal),
-        }
-    }
-
     fn list(&self, alloc: Global) -> Reply
         ensures { Step self.now.state Request.List result self.now.state }
     {
@@ -531,6 +530,8 @@ impl Pool {
                 block,
             } => self.read(target, *object, *block),
             Request::Get { target, property } => self.get(alloc, target, *property),
+            Request::WrittenSince { target, since } => self.written_since(target, since),
+            Request::WouldFree { name, first, last } => self.would_free(name, first, last),
             Request::PoolGet { property } => self.pool_get(*property),
             Request::List => self.list(alloc),
             Request::Slice { count } => self.slice_now(*count),

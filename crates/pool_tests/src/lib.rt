@@ -2,6 +2,8 @@
 #![tactic(auto)]
 
 #[cfg(test)]
+mod blanks;
+#[cfg(test)]
 mod bookmarked;
 #[cfg(test)]
 mod cloned;
@@ -12,11 +14,15 @@ mod held;
 #[cfg(test)]
 mod pools;
 #[cfg(test)]
+mod ranges;
+#[cfg(test)]
 mod removed;
 #[cfg(test)]
 mod rig;
 #[cfg(test)]
 mod rows;
+#[cfg(test)]
+mod spaces;
 #[cfg(test)]
 mod taken;
 #[cfg(test)]

@@ -35,8 +35,9 @@ use views::Views;
 /// is lost with that is to be freed. The table and what it has to free stay as they are. Refused are NotSnapshot where the name isn't one
 /// of a snapshot, else NoDataset where there is no such snapshot, else NotNewest where there is a newer snapshot or bookmark and not
 /// `later`, else Busy where a tag or one of these views keeps a newer snapshot, else HasClones where a newer one has a clone; else NoMemory
-/// where there is none for it (zfs-rollback(8)). It costs the number of file systems, the chunks of pieces that are to be freed, the number
-/// of the file system's snapshots and bookmarks, and for each newer snapshot what its destroy does and the number of open views.
+/// where there is none for it, or as `Table::rollback` says (zfs-rollback(8)). It costs the number of file systems, the chunks of pieces
+/// that are to be freed, the number of the file system's snapshots with the segments of their dead lists, that of its bookmarks, and for
+/// each newer snapshot what its destroy does and the number of open views.
 pub fn rollback(
     alloc: Global,
     table: &Table,
@@ -141,7 +142,7 @@ fn back_to(
     let _count = table.len();
     let mut edit = Edit::of(table, freeing)?;
     edit.lose_newer(alloc, file_system, group, segments)?;
-    edit.lose_live(alloc, file_system.name())?;
+    edit.lose_live(alloc, file_system.name(), segments)?;
     lose_newer_bookmarks(alloc, &mut edit.to, file_system.name(), group)?;
     Ok(edit)
 }

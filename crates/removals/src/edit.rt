@@ -65,9 +65,14 @@ impl Edit {
     }
 
     /// Makes the map of its newest snapshot the live map of this file system (zfs-rollback(8)): what it had beside is to be freed.
-    /// NoDataset exactly where there is no file system of this name or it has no snapshot; else NoMemory where there is none for it, and
-    /// then the edit is of no use. It costs the logarithm of the number of file systems.
-    pub fn lose_live(&mut self, alloc: Global, name: &DsName) -> Result<(), Refusal>
+    /// NoDataset exactly where there is no file system of this name or it has no snapshot; else NoMemory as `Table::rollback` says, and then
+    /// the edit is of no use. It costs what that does.
+    pub fn lose_live(
+        &mut self,
+        alloc: Global,
+        name: &DsName,
+        segments: &mut SegMeter,
+    ) -> Result<(), Refusal>
         requires apart { AreDisjoint (union_of (world_of self.old.to)) self.old.freeing }
         ensures ok { OnOk result (self.new.to ≡ record self.old.to { file_systems = with_live self.old.to.file_systems name.now (newest_map (live_of self.old.to.file_systems name.now) (snaps_at self.old.to.file_systems name.now)) }) }
         ensures lost { OnOk result (HasLost self.old.to self.old.freeing self.new.to self.new.freeing) }
@@ -75,7 +80,7 @@ impl Edit {
         ensures only { IfErr result (λ e. (e ≡ Refusal.NoDataset) ⊎ (e ≡ Refusal.NoMemory)) }
     {
         let _count = self.to.len();
-        let lost = self.to.rollback(alloc, name)?;
+        let lost = self.to.rollback(alloc, name, segments)?;
         self.freeing
             .add_tree(&lost.tree, lost.after, u64::from(lost.count))
     }

@@ -5,3 +5,4 @@ pub mod WorkedProofs
 pub mod NumberProofs
 pub mod NamesLemmas
 pub mod SnapWords
+pub mod Within

@@ -4,9 +4,9 @@ use Rattle.std.specs.Fmt.{decimal}
 use Rattle.std.specs.FinMap as finmap
 use Rattle.base.specs.declared.refusal.Refusal.TheVariants.{BadName, NoDataset, BadLine}
 use Rattle.name.specs.declared.target.Target.TheVariants.{FileSystem, Snapshot, Bookmark}
-use Rattle.model.specs.declared.request.Property.TheVariants.{Referenced, Written, Guid, CreateTxg, Origin, Clones, UserRefs, DeferDestroy}
+use Rattle.model.specs.declared.request.Property.TheVariants.{Used, Available, Referenced, Written, UsedByDataset, UsedBySnapshots, UsedByChildren, UsedByRefReservation, Quota, RefQuota, Reservation, RefReservation, Guid, CreateTxg, Origin, Clones, UserRefs, DeferDestroy}
 use Rattle.model.specs.declared.request.PoolProperty.TheVariants.{Free, Freeing}
-use Rattle.model.specs.declared.request.Request.TheVariants.{Create, Write, Punch, FreeObject, Snapshot as TakeSnapshots, Read, Get, PoolGet, List as ListNames, Rollback, Destroy, Slice, Sync, OpenView, CloseView, Clone, Promote, Hold, Release, Holds, Bookmark as MakeBookmark}
+use Rattle.model.specs.declared.request.Request.TheVariants.{Create, Write, Punch, FreeObject, Snapshot as TakeSnapshots, Read, Get, PoolGet, List as ListNames, Rollback, Destroy, Slice, Sync, OpenView, CloseView, Clone, Promote, Hold, Release, Holds, Bookmark as MakeBookmark, WrittenSince, WouldFree}
 use Rattle.model.specs.declared.reply.Reply.TheVariants.{Done, Refused, Value as ValueIs, Group, Names, Count, Opened}
 use Rattle.model.specs.declared.reply.Value.TheVariants.{Named, Truth}
 use Rattle.script.specs.Lines.{lines}
@@ -84,6 +84,43 @@ pub record WorkedLines : Type 0 where
   pub bookmark_snapshot : meaning (codes "bookmark p@s p@b") ≡ Faulty BadName
   pub user_refs : meaning (codes "get userrefs p") ≡ Asks (Get (FileSystem (codes "p")) UserRefs)
   pub defer_destroy : meaning (codes "get defer_destroy p") ≡ Asks (Get (FileSystem (codes "p")) DeferDestroy)
+  pub used : meaning (codes "get used p/a") ≡ Asks (Get (FileSystem (codes "p/a")) Used)
+  pub used_by_snap : meaning (codes "get used p@s") ≡ Asks (Get (Snapshot (record { file_system = codes "p"; component = codes "s" })) Used)
+  pub available : meaning (codes "get available p") ≡ Asks (Get (FileSystem (codes "p")) Available)
+  pub used_by_dataset : meaning (codes "get usedbydataset p") ≡ Asks (Get (FileSystem (codes "p")) UsedByDataset)
+  pub used_by_snapshots : meaning (codes "get usedbysnapshots p") ≡ Asks (Get (FileSystem (codes "p")) UsedBySnapshots)
+  pub used_by_children : meaning (codes "get usedbychildren p") ≡ Asks (Get (FileSystem (codes "p")) UsedByChildren)
+  pub used_by_refreservation : meaning (codes "get usedbyrefreservation p") ≡ Asks (Get (FileSystem (codes "p")) UsedByRefReservation)
+  pub quota : meaning (codes "get quota p") ≡ Asks (Get (FileSystem (codes "p")) Quota)
+  pub refquota : meaning (codes "get refquota p") ≡ Asks (Get (FileSystem (codes "p")) RefQuota)
+  pub reservation : meaning (codes "get reservation p") ≡ Asks (Get (FileSystem (codes "p")) Reservation)
+  pub refreservation : meaning (codes "get refreservation p") ≡ Asks (Get (FileSystem (codes "p")) RefReservation)
+  pub set_quota : meaning (codes "set quota 1024 p") ≡ Faulty BadLine
+  pub since_word :
+      meaning (codes "get written@s p/a")
+      ≡ Asks (WrittenSince (FileSystem (codes "p/a")) (record { file_system = codes "p/a"; component = codes "s" }))
+  pub since_word_of_snapshot :
+      meaning (codes "get written@s p/a@t")
+      ≡ Asks (WrittenSince (Snapshot (record { file_system = codes "p/a"; component = codes "t" })) (record { file_system = codes "p/a"; component = codes "s" }))
+  pub since_word_of_bookmark :
+      meaning (codes "get written@s p/a#b")
+      ≡ Asks (WrittenSince (Bookmark (record { file_system = codes "p/a"; component = codes "b" })) (record { file_system = codes "p/a"; component = codes "s" }))
+  pub since_snap :
+      meaning (codes "get written@p@s p/a")
+      ≡ Asks (WrittenSince (FileSystem (codes "p/a")) (record { file_system = codes "p"; component = codes "s" }))
+  pub since_none : meaning (codes "get written@ p") ≡ Faulty BadName
+  pub since_path : meaning (codes "get written@p/s p") ≡ Faulty BadName
+  pub since_bookmark : meaning (codes "get written@a#b p") ≡ Faulty BadName
+  pub since_of_no_name : meaning (codes "get written@s p/") ≡ Faulty BadName
+  pub since_longest :
+      meaning (codes "get written@" ++ replicate 253 97 ++ codes " p")
+      ≡ Asks (WrittenSince (FileSystem (codes "p")) (record { file_system = codes "p"; component = replicate 253 97 }))
+  pub since_too_long : meaning (codes "get written@" ++ replicate 254 97 ++ codes " p") ≡ Faulty BadName
+  pub since_alone : meaning (codes "get written@s") ≡ Faulty BadLine
+  pub would_free : meaning (codes "wouldfree p/a s t") ≡ Asks (WouldFree (codes "p/a") (codes "s") (codes "t"))
+  pub would_free_too_long : meaning (codes "wouldfree p s " ++ replicate 254 97) ≡ Faulty BadName
+  pub would_free_one : meaning (codes "wouldfree p s") ≡ Faulty BadLine
+  pub would_free_snapshot : meaning (codes "wouldfree p p@s t") ≡ Faulty BadName
   pub slice : meaning (codes "slice 20") ≡ Asks (Slice 20)
   pub slice_of_none : meaning (codes "slice 0") ≡ Asks (Slice 0)
   pub slice_greatest : meaning (codes "slice 4294967295") ≡ Asks (Slice 4294967295)

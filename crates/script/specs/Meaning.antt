@@ -1,6 +1,6 @@
 -- What a line asks for.
 use Rattle.std.specs.Prelude.{ℕ, ◌==◌, nat_lt, Bool, false, List, [], ◌∷◌, Option, Some, None, length, if◌then◌else◌, codes}
-use Rattle.std.specs.List.{list_all}
+use Rattle.std.specs.List.{list_all, list_any}
 use Rattle.std.specs.Option.{option_map, option_and_then}
 use Rattle.std.specs.Str.{bytes_eq}
 use Rattle.base.specs.declared.refusal.Refusal.{Refusal}
@@ -9,9 +9,9 @@ use Rattle.name.specs.declared.member.Member.{Member}
 use Rattle.name.specs.declared.target.Target.{Target}
 use Rattle.name.specs.Reading.{name_of, snap_of, mark_of, tag_of, target_of}
 use Rattle.model.specs.declared.request.Request.{Request}
-use Rattle.model.specs.declared.request.Request.TheVariants.{Create, Write, Punch, FreeObject, Snapshot, Read, Get, PoolGet, List as ListNames, Rollback, Destroy, Slice, Sync, OpenView, CloseView, Clone, Promote, Hold, Release, Holds, Bookmark}
+use Rattle.model.specs.declared.request.Request.TheVariants.{Create, Write, Punch, FreeObject, Snapshot, Read, Get, PoolGet, List as ListNames, Rollback, Destroy, Slice, Sync, OpenView, CloseView, Clone, Promote, Hold, Release, Holds, Bookmark, WrittenSince, WouldFree}
 use Rattle.script.specs.Lines.{line_limit}
-use Rattle.script.specs.Words.{is_printable, words_of, is_word, number_of_word, block_of_word, property_of_word, pool_property_of_word}
+use Rattle.script.specs.Words.{is_printable, words_of, is_word, number_of_word, block_of_word, property_of_word, pool_property_of_word, since_word, file_system_of, word_within, snap_within}
 
 -- a line asks for nothing and has no reply, is at fault and is refused so, or asks a request (profile)
 pub data Meaning : Type 0 where
@@ -127,10 +127,38 @@ destroy_of operands = destroyed_of (has_option (codes "-r") operands) (after_opt
 unfoldable pub number_request_of : (ℕ → Request) → List (List ℕ) → Meaning
 number_request_of request operands = shaped (one_of operands) (λ w. shaped (number_of_word w) (λ n. Asks (request n)))
 
--- `get PROP TARGET` (profile)
+-- `PROP TARGET`: a property (zfs-get(8))
+unfoldable pub get_property_of : List ℕ → List ℕ → Meaning
+get_property_of word whose =
+    shaped (property_of_word word) (λ property. named (target_of whose) (λ target. Asks (Get target property)))
+
+-- `written@SNAP TARGET`: since a snapshot of any file system (zfsprops(7): written@snapshot)
+unfoldable pub since_snap_of : List ℕ → List ℕ → Meaning
+since_snap_of word whose = named (snap_of word) (λ since. named (target_of whose) (λ target. Asks (WrittenSince target since)))
+
+-- `written@WORD TARGET`: since a snapshot of the target's file system (zfsprops(7): written@snapshot)
+unfoldable pub since_word_of : List ℕ → List ℕ → Meaning
+since_word_of word whose =
+    named (target_of whose) (λ target. named (snap_within (file_system_of target) word) (λ since. Asks (WrittenSince target since)))
+
+-- `written@SNAP TARGET` where there is an `@` after the first, else `written@WORD TARGET` (zfsprops(7): written@snapshot)
+unfoldable pub written_since_of : List ℕ → List ℕ → Meaning
+written_since_of word whose = if list_any (λ b. b == 64) word then since_snap_of word whose else since_word_of word whose
+
+-- `get PROP TARGET`, `get written@SNAP TARGET` or `get written@WORD TARGET` (zfs-get(8))
+abbrev pub got_of : Option (List ℕ) → List ℕ → List ℕ → Meaning
+got_of None word whose = get_property_of word whose
+got_of (Some since) word whose = written_since_of since whose
+
+-- `get ..` (zfs-get(8))
 unfoldable pub get_of : List (List ℕ) → Meaning
-get_of operands =
-    shaped (two_of operands) (λ w. shaped (property_of_word w.0) (λ property. named (target_of w.1) (λ target. Asks (Get target property))))
+get_of operands = shaped (two_of operands) (λ w. got_of (since_word w.0) w.0 w.1)
+
+-- `wouldfree NAME WORD WORD`: from one snapshot of a file system to another (zfs-destroy(8): -nv)
+unfoldable pub would_free_of : List (List ℕ) → Meaning
+would_free_of operands =
+    shaped (three_of operands) (λ w. named (name_of w.0) (λ name. named (word_within name w.1) (λ first.
+    named (word_within name w.2) (λ last. Asks (WouldFree name first last)))))
 
 -- `pget PROP` (profile)
 unfoldable pub pool_get_of : List (List ℕ) → Meaning
@@ -165,6 +193,7 @@ command_of command operands =
     else if bytes_eq command (codes "release") then tag_request_of Release operands
     else if bytes_eq command (codes "holds") then target_request_of Holds operands
     else if bytes_eq command (codes "bookmark") then bookmark_of operands
+    else if bytes_eq command (codes "wouldfree") then would_free_of operands
     else Faulty BadLine
 
 -- by the words (profile)

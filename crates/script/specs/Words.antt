@@ -1,11 +1,17 @@
 -- The words of a line, and what they say.
-use Rattle.std.specs.Prelude.{ℕ, ◌+◌, ◌-◌, ◌*◌, ◌==◌, ◌&&◌, Bool, nat_lt, nat_le, List, [], ◌∷◌, ◌++◌, Option, Some, None, Result, Ok, Err, length, replicate, if◌then◌else◌, codes}
+use Rattle.std.specs.Prelude.{ℕ, ◌+◌, ◌-◌, ◌*◌, ◌==◌, ◌&&◌, Bool, nat_lt, nat_le, List, [], ◌∷◌, ◌++◌, Option, Some, None, Result, Ok, Err, length, take, drop, replicate, if◌then◌else◌, codes}
 use Rattle.std.specs.List.{slice_split}
+use Rattle.std.specs.Option.{option_map}
 use Rattle.std.specs.Str.{bytes_eq}
 use Rattle.hex.specs.Hex.{decode_of}
 use Rattle.hex.specs.declared.error.FromHexError.{FromHexError}
+use Rattle.name.specs.declared.member.Member.{Member}
+use Rattle.name.specs.declared.target.Target.{Target}
+use Rattle.name.specs.declared.target.Target.TheVariants.{FileSystem, Snapshot, Bookmark}
+use Rattle.name.specs.Names.{whole_length}
+use Rattle.name.specs.Reading.{component_of}
 use Rattle.model.specs.declared.request.Property.{Property}
-use Rattle.model.specs.declared.request.Property.TheVariants.{Referenced, Written, Guid, CreateTxg, Origin, Clones, UserRefs, DeferDestroy}
+use Rattle.model.specs.declared.request.Property.TheVariants.{Used, Available, Referenced, Written, UsedByDataset, UsedBySnapshots, UsedByChildren, UsedByRefReservation, Quota, RefQuota, Reservation, RefReservation, Guid, CreateTxg, Origin, Clones, UserRefs, DeferDestroy}
 use Rattle.model.specs.declared.request.PoolProperty.{PoolProperty}
 use Rattle.model.specs.declared.request.PoolProperty.TheVariants.{Size, Allocated, Free, Freeing, Waiting, Group}
 
@@ -53,8 +59,18 @@ block_of_word word =
 -- PROP: a property's name (zfsprops(7))
 unfoldable pub property_of_word : List ℕ → Option Property
 property_of_word word =
-    if bytes_eq word (codes "referenced") then Some Referenced
+    if bytes_eq word (codes "used") then Some Used
+    else if bytes_eq word (codes "available") then Some Available
+    else if bytes_eq word (codes "referenced") then Some Referenced
     else if bytes_eq word (codes "written") then Some Written
+    else if bytes_eq word (codes "usedbydataset") then Some UsedByDataset
+    else if bytes_eq word (codes "usedbysnapshots") then Some UsedBySnapshots
+    else if bytes_eq word (codes "usedbychildren") then Some UsedByChildren
+    else if bytes_eq word (codes "usedbyrefreservation") then Some UsedByRefReservation
+    else if bytes_eq word (codes "quota") then Some Quota
+    else if bytes_eq word (codes "refquota") then Some RefQuota
+    else if bytes_eq word (codes "reservation") then Some Reservation
+    else if bytes_eq word (codes "refreservation") then Some RefReservation
     else if bytes_eq word (codes "guid") then Some Guid
     else if bytes_eq word (codes "createtxg") then Some CreateTxg
     else if bytes_eq word (codes "origin") then Some Origin
@@ -73,3 +89,25 @@ pool_property_of_word word =
     else if bytes_eq word (codes "waiting") then Some Waiting
     else if bytes_eq word (codes "group") then Some Group
     else None
+
+-- what stands after `written@`, where a word begins so (zfsprops(7): written@snapshot)
+abbrev pub since_word : List ℕ → Option (List ℕ)
+since_word word = if bytes_eq (take 8 word) (codes "written@") then Some (drop 8 word) else None
+
+-- the file system whose name a target's begins with (zfs(8), zfs-bookmark(8))
+abbrev pub file_system_of : Target → List ℕ
+file_system_of (FileSystem name) = name
+file_system_of (Snapshot m) = m.file_system
+file_system_of (Bookmark m) = m.file_system
+
+-- the snapshot WORD of a file system (zfs(8))
+abbrev pub within : List ℕ → List ℕ → Member
+within file_system word = record { file_system = file_system; component = word }
+
+-- WORD: one component, which with the file system's name and the `@` is at most 255 bytes (zfs(8); the limit is profile)
+unfoldable pub word_within : List ℕ → List ℕ → Option (List ℕ)
+word_within file_system word = if nat_lt 255 (whole_length (within file_system word)) then None else component_of word
+
+-- the snapshot that WORD names within a file system (zfs(8))
+abbrev pub snap_within : List ℕ → List ℕ → Option Member
+snap_within file_system word = option_map (within file_system) (word_within file_system word)

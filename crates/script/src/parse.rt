@@ -1,20 +1,22 @@
 //! What a line asks for.
-ghost use Rattle.std.specs.Prelude.{◌≡◌, ℕ, List, ◌*◌, ◌∷◌, Some, None, length, replicate};
+ghost use Rattle.std.specs.Prelude.{◌≡◌, ℕ, List, ◌*◌, Some, None, length, replicate};
 ghost use Rattle.std.specs.Bool.{OnTrue, OnFalse};
-ghost use Rattle.std.specs.Option.{option_map, option_copied};
-ghost use Rattle.std.specs.List.{list_all};
+ghost use Rattle.std.specs.Option.{option_copied};
 ghost use Rattle.hex.specs.Hex.{decode_of};
 ghost use Rattle.name.specs.Reading.{Reads};
 ghost use Rattle.model.specs.declared.request.Request.{Request};
-ghost use Rattle.script.specs.Words.{is_printable, is_word, words_of, number_of_word, number_without_zero, number_from, block_of_word, filled, property_of_word, pool_property_of_word};
-ghost use Rattle.script.specs.Meaning.{request_of, command_of, clone_of, tag_request_of, bookmark_of, name_request_of, write_of, block_request_of, free_object_of, snap_names_of, snapshots_of, snapshot_of, get_of, rollback_of, destroyed_of, destroy_of, number_request_of, target_request_of, pool_get_of, has_option, after_option, bare, one_of, two_of, three_of, four_of};
+ghost use Rattle.script.specs.Words.{words_of, number_of_word, number_without_zero, number_from, block_of_word, filled, pool_property_of_word};
+ghost use Rattle.script.specs.Meaning.{request_of, command_of, clone_of, tag_request_of, bookmark_of, name_request_of, write_of, block_request_of, free_object_of, snap_names_of, snapshots_of, snapshot_of, rollback_of, destroyed_of, destroy_of, number_request_of, target_request_of, pool_get_of, bare};
 ghost use Rattle.script.specs.Reading.{words_left, Means, MeansBlock, MeansTagged, MeansTarget, MeansName, MeansNumber, MeansBare};
 
 use crate::lines::LINE_LIMIT;
+use crate::space::{get, would_free};
+use crate::words::{
+    four, has_only_words, is_all_printable, leading_option, next_word, one, three, two,
+};
 use base::data::Data;
 use base::refusal::Refusal;
-use memchr::memchr;
-use model::request::{PoolProperty, Property, Request};
+use model::request::{PoolProperty, Request};
 use model::snap_names::SnapNames;
 use name::{DsName, MarkName, SnapName, Tag, Target};
 use std::alloc::Global;
@@ -35,94 +37,6 @@ pub(crate) fn request_at(alloc: Global, line: &[u8]) -> Result<Request, Refusal>
     }
     let (command, operands) = next_word(line);
     command_at(alloc, command, operands)
-}
-
-fn is_all_printable(line: &[u8]) -> bool
-    ensures { result ≡ list_all is_printable line.now }
-{
-    line.iter().all(|b| b' ' <= *b && *b <= b'~')
-}
-
-fn has_only_words(line: &[u8]) -> bool
-    ensures { result ≡ list_all is_word (words_of line.now) }
-{
-    line.split(|b| *b == b' ').all(|word| !word.is_empty())
-}
-
-/// The first word, and what stands after its space.
-fn next_word(line: &[u8]) -> (&[u8], Option<&[u8]>)
-    ensures { words_of line.now ≡ result.0.now ∷ words_left (option_copied result.1) }
-{
-    match memchr(b' ', line) {
-        Some(end) => (&line[..end], Some(&line[end + 1..])),
-        None => (line, None),
-    }
-}
-
-fn one(rest: Option<&[u8]>) -> Option<&[u8]>
-    ensures { option_copied result ≡ one_of (words_left (option_copied rest.entry)) }
-{
-    let (a, rest) = next_word(rest?);
-    if let Some(more) = rest {
-        let _ = next_word(more);
-        return None;
-    }
-    Some(a)
-}
-
-fn two(rest: Option<&[u8]>) -> Option<(&[u8], &[u8])>
-    ensures { option_map (λ w. (w.0.now, w.1.now)) result ≡ two_of (words_left (option_copied rest.entry)) }
-{
-    let (a, rest) = next_word(rest?);
-    let (b, rest) = next_word(rest?);
-    if let Some(more) = rest {
-        let _ = next_word(more);
-        return None;
-    }
-    Some((a, b))
-}
-
-fn three(rest: Option<&[u8]>) -> Option<(&[u8], &[u8], &[u8])>
-    ensures { option_map (λ w. (w.0.now, w.1.now, w.2.now)) result ≡ three_of (words_left (option_copied rest.entry)) }
-{
-    let (a, rest) = next_word(rest?);
-    let (b, rest) = next_word(rest?);
-    let (c, rest) = next_word(rest?);
-    if let Some(more) = rest {
-        let _ = next_word(more);
-        return None;
-    }
-    Some((a, b, c))
-}
-
-fn four(rest: Option<&[u8]>) -> Option<(&[u8], &[u8], &[u8], &[u8])>
-    ensures { option_map (λ w. (w.0.now, w.1.now, w.2.now, w.3.now)) result ≡ four_of (words_left (option_copied rest.entry)) }
-{
-    let (a, rest) = next_word(rest?);
-    let (b, rest) = next_word(rest?);
-    let (c, rest) = next_word(rest?);
-    let (d, rest) = next_word(rest?);
-    if let Some(more) = rest {
-        let _ = next_word(more);
-        return None;
-    }
-    Some((a, b, c, d))
-}
-
-/// Whether an option stands before the operands, and what stands after it, or all of them.
-fn leading_option<'a>(rest: Option<&'a [u8]>, word: &[u8]) -> (bool, Option<&'a [u8]>)
-    ensures there { result.0 ≡ has_option word.now (words_left (option_copied rest.entry)) }
-    ensures left { words_left (option_copied result.1) ≡ after_option word.now (words_left (option_copied rest.entry)) }
-{
-    let Some(words) = rest else {
-        return (false, None);
-    };
-    let (first, later) = next_word(words);
-    if first == word {
-        (true, later)
-    } else {
-        (false, rest)
-    }
 }
 
 #[tactic(auto, unfolding(crate::specs::Meaning::command_of))]
@@ -171,6 +85,8 @@ fn command_at(alloc: Global, command: &[u8], operands: Option<&[u8]>) -> Result<
         holds(alloc, operands)
     } else if command == b"bookmark".as_slice() {
         bookmark(alloc, operands)
+    } else if command == b"wouldfree".as_slice() {
+        would_free(alloc, operands)
     } else {
         Err(Refusal::BadLine)
     }
@@ -468,21 +384,6 @@ fn close_view(operands: Option<&[u8]>) -> Result<Request, Refusal>
 }
 
 #[inline(never)]
-#[tactic(auto, unfolding(crate::specs::Meaning::get_of))]
-fn get(alloc: Global, operands: Option<&[u8]>) -> Result<Request, Refusal>
-    ensures { Means result (get_of (words_left (option_copied operands.entry))) }
-{
-    let Some((property, target)) = two(operands) else {
-        return Err(Refusal::BadLine);
-    };
-    let Some(property) = property_named(property) else {
-        return Err(Refusal::BadLine);
-    };
-    let target = Target::read(alloc, target)?;
-    Ok(Request::Get { target, property })
-}
-
-#[inline(never)]
 #[tactic(auto, unfolding(crate::specs::Meaning::pool_get_of))]
 fn pool_get(operands: Option<&[u8]>) -> Result<Request, Refusal>
     ensures { Means result (pool_get_of (words_left (option_copied operands.entry))) }
@@ -521,31 +422,6 @@ fn sync(operands: Option<&[u8]>) -> Result<Request, Refusal>
 {
     no_operand(operands)?;
     Ok(Request::Sync)
-}
-
-#[tactic(auto, unfolding(crate::specs::Words::property_of_word))]
-fn property_named(word: &[u8]) -> Option<Property>
-    ensures { result ≡ property_of_word word.now }
-{
-    if word == b"referenced".as_slice() {
-        Some(Property::Referenced)
-    } else if word == b"written".as_slice() {
-        Some(Property::Written)
-    } else if word == b"guid".as_slice() {
-        Some(Property::Guid)
-    } else if word == b"createtxg".as_slice() {
-        Some(Property::CreateTxg)
-    } else if word == b"origin".as_slice() {
-        Some(Property::Origin)
-    } else if word == b"clones".as_slice() {
-        Some(Property::Clones)
-    } else if word == b"userrefs".as_slice() {
-        Some(Property::UserRefs)
-    } else if word == b"defer_destroy".as_slice() {
-        Some(Property::DeferDestroy)
-    } else {
-        None
-    }
 }
 
 #[tactic(auto, unfolding(crate::specs::Words::pool_property_of_word))]

@@ -41,3 +41,5 @@ pub mod Holding
 pub mod Releasing
 pub mod Marking
 pub mod Tags
+pub mod Spaces
+pub mod Alike

@@ -111,7 +111,7 @@ module _ (s : State) (good : IsSteady s) where
       at (get s.now.file_systems name) there ∙ ap (λ x. Size (512 * referenced_of s.now x)) (same_value (Live name) d is)
     where
       at : (x : Option FileSystem) → is_some x ≡ true
-          → option_map_or (λ _. file_system_value s.now name Referenced) x NotApplicable ≡ Size (512 * referenced_of s.now (Live name))
+          → option_map_or (λ f. file_system_value s name f Referenced) x NotApplicable ≡ Size (512 * referenced_of s.now (Live name))
       at None e = absurd (true≢false (sym e))
       at (Some f) e = refl
   referenced_value (OfSnapshot m) d there is = at (snap_named s.now m) is

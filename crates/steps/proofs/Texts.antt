@@ -1,9 +1,8 @@
 -- The steps that ask for an origin, which a clone has, and for the clones of a snapshot: their answers are texts, for which memory may be
--- wanting.
+-- wanting, as it may for what is used.
 use Rattle.std.proofs.Common.{◌≡◌, ℕ, true, List, Some, None, refl, sym, ap, ◌∙◌}
-use Rattle.std.specs.Prelude.{is_some}
 use Rattle.std.specs.List.{join_with_byte}
-use Rattle.std.specs.Option.{option_map_or, option_and_then}
+use Rattle.std.specs.Option.{option_map_or}
 use Rattle.std.specs.FinMap.{get}
 use Rattle.base.specs.declared.refusal.Refusal.TheVariants.{NoMemory}
 use Rattle.name.specs.declared.member.Member.{Member}
@@ -17,48 +16,31 @@ use Rattle.model.specs.declared.reply.Value.TheVariants.{Named, NotApplicable}
 use Rattle.model.specs.World.{FileSystem, Snap, SnapId, id_of, clones_of}
 use Rattle.model.specs.Properties.{text_of_snap, file_system_value, snap_value}
 use Rattle.model.specs.State.{State}
-use Rattle.model.specs.requests.Get.{is_text, get_rule}
+use Rattle.model.specs.requests.Get.{needs_memory, get_rule}
 use Rattle.model.specs.Step.{Step}
 use Rattle.steps.specs.Steady.{IsSteady, snap_in}
-use Rattle.steps.proofs.Identities.{live_value, kept_value}
-use Rattle.steps.proofs.Questions.{get_done}
+use Rattle.steps.proofs.Identities.{get_live, get_snap}
 use Rattle.steps.proofs.Ruled.{no_memory_by}
 
 module _ (s : State) (good : IsSteady s) where
-  -- a text may want memory
-  pub get_no_memory : (target : Target) (p : Property) → is_text p ≡ true → Step s (Get target p) (Refused NoMemory) s
-  get_no_memory target p text = no_memory_by (Get target p) (get_rule target p) refl s text
+  -- memory may be wanting
+  pub get_no_memory : (target : Target) (p : Property) → needs_memory p ≡ true → Step s (Get target p) (Refused NoMemory) s
+  get_no_memory target p needs = no_memory_by (Get target p) (get_rule target p) refl s needs
 
   module _ (name : List ℕ) (f : FileSystem) (was : get s.now.file_systems name ≡ Some f) where
     -- zfsprops(7), origin
     pub get_origin : (id : SnapId) → f.origin ≡ Some id → (text : List ℕ) → text ≡ text_of_snap s.now id → Step s (Get (OfFileSystem name) Origin) (ValueIs (Named text)) s
     unfolding file_system_value
-    get_origin id o text e = get_done s good (OfFileSystem name) Origin (Named text) (ap is_some was)
-        (live_value s good name f was Origin
-        ∙ ap (λ x. option_map_or (λ (i : SnapId). Named (text_of_snap s.now i)) (option_and_then (λ (g : FileSystem). g.origin) x) NotApplicable) was
-        ∙ ap (λ x. option_map_or (λ (i : SnapId). Named (text_of_snap s.now i)) x NotApplicable) o
-        ∙ ap Named (sym e))
+    get_origin id o text e = get_live s good name f was Origin (Named text)
+        (ap (λ x. option_map_or (λ (i : SnapId). Named (text_of_snap s.now i)) x NotApplicable) o ∙ ap Named (sym e))
 
     -- a file system that is no clone has none
     pub get_no_origin : f.origin ≡ None → Step s (Get (OfFileSystem name) Origin) (ValueIs NotApplicable) s
     unfolding file_system_value
-    get_no_origin o = get_done s good (OfFileSystem name) Origin NotApplicable (ap is_some was)
-        (live_value s good name f was Origin
-        ∙ ap (λ x. option_map_or (λ (i : SnapId). Named (text_of_snap s.now i)) (option_and_then (λ (g : FileSystem). g.origin) x) NotApplicable) was
-        ∙ ap (λ x. option_map_or (λ (i : SnapId). Named (text_of_snap s.now i)) x NotApplicable) o)
-
-    -- zfsprops(7), clones: of snapshots alone
-    pub get_no_clones : Step s (Get (OfFileSystem name) Clones) (ValueIs NotApplicable) s
-    unfolding file_system_value
-    get_no_clones = get_done s good (OfFileSystem name) Clones NotApplicable (ap is_some was) (live_value s good name f was Clones)
+    get_no_origin o = get_live s good name f was Origin NotApplicable (ap (λ x. option_map_or (λ (i : SnapId). Named (text_of_snap s.now i)) x NotApplicable) o)
 
   module _ (m : Member) (t : Snap) (found : snap_in s.now.file_systems m ≡ Some t) where
-    -- zfsprops(7), origin: of file systems alone
-    pub get_no_origin_of_snap : Step s (Get (OfSnapshot m) Origin) (ValueIs NotApplicable) s
-    unfolding snap_value
-    get_no_origin_of_snap = get_done s good (OfSnapshot m) Origin NotApplicable (ap is_some found) (kept_value s good m t found 0 Origin)
-
     -- zfsprops(7), clones: with commas between them
     pub get_clones : (text : List ℕ) → text ≡ join_with_byte 44 (clones_of s.now (id_of t)) → Step s (Get (OfSnapshot m) Clones) (ValueIs (Named text)) s
     unfolding snap_value
-    get_clones text e = get_done s good (OfSnapshot m) Clones (Named text) (ap is_some found) (kept_value s good m t found 0 Clones ∙ ap Named (sym e))
+    get_clones text e = get_snap s good m t found Clones (Named text) (ap Named (sym e))

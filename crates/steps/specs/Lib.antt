@@ -4,3 +4,4 @@ pub mod Room
 pub mod Steady
 pub mod Edits
 pub mod Listed
+pub mod Spaces

@@ -7,17 +7,21 @@ use Rattle.file_system.specs.Rows.{live_of}
 use Rattle.world.specs.Tables.{Datasets}
 use Rattle.datasets.specs.Writes.{young_of, AllowsWrite, HasWritten}
 use Rattle.datasets.proofs.Above.{is_above}
+use Rattle.datasets.proofs.Removed.{all_above}
 use Rattle.datasets.proofs.Written.{asks, young_is, has_written, kept_table}
 use Rattle.datasets.proofs.table.Table.apply_live.Goals as goal
 
-pub apply_live-requires : goal.apply_live-requires
-apply_live-requires c =
+pub apply_live-requires-clause-allowed : goal.apply_live-requires-clause-allowed
+apply_live-requires-clause-allowed c =
     let allows = subst (λ (t : Datasets). AllowsWrite t c.args.updates.now c.args.synced.0 c.args.allocator.now) (sym c.self.view_is) c.requires in
     record {
       asks = asks _ c.self.invariant c.args.name.now c.args.updates.now c.args.synced.0 c.args.allocator.now allows _
           (let n = allows.not_after in omega arith);
       above = is_above _ c.self.invariant c.args.name.now;
     }
+
+pub apply_live-requires-clause-above : goal.apply_live-requires-clause-above
+apply_live-requires-clause-above c = all_above (record { file_systems = c.self.inside.systems; group = c.self.inside.group.0 }) c.self.invariant c.args.name.now
 
 pub invariant_of-self : goal.invariant_of-self
 invariant_of-self c =

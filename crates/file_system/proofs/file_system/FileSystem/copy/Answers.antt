@@ -1,4 +1,4 @@
-use Rattle.std.proofs.Common.{◌≡◌, List, map, sym, ap, subst, ◌∙◌}
+use Rattle.std.proofs.Common.{◌≡◌, List, Option, map, sym, ap, subst, ◌∙◌}
 use Rattle.std.specs.Arc.{arc_value}
 use Rattle.std.specs.FinSet.{difference}
 use Rattle.std.specs.Option.{option_map}
@@ -7,6 +7,8 @@ use Rattle.base.specs.Surveys.{dead_block}
 use Rattle.deadlist.specs.Held.{Held}
 use Rattle.snapshots.specs.declared.kept.Kept.{Kept}
 use Rattle.world.specs.Deadlists.{Lists}
+use Rattle.file_system.specs.Counts.{IsCounted}
+use Rattle.file_system.specs.declared.origin.Origin.{Origin}
 use Rattle.file_system.specs.Dead.{snaps_in, newest_blocks, AreAccounted}
 use Rattle.file_system.specs.Origins.{origin_id, map_below, blocks_below}
 use Rattle.file_system.specs.Rows.{system_of}
@@ -26,6 +28,9 @@ invariant_of-result c =
           (subst (λ (m : Map). Lists (map dead_block es) (difference (newest_blocks was (snaps_in ks)) (blocks m))) (sym live)
           (subst (λ (h : Held). Lists (map dead_block h.entries) (difference (newest_blocks was (snaps_in ks)) (blocks c.self.inside.live))) (sym c.in_ok-dead.ensures)
           (subst (λ (l : List Kept). Lists (map dead_block (arc_value c.self.inside.dead).entries) (difference (newest_blocks was (snaps_in l)) (blocks c.self.inside.live))) (sym c.in_ok-snapshots.ensures) c.self.invariant.dead)));
+      counted = subst (λ (p : Option Origin). IsCounted (map_below p) (snaps_in ks) c.in_ok-live.live c.self.inside.counts) (sym c.in_ok-origin.ensures.ok)
+          (subst (λ (l : List Kept). IsCounted (map_below (option_map arc_value c.self.inside.origin)) (snaps_in l) c.in_ok-live.live c.self.inside.counts) (sym c.in_ok-snapshots.ensures)
+          (subst (λ (m : Map). IsCounted (map_below (option_map arc_value c.self.inside.origin)) (snaps_in (arc_value c.self.inside.snapshots)) m c.self.inside.counts) (sym live) c.self.invariant.counted));
     }
 
 pub returns-clause-ok : goal.returns-clause-ok

@@ -8,11 +8,13 @@ use Rattle.model.specs.World.{Snap}
 use Rattle.snapshots.specs.declared.kept.Kept.{Kept}
 use Rattle.world.specs.Deadlists.{Lists}
 use Rattle.world.specs.Worlds.{AreRising}
+use Rattle.file_system.specs.Counts.{IsCounted}
 use Rattle.file_system.specs.Dead.{snaps_in, newest_blocks, AreAccounted}
 use Rattle.file_system.specs.Deferred.{edit_of, edited_at, IsEdited}
 use Rattle.file_system.specs.Origins.{origin_id, origin_group, map_below, blocks_below, group_below}
 use Rattle.file_system.specs.Rows.{Row, system_of, with_system}
-use Rattle.file_system.proofs.Deferred.{same_name_of, same_map_of, edited_snaps, edited_accounted, edited_newest}
+use Rattle.file_system.proofs.Counted.{same_counted}
+use Rattle.file_system.proofs.Deferred.{same_name_of, same_map_of, edited_snaps, edited_accounted, edited_newest, edited_maps}
 use Rattle.file_system.proofs.Stacks.{above_names, rising_from}
 use Rattle.file_system.proofs.file_system.FileSystem.edit.Goals as goal
 
@@ -38,6 +40,7 @@ invariant_of-self c =
     record {
       accounted = subst (AreAccounted bs) same c.self.invariant.accounted;
       dead = subst (λ l. Lists (map dead_block (arc_value c.self.inside.dead).entries) (difference (newest_blocks bs (snaps_in l)) (blocks c.self.inside.live))) same c.self.invariant.dead;
+      counted = subst (λ l. IsCounted (map_below (option_map arc_value c.self.inside.origin)) (snaps_in l) c.self.inside.live c.self.inside.counts) same c.self.invariant.counted;
     }
 
 -- its dead list is the same
@@ -54,6 +57,9 @@ invariant_of-self-2 c =
       accounted = subst (AreAccounted bs) (sym changed) (edited_accounted (edit_of c.args.edit) (same_map_of c.args.edit) bs ks i c.in_ok-next.next is c.self.invariant.accounted);
       dead = subst (λ s. Lists (map dead_block (arc_value c.self.inside.dead).entries) (difference s (blocks live)))
           (sym (ap (λ l. newest_blocks bs (snaps_in l)) changed ∙ edited_newest (edit_of c.args.edit) (same_map_of c.args.edit) bs ks i c.in_ok-next.next is)) c.self.invariant.dead;
+      counted = subst (λ l. IsCounted (map_below (option_map arc_value c.self.inside.origin)) (snaps_in l) live c.self.inside.counts) (sym changed)
+          (same_counted (map_below (option_map arc_value c.self.inside.origin)) (snaps_in ks) (snaps_in (set ks i c.in_ok-next.next)) live c.self.inside.counts
+          (edited_maps (edit_of c.args.edit) (same_map_of c.args.edit) ks i c.in_ok-next.next is) c.self.invariant.counted);
     }
 
 pub returns-clause-ok : goal.returns-clause-ok

@@ -10,8 +10,10 @@ use Rattle.snapshots.specs.declared.kept.Kept.{Kept}
 use Rattle.snapshots.specs.Index.{AreNamesOnce}
 use Rattle.world.specs.Worlds.{AreRising}
 use Rattle.file_system.specs.Dead.{snaps_in, newest_blocks, AreAccounted}
+use Rattle.file_system.specs.Counts.{AreLined}
+use Rattle.file_system.specs.Origins.{origin_group}
 use Rattle.file_system.specs.Rows.{Row}
-use Rattle.file_system.proofs.Promotions.{owner_rising, owner_once, origin_there, joined_once, joined_accounted, joined_newest, joined_snaps, rest_accounted, rest_newest, rest_snaps}
+use Rattle.file_system.proofs.Promotions.{owner_rising, owner_once, origin_there, joined_once, joined_accounted, joined_newest, joined_snaps, rest_accounted, rest_newest, rest_snaps, joined_line, rest_line}
 use Rattle.file_system.proofs.file_system.FileSystem.promoted.Goals as goal
 
 -- ---- the origin among the snapshots of its owner
@@ -109,6 +111,37 @@ with_line-requires-2-clause-newest c =
     ap (λ (r : Row). newest_blocks (blocks r.below) (snaps_in (arc_value c.in_ok-older.newer))) c.self.view_is
     ∙ ap (λ l. newest_blocks (blocks c.args.self.now.below) (snaps_in l)) rest
     ∙ rest_newest c.args.self.now c.args.owner.now (snap_id c.args.origin) c.requires ks ks_are cs cs_are i at
+
+-- ---- their lines
+
+pub with_line-requires-clause-line : goal.with_line-requires-clause-line
+with_line-requires-clause-line c =
+    let ks = arc_value c.owner.inside.snapshots in
+    let cs = arc_value c.self.inside.snapshots in
+    let i = c.place_of-place.result in
+    let ks_are = ap (λ (r : Row). r.system.snaps) c.owner.view_is in
+    let cs_are = ap (λ (r : Row). r.system.snaps) c.self.view_is in
+    let kept : c.list-kept.result.now ≡ ks = c.list-kept.ensures ∙ c.deref.ensures in
+    let at : option_map (λ (k : Kept). k.snapshot.group) (slice_get ks i) ≡ Some c.args.origin.group.0 = ap (λ l. option_map (λ (k : Kept). k.snapshot.group) (slice_get l i)) (sym kept) ∙ c.place_of-place.ensures.is in
+    let first : (arc_value c.in_ok-older.older) ≡ take (suc i) ks = c.in_ok-older.ensures.first ∙ ap (λ n. take n ks) (add-one i) in
+    let all : (arc_value c.in_ok-all.all) ≡ take (suc i) ks ++ cs = c.in_ok-all.ensures.ok ∙ (λ j. first j ++ c.deref-2.ensures j) in
+    subst (λ (r : Row). AreLined r.below (origin_group r.system.origin) (snaps_in (arc_value c.in_ok-all.all)) c.args.self.now.system.live) (sym c.owner.view_is)
+    (subst (λ l. AreLined c.args.owner.now.below (origin_group c.args.owner.now.system.origin) (snaps_in l) c.args.self.now.system.live) (sym all)
+    (joined_line c.args.self.now c.args.owner.now (snap_id c.args.origin) c.requires ks ks_are cs cs_are i at))
+
+pub with_line-requires-2-clause-line : goal.with_line-requires-2-clause-line
+with_line-requires-2-clause-line c =
+    let ks = arc_value c.owner.inside.snapshots in
+    let cs = arc_value c.self.inside.snapshots in
+    let i = c.place_of-place.result in
+    let ks_are = ap (λ (r : Row). r.system.snaps) c.owner.view_is in
+    let cs_are = ap (λ (r : Row). r.system.snaps) c.self.view_is in
+    let kept : c.list-kept.result.now ≡ ks = c.list-kept.ensures ∙ c.deref.ensures in
+    let at : option_map (λ (k : Kept). k.snapshot.group) (slice_get ks i) ≡ Some c.args.origin.group.0 = ap (λ l. option_map (λ (k : Kept). k.snapshot.group) (slice_get l i)) (sym kept) ∙ c.place_of-place.ensures.is in
+    let rest : (arc_value c.in_ok-older.newer) ≡ drop (suc i) ks = c.in_ok-older.ensures.rest ∙ ap (λ n. drop n ks) (add-one i) in
+    subst (λ (r : Row). AreLined r.below (origin_group r.system.origin) (snaps_in (arc_value c.in_ok-older.newer)) c.args.owner.now.system.live) (sym c.self.view_is)
+    (subst (λ l. AreLined c.args.self.now.below (origin_group c.args.self.now.system.origin) (snaps_in l) c.args.owner.now.system.live) (sym rest)
+    (rest_line c.args.self.now c.args.owner.now (snap_id c.args.origin) c.requires ks ks_are cs cs_are i at))
 
 -- ---- both afterwards
 

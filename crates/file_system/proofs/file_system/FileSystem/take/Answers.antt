@@ -10,9 +10,11 @@ use Rattle.model.specs.Sums.{size_without}
 use Rattle.snapshots.specs.Snaps.{plain_snap}
 use Rattle.snapshots.specs.declared.kept.Kept.{Kept}
 use Rattle.world.specs.Deadlists.{Lists}
+use Rattle.file_system.specs.Counts.{IsCounted}
 use Rattle.file_system.specs.Dead.{snaps_in, newest_blocks}
 use Rattle.file_system.specs.Origins.{origin_id, map_below, blocks_below}
 use Rattle.file_system.specs.Rows.{Row, system_of, with_system, with_snap}
+use Rattle.file_system.proofs.Counted.{taken_counted}
 use Rattle.file_system.proofs.Accounts.{snaps_more, taken_accounted, taken_dead}
 use Rattle.file_system.proofs.file_system.FileSystem.take.Goals as goal
 
@@ -31,6 +33,8 @@ invariant_of-self-2 c =
     record {
       accounted = taken_accounted bs ks _ k live _ c.self.invariant.accounted own map_is written pushed bare;
       dead = taken_dead bs ks _ k live _ c.self.invariant.accounted own map_is written pushed bare;
+      counted = subst (λ l. IsCounted (map_below (option_map arc_value c.self.inside.origin)) l live c.self.inside.counts) (sym (ap snaps_in pushed ∙ snaps_more ks k))
+          (taken_counted (map_below (option_map arc_value c.self.inside.origin)) (snaps_in ks) k.snapshot live c.self.inside.counts map_is c.self.invariant.counted);
     }
 
 pub returns-clause-ok : goal.returns-clause-ok

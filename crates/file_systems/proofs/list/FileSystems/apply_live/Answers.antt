@@ -1,5 +1,5 @@
 use Rattle.std.proofs.Common.{◌≡◌, ◌⊎◌, Option, Result, Ok, Err, List, length, map, refl, sym, ap, subst, ◌∙◌, ⊎_elim}
-use Rattle.std.specs.Prelude.{IfErr, OnOk, OnErr}
+use Rattle.std.specs.Prelude.{IfErr, IfSome, OnOk, OnErr}
 use Rattle.std.specs.FinMap.{get, from_sorted}
 use Rattle.std.specs.Arc.{arc_value}
 use Rattle.std.proofs.lemmas.List.{map-set}
@@ -15,7 +15,8 @@ use Rattle.file_system.specs.Origins.{origin_group}
 use Rattle.file_systems.specs.Places.{IsAt, IsGapFor}
 use Rattle.file_system.specs.Rows.{entry_in, entry_of, Entry, Row, live_of, snaps_at}
 use Rattle.file_system.specs.Dead.{AllowsLive}
-use Rattle.file_systems.proofs.Rows.{row_of, get_gap, is_there, live_is, row_sorted, row_live, row_alone, snaps_are}
+use Rattle.file_system.specs.Splices.{AreAbove}
+use Rattle.file_systems.proofs.Rows.{row_of, get_gap, is_there, rule_here, live_is, row_sorted, row_live, row_alone, snaps_are}
 use Rattle.file_systems.proofs.Counts.{set_counted_same}
 use Rattle.file_systems.specs.Clones.{map_found, below_at, origin_at}
 use Rattle.file_systems.proofs.Ties.{row_place, row_within, tied_set, origin_is, below_is}
@@ -44,8 +45,8 @@ returns-in_default-clause-no_dataset c =
     let gap : IsGapFor (map entry_in c.self.inside.rows.items) c.args.name.now c.in_default.field-0 = rw (← c.deref.ensures.value, ← c.as_bytes.ensures) c.in_default.ensures.absent in
     (λ _. rw (← c.self.view_is) (get_gap _ c.self.invariant.sorted c.args.name.now c.in_default.field-0 gap), λ _. refl)
 
-pub apply-requires : goal.apply-requires
-apply-requires c =
+pub apply-requires-clause-allowed : goal.apply-requires-clause-allowed
+apply-requires-clause-allowed c =
     let at : IsAt (map entry_in c.self.inside.rows.items) c.args.name.now c.in-Ok.place = rw (← c.deref.ensures.value, ← c.as_bytes.ensures) c.in-Ok.ensures.found in
     let is = row_of entry_in c.self.inside.rows.items c.in-Ok.place c.index_mut-row.result.now c.index_mut-row.ensures.value in
     let live = ap (λ m. live_of m c.args.name.now) (sym c.self.view_is) ∙ live_is _ c.self.invariant.sorted c.args.name.now c.in-Ok.place at (entry_in c.index_mut-row.result.now) is in
@@ -56,7 +57,14 @@ apply-requires c =
     subst (λ (m : Map). AllowsLive (blocks row.below) (origin_group row.system.origin) m row.system.snaps c.args.updates.now c.args.group.0 c.args.synced.0 c.args.allocator.now) live
     (subst (λ (t : List Snap). AllowsLive (blocks row.below) (origin_group row.system.origin) (live_of c.args.self.now c.args.name.now) t c.args.updates.now c.args.group.0 c.args.synced.0 c.args.allocator.now) snaps
     (subst (λ (o : Option SnapId). AllowsLive (blocks row.below) (origin_group o) (live_of c.args.self.now c.args.name.now) (snaps_at c.args.self.now c.args.name.now) c.args.updates.now c.args.group.0 c.args.synced.0 c.args.allocator.now) origin
-    (subst (λ (m : Map). AllowsLive (blocks m) (origin_group (origin_at c.args.self.now c.args.name.now)) (live_of c.args.self.now c.args.name.now) (snaps_at c.args.self.now c.args.name.now) c.args.updates.now c.args.group.0 c.args.synced.0 c.args.allocator.now) below c.requires)))
+    (subst (λ (m : Map). AllowsLive (blocks m) (origin_group (origin_at c.args.self.now c.args.name.now)) (live_of c.args.self.now c.args.name.now) (snaps_at c.args.self.now c.args.name.now) c.args.updates.now c.args.group.0 c.args.synced.0 c.args.allocator.now) below c.requires.allowed)))
+
+pub apply-requires-clause-above : goal.apply-requires-clause-above
+apply-requires-clause-above c =
+    let at : IsAt (map entry_in c.self.inside.rows.items) c.args.name.now c.in-Ok.place = rw (← c.deref.ensures.value, ← c.as_bytes.ensures) c.in-Ok.ensures.found in
+    let is = row_of entry_in c.self.inside.rows.items c.in-Ok.place c.index_mut-row.result.now c.index_mut-row.ensures.value in
+    let below = below_is c.self.inside.rows.items c.self.invariant.sorted c.self.invariant.tied c.args.name.now c.in-Ok.place at c.index_mut-row.result.now c.index_mut-row.ensures.value in
+    rule_here _ c.self.invariant.sorted c.args.name.now c.in-Ok.place at (entry_in c.index_mut-row.result.now) is (AreAbove (arc_value c.index_mut-row.result.now).below) (subst (λ (b : Map). IfSome (get (from_sorted {R = name_cmp} (map entry_in c.self.inside.rows.items)) c.args.name.now) (AreAbove b)) below (rw c.self.view_is c.requires.above))
 
 pub invariant_of-self : goal.invariant_of-self
 invariant_of-self c =

@@ -1,20 +1,19 @@
 use Rattle.std.proofs.Common.{◌≡◌, ◌<◌, Result, Ok, Err, List, [], Option, None, length, map, ap, sym, subst, ◌∙◌, arith}
-use Rattle.std.specs.Prelude.{OnErr}
+use Rattle.std.specs.Prelude.{OnErr, IfSome}
 use Rattle.std.specs.Arc.{arc_value}
 use Rattle.std.specs.Option.{option_map_or}
 use Rattle.std.specs.FinMap.{get, from_sorted}
 use Rattle.std.proofs.lemmas.List.{map-set}
 use Rattle.std.proofs.Math.Seq.{map-set_same}
-use Rattle.base.specs.Map.{Map, blocks}
-use Rattle.model.specs.World.{FileSystem, Snap, SnapId}
+use Rattle.base.specs.Map.{Map}
+use Rattle.model.specs.World.{FileSystem, Snap}
 use Rattle.name.specs.Names.{name_cmp}
-use Rattle.file_system.specs.Dead.{IsAbove}
-use Rattle.file_system.specs.Origins.{origin_group}
 use Rattle.file_systems.specs.Places.{IsAt, IsGapFor}
-use Rattle.file_system.specs.Rows.{entry_in, entry_of, Entry, Row, live_of, snaps_at, with_live}
-use Rattle.file_systems.proofs.Rows.{row_of, get_gap, row_sorted, row_is, live_is, snaps_are}
+use Rattle.file_system.specs.Rows.{entry_in, entry_of, Entry, Row, snaps_at, with_live}
+use Rattle.file_system.specs.Splices.{AreAbove}
+use Rattle.file_systems.proofs.Rows.{row_of, get_gap, row_sorted, row_is, rule_here, live_is, snaps_are}
 use Rattle.file_systems.proofs.Counts.{set_counted_same}
-use Rattle.file_systems.specs.Clones.{map_found, below_at, origin_at}
+use Rattle.file_systems.specs.Clones.{map_found}
 use Rattle.file_systems.proofs.Ties.{row_place, row_within, tied_set, origin_is, below_is}
 use Rattle.file_systems.proofs.Listing.{listed_set}
 use Rattle.file_systems.proofs.list.FileSystems.rollback.Goals as goal
@@ -44,15 +43,8 @@ pub rollback-requires-clause-above : goal.rollback-requires-clause-above
 rollback-requires-clause-above c =
     let at : IsAt (map entry_in c.self.inside.rows.items) c.args.name.now c.in-Ok.place = rw (← c.deref.ensures.value, ← c.as_bytes.ensures) c.in-Ok.ensures.found in
     let is = row_of entry_in c.self.inside.rows.items c.in-Ok.place c.index_mut.result.now c.index_mut.ensures.value in
-    let live = ap (λ m. live_of m c.args.name.now) (sym c.self.view_is) ∙ live_is _ c.self.invariant.sorted c.args.name.now c.in-Ok.place at (entry_in c.index_mut.result.now) is in
-    let snaps = ap (λ m. snaps_at m c.args.name.now) (sym c.self.view_is) ∙ snaps_are _ c.self.invariant.sorted c.args.name.now c.in-Ok.place at (entry_in c.index_mut.result.now) is in
-    let below = ap (λ m. below_at m c.args.name.now) (sym c.self.view_is) ∙ below_is c.self.inside.rows.items c.self.invariant.sorted c.self.invariant.tied c.args.name.now c.in-Ok.place at c.index_mut.result.now c.index_mut.ensures.value in
-    let origin = ap (λ m. origin_at m c.args.name.now) (sym c.self.view_is) ∙ origin_is c.self.inside.rows.items c.self.invariant.sorted c.self.invariant.tied c.args.name.now c.in-Ok.place at c.index_mut.result.now c.index_mut.ensures.value in
-    let row = arc_value c.index_mut.result.now in
-    subst (λ (m : Map). IsAbove (blocks row.below) (origin_group row.system.origin) m row.system.snaps) live
-    (subst (λ (l : List Snap). IsAbove (blocks row.below) (origin_group row.system.origin) (live_of c.args.self.now c.args.name.now) l) snaps
-    (subst (λ (o : Option SnapId). IsAbove (blocks row.below) (origin_group o) (live_of c.args.self.now c.args.name.now) (snaps_at c.args.self.now c.args.name.now)) origin
-    (subst (λ (m : Map). IsAbove (blocks m) (origin_group (origin_at c.args.self.now c.args.name.now)) (live_of c.args.self.now c.args.name.now) (snaps_at c.args.self.now c.args.name.now)) below c.requires.above)))
+    let below = below_is c.self.inside.rows.items c.self.invariant.sorted c.self.invariant.tied c.args.name.now c.in-Ok.place at c.index_mut.result.now c.index_mut.ensures.value in
+    rule_here _ c.self.invariant.sorted c.args.name.now c.in-Ok.place at (entry_in c.index_mut.result.now) is (AreAbove (arc_value c.index_mut.result.now).below) (subst (λ (b : Map). IfSome (get (from_sorted {R = name_cmp} (map entry_in c.self.inside.rows.items)) c.args.name.now) (AreAbove b)) below (rw c.self.view_is c.requires.above))
 
 -- where memory was refused the rows are the same
 pub invariant_of-self : goal.invariant_of-self

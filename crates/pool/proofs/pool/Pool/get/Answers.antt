@@ -1,14 +1,23 @@
-use Rattle.std.proofs.Common.{sym, ◌∙◌}
+use Rattle.std.proofs.Common.{sym, subst, ◌∙◌, arith}
+use Rattle.model.specs.declared.request.Request.TheVariants.{Get}
+use Rattle.model.specs.Step.{Step}
 use Rattle.pool.specs.Pools.{state_of}
-use Rattle.pool.proofs.Steps.{get_absent, get_told, get_wanting}
+use Rattle.pool.proofs.Measured.{few, get_absent, get_told, get_wanting}
 use Rattle.pool.proofs.pool.Pool.get.Goals as goal
+use Rattle.pool.proofs.pool.Pool.get.Goals.{in-Ok-Some, in-Ok-None, in-Err}
 
-pub returns-in-Ok-Some : goal.returns-in-Ok-Some
-returns-in-Ok-Some c =
-    get_told c.args.self.now (state_of c.self.inside) c.self.inside.allocator c.self.view_is c.self.invariant c.args.target.now c.args.property c.in-Ok-Some.value (sym c.in-Ok-Some.field-0-is ∙ c.in-Ok-Some.ensures.ok)
+pub value_named-value-requires-clause-few : goal.value_named-value-requires-clause-few
+value_named-value-requires-clause-few c =
+    few c.args.self.now (state_of c.self.inside) c.self.inside.allocator c.self.view_is c.self.invariant (omega (arith, c.self.ranges))
 
-pub returns-in-Ok-None : goal.returns-in-Ok-None
-returns-in-Ok-None c = get_absent c.args.self.now (state_of c.self.inside) c.self.inside.allocator c.self.view_is c.self.invariant c.args.target.now c.args.property (sym c.in-Ok-None.field-0-is ∙ c.in-Ok-None.ensures.ok)
-
-pub returns-in-Err : goal.returns-in-Err
-returns-in-Err c = get_wanting c.args.self.now (state_of c.self.inside) c.self.inside.allocator c.self.view_is c.self.invariant c.args.target.now c.args.property c.in-Err.refusal c.in-Err.ensures.err
+pub returns-clause-step : goal.returns-clause-step
+returns-clause-step c = elim c.match-value.branch [
+  | in-Ok-Some w ↦ subst (λ r. Step c.args.self.now.state (Get c.args.target.now c.args.property) r c.args.self.now.state) (sym w.result-is)
+      (get_told c.args.self.now (state_of c.self.inside) c.self.inside.allocator c.self.view_is c.self.invariant c.args.target.now c.args.property
+      c.counts-free.result.free c.counts-free.ensures.free w.in-Ok-Some.value (sym w.in-Ok-Some.field-0-is ∙ w.in-Ok-Some.ensures.ok))
+  | in-Ok-None w ↦ subst (λ r. Step c.args.self.now.state (Get c.args.target.now c.args.property) r c.args.self.now.state) (sym w.result-is)
+      (get_absent c.args.self.now (state_of c.self.inside) c.self.inside.allocator c.self.view_is c.self.invariant c.args.target.now c.args.property
+      c.counts-free.result.free (sym w.in-Ok-None.field-0-is ∙ w.in-Ok-None.ensures.ok))
+  | in-Err w ↦ subst (λ r. Step c.args.self.now.state (Get c.args.target.now c.args.property) r c.args.self.now.state) (sym w.result-is)
+      (get_wanting c.args.self.now (state_of c.self.inside) c.self.inside.allocator c.self.view_is c.self.invariant c.args.target.now c.args.property w.in-Err.refusal w.in-Err.ensures.err)
+]

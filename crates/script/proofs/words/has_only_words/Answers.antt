@@ -2,7 +2,7 @@ use Rattle.std.proofs.Common.{rules, tests}
 use Rattle.std.proofs.lemmas.Iterator.Search.{all_from_yields_List}
 use Rattle.std.proofs.lemmas.Iterator.Splits.{YieldsList-from_slice_split}
 use Rattle.script.specs.Words.{is_word}
-use Rattle.script.proofs.parse.has_only_words.Goals as goal
+use Rattle.script.proofs.words.has_only_words.Goals as goal
 
 pub returns : goal.returns
 returns c =

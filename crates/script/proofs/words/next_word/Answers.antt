@@ -1,7 +1,7 @@
 use Rattle.std.proofs.Common.{◌∙◌, ◌∷◌, ◌+◌, ap, sym, take}
 use Rattle.script.specs.Words.{words_of}
 use Rattle.script.proofs.WordsLemmas.{words_of-space, words_of-none, range_from}
-use Rattle.script.proofs.parse.next_word.Goals as goal
+use Rattle.script.proofs.words.next_word.Goals as goal
 
 pub returns-in-Some : goal.returns-in-Some
 returns-in-Some c =

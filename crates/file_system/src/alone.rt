@@ -1,0 +1,149 @@
+//! What one snapshot has alone.
+ghost use Rattle.std.specs.Prelude.{◌≡◌, ◌==◌, ◌<◌, ◌≤◌, IsSome, IfOk, IfErr, OnOk, OnErr, length};
+ghost use Rattle.std.specs.List.{find};
+ghost use Rattle.std.specs.FinSet.{len, difference};
+ghost use Rattle.base.specs.Map.{Block, blocks};
+ghost use Rattle.base.specs.declared.refusal.Refusal.{Refusal};
+ghost use Rattle.world.specs.Sets.{Has};
+ghost use Rattle.file_system.specs.Alone.{entries_at, HasJust};
+ghost use Rattle.file_system.specs.Splices.{AreAbove, lost_from, oldest_blocks};
+
+use crate::file_system::FileSystem;
+use crate::origin::{base_group, origin_in};
+use crate::splice::{before, place_of};
+use crate::written::group_of;
+use base::meter::SegMeter;
+use base::number::{Dead, Group};
+use base::refusal::Refusal;
+use deadlist::deadlist::Deadlist;
+use shared_list::SharedList;
+use snapshots::Kept;
+use std::alloc::Global;
+use std::collections::BTreeSet;
+use std::marker::Model;
+
+/// Blocks of a snapshot that neither the dataset before it nor the one after it has. Contracts see the set of them.
+#[derive(Drop)]
+pub struct Alone {
+    blocks: Vec<Dead>,
+    alloc: Global,
+}
+
+impl Model for Alone {
+    ghost use Rattle.std.specs.Prelude.{map};
+    ghost use Rattle.std.specs.FinSet.{from_list};
+    ghost use Rattle.base.specs.Codes.{blocks_code};
+    ghost use Rattle.base.specs.Map.{BlockSet};
+    ghost use Rattle.base.specs.Surveys.{AreDifferent, dead_block};
+
+    ghost Value = { BlockSet };
+
+    ghost coded = { blocks_code };
+
+    ghost view = { λ a. from_list (map dead_block a.blocks.items) };
+
+    ghost invariant = { λ a. AreDifferent (map dead_block a.blocks.items) };
+}
+
+impl Alone {
+    /// How many blocks these are. Constant time.
+    pub fn len(&self) -> u64
+        ensures { result ≡ len self.now }
+    {
+        self.blocks.len() as u64
+    }
+}
+
+// The dead list of the snapshot at that place, and this one, of the live map, where there is none. It costs a walk over the chunks before
+// the place.
+fn dead_at<'a>(kept: &'a SharedList<Kept>, place: usize, dead: &'a Deadlist) -> &'a Deadlist
+    ensures { result.now.entries ≡ entries_at kept.now place dead.now.entries }
+{
+    match kept.get(place) {
+        Some(kept) => &kept.dead,
+        None => dead,
+    }
+}
+
+// The entries of a dead list. NoMemory where there is none for them. It costs their number.
+fn entries_of(alloc: Global, dead: &Deadlist, segments: &mut SegMeter) -> Result<Vec<Dead>, Refusal>
+    ensures ok { IfOk result (λ v. v.items ≡ dead.now.entries) }
+    ensures err { IfErr result (λ e. e ≡ Refusal.NoMemory) }
+{
+    let mut entries = Vec::new(alloc);
+    for dead in dead.iter(segments) {
+        entries.push(dead)?;
+    }
+    Ok(entries)
+}
+
+// The same as a set. It costs their number times the logarithm of it.
+fn set_of(
+    alloc: Global,
+    dead: &Deadlist,
+    segments: &mut SegMeter,
+) -> Result<BTreeSet<Dead>, Refusal>
+    ensures ok { IfOk result (λ s. HasJust s dead.now.entries) }
+    ensures err { IfErr result (λ e. e ≡ Refusal.NoMemory) }
+{
+    let mut entries = BTreeSet::new(alloc);
+    for dead in dead.iter(segments) {
+        if entries.insert(dead).is_err() {
+            return Err(Refusal::NoMemory);
+        }
+    }
+    Ok(entries)
+}
+
+impl FileSystem {
+    /// The blocks of the snapshot of this group, which is there, that neither what stands before it has nor what comes after it: those
+    /// that are lost where it goes, unless a clone of it has them (zfs-destroy(8): -n). NoMemory where there is none for them. It costs the
+    /// logarithm of the number of snapshots, a walk over their chunks, the segments of the next dead list, where no cut stands at the group
+    /// before it the entries of one of them, and the number of these blocks.
+    pub fn alone(
+        &self,
+        alloc: Global,
+        group: Group,
+        segments: &mut SegMeter,
+    ) -> Result<Alone, Refusal>
+        requires there { IsSome (find (λ t. t.group == group.0) self.now.system.snaps) }
+        requires above { AreAbove self.now.below self.now.system }
+        ensures ok { IfOk result (λ a. a ≡ lost_from (blocks self.now.below) self.now.system.snaps self.now.system.live group.0) }
+        ensures err { IfErr result (λ e. e ≡ Refusal.NoMemory) }
+    {
+        let kept = self.snapshots.list();
+        let (place, _count) = (place_of(kept, group), kept.len());
+        let since = group_of(before(kept, place), base_group(origin_in(&self.origin)));
+        let mut dead = dead_at(kept, place + 1, &self.dead).copy(segments)?;
+        let lost = dead.take_after(since, segments)?;
+        let blocks = entries_of(alloc, &lost, segments)?;
+        Ok(Alone { blocks, alloc })
+    }
+
+    /// How many these are. It costs the same but for their number, and takes no memory (zfsprops(7): used).
+    pub fn alone_count(&self, group: Group, segments: &mut SegMeter) -> u64
+        requires there { IsSome (find (λ t. t.group == group.0) self.now.system.snaps) }
+        requires above { AreAbove self.now.below self.now.system }
+        ensures { result ≡ len (lost_from (blocks self.now.below) self.now.system.snaps self.now.system.live group.0) }
+    {
+        let kept = self.snapshots.list();
+        let (place, _count) = (place_of(kept, group), kept.len());
+        let since = group_of(before(kept, place), base_group(origin_in(&self.origin)));
+        dead_at(kept, place + 1, &self.dead).space_after(since, segments)
+    }
+
+    /// Takes those blocks out, which are all the origin's, that the oldest dataset of this clone has (zfs-destroy(8): -n). NoMemory where
+    /// there is none for it; then all are as they were. It costs the entries of the oldest dead list and these blocks, for each the
+    /// logarithm of the number of these entries.
+    pub fn strike(&self, alone: &mut Alone, segments: &mut SegMeter) -> Result<(), Refusal>
+        requires { (b : Block) → Has alone.old b → Has (blocks self.now.below) b }
+        ensures ok { OnOk result (alone.new ≡ difference alone.old (oldest_blocks self.now.system.live self.now.system.snaps)) }
+        ensures err { OnErr result (alone.new ≡ alone.old) }
+        ensures only { IfErr result (λ e. e ≡ Refusal.NoMemory) }
+    {
+        let dead = dead_at(self.snapshots.list(), 0, &self.dead);
+        let gone = set_of(alone.alloc, dead, segments)?;
+        alone.blocks.retain(|dead| gone.contains(dead));
+        Ok(())
+    }
+}

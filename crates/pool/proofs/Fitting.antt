@@ -1,0 +1,80 @@
+-- What datasets have is counted by the pool: how much it can be, and what is left of the pool beside it.
+use Rattle.std.proofs.Common.{◌≡◌, ◌≤◌, ◌<◌, ◌+◌, ◌^◌, ℕ, List, [], ◌∷◌, map, Some, refl, sym, ap, subst, ◌∙◌, inl, inr, ⊎_elim, arith}
+use Rattle.std.specs.Prelude.{is_some, count_by}
+use Rattle.std.specs.FinMap.{get}
+use Rattle.std.specs.FinSet as set
+use Rattle.base.specs.Map.{Map, BlockSet, blocks}
+use Rattle.base.specs.Surveys.{IsIn}
+use Rattle.zalloc.specs.declared.BlockState.{BlockState}
+use Rattle.zalloc.specs.States.{is_free}
+use Rattle.model.specs.World.{World, FileSystem, Snap, SnapId, maps_of, blocks_of_all, union_of, reach_of}
+use Rattle.model.specs.Sums.{size_without, would_free, room_of, allocated_of, free_of, waiting_count}
+use Rattle.model.specs.State.{State, waiting_of}
+use Rattle.model.specs.Numbers.{HasStates}
+use Rattle.world.specs.Sets.{Has, IsSubset}
+use Rattle.world.specs.Blocks.{block_order as o}
+use Rattle.world.specs.Tables.{world_of}
+use Rattle.world.proofs.Bridge.{in_union_of}
+use Rattle.world.proofs.Kept.{reach_is, union-fields}
+use Rattle.world.proofs.SetCounts.{no-empty, in_union_left, from_union, len-difference, len-subset, len-union}
+use Rattle.accounts.proofs.Rooms.{room_free}
+use Rattle.steps.specs.Edits.{datasets_of}
+use Rattle.steps.specs.Steady.{IsSteady}
+use Rattle.steps.proofs.Counts as counts
+use Rattle.steps.proofs.Known.{states_of}
+use Rattle.steps.proofs.Properties.{are_balanced}
+
+module _ (w : World) where
+  -- what of the blocks of datasets others haven't
+  part_fits : (a b : BlockSet) → IsSubset a (union_of w) → size_without a b ≤ set.len (union_of w)
+  part_fits a b inside =
+      let d = len-difference o a b in
+      let l = len-subset o a (union_of w) inside in
+      omega (arith, d, l)
+
+  -- what would be freed with some snapshots (zfs-destroy(8), -nv)
+  pub would_free_fits : (ids : List SnapId) → would_free w ids ≤ set.len (union_of w)
+  unfolding would_free
+  would_free_fits ids = part_fits (union_of w) _ (λ _ h. h)
+
+  module _ (name : List ℕ) (f : FileSystem) (was : get w.file_systems name ≡ Some f) where
+    inside : (ts : List Snap) → ((m : Map) → IsIn (map (λ (t : Snap). t.map) ts) m → IsIn (maps_of f) m) → IsSubset (blocks_of_all (map (λ (t : Snap). t.map) ts)) (union_of w)
+    inside [] among k h = absurd (no-empty o k h)
+    inside (t ∷ ts) among k h = ⊎_elim
+        (λ i. in_union_of w name f t.map k was (among t.map (inl refl)) i)
+        (λ i. inside ts (λ m j. among m (inr j)) k i)
+        (from_union o (blocks t.map) (blocks_of_all (map (λ (t : Snap). t.map) ts)) k h)
+
+    -- what snapshots of a file system have and others haven't (zfsprops(7): usedbysnapshots)
+    pub snapshots_fit : (b : BlockSet) → size_without (blocks_of_all (map (λ t. t.map) f.snaps)) b ≤ set.len (union_of w)
+    snapshots_fit b = part_fits (blocks_of_all (map (λ t. t.map) f.snaps)) b (inside f.snaps (λ m i. inr i))
+
+module _ (s : State) (steady : IsSteady s) (numbers : List BlockState) (known : HasStates s numbers) where
+  -- all that datasets have is no more than the pool has
+  union_fits : set.len (union_of s.now) ≤ s.size
+  unfolding allocated_of
+  union_fits =
+      let b = are_balanced s steady numbers known in
+      let a : allocated_of s ≡ set.len (reach_of s.now) = refl in
+      let l = len-subset o (union_of s.now) (reach_of s.now) (λ k h. subst (λ x. Has x k) (sym (reach_is s.now)) (in_union_left o (union_of s.now) s.now.freeing k h)) in
+      omega (arith, a, b, l)
+
+  -- so it can be counted by so many bits
+  pub few : s.size < 2 ^ 32 → set.len (union_of (world_of (datasets_of s))) < 2 ^ 32
+  few l =
+      let u = union_fits in
+      let e = ap set.len (union-fields (world_of (datasets_of s)) s.now refl) in
+      omega (arith, l, u, e)
+
+  free_counted : count_by is_free numbers ≡ free_of s
+  unfolding allocated_of waiting_count waiting_of
+  free_counted =
+      let f = counts.count-free (reach_of s.now) (reach_of s.last) s.last.group s.now.group s.size steady.good.pair.reached numbers (states_of s numbers known) in
+      let b = are_balanced s steady numbers known in
+      let u = len-union o (reach_of s.now) (reach_of s.last) in
+      omega (arith, f, b, u)
+
+  -- what is available to a file system is what is free, where there is no limit (zfsprops(7): available)
+  pub free_is_room : (name : List ℕ) (f : FileSystem) → get s.now.file_systems name ≡ Some f → count_by is_free numbers ≡ room_of s name
+  free_is_room name f was =
+      free_counted ∙ sym (room_free s steady.good.now.systems steady.good.now.freeing_apart steady.unlimited (are_balanced s steady numbers known) name (ap is_some was))

@@ -1,0 +1,170 @@
+//! Lines that ask for a property, and for what snapshots take.
+ghost use Rattle.std.specs.Prelude.{◌≡◌, ◌++◌, ◌∷◌};
+ghost use Rattle.std.specs.Option.{option_copied};
+ghost use Rattle.name.specs.Reading.{Reads, snap_of};
+ghost use Rattle.script.specs.Words.{property_of_word, word_within, file_system_of};
+ghost use Rattle.script.specs.Meaning.{get_of, get_property_of, written_since_of, since_snap_of, since_word_of, would_free_of};
+ghost use Rattle.script.specs.Reading.{words_left, Means};
+
+use crate::words::{three, two};
+use base::refusal::Refusal;
+use model::request::{Property, Request};
+use name::{Component, DsName, NAME_LIMIT, SnapName, Target};
+use std::alloc::Global;
+
+/// Reads `get PROP TARGET` (zfs-get(8)). PROP may be `written@` with a snapshot's whole name after it, or with one component, which names
+/// a snapshot of the target's file system (zfsprops(7)). BadLine where there aren't two operands or PROP is no property, BadName where
+/// a name is none or its whole name has more than 255 bytes, NoMemory where there is no memory for a name.
+#[tactic(auto, unfolding(crate::specs::Meaning::get_of))]
+pub(crate) fn get(alloc: Global, operands: Option<&[u8]>) -> Result<Request, Refusal>
+    ensures { Means result (get_of (words_left (option_copied operands.entry))) }
+{
+    let Some((property, target)) = two(operands) else {
+        return Err(Refusal::BadLine);
+    };
+    match property.strip_prefix(b"written@") {
+        Some(since) => get_written(alloc, since, target),
+        None => get_property(alloc, property, target),
+    }
+}
+
+// A property that has a name.
+#[inline(never)]
+#[tactic(auto, unfolding(crate::specs::Meaning::get_property_of))]
+fn get_property(alloc: Global, property: &[u8], target: &[u8]) -> Result<Request, Refusal>
+    ensures { Means result (get_property_of property.now target.now) }
+{
+    let Some(property) = property_named(property) else {
+        return Err(Refusal::BadLine);
+    };
+    let target = Target::read(alloc, target)?;
+    Ok(Request::Get { target, property })
+}
+
+// What was written since a snapshot, whose whole name has an `@`.
+#[tactic(auto, unfolding(crate::specs::Meaning::written_since_of))]
+fn get_written(alloc: Global, since: &[u8], target: &[u8]) -> Result<Request, Refusal>
+    ensures { Means result (written_since_of since.now target.now) }
+{
+    if since.contains(&b'@') {
+        since_snap(alloc, since, target)
+    } else {
+        since_word(alloc, since, target)
+    }
+}
+
+// Since a snapshot by its whole name.
+#[inline(never)]
+#[tactic(auto, unfolding(crate::specs::Meaning::since_snap_of))]
+fn since_snap(alloc: Global, since: &[u8], target: &[u8]) -> Result<Request, Refusal>
+    ensures { Means result (since_snap_of since.now target.now) }
+{
+    let since = SnapName::read(alloc, since)?;
+    let target = Target::read(alloc, target)?;
+    Ok(Request::WrittenSince { target, since })
+}
+
+// Since a snapshot of the target's file system, by its component.
+#[inline(never)]
+fn since_word(alloc: Global, since: &[u8], target: &[u8]) -> Result<Request, Refusal>
+    ensures { Means result (since_word_of since.now target.now) }
+{
+    let target = Target::read(alloc, target)?;
+    let since = whole_name(alloc, file_system_of(&target).as_bytes(), since)?;
+    Ok(Request::WrittenSince { target, since })
+}
+
+// The file system whose name a target's begins with.
+fn file_system_of(target: &Target) -> &DsName
+    ensures { result.now ≡ file_system_of target.now }
+{
+    match target {
+        Target::FileSystem(name) => name,
+        Target::Snapshot(name) => &name.member().file_system,
+        Target::Bookmark(name) => &name.member().file_system,
+    }
+}
+
+// The snapshot of a file system's name, an `@` and a word.
+fn whole_name(alloc: Global, file_system: &[u8], word: &[u8]) -> Result<SnapName, Refusal>
+    ensures { Reads result (snap_of (file_system.now ++ 64 ∷ word.now)) }
+{
+    let mut whole = Vec::new(alloc);
+    whole.extend_from_slice(file_system)?;
+    whole.push(b'@')?;
+    whole.extend_from_slice(word)?;
+    SnapName::read(alloc, whole.as_slice())
+}
+
+/// Reads `wouldfree NAME WORD WORD`, the first and the last of some snapshots of a file system (zfs-destroy(8), -nv). BadLine where there
+/// aren't three operands, BadName where a name is none or a snapshot's whole name would have more than 255 bytes, NoMemory where there is
+/// no memory for a name.
+#[inline(never)]
+#[tactic(auto, unfolding(crate::specs::Meaning::would_free_of))]
+pub(crate) fn would_free(alloc: Global, operands: Option<&[u8]>) -> Result<Request, Refusal>
+    ensures { Means result (would_free_of (words_left (option_copied operands.entry))) }
+{
+    let Some((name, first, last)) = three(operands) else {
+        return Err(Refusal::BadLine);
+    };
+    let name = DsName::read(alloc, name)?;
+    let first = word_within(alloc, &name, first)?;
+    let last = word_within(alloc, &name, last)?;
+    Ok(Request::WouldFree { name, first, last })
+}
+
+// A component by which a snapshot of a file system is named: BadName too where the whole name would have more than 255 bytes.
+#[tactic(auto, unfolding(crate::specs::Words::word_within))]
+fn word_within(alloc: Global, file_system: &DsName, word: &[u8]) -> Result<Component, Refusal>
+    ensures { Reads result (word_within file_system.now word.now) }
+{
+    if file_system.as_bytes().len() + 1 + word.len() > NAME_LIMIT {
+        return Err(Refusal::BadName);
+    }
+    Component::read(alloc, word)
+}
+
+#[tactic(auto, unfolding(crate::specs::Words::property_of_word))]
+fn property_named(word: &[u8]) -> Option<Property>
+    ensures { result ≡ property_of_word word.now }
+{
+    if word == b"used".as_slice() {
+        Some(Property::Used)
+    } else if word == b"available".as_slice() {
+        Some(Property::Available)
+    } else if word == b"referenced".as_slice() {
+        Some(Property::Referenced)
+    } else if word == b"written".as_slice() {
+        Some(Property::Written)
+    } else if word == b"usedbydataset".as_slice() {
+        Some(Property::UsedByDataset)
+    } else if word == b"usedbysnapshots".as_slice() {
+        Some(Property::UsedBySnapshots)
+    } else if word == b"usedbychildren".as_slice() {
+        Some(Property::UsedByChildren)
+    } else if word == b"usedbyrefreservation".as_slice() {
+        Some(Property::UsedByRefReservation)
+    } else if word == b"quota".as_slice() {
+        Some(Property::Quota)
+    } else if word == b"refquota".as_slice() {
+        Some(Property::RefQuota)
+    } else if word == b"reservation".as_slice() {
+        Some(Property::Reservation)
+    } else if word == b"refreservation".as_slice() {
+        Some(Property::RefReservation)
+    } else if word == b"guid".as_slice() {
+        Some(Property::Guid)
+    } else if word == b"createtxg".as_slice() {
+        Some(Property::CreateTxg)
+    } else if word == b"origin".as_slice() {
+        Some(Property::Origin)
+    } else if word == b"clones".as_slice() {
+        Some(Property::Clones)
+    } else if word == b"userrefs".as_slice() {
+        Some(Property::UserRefs)
+    } else if word == b"defer_destroy".as_slice() {
+        Some(Property::DeferDestroy)
+    } else {
+        None
+    }
+}

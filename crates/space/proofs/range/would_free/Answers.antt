@@ -1,0 +1,16 @@
+use Rattle.std.proofs.Common.{arith}
+use Rattle.std.specs.Option.{option_map}
+use Rattle.accounts.proofs.Bounds.{would_free_few}
+use Rattle.world.specs.Tables.{world_of}
+use Rattle.datasets.specs.Table.{IsTable}
+use Rattle.space.specs.Ranges.{range_ids}
+use Rattle.space.proofs.Ranges.{freed_is}
+use Rattle.space.proofs.range.would_free.Goals as goal
+
+pub returns-clause-ok : goal.returns-clause-ok
+returns-clause-ok c =
+    let sound : IsTable c.args.table.now = record { systems = c.len-count.ensures.good; numbers = c.len-count.ensures.numbers } in
+    let s = freed_is c.args.table.now sound c.args.name.now c.args.first.now c.args.last.now c.in_ok-file_system.file_system.now c.in_ok-file_system.first.0 c.in_ok-file_system.last.0 c.in_ok-file_system.ensures.ok
+    c.group_before-before.result.0 (option_map (λ g. g.0) c.group_after-next.result) c.group_before-before.ensures c.group_after-next.ensures in
+    let few = would_free_few (world_of c.args.table.now) (range_ids c.args.table.now c.args.name.now c.args.first.now c.args.last.now) in
+    omega (arith, s, few, c.gone_after.ensures, c.requires.few)

@@ -1,0 +1,138 @@
+//! What a range of snapshots alone has.
+ghost use Rattle.std.specs.Prelude.{◌≡◌, ◌<◌, ◌^◌, ◌&&◌, Some, None, IfSome, IfOk, IfErr, OnOk};
+ghost use Rattle.std.specs.List.{find, list_any};
+ghost use Rattle.std.specs.Option.{option_map};
+ghost use Rattle.std.specs.FinSet.{len};
+ghost use Rattle.name.specs.Names.{same_name};
+ghost use Rattle.model.specs.World.{union_of};
+ghost use Rattle.model.specs.Sums.{would_free};
+ghost use Rattle.world.specs.Tables.{world_of};
+ghost use Rattle.file_system.specs.Origins.{origin_group};
+ghost use Rattle.accounts.specs.Space.{newest_group};
+ghost use Rattle.space.specs.Ranges.{IsRange, range_ids, range_refusal, is_cloned_between, group_after, older_than};
+
+use base::meter::SegMeter;
+use base::number::Group;
+use base::refusal::Refusal;
+use datasets::Table;
+use file_systems::{FileSystem, Snapshot};
+use name::{Component, DsName};
+
+/// How many blocks all datasets together would lose with these snapshots of a file system, the first, the last and those between, of which
+/// nothing is changed (zfs-destroy(8), -nv). NoDataset exactly where one of the two isn't there, else NotAncestor exactly where the first is
+/// newer than the last, else HasClones exactly where one of the range has a clone (the order is profile). It costs the logarithm of the
+/// number of file systems, the number of this one's snapshots, for each of the range the logarithm of the number of clones, and the
+/// segments of the dead lists of the range and of what comes after it.
+pub fn would_free(
+    table: &Table,
+    name: &DsName,
+    first: &Component,
+    last: &Component,
+    segments: &mut SegMeter,
+) -> Result<u64, Refusal>
+    requires few { len (union_of (world_of table.now)) < 2 ^ 32 }
+    ensures ok { IfOk result (λ n. n ≡ would_free (world_of table.now) (range_ids table.now name.now first.now last.now)) }
+    ensures can { OnOk result (range_refusal table.now name.now first.now last.now ≡ None) }
+    ensures refused { IfSome (range_refusal table.now name.now first.now last.now) (λ e. result ≡ Err e) }
+    ensures only { IfErr result (λ e. range_refusal table.now name.now first.now last.now ≡ Some e) }
+{
+    // It tells what holds of the file systems.
+    let _count = table.len();
+    let (file_system, first, last) = range_of(table, name, first, last)?;
+    let before = group_before(file_system, first);
+    let next = group_after(file_system, last);
+    Ok(file_system.gone_after(Some(before), next, before, segments))
+}
+
+// The file system of this name, and the groups of the first and the last snapshot of the range; refused as `would_free` says. It costs
+// what that does, but for the dead lists.
+fn range_of<'a>(
+    table: &'a Table,
+    name: &DsName,
+    first: &Component,
+    last: &Component,
+) -> Result<(&'a FileSystem, Group, Group), Refusal>
+    ensures ok { IfOk result (λ p. IsRange table.now name.now first.now last.now p.0.now p.1.0 p.2.0) }
+    ensures refused { IfErr result (λ e. range_refusal table.now name.now first.now last.now ≡ Some e) }
+{
+    let Some(file_system) = table.find(name) else {
+        return Err(Refusal::NoDataset);
+    };
+    let Some(first) = group_of(file_system, first) else {
+        return Err(Refusal::NoDataset);
+    };
+    let Some(last) = group_of(file_system, last) else {
+        return Err(Refusal::NoDataset);
+    };
+    if last.0 < first.0 {
+        return Err(Refusal::NotAncestor);
+    }
+    if any_cloned(table, file_system, first, last) {
+        return Err(Refusal::HasClones);
+    }
+    Ok((file_system, first, last))
+}
+
+// The creation group of the snapshot of this name within a file system, or none. It costs the logarithm of the number of its snapshots.
+fn group_of(file_system: &FileSystem, component: &Component) -> Option<Group>
+    ensures { option_map (λ g. g.0) result ≡ option_map (λ t. t.group) (find (λ t. same_name t.name component.now) file_system.now.system.snaps) }
+{
+    let snapshot = file_system.snapshot_named(component.as_bytes())?;
+    Some(snapshot.group())
+}
+
+// Whether the snapshot's group is from one to another, and it has a clone. It costs the logarithm of the number of clones.
+fn is_cloned_between(table: &Table, snapshot: &Snapshot, first: Group, last: Group) -> bool
+    ensures { result ≡ is_cloned_between table.now first.0 last.0 snapshot.now }
+{
+    first.0 <= snapshot.group().0 && snapshot.group().0 <= last.0 && table.has_clone(snapshot.id())
+}
+
+// Whether that holds of a snapshot of this file system. It costs the number of its snapshots, and for each of the range the logarithm of
+// the number of clones.
+fn any_cloned(table: &Table, file_system: &FileSystem, first: Group, last: Group) -> bool
+    ensures { result ≡ list_any (is_cloned_between table.now first.0 last.0) file_system.now.system.snaps }
+{
+    for kept in file_system.snapshots().iter() {
+        if is_cloned_between(table, &kept.snapshot, first, last) {
+            return true;
+        }
+    }
+    false
+}
+
+// The group of the newest snapshot of this file system that is older than that group, or else of its origin, and 0 where there is neither.
+// It costs the number of its snapshots.
+fn group_before(file_system: &FileSystem, first: Group) -> Group
+    ensures { result.0 ≡ newest_group (origin_group file_system.now.system.origin) (older_than first.0 file_system.now.system.snaps) }
+{
+    let mut before = base_of(file_system);
+    for kept in file_system.snapshots().iter() {
+        if kept.snapshot.group().0 < first.0 {
+            before = kept.snapshot.group();
+        }
+    }
+    before
+}
+
+// The creation group of its origin, and 0 where it has none. Constant time.
+fn base_of(file_system: &FileSystem) -> Group
+    ensures { result.0 ≡ origin_group file_system.now.system.origin }
+{
+    match file_system.origin() {
+        Some(origin) => origin.group,
+        None => Group(0),
+    }
+}
+
+// The group of the first of its snapshots that is newer than that group, or none. It costs the number of its snapshots.
+fn group_after(file_system: &FileSystem, last: Group) -> Option<Group>
+    ensures { option_map (λ g. g.0) result ≡ group_after last.0 file_system.now.system.snaps }
+{
+    for kept in file_system.snapshots().iter() {
+        if last.0 < kept.snapshot.group().0 {
+            return Some(kept.snapshot.group());
+        }
+    }
+    None
+}

@@ -1,0 +1,25 @@
+-- Which properties are of space, by what is told of them.
+use Rattle.std.specs.Prelude.{Bool, true, false}
+use Rattle.model.specs.declared.request.Property.{Property}
+use Rattle.model.specs.declared.request.Property.TheVariants.{Available, UsedByDataset, UsedBySnapshots, UsedByChildren, UsedByRefReservation, Quota, RefQuota, Reservation, RefReservation}
+
+-- a limit of a file system (zfsprops(7): quota, refquota, reservation, refreservation)
+abbrev pub is_limit : Property → Bool
+is_limit Quota = true
+is_limit RefQuota = true
+is_limit Reservation = true
+is_limit RefReservation = true
+is_limit _ = false
+
+-- a property of space that file systems alone have (zfsprops(7))
+abbrev pub is_of_live : Property → Bool
+is_of_live Available = true
+is_of_live UsedByDataset = true
+is_of_live UsedBySnapshots = true
+is_of_live UsedByChildren = true
+is_of_live UsedByRefReservation = true
+is_of_live Quota = true
+is_of_live RefQuota = true
+is_of_live Reservation = true
+is_of_live RefReservation = true
+is_of_live _ = false
