@@ -1,21 +1,20 @@
 -- Descendants by their parents.
-use Rattle.std.proofs.Common.{◌≡◌, ℕ, zero, suc, ◌+◌, ◌≤◌, Bool, true, false, cond, ◌&&◌, ◌||◌, List, [], ◌∷◌, Option, Some, None, refl, sym, ap, subst, ◌∙◌, true≢false, ⊎_elim, arith}
-use Rattle.std.specs.Prelude.{◌==◌, is_some}
+use Rattle.std.proofs.Common.{◌≡◌, ℕ, zero, suc, ◌+◌, ◌≤◌, Bool, true, false, cond, ◌&&◌, ◌||◌, List, [], ◌∷◌, Option, Some, None, refl, sym, ap, subst, ◌∙◌, true≢false, arith}
+use Rattle.std.specs.Prelude.{◌==◌}
 use Rattle.std.specs.Cmp.{both_ways}
 use Rattle.std.specs.Option.{option_map_or}
-use Rattle.std.specs.FinMap.{get, keys}
+use Rattle.std.specs.FinMap.{keys}
 use Rattle.std.proofs.lemmas.Bool.{eqb-true, eq-eqb}
 use Rattle.base.specs.Surveys.{IsIn}
 use Rattle.name.specs.Names.{slash, same_name, before_slash, parent_of, is_descendant}
 use Rattle.model.specs.Hierarchy.{FileSystems, IsHierarchy}
 use Rattle.world.specs.Trees.{total}
-use Rattle.world.proofs.Put.{parent_there}
 use Rattle.world.proofs.Finding.{name_itself, one_name}
 use Rattle.world.proofs.Maps.{same_value, no_value}
 use Rattle.accounts.specs.Levels.{slashes}
 use Rattle.accounts.specs.Space.{is_in_family}
 use Rattle.accounts.proofs.Totals.{total_same, total_plus, total_zero}
-use Rattle.accounts.proofs.Names.{is_child, level_up, in_keys, from_keys, keys_once}
+use Rattle.accounts.proofs.Names.{is_child, level_up, keys_once, parent_in}
 use Rattle.accounts.proofs.Root.{total_one}
 
 -- ---- names by their bytes
@@ -119,12 +118,6 @@ module _ (ss : FileSystems) (good : IsHierarchy ss) (name : List ℕ) (v : ℕ) 
       ∙ total_plus (λ c. cond (is_child name c) (cond (same_name x c) v 0) 0) (λ c. cond (is_child name c) (cond (is_descendant c x) v 0) 0) (keys ss)
       ∙ ap (λ n. n + total (λ c. cond (is_child name c) (cond (is_descendant c x) v 0) 0) (keys ss)) (itself x i)
 
-  parent_in : (x parent : List ℕ) → IsIn (keys ss) x → parent_of x ≡ Some parent → IsIn (keys ss) parent
-  parent_in x parent i e = ⊎_elim
-      (λ is. let z = ap slashes is in let l = level_up x parent e in absurd (omega (arith, z, l)))
-      (λ h. let p = parent_there ss x h in in_keys ss parent (subst (λ q. is_some (get ss q) ≡ true) (same_value p.parent parent (sym p.named ∙ e)) p.there))
-      (good.parents x (ap is_some (from_keys ss x i).1))
-
   -- of a name with no parent
   top_level : (x : List ℕ) → IsIn (keys ss) x → parent_of x ≡ None → over_children x ≡ cond (is_descendant name x) v 0
   top_level x i e =
@@ -161,7 +154,7 @@ module _ (ss : FileSystems) (good : IsHierarchy ss) (name : List ℕ) (v : ℕ) 
       at : ((parent : List ℕ) → slashes parent ≤ k → IsIn (keys ss) parent → over_children parent ≡ cond (is_descendant name parent) v 0)
           → (q : Option (List ℕ)) → parent_of x ≡ q → over_children x ≡ cond (is_descendant name x) v 0
       at ih None e = top_level x i e
-      at ih (Some parent) e = let u = level_up x parent e in lower_level x parent i e (ih parent (omega (arith, u, l)) (parent_in x parent i e))
+      at ih (Some parent) e = let u = level_up x parent e in lower_level x parent i e (ih parent (omega (arith, u, l)) (parent_in ss good x parent i e))
 
   -- of the children one alone has a descendant in its family
   pub of_one_child : (x : List ℕ) → IsIn (keys ss) x

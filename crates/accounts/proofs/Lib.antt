@@ -2,6 +2,9 @@ pub mod Totals
 pub mod Names
 pub mod Space
 pub mod Root
+pub mod Levels
+pub mod Depth
+pub mod Limits
 pub mod Unlimited
 pub mod Written
 pub mod Older

@@ -1,9 +1,9 @@
 -- Sums over lists, and how deep a list of nodes can be.
-use Rattle.std.proofs.Common.{◌≡◌, ℕ, ◌+◌, ◌≤◌, ◌<◌, zero, suc, Bool, true, false, cond, List, [], ◌∷◌, length, eqb, leb, refl, sym, ap, ◌∙◌, true≢false, map, inl, inr, ⊎_elim, arith}
+use Rattle.std.proofs.Common.{◌≡◌, ℕ, ◌+◌, ◌≤◌, ◌<◌, zero, suc, Bool, true, false, cond, List, [], ◌∷◌, length, eqb, leb, refl, sym, ap, subst, ◌∙◌, true≢false, map, inl, inr, ⊎_elim, ◌⊎◌, arith}
 use Rattle.std.specs.List.{sum}
 use Rattle.std.proofs.lemmas.List.Sums.{sum_by-cons}
 use Rattle.std.proofs.lemmas.Bool.{eqb-true, eqb-false, leb-true, eq-eqb, le-leb, false_from_ne_true}
-use Rattle.base.specs.Surveys.{IsIn}
+use Rattle.base.specs.Surveys.{IsIn, AreDifferent}
 use Rattle.world.specs.Trees.{total}
 
 module _ {A : Type 0} where
@@ -44,6 +44,98 @@ module _ {A : Type 0} where
   pub cond_total : (b : Bool) (f : A → ℕ) (xs : List A) → cond b (total f xs) 0 ≡ total (λ x. cond b (f x) 0) xs
   cond_total true f xs = refl
   cond_total false f xs = sym (total_zero xs)
+
+  -- one element less
+  without : (x : A) (ys : List A) → IsIn ys x → List A
+  without x [] h = absurd h
+  without x (y ∷ ys) h = ⊎_elim (λ _. ys) (λ k. y ∷ without x ys k) h
+
+  total-without : (g : A → ℕ) (x : A) (ys : List A) (h : IsIn ys x) → total g ys ≡ g x + total g (without x ys h)
+  unfolding without
+  total-without g x [] h = absurd h
+  total-without g x (y ∷ ys) (inl e) = ap (λ z. g z + total g ys) (sym e)
+  total-without g x (y ∷ ys) (inr k) = let r = total-without g x ys k in omega (arith, r)
+
+  in_without : (x z : A) (ys : List A) (h : IsIn ys x) → IsIn ys z → ¬ (z ≡ x) → IsIn (without x ys h) z
+  unfolding without
+  in_without x z [] h i ne = absurd h
+  in_without x z (y ∷ ys) (inl e) i ne = ⊎_elim (λ is. absurd (ne (is ∙ sym e))) (λ k. k) i
+  in_without x z (y ∷ ys) (inr k) i ne = ⊎_elim (λ is. inl is) (λ l. inr (in_without x z ys k l ne)) i
+
+  -- a sum is no more than another, where each of its terms is, and is 0 or stands in the other
+  pub total_more : (f g : A → ℕ) (xs ys : List A) → AreDifferent xs → ((x : A) → IsIn xs x → (f x ≡ 0) ⊎ ((f x ≤ g x) × IsIn ys x)) → total f xs ≤ total g ys
+  total_more f g [] ys d each = omega arith
+  total_more f g (x ∷ xs) ys d each = at (λ zs h. total_more f g xs zs d.1 h) (each x (inl refl))
+    where
+      at : ((zs : List A) → ((y : A) → IsIn xs y → (f y ≡ 0) ⊎ ((f y ≤ g y) × IsIn zs y)) → total f xs ≤ total g zs)
+          → (f x ≡ 0) ⊎ ((f x ≤ g x) × IsIn ys x) → f x + total f xs ≤ total g ys
+      at ih (inl z) = let r = ih ys (λ y i. each y (inr i)) in omega (arith, r, z)
+      at ih (inr p) =
+          let r = ih (without x ys p.1) (λ y i. ⊎_elim inl
+          (λ q. inr (q.0, in_without x y ys p.1 q.1 (λ e. d.0 (subst (λ z. IsIn xs z) e i)))) (each y (inr i))) in
+          let t = total-without g x ys p.1 in
+          let l = p.0 in
+          omega (arith, r, t, l)
+
+  -- one term set apart
+  module _ (c : A) (is_c : A → Bool) (right : (x : A) → is_c x ≡ true → x ≡ c) (itself : is_c c ≡ true) where
+    abbrev pub but : (A → ℕ) → A → ℕ
+    but f x = cond (is_c x) 0 (f x)
+
+    none_but : (f : A → ℕ) (xs : List A) → ¬ (IsIn xs c) → total f xs ≡ total (but f) xs
+    none_but f xs out = total_same f (but f) xs (λ x i. at x i (is_c x) refl)
+      where
+        at : (x : A) → IsIn xs x → (b : Bool) → is_c x ≡ b → f x ≡ cond b 0 (f x)
+        at x i true e = absurd (out (subst (λ z. IsIn xs z) (right x e) i))
+        at x i false e = refl
+
+    pub set_apart : (f : A → ℕ) (xs : List A) → AreDifferent xs → (f c ≡ 0) ⊎ IsIn xs c → total f xs ≡ total (but f) xs + f c
+    set_apart f [] d h = ⊎_elim (λ z. omega (arith, z)) (λ k. absurd k) h
+    set_apart f (x ∷ xs) d h = at (λ k. set_apart f xs d.1 k) (is_c x) refl h
+      where
+        at : ((f c ≡ 0) ⊎ IsIn xs c → total f xs ≡ total (but f) xs + f c)
+            → (b : Bool) → is_c x ≡ b → (f c ≡ 0) ⊎ IsIn (x ∷ xs) c → f x + total f xs ≡ (but f x + total (but f) xs) + f c
+        at ih true e k =
+            let is = right x e in
+            let n = none_but f xs (λ i. d.0 (subst (λ z. IsIn xs z) (sym is) i)) in
+            let z : but f x ≡ 0 = ap (λ b. cond b 0 (f x)) e in
+            let s = ap f is in
+            omega (arith, n, z, s)
+        at ih false e k =
+            let r = ih (⊎_elim inl (λ i. ⊎_elim (λ is. absurd (true≢false (sym itself ∙ ap is_c is ∙ e))) inr i) k) in
+            let z : but f x ≡ f x = ap (λ b. cond b 0 (f x)) e in
+            omega (arith, r, z)
+
+  -- several terms set apart
+  module _ (same : A → A → Bool) (right : (c x : A) → same c x ≡ true → x ≡ c) (itself : (c : A) → same c c ≡ true) where
+    abbrev pub but_all : List A → (A → ℕ) → A → ℕ
+    but_all [] f = f
+    but_all (c ∷ cs) f = but c (same c) (right c) (itself c) (but_all cs f)
+
+    pub among_but : (cs : List A) (f : A → ℕ) (x : A) → IsIn cs x → but_all cs f x ≡ 0
+    among_but [] f x h = absurd h
+    among_but (c ∷ cs) f x h = at (same c x) refl h (λ k. among_but cs f x k)
+      where
+        at : (b : Bool) → same c x ≡ b → (x ≡ c) ⊎ IsIn cs x → (IsIn cs x → but_all cs f x ≡ 0) → cond b 0 (but_all cs f x) ≡ 0
+        at true e k ih = refl
+        at false e k ih = ⊎_elim (λ is. absurd (true≢false (sym (itself c) ∙ ap (same c) (sym is) ∙ e))) ih k
+
+    pub others_but : (cs : List A) (f : A → ℕ) (x : A) → ¬ (IsIn cs x) → but_all cs f x ≡ f x
+    others_but [] f x h = refl
+    others_but (c ∷ cs) f x h = at (same c x) refl (others_but cs f x (λ k. h (inr k)))
+      where
+        at : (b : Bool) → same c x ≡ b → but_all cs f x ≡ f x → cond b 0 (but_all cs f x) ≡ f x
+        at true e ih = absurd (h (inl (right c x e)))
+        at false e ih = ih
+
+    pub set_all_apart : (cs : List A) (f : A → ℕ) (xs : List A) → AreDifferent xs → AreDifferent cs → ((c : A) → IsIn cs c → (f c ≡ 0) ⊎ IsIn xs c)
+        → total f xs ≡ total (but_all cs f) xs + total f cs
+    set_all_apart [] f xs d e h = omega arith
+    set_all_apart (c ∷ cs) f xs d e h =
+        let ih = set_all_apart cs f xs d e.1 (λ x i. h x (inr i)) in
+        let o = others_but cs f c e.0 in
+        let a = set_apart c (same c) (right c) (itself c) (but_all cs f) xs d (⊎_elim (λ z. inl (o ∙ z)) inr (h c (inl refl))) in
+        omega (arith, ih, o, a)
 
 -- a node of level d stands under d others, so there are more nodes than levels
 module _ {A : Type 0} (depth : A → ℕ) (xs : List A) (up : (c : A) → IsIn xs c → (d : ℕ) → depth c ≡ d + 1 → (p : A) × IsIn xs p × (depth p ≡ d)) where

@@ -1,42 +1,29 @@
 -- Where no file system has a limit, the limits ask only that the blocks that are reached or wait are no more than the pool has.
-use Rattle.std.proofs.Common.{◌≡◌, ℕ, ◌+◌, Bool, true, List, [], ◌∷◌, refl, ap, ◌∙◌, inl, inr, arith}
+use Rattle.std.proofs.Common.{◌≡◌, ◌+◌, true, sym, ap, subst, ◌∙◌, arith}
 use Rattle.std.specs.Prelude.{nat_le, max}
-use Rattle.std.specs.List.{list_all}
-use Rattle.std.specs.Option.{option_map_or}
-use Rattle.std.specs.FinMap.{entries}
 use Rattle.std.specs.FinSet.{len, union}
 use Rattle.name.specs.Names.{root_name}
-use Rattle.model.specs.World.{World, FileSystem, Live, union_of, reach_of}
+use Rattle.model.specs.World.{World, Live, union_of, reach_of}
 use Rattle.model.specs.State.{State, waiting_of}
 use Rattle.model.specs.Sums.{used_of, referenced_of, reservation_of}
 use Rattle.model.specs.Fits.{quotas_hold, refquotas_hold, pool_holds}
 use Rattle.world.specs.Sets.{AreDisjoint}
 use Rattle.world.specs.Blocks.{block_order as o}
-use Rattle.world.specs.Shapes.{name_order}
-use Rattle.world.specs.Usage.{IsEntry}
 use Rattle.world.specs.Worlds.{AreFileSystems}
-use Rattle.world.proofs.Maps.{at_entry}
 use Rattle.world.proofs.SetCounts.{len-union, len-union_disjoint}
 use Rattle.world.proofs.Kept.{reach_is}
-use Rattle.accounts.specs.Limits.{IsUnlimited}
+use Rattle.accounts.specs.Limits.{IsUnlimited, IsWithin}
 use Rattle.accounts.proofs.Root.{root_uses_union, nothing_reserved}
+use Rattle.accounts.proofs.Limits.{met_quotas, met_refquotas}
 
 -- ---- no quota is set
 
--- each entry passes a test
-every : (p : (List ℕ × FileSystem) → Bool) (es : List (List ℕ × FileSystem)) → ((name : List ℕ) (s : FileSystem) → IsEntry es name s → p (name, s) ≡ true) → list_all p es ≡ true
-every p [] h = refl
-every p (e ∷ es) h = rw (h e.0 e.1 (inl (refl, refl))) (every p es (λ name s i. h name s (inr i)))
-
 pub quotas_unlimited : (w : World) → IsUnlimited w.file_systems → quotas_hold w ≡ true
-unfolding quotas_hold
-quotas_unlimited w unlimited =
-    every _ (entries w.file_systems) (λ name s i. ap (λ l. option_map_or (nat_le (used_of w name)) l.quota true) (unlimited name s (at_entry name_order w.file_systems name s i)))
+quotas_unlimited w unlimited = met_quotas w (λ name s at. subst (λ l. IsWithin (used_of w name) l.quota) (sym (unlimited name s at)) tt)
 
 pub refquotas_unlimited : (w : World) → IsUnlimited w.file_systems → refquotas_hold w ≡ true
-unfolding refquotas_hold
 refquotas_unlimited w unlimited =
-    every _ (entries w.file_systems) (λ name s i. ap (λ l. option_map_or (nat_le (referenced_of w (Live name))) l.refquota true) (unlimited name s (at_entry name_order w.file_systems name s i)))
+    met_refquotas w (λ name s at. subst (λ l. IsWithin (referenced_of w (Live name)) l.refquota) (sym (unlimited name s at)) tt)
 
 -- ---- nothing is reserved
 
