@@ -1,13 +1,13 @@
 -- What file systems use, up the hierarchy.
-use Rattle.std.proofs.Common.{◌≡◌, ℕ, zero, suc, ◌+◌, ◌≤◌, ◌<◌, true, List, [], Option, Some, None, refl, sym, ap, ◌∙◌, inl, inr, ⊎_elim, ◌⊎◌, arith}
+use Rattle.std.proofs.Common.{◌≡◌, ℕ, zero, suc, ◌+◌, ◌-◌, ◌≤◌, ◌<◌, true, List, [], Option, Some, None, refl, sym, ap, ◌∙◌, inl, inr, ⊎_elim, ◌⊎◌, arith}
 use Rattle.std.specs.Prelude.{max, is_some, unwrap_or}
 use Rattle.std.specs.Option.{option_map_or}
 use Rattle.std.specs.FinMap.{get}
 use Rattle.std.specs.FinMap as finmap
 use Rattle.base.specs.Surveys.{IsIn, AreDifferent}
 use Rattle.name.specs.Names.{same_name, parent_of}
-use Rattle.model.specs.World.{World, FileSystem, children_of}
-use Rattle.model.specs.Sums.{used_of, used_here, used_by_children, children_within, reservation_of, used_by_dataset, used_by_snapshots, used_by_refreservation}
+use Rattle.model.specs.World.{World, FileSystem, Live, children_of}
+use Rattle.model.specs.Sums.{used_of, used_here, used_by_children, children_within, reservation_of, used_by_dataset, used_by_snapshots, used_by_refreservation, written_of}
 use Rattle.world.specs.Trees.{total}
 use Rattle.model.specs.Hierarchy.{IsHierarchy}
 use Rattle.world.proofs.Maps.{no_value}
@@ -24,6 +24,14 @@ from_below P n step name = go n name (omega arith)
     go : (k : ℕ) (name : List ℕ) → n ≤ slashes name + k → P name
     go zero name l = step name (λ child e low. let u = level_up child name e in absurd (omega (arith, u, low, l)))
     go (suc k) name l = step name (λ child e low. let u = level_up child name e in go k child (omega (arith, u, l)))
+
+-- the numbers of a file system that is there
+module _ (w : World) (name : List ℕ) (s : FileSystem) (at : get w.file_systems name ≡ Some s) where
+  pub here_is : used_here w name ≡ used_by_dataset w s + used_by_snapshots w s + (unwrap_or s.limits.refreservation 0 - written_of w (Live name))
+  here_is = ap (λ x. option_map_or (λ s. used_by_dataset w s + used_by_snapshots w s + used_by_refreservation w name s) x 0) at
+
+  pub reserved_is : reservation_of w name ≡ unwrap_or s.limits.reservation 0
+  reserved_is = ap (λ x. option_map_or (λ (s : FileSystem). unwrap_or s.limits.reservation 0) x 0) at
 
 module _ (w : World) (good : IsHierarchy w.file_systems) where
   low_child : (name child : List ℕ) → IsIn (children_of w name) child → slashes child ≡ slashes name + 1

@@ -17,3 +17,5 @@ pub mod Descendants
 pub mod Family
 pub mod Rooms
 pub mod Bounds
+pub mod Shrinks
+pub mod Few

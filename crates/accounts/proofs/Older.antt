@@ -3,14 +3,15 @@ use Rattle.std.proofs.Common.{◌≡◌, ℕ, zero, suc, ◌<◌, ◌≤◌, ◌
 use Rattle.std.specs.List.{list_any}
 use Rattle.std.specs.Option.{option_map_or}
 use Rattle.std.proofs.lemmas.Bool.{false_from_ne_true}
+use Rattle.std.specs.FinMap.{get}
 use Rattle.base.specs.Surveys.{IsIn}
-use Rattle.model.specs.World.{World, SnapId, Dataset, Live, Snapped, same_id, previous_of, chain, older_of}
+use Rattle.model.specs.World.{World, FileSystem, SnapId, Dataset, Live, Snapped, same_id, previous_of, chain, older_of}
 use Rattle.world.specs.Shapes.{Shape, SnapShape, Before, Starts, IsAmong}
 use Rattle.world.specs.Worlds.{snap_shape, shapes, shape_of, AreFileSystems}
 use Rattle.world.specs.Dead.{IsThere, base_of, group_of}
 use Rattle.world.proofs.Requests.{lineage_facts}
 use Rattle.world.proofs.WithoutSnaps.{any_in, any_from}
-use Rattle.world.proofs.Bridge.{shape_at, from_shape, from_among, among, prev_starts}
+use Rattle.world.proofs.Bridge.{shape_at, from_shape, from_among, among, prev_starts, start, starts}
 use Rattle.world.proofs.Dead.{there_row, in_line}
 use Rattle.accounts.specs.Space.{IsPath}
 
@@ -60,6 +61,12 @@ module _ (w : World) (good : AreFileSystems w.file_systems w.group) where
       let x = from_shape w.file_systems name f at in
       let t = from_among x.0.snaps y (subst (λ (z : Shape). IsAmong z.snapshots y) x.2 i) in
       (name, x.0, t.0, x.1, t.1, sym (ap (λ (z : SnapShape). z.id) t.2) ∙ is)
+
+  -- the origin of a file system is there
+  pub origin_there : (name : List ℕ) (s : FileSystem) → get w.file_systems name ≡ Some s → (id : SnapId) → s.origin ≡ Some id → IsThere w (Snapped id)
+  origin_there name s at id e =
+      let q = start w.file_systems w.group good.lines name s at in
+      start_there id q (subst (λ x. Starts (shapes w.file_systems) x q) e (starts w.file_systems w.group good.lines name s at))
 
   -- the snapshot before a dataset that is there is there
   pub previous_there : (d : Dataset) (id : SnapId) → IsThere w d → previous_of w d ≡ Some id → IsThere w (Snapped id)

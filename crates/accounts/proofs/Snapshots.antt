@@ -29,14 +29,14 @@ use Rattle.accounts.specs.Space.{AreNext, dead_in_each}
 
 -- ---- the blocks of several maps
 
-in_all : (ms : List Map) (m : Map) (b : Block) → IsIn ms m → Has (blocks m) b → Has (blocks_of_all ms) b
+pub in_all : (ms : List Map) (m : Map) (b : Block) → IsIn ms m → Has (blocks m) b → Has (blocks_of_all ms) b
 in_all [] m b h k = absurd h
 in_all (x ∷ xs) m b h k = ⊎_elim
     (λ e. in_union_left o (blocks x) (blocks_of_all xs) b (subst (λ y. Has (blocks y) b) e k))
     (λ r. in_union_right o (blocks x) (blocks_of_all xs) b (in_all xs m b r k))
     h
 
-from_all : (ms : List Map) (b : Block) → Has (blocks_of_all ms) b → (m : Map) × IsIn ms m × Has (blocks m) b
+pub from_all : (ms : List Map) (b : Block) → Has (blocks_of_all ms) b → (m : Map) × IsIn ms m × Has (blocks m) b
 from_all [] b h = absurd (no-empty o b h)
 from_all (x ∷ xs) b h = ⊎_elim
     (λ k. (x, inl refl, k))
