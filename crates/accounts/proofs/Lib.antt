@@ -19,3 +19,4 @@ pub mod Rooms
 pub mod Bounds
 pub mod Shrinks
 pub mod Few
+pub mod Steps

@@ -1,4 +1,5 @@
-//! Lemmas on space: what the definitions of sums come to by deadlists, along lineages, and where no limit is set.
+//! Lemmas on space: what the definitions of sums come to by deadlists, along lineages, up the hierarchy and where no limit is set, and
+//! which changes keep the limits.
 //!
 //! The crate has no function: other crates cite its `proofs/`.
 #![tactic(auto)]
