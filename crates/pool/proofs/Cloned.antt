@@ -43,11 +43,11 @@ module _ (seen : Shown) (s : State) (numbers : List BlockState) (view : shown s 
     module _ (none : promote_refusal (datasets_of s) name ≡ None) (to : Datasets) (is : to ≡ promoted (datasets_of s) name) where
       pub promote_can : CanPut seen.state to 0 × (seen.state.next_guid + 0 ≤ guid_limit + 1)
       promote_can = subst (λ (x : Shown). CanPut x.state to 0 × (x.state.next_guid + 0 ≤ guid_limit + 1)) view
-          (subst (λ t. CanPut s t 0) (sym is) (promoting.promote_can s sound.steady name none), subst (λ n. n ≤ guid_limit + 1) (plus_none s.next_guid) sound.guids)
+          (subst (λ t. CanPut s t 0) (sym is) (promoting.promote_can s sound.steady sound.unlimited name none), subst (λ n. n ≤ guid_limit + 1) (plus_none s.next_guid) sound.guids)
 
       pub promote_done : Step seen.state (Promote name) Done (put seen.state to 0)
       promote_done = subst (λ (x : Shown). Step x.state (Promote name) Done (put x.state to 0)) view
-          (subst (λ t. Step s (Promote name) Done (put s t 0)) (sym is) (promoting.promote_done s name sound.steady numbers sound.states none))
+          (subst (λ t. Step s (Promote name) Done (put s t 0)) (sym is) (promoting.promote_done s name sound.steady sound.unlimited numbers sound.states none))
 
 -- no guid is made for a clone or a promote
 put_none : (s : State) (to : Datasets) → put s to 0 ≡ with_datasets s to

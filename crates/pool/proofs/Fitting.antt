@@ -19,6 +19,7 @@ use Rattle.world.proofs.Kept.{reach_is, union-fields}
 use Rattle.world.proofs.SetCounts.{no-empty, in_union_left, from_union, len-difference, len-subset, len-union}
 use Rattle.accounts.proofs.Rooms.{room_free}
 use Rattle.steps.specs.Edits.{datasets_of}
+use Rattle.accounts.specs.Limits.{IsUnlimited}
 use Rattle.steps.specs.Steady.{IsSteady}
 use Rattle.steps.proofs.Counts as counts
 use Rattle.steps.proofs.Known.{states_of}
@@ -75,6 +76,6 @@ module _ (s : State) (steady : IsSteady s) (numbers : List BlockState) (known : 
       omega (arith, f, b, u)
 
   -- what is available to a file system is what is free, where there is no limit (zfsprops(7): available)
-  pub free_is_room : (name : List ℕ) (f : FileSystem) → get s.now.file_systems name ≡ Some f → count_by is_free numbers ≡ room_of s name
-  free_is_room name f was =
-      free_counted ∙ sym (room_free s steady.good.now.systems steady.good.now.freeing_apart steady.unlimited (are_balanced s steady numbers known) name (ap is_some was))
+  pub free_is_room : IsUnlimited s.now.file_systems → (name : List ℕ) (f : FileSystem) → get s.now.file_systems name ≡ Some f → count_by is_free numbers ≡ room_of s name
+  free_is_room bare name f was =
+      free_counted ∙ sym (room_free s steady.good.now.systems steady.good.now.freeing_apart bare (are_balanced s steady numbers known) name (ap is_some was))

@@ -62,7 +62,7 @@ module _ (s : State) (numbers : List BlockState) (sound : IsSound s numbers) (ol
     pub refused_now : (why : Refusal) → IsApplied old new name us synced numbers (Err why) → (q : Request) → Asks q (OfFileSystem name) (Ok u) → Step s q (Refused why) s
     refused_now why applied q asks =
         let refusal = here (Err why) applied in
-        write_refused s sound.steady numbers sound.states name q (OfFileSystem name) refl (changes_of (u ∷ [])) asks.in_range (rule s numbers sound q name u asks)
+        write_refused s sound.steady sound.unlimited numbers sound.states name q (OfFileSystem name) refl (changes_of (u ∷ [])) asks.in_range (rule s numbers sound q name u asks)
         (within s numbers sound q name u asks) why (λ e. refusal.no_dataset.0 (ap Err e), λ none. told (refusal.no_dataset.1 none))
         (λ e. refusal.no_space (ap Err e)) refusal.only
       where
@@ -79,11 +79,11 @@ module _ (s : State) (numbers : List BlockState) (sound : IsSound s numbers) (ol
 
       -- the new datasets can be put in place
       pub can_now : CanChange s new (map dead_block done.released.items) (map (λ n. n.0) done.taken.items)
-      can_now = written_can s sound.steady numbers sound.states name new (changes_of (u ∷ [])) done (here (Ok done) applied).ok there
+      can_now = written_can s sound.steady sound.unlimited numbers sound.states name new (changes_of (u ∷ [])) done (here (Ok done) applied).ok there
 
       pub done_now : (q : Request) → Asks q (OfFileSystem name) (Ok u) → Step s q Done (with_datasets s new)
       done_now q asks =
-          written_done s sound.steady numbers sound.states name q (OfFileSystem name) refl (changes_of (u ∷ [])) asks.in_range (rule s numbers sound q name u asks)
+          written_done s sound.steady sound.unlimited numbers sound.states name q (OfFileSystem name) refl (changes_of (u ∷ [])) asks.in_range (rule s numbers sound q name u asks)
           (within s numbers sound q name u asks) new done (here (Ok done) applied).ok (here (Ok done) applied).room there
 
 -- the request asks for this update of the file system of this name

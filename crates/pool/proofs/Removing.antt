@@ -38,15 +38,15 @@ module _ (seen : Shown) (s : State) (numbers : List BlockState) (view : shown s 
   module _ (target : Target) (later : Bool) where
     pub rollback_refused : (why : Refusal) → (rollback_refusal (datasets_of s) s.views target later ≡ Some why) ⊎ (why ≡ NoMemory) → Step seen.state (Rollback target later) (Refused why) seen.state
     rollback_refused why which = subst (λ (x : Shown). Step x.state (Rollback target later) (Refused why) x.state) view
-        (rolling.rollback_refused s sound.steady numbers sound.states later target why which)
+        (rolling.rollback_refused s sound.steady sound.unlimited numbers sound.states later target why which)
 
     module _ (none : rollback_refusal (datasets_of s) s.views target later ≡ None) (to : Datasets) (is : to ≡ rolled (datasets_of s) target) where
       pub rollback_can : (freeing : BlockSet) → HasLost (datasets_of s) s.now.freeing to freeing → CanLose seen.state to × (freeing ≡ (lose seen.state to).now.freeing)
-      rollback_can freeing lost = with_freed to freeing lost (subst (CanLose s) (sym is) (rolling.rollback_can s sound.steady target later none))
+      rollback_can freeing lost = with_freed to freeing lost (subst (CanLose s) (sym is) (rolling.rollback_can s sound.steady sound.unlimited target later none))
 
       pub rollback_done : Step seen.state (Rollback target later) Done (lose seen.state to)
       rollback_done = subst (λ (x : Shown). Step x.state (Rollback target later) Done (lose x.state to)) view
-          (subst (λ t. Step s (Rollback target later) Done (lose s t)) (sym is) (rolling.rollback_done s sound.steady numbers sound.states later target none))
+          (subst (λ t. Step s (Rollback target later) Done (lose s t)) (sym is) (rolling.rollback_done s sound.steady sound.unlimited numbers sound.states later target none))
 
   module _ (target : Target) (recursive defer : Bool) where
     pub destroy_refused : (why : Refusal) → (destroy_refusal (datasets_of s) s.views target recursive defer ≡ Some why) ⊎ (why ≡ NoMemory) → Step seen.state (Destroy target recursive defer) (Refused why) seen.state

@@ -192,7 +192,7 @@ module _ (seen : Shown) (s : State) (numbers : List BlockState) (view : shown s 
     module _ (none : first_of (taking_row s.now s.next_guid names (snapshot_names s.now names recursive)) ≡ None) (count : ℕ) (counted : count ≡ length (snapshot_names s.now names recursive)) where
       -- no name at all
       pub snapshot_nothing : count ≡ 0 → Step seen.state (Snapshot names recursive) Done seen.state
-      snapshot_nothing e = at _ _ (snaps.snapshot_nothing s (Snapshot names recursive) names recursive refl sound.steady none (ap (λ n. nat_lt 0 n) (sym counted ∙ e)))
+      snapshot_nothing e = at _ _ (snaps.snapshot_nothing s (Snapshot names recursive) names recursive refl sound.steady sound.unlimited none (ap (λ n. nat_lt 0 n) (sym counted ∙ e)))
 
       module _ (some : 0 < count) (to : Datasets) (is : to ≡ after_taking (datasets_of s) (guid_by s.pool s.next_guid) (snapshot_names s.now names recursive)) where
         longer : nat_lt 0 (length all) ≡ true
@@ -203,13 +203,13 @@ module _ (seen : Shown) (s : State) (numbers : List BlockState) (view : shown s 
 
         pub snapshot_can : CanPut seen.state to count × (seen.state.next_guid + count ≤ guid_limit + 1)
         snapshot_can = subst (λ (x : Shown). CanPut x.state to count × (x.state.next_guid + count ≤ guid_limit + 1)) view
-            (subst (λ n. CanPut s to n) (sym counted) (subst (λ t. CanPut s t (length all)) (sym taken_is) (snaps.taking_can s sound.steady names recursive none)), guids_fit s.now s.next_guid names all none longer count counted)
+            (subst (λ n. CanPut s to n) (sym counted) (subst (λ t. CanPut s t (length all)) (sym taken_is) (snaps.taking_can s sound.steady sound.unlimited names recursive none)), guids_fit s.now s.next_guid names all none longer count counted)
 
         pub snapshot_done : Step seen.state (Snapshot names recursive) Done (put seen.state to count)
         snapshot_done = subst (λ (x : Shown). Step x.state (Snapshot names recursive) Done (put x.state to count)) view
             (subst (λ n. Step s (Snapshot names recursive) Done (put s to n)) (sym counted)
             (subst (λ t. Step s (Snapshot names recursive) Done (put s t (length all))) (sym taken_is)
-            (snaps.snapshot_done s (Snapshot names recursive) names recursive refl sound.steady none numbers sound.states longer)))
+            (snaps.snapshot_done s (Snapshot names recursive) names recursive refl sound.steady sound.unlimited none numbers sound.states longer)))
 
   -- ---- a sync
 

@@ -30,6 +30,7 @@ use Rattle.file_systems.specs.Clones.{row_in, below_in}
 use Rattle.file_system.specs.Dead.{newest_blocks}
 use Rattle.steps.specs.Edits.{datasets_of}
 use Rattle.steps.specs.Spaces.{is_of_live}
+use Rattle.accounts.specs.Limits.{IsUnlimited}
 use Rattle.steps.specs.Steady.{IsSteady, IsAbsent, snap_in, bookmark_in}
 use Rattle.steps.proofs.Named.{named_live, named_snap, snap_there, snap_absent, system_absent}
 use Rattle.steps.proofs.Questions.{get_done, get_referenced}
@@ -127,23 +128,23 @@ module _ (s : State) (steady : IsSteady s) where
         at None was e = absurd (no_value v (sym e))
         at (Some f) was e = within f was (find (λ (u : Snap). same_name u.name m.component) f.snaps) refl e
 
-  module _ (numbers : List BlockState) (known : HasStates s numbers) (free : ℕ) (counted : free ≡ count_by is_free numbers) where
+  module _ (bare : IsUnlimited s.now.file_systems) (numbers : List BlockState) (known : HasStates s numbers) (free : ℕ) (counted : free ≡ count_by is_free numbers) where
     -- a file system's, of its live map or its origin, or of its space
     live_told : (name : List ℕ) (f : FileSystem) → get s.now.file_systems name ≡ Some f → (property : Property)
         → Step s (Get (OfFileSystem name) property) (ValueIs (live_value (datasets_of s) free (row_in s.now.file_systems (name, f)) property)) s
     unfolding file_system_value
     live_told name f was Used = get_used_of_live s steady name f was (used_of (world_of (datasets_of s)) name) (used_alike s name)
-    live_told name f was Available = get_available s steady name f was free (counted ∙ free_is_room s steady numbers known name f was)
+    live_told name f was Available = get_available s steady name f was free (counted ∙ free_is_room s steady numbers known bare name f was)
     live_told name f was Referenced = get_referenced s steady (OfFileSystem name) f.live (named_live s name f was) (map_len f.live) refl
     live_told name f was Written = get_written_live s steady name f was (size_without (blocks f.live) (newest_blocks (blocks (below_in s.now.file_systems f.origin)) f.snaps)) refl
     live_told name f was UsedByDataset = get_used_by_dataset s steady name f was _ refl
     live_told name f was UsedBySnapshots = get_used_by_snapshots s steady name f was _ refl
     live_told name f was UsedByChildren = get_used_by_children s steady name f was (used_by_children (world_of (datasets_of s)) name) (used_by_children_alike s name)
-    live_told name f was UsedByRefReservation = get_used_by_refreservation s steady name f was
-    live_told name f was Quota = get_limit s steady name f was Quota refl
-    live_told name f was RefQuota = get_limit s steady name f was RefQuota refl
-    live_told name f was Reservation = get_limit s steady name f was Reservation refl
-    live_told name f was RefReservation = get_limit s steady name f was RefReservation refl
+    live_told name f was UsedByRefReservation = get_used_by_refreservation s steady name f was (bare name f was)
+    live_told name f was Quota = get_limit s steady name f was (bare name f was) Quota refl
+    live_told name f was RefQuota = get_limit s steady name f was (bare name f was) RefQuota refl
+    live_told name f was Reservation = get_limit s steady name f was (bare name f was) Reservation refl
+    live_told name f was RefReservation = get_limit s steady name f was (bare name f was) RefReservation refl
     live_told name f was Origin = by_origin f.origin refl
       where
         by_origin : (x : Option SnapId) → f.origin ≡ x → Step s (Get (OfFileSystem name) Origin) (ValueIs (origin_value (datasets_of s) x)) s

@@ -31,6 +31,9 @@ use Rattle.clones.specs.Requests.{cloned, clone_refusal}
 use Rattle.steps.specs.Steady.{IsSteady}
 use Rattle.steps.specs.Edits.{datasets_of, with_datasets, put, CanPut}
 use Rattle.steps.proofs.Creating.{CanAdd, can_add}
+use Rattle.accounts.specs.Limits.{IsUnlimited}
+use Rattle.accounts.proofs.Steps.{shrunk_cloned}
+use Rattle.steps.proofs.Limits.{kept_limits}
 use Rattle.steps.proofs.Unlimited.{unlimited_put, still_swept, same_known, put_known, new_origins}
 use Rattle.steps.proofs.Putting.{put_none}
 use Rattle.steps.proofs.Ruled.{no_choice, refused_by, no_memory_by, done_by}
@@ -104,7 +107,8 @@ module _ (s : State) (steady : IsSteady s) (target : Target) (name : List ℕ) (
     swept = still_swept s (with_now s (with_clone s.now id name)) steady refl
         (put_known s.now.file_systems s.now.file_systems (same_known s.now.file_systems) name clone (λ t i. absurd i))
         (new_origins s.now.file_systems name clone add.absent);
-    unlimited = unlimited_put s.now.file_systems steady.unlimited name clone refl;
+    limits = kept_limits s (with_now s (with_clone s.now id name)) steady (clone_before s steady.good name add.absent add.parent add.room id (owner.0, can.found.1) there) refl
+        (shrunk_cloned s.now id name add.absent);
   }
 
   clone_reach : reach_of (put s (cloned (datasets_of s) target name) 0).now ≡ reach_of s.now
@@ -116,7 +120,11 @@ module _ (s : State) (steady : IsSteady s) (target : Target) (name : List ℕ) (
 
   -- the datasets with the clone can be put in place
   pub clone_can : CanPut s (cloned (datasets_of s) target name) 0
-  clone_can = record { steady = subst IsSteady state_is with_clone_steady; reach = clone_reach }
+  clone_can = record {
+    steady = subst IsSteady state_is with_clone_steady;
+    unlimited = λ none. subst (λ (x : State). IsUnlimited x.now.file_systems) state_is (unlimited_put s.now.file_systems none name clone refl);
+    reach = clone_reach;
+  }
 
 -- ---- steps
 

@@ -20,6 +20,8 @@ use Rattle.world.proofs.Kept.{reach_is}
 use Rattle.world.proofs.StateSteps.{begun, create_before}
 use Rattle.steps.specs.Steady.{IsSteady}
 use Rattle.steps.specs.Edits.{datasets_of, with_datasets, put, CanPut}
+use Rattle.accounts.proofs.Steps.{shrunk_created}
+use Rattle.steps.proofs.Limits.{kept_limits}
 use Rattle.steps.proofs.Unlimited.{unlimited_put, still_swept, same_known, put_known, new_origins}
 use Rattle.steps.proofs.Putting.{put_none}
 use Rattle.steps.proofs.Ruled.{no_choice, refused_by, no_memory_by, done_by}
@@ -57,7 +59,7 @@ module _ (s : State) (steady : IsSteady s) (name : List ℕ) (may : create_refus
         good = create_before s steady.good name can.absent can.parent can.room;
         swept = still_swept s (with_datasets s created) steady refl (put_known s.now.file_systems s.now.file_systems (same_known s.now.file_systems) name empty_file_system (λ t i. absurd i))
             (new_origins s.now.file_systems name empty_file_system can.absent);
-        unlimited = unlimited_put s.now.file_systems steady.unlimited name empty_file_system refl;
+        limits = kept_limits s (with_datasets s created) steady (create_before s steady.good name can.absent can.parent can.room) refl (shrunk_created s.now name can.absent);
       }
 
   create_steady : IsSteady (put s (with_system (datasets_of s) name empty_file_system) 0)
@@ -73,7 +75,11 @@ module _ (s : State) (steady : IsSteady s) (name : List ℕ) (may : create_refus
 
   -- the datasets with the new one can be put in place
   pub create_can : CanPut s (with_system (datasets_of s) name empty_file_system) 0
-  create_can = record { steady = create_steady; reach = create_reach }
+  create_can = record {
+    steady = create_steady;
+    unlimited = λ none. unlimited_put s.now.file_systems none name empty_file_system refl;
+    reach = create_reach;
+  }
 
 -- ---- steps
 

@@ -24,20 +24,21 @@ use Rattle.model.specs.requests.Destroy.{file_systems_named, snaps_named, is_one
 use Rattle.world.specs.Shapes.{Name}
 use Rattle.world.specs.Worlds.{AreFileSystems, AreMapsFrom, IsSwept}
 use Rattle.world.specs.Tables.{Datasets, world_of}
-use Rattle.world.proofs.Families.{from_retained, retained_maps}
+use Rattle.world.proofs.Families.{retained_maps}
 use Rattle.world.proofs.Groups.{same_maps}
 use Rattle.world.proofs.Put.{put_maps}
 use Rattle.world.proofs.StateSteps.{sweep_swept}
 use Rattle.world.proofs.Viewed.{IsSafe, safe_then, some_gone}
 use Rattle.world.proofs.ViewedRequests.{not_true, destroy_asked}
 use Rattle.world.proofs.WithoutSnaps.{from_without, without_from, losses_twice}
-use Rattle.accounts.specs.Limits.{IsUnlimited}
+use Rattle.accounts.specs.Steps.{AreKept}
+use Rattle.accounts.proofs.Steps.{shrunk_snaps, kept_trans, kept_shrunk, kept_same, kept_put, kept_without, kept_deferred, kept_names}
 use Rattle.removals.specs.Requests.{destroyed, destroy_refusal, swept}
 use Rattle.steps.specs.Steady.{IsSteady}
 use Rattle.steps.specs.Edits.{datasets_of, lose, CanLose}
 use Rattle.steps.proofs.Labelling.{from_changed, changed_maps, maps_fewer}
 use Rattle.steps.proofs.Losing.{can_lose}
-use Rattle.steps.proofs.Unlimited.{unlimited_put, unlimited_without}
+use Rattle.steps.proofs.Limits.{kept_limits, unlimited_kept}
 use Rattle.steps.proofs.Ruled.{no_choice, refused_by, no_memory_by, swept_by}
 use Rattle.steps.proofs.Seeing.{once, closed, seen_after}
 
@@ -92,8 +93,8 @@ module _ (s : State) (steady : IsSteady s) (recursive defer : Bool) where
         let a = from_changed (without_snaps s.now goes) (marked_by stays) n f at in
         without_from s.now goes n a.0 m' a.1 (subst (λ l. IsIn l m') (ap maps_of a.2 ∙ changed_maps (marked_by stays) (λ t. refl) a.0) h)
 
-    left_unlimited : IsUnlimited (with_deferred (without_snaps s.now goes) stays).file_systems
-    left_unlimited n f at = let k = was n f at in ap (λ (x : FileSystem). x.limits) k.2 ∙ steady.unlimited n k.0 k.1
+    left_kept : AreKept s.now (with_deferred (without_snaps s.now goes) stays)
+    left_kept = kept_trans s.now (without_snaps s.now goes) (with_deferred (without_snaps s.now goes) stays) (kept_without s.now goes) (kept_deferred (without_snaps s.now goes) stays)
 
   -- of a bookmark, which has no map
   module _ (m : Member) where
@@ -108,24 +109,24 @@ module _ (s : State) (steady : IsSteady s) (recursive defer : Bool) where
         at None e = same_maps s.now.file_systems
         at (Some f) e = put_maps s.now.file_systems m.file_system (unmarked f) (λ x h. inr (m.file_system, f, e, h))
 
-    unmarked_unlimited : IsUnlimited (with_file_system (world_of (datasets_of s)) m.file_system (λ f. record f { bookmarks = remove f.bookmarks m.component })).file_systems
-    unmarked_unlimited = at (get s.now.file_systems m.file_system) refl
+    unmarked_kept : AreKept s.now (with_file_system (world_of (datasets_of s)) m.file_system (λ f. record f { bookmarks = remove f.bookmarks m.component }))
+    unmarked_kept = at (get s.now.file_systems m.file_system) refl
       where
         at : (x : Option FileSystem) → get s.now.file_systems m.file_system ≡ x
-            → IsUnlimited (option_map_or (λ (f : FileSystem). record (world_of (datasets_of s)) { file_systems = insert s.now.file_systems m.file_system (unmarked f) }) x (world_of (datasets_of s))).file_systems
-        at None e = steady.unlimited
-        at (Some f) e = unlimited_put s.now.file_systems steady.unlimited m.file_system (unmarked f) (steady.unlimited m.file_system f e)
+            → AreKept s.now (option_map_or (λ (f : FileSystem). record (world_of (datasets_of s)) { file_systems = insert s.now.file_systems m.file_system (unmarked f) }) x (world_of (datasets_of s)))
+        at None e = kept_same s.now (world_of (datasets_of s)) refl
+        at (Some f) e = kept_put s.now m.file_system f (unmarked f) e (shrunk_snaps f (unmarked f) refl refl refl (λ u i. (u, i, refl, refl)))
 
-  -- what a destroy leaves has maps of what was there, and no limit
+  -- what a destroy leaves has maps of what was there, and file systems that were there
   destroy_from : (target : Target) → AreMapsFrom s.now.file_systems (destroyed (datasets_of s) s.views target recursive defer).file_systems
   destroy_from (OfFileSystem name) = retained_maps s.now.file_systems (λ n. not (list_any (same_name n) (file_systems_named s.now name recursive)))
   destroy_from (OfSnapshot m) = left_from m
   destroy_from (OfBookmark m) = unmarked_from m
 
-  destroy_unlimited : (target : Target) → IsUnlimited (destroyed (datasets_of s) s.views target recursive defer).file_systems
-  destroy_unlimited (OfFileSystem name) = λ q x at. steady.unlimited q x (from_retained s.now.file_systems (λ n. not (list_any (same_name n) (file_systems_named s.now name recursive))) q x at).1
-  destroy_unlimited (OfSnapshot m) = left_unlimited m
-  destroy_unlimited (OfBookmark m) = unmarked_unlimited m
+  destroy_kept : (target : Target) → AreKept s.now (world_of (destroyed (datasets_of s) s.views target recursive defer))
+  destroy_kept (OfFileSystem name) = kept_names s.now (λ n. not (list_any (same_name n) (file_systems_named s.now name recursive)))
+  destroy_kept (OfSnapshot m) = left_kept m
+  destroy_kept (OfBookmark m) = unmarked_kept m
 
 -- ---- the sweep after it
 
@@ -155,11 +156,15 @@ module _ (s : State) (t : Datasets) (from : AreMapsFrom s.now.file_systems t.fil
       true≢false (sym (and_parts u.deferred (not (is_needed (world_of t) s.views u)) e).1
       ∙ ap not (or_right (nat_lt 0 (length u.tags)) _ (or_left (is_viewed s.views (id_of u)) _ seen))))))
 
+  swept_kept : AreKept s.now (world_of t) → AreKept s.now (lose s (swept t s.views)).now
+  swept_kept kept = kept_trans s.now (world_of t) (lose s (swept t s.views)).now kept (kept_without (world_of t) unneeded)
+
   -- so the datasets can be put in place once they are swept
-  pub swept_can : IsSteady s → AreFileSystems (swept t s.views).file_systems s.now.group → t.group ≡ s.now.group → IsUnlimited t.file_systems → IsSafe s.views s.now (lose s t).now
+  pub swept_can : IsSteady s → AreFileSystems (swept t s.views).file_systems s.now.group → t.group ≡ s.now.group → AreKept s.now (world_of t) → IsSafe s.views s.now (lose s t).now
       → CanLose s (swept t s.views)
-  swept_can steady good open_is unlimited safe = can_lose s steady (swept t s.views) (subst (AreFileSystems (swept t s.views).file_systems) (sym open_is) good) open_is swept_from
-      (unlimited_without (world_of t) unlimited unneeded)
+  swept_can steady good open_is kept safe = can_lose s steady (swept t s.views) (subst (AreFileSystems (swept t s.views).file_systems) (sym open_is) good) open_is swept_from
+      (λ good. kept_limits s (lose s (swept t s.views)) steady good refl (kept_shrunk s.now (lose s (swept t s.views)).now (swept_kept kept)))
+      (unlimited_kept s.now (lose s (swept t s.views)).now (swept_kept kept))
       (λ v id e. seen_after s steady (without_snaps (lose s t).now unneeded) (swept_safe safe) v id e)
       (subst IsSwept (sym swept_state) (sweep_swept (lose s t)))
 
@@ -182,7 +187,7 @@ module _ (s : State) (steady : IsSteady s) (target : Target) (recursive defer : 
   destroy_can none good =
       let safe = destroy_asked s target recursive defer (once s.size s.now steady.good.now) (closed s.size s.now steady.good.now) (row_is ∙ none) in
       swept_can s (destroyed (datasets_of s) s.views target recursive defer) (destroy_from s steady recursive defer target) steady good refl
-      (destroy_unlimited s steady recursive defer target)
+      (destroy_kept s steady recursive defer target)
       (subst (λ (x : World). IsSafe s.views s.now (with_losses s.now x)) (destroyed_world s target recursive defer) safe)
 
   -- a destroy that is refused, or has no memory

@@ -27,13 +27,14 @@ use Rattle.accounts.specs.Limits.{IsUnlimited}
 use Rattle.steps.specs.Settles.{state_at, AreStatesOf}
 use Rattle.steps.specs.Steady.{IsSteady}
 use Rattle.steps.proofs.Known.{of_states}
+use Rattle.steps.proofs.Limits.{met_unlimited}
 use Rattle.steps.proofs.Unlimited.{unlimited_put}
 
 -- the root alone
-abbrev first : FileSystems
+abbrev pub first : FileSystems
 first = finmap.insert finmap.empty root_name empty_file_system
 
-first_unlimited : IsUnlimited first
+pub first_unlimited : IsUnlimited first
 first_unlimited = unlimited_put finmap.empty (λ name f at. absurd (no_value f (sym (get-empty name_cmp name) ∙ at))) root_name empty_file_system refl
 
 first_swept : (id size : ℕ) → IsSwept (fresh_state id size)
@@ -46,7 +47,11 @@ first_swept id size q x t at h d = ⊎_elim
 -- what holds between two steps holds of it
 pub first_steady : (id size : ℕ) → IsSteady (fresh_state id size)
 unfolding fresh_state fresh_world
-first_steady id size = record { good = fresh_keeps id size; swept = first_swept id size; unlimited = first_unlimited }
+first_steady id size = record {
+  good = fresh_keeps id size;
+  swept = first_swept id size;
+  limits = record { now = met_unlimited fresh_world first_unlimited; last = met_unlimited fresh_world first_unlimited };
+}
 
 get_replicate : (k n : ℕ) (x : BlockState) → n < k → slice_get (replicate k x) n ≡ Some x
 get_replicate zero n x h = absurd (omega arith)

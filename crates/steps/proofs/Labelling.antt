@@ -25,11 +25,14 @@ use Rattle.world.proofs.StateSteps.{now_keeps}
 use Rattle.world.proofs.Sweep.{get-with_file_systems, with_losses-same}
 use Rattle.world.proofs.Viewed.{kept_of}
 use Rattle.world.proofs.Views.{snaps_in_put, label_from, label_world, label_pairs, same_shapes_mapped, same_maps_mapped}
-use Rattle.accounts.specs.Limits.{IsUnlimited}
+use Rattle.accounts.specs.Limits.{IsShrunk}
+use Rattle.accounts.specs.Steps.{AreKept}
+use Rattle.accounts.proofs.Steps.{shrunk_snaps, kept_same, kept_put, kept_shrunk}
 use Rattle.steps.specs.Steady.{IsSteady}
 use Rattle.steps.specs.Edits.{datasets_of, with_datasets, lose, CanPut}
 use Rattle.steps.proofs.Putting.{put_none}
-use Rattle.steps.proofs.Unlimited.{AreKnown, AreOriginsIn, same_origins, put_origins, unlimited_put, still_swept}
+use Rattle.steps.proofs.Limits.{kept_limits, unlimited_kept}
+use Rattle.steps.proofs.Unlimited.{AreKnown, AreOriginsIn, same_origins, put_origins, still_swept}
 
 -- ---- snapshots changed
 
@@ -111,12 +114,32 @@ maps_fewer w v from b h =
     (λ k. in_union_of w k.0 k.1 r.2 b k.2 k.3 r.5)
     (from r.0 r.1 r.2 r.3 r.4)
 
+-- lists of maps that are the same have the same first one, and the same others
+same_first : (x y : Map) (xs ys : List Map) → x ∷ xs ≡ y ∷ ys → x ≡ y
+same_first x y xs ys e = cc
+
+same_rest : (x y : Map) (xs ys : List Map) → x ∷ xs ≡ y ∷ ys → xs ≡ ys
+same_rest x y xs ys e = cc
+
+-- snapshots of the same identities and maps, one by one
+paired : (ts us : List Snap) → map snap_shape ts ≡ map snap_shape us → map (λ t. t.map) ts ≡ map (λ t. t.map) us
+    → (t : Snap) → IsIn ts t → (u : Snap) × IsIn us u × (id_of t ≡ id_of u) × (t.map ≡ u.map)
+paired [] us shapes maps t h = absurd h
+paired (x ∷ xs) [] shapes maps t h = absurd (cc)
+paired (x ∷ xs) (y ∷ ys) shapes maps t h =
+    let shape : snap_shape x ≡ snap_shape y = cc in
+    let others : map snap_shape xs ≡ map snap_shape ys = cc in
+    ⊎_elim
+    (λ (is : t ≡ x). (y, inl refl, ap id_of is ∙ ap (λ (z : SnapShape). z.id) shape, ap (λ (z : Snap). z.map) is ∙ same_first x.map y.map (map (λ t. t.map) xs) (map (λ t. t.map) ys) maps))
+    (λ i. let r = paired xs ys others (same_rest x.map y.map (map (λ (z : Snap). z.map) xs) (map (λ (z : Snap). z.map) ys) maps) t i in (r.0, inr r.1, r.2, r.3))
+    h
+
 -- What holds of file systems in the place of the present ones, where their maps are the same
 pub record IsLabelled (s : State) (ss : FileSystems) : Type 0 where
   pub good : IsPoolState (with_now s (record s.now { file_systems = ss }))
   pub from : AreMapsFrom s.now.file_systems ss
   pub union : union_of (record s.now { file_systems = ss }) ≡ union_of s.now
-  pub unlimited : IsUnlimited ss
+  pub kept : AreKept s.now (record s.now { file_systems = ss })
   pub origins : AreOriginsIn s.now.file_systems ss
 
 -- the present ones themselves
@@ -125,7 +148,7 @@ same_label s steady = record {
   good = steady.good;
   from = same_maps s.now.file_systems;
   union = refl;
-  unlimited = steady.unlimited;
+  kept = kept_same s.now s.now refl;
   origins = same_origins s.now.file_systems;
 }
 
@@ -153,6 +176,12 @@ module _ (s : State) (steady : IsSteady s) (name : Name) (f x : FileSystem) (at 
       (λ (other : ¬ (q ≡ name)). inr (q, y, put_other s.now.file_systems name x q other ∙ e, h))
       (key_cases name_order q name)
 
+  shrunk : IsShrunk f x
+  shrunk = shrunk_snaps f x
+      (same_first x.live f.live (map (λ t. t.map) x.snaps) (map (λ t. t.map) f.snaps) maps)
+      (ap (λ (z : Shape). z.origin) shape) limits
+      (paired x.snaps f.snaps (ap (λ (z : Shape). z.snapshots) shape) (same_rest x.live f.live (map (λ t. t.map) x.snaps) (map (λ t. t.map) f.snaps) maps))
+
   pub label : IsLabelled s (insert s.now.file_systems name x)
   label =
       let from = label_from s.now.file_systems s.now.group steady.good.now.systems name f x at shape inside tidy in
@@ -163,7 +192,7 @@ module _ (s : State) (steady : IsSteady s) (name : Name) (f x : FileSystem) (at 
             (snaps_in_put s.now.file_systems name x snap_there);
         from = from;
         union = same_members o (union_of new) (union_of s.now) (maps_fewer s.now new from) (maps_fewer new s.now from_new);
-        unlimited = unlimited_put s.now.file_systems steady.unlimited name x (limits ∙ steady.unlimited name f at);
+        kept = kept_put s.now name f x at shrunk;
         origins = put_origins s.now.file_systems s.now.file_systems (same_origins s.now.file_systems) name f x at (ap (λ (z : Shape). z.origin) shape);
       }
 
@@ -179,7 +208,12 @@ module _ (s : State) (steady : IsSteady s) (ss : FileSystems) (l : IsLabelled s 
   -- where no snapshot is deferred that wasn't
   pub label_can : AreKnown s.now.file_systems ss → CanPut s (record (datasets_of s) { file_systems = ss }) 0
   label_can known = record {
-    steady = subst IsSteady (sym (put_none s to)) (record { good = l.good; swept = still_swept s after steady refl known l.origins; unlimited = l.unlimited });
+    steady = subst IsSteady (sym (put_none s to)) (record {
+      good = l.good;
+      swept = still_swept s after steady refl known l.origins;
+      limits = kept_limits s after steady l.good refl (kept_shrunk s.now after.now l.kept);
+    });
+    unlimited = unlimited_kept s.now after.now l.kept;
     reach = reach_is after.now ∙ ap (λ u. union u s.now.freeing) l.union ∙ sym (reach_is s.now);
   }
 

@@ -5,6 +5,7 @@ pub mod States
 pub mod Lookups
 pub mod Ruled
 pub mod Room
+pub mod Limits
 pub mod Unlimited
 pub mod Named
 pub mod Questions

@@ -48,6 +48,7 @@ use Rattle.steps.proofs.States.{not_free}
 use Rattle.steps.proofs.Known.{states_of}
 use Rattle.steps.proofs.Room.{room_of_change, fresh_or_old, dropped_reached}
 use Rattle.steps.proofs.Counts.{count-free, len-young}
+use Rattle.steps.proofs.Limits.{bare_limits}
 use Rattle.steps.proofs.Unlimited.{unlimited_put, still_swept, AreKnown, AreOriginsIn, same_known, put_known, same_origins, put_origins, live_once}
 use Rattle.steps.proofs.Gives.{gives_way, live_there, union_comes}
 
@@ -62,7 +63,7 @@ le_shift a r t n e = ⊎_elim
 pub with_live_is : (ss : FileSystems) (name : Name) (f : FileSystem) (m : Map) → get ss name ≡ Some f → with_live ss name m ≡ insert ss name (record f { live = m })
 with_live_is ss name f m was = ap (λ x. option_map_or (λ (y : FileSystem). insert ss name (record y { live = m })) x ss) was
 
-module _ (s : State) (steady : IsSteady s) (name : Name) (f : FileSystem) (was : get s.now.file_systems name ≡ Some f) where
+module _ (s : State) (steady : IsSteady s) (bare : IsUnlimited s.now.file_systems) (name : Name) (f : FileSystem) (was : get s.now.file_systems name ≡ Some f) where
   abbrev A : BlockSet
   A = reach_of s.now
 
@@ -74,7 +75,7 @@ module _ (s : State) (steady : IsSteady s) (name : Name) (f : FileSystem) (was :
       (live_there s.size s.now steady.good.now name f was f.live (λ c i. inl i) b h))
 
   unlimited : f.limits ≡ no_limits
-  unlimited = steady.unlimited name f was
+  unlimited = bare name f was
 
   -- ---- the limits after a change, with any fresh numbers
 
@@ -121,7 +122,7 @@ module _ (s : State) (steady : IsSteady s) (name : Name) (f : FileSystem) (was :
     asked_systems = live_systems s.now steady.good.now.systems name f was m new
 
     asked_unlimited : IsUnlimited asked.file_systems
-    asked_unlimited = unlimited_put s.now.file_systems steady.unlimited name (record f { live = m }) unlimited
+    asked_unlimited = unlimited_put s.now.file_systems bare name (record f { live = m }) unlimited
 
     asked_apart : AreDisjoint (union_of asked) s.now.freeing
     asked_apart b h k = ⊎_elim
@@ -191,7 +192,7 @@ module _ (s : State) (steady : IsSteady s) (name : Name) (f : FileSystem) (was :
 
     after_unlimited : IsUnlimited (with_live s.now.file_systems name v.new)
     after_unlimited = subst IsUnlimited (sym (with_live_is s.now.file_systems name f v.new was))
-        (unlimited_put s.now.file_systems steady.unlimited name (record f { live = v.new }) unlimited)
+        (unlimited_put s.now.file_systems bare name (record f { live = v.new }) unlimited)
 
     -- what holds of the pool between two steps holds again
     pub change_steady : IsSteady (with_datasets s after_it)
@@ -201,7 +202,7 @@ module _ (s : State) (steady : IsSteady s) (name : Name) (f : FileSystem) (was :
           (put_known s.now.file_systems s.now.file_systems (same_known s.now.file_systems) name (record f { live = v.new }) (λ t i. inr (name, f, was, i))))
           (subst (AreOriginsIn s.now.file_systems) (sym (with_live_is s.now.file_systems name f v.new was))
           (put_origins s.now.file_systems s.now.file_systems (same_origins s.now.file_systems) name f (record f { live = v.new }) was refl));
-      unlimited = after_unlimited;
+      limits = bare_limits s (with_datasets s after_it) refl after_unlimited steady.limits;
     }
 
     young_stays : (b : Block) → IsIn v.released b → young ≤ b.birth → IsIn (filter (λ b. nat_lt (base_of s.now (Live name)) b.birth) v.released) b
@@ -211,6 +212,7 @@ module _ (s : State) (steady : IsSteady s) (name : Name) (f : FileSystem) (was :
     pub change_can : CanChange s after_it (filter (λ b. nat_lt (base_of s.now (Live name)) b.birth) v.released) v.taken
     change_can = record {
       steady = change_steady;
+      unlimited = λ none. after_unlimited;
       settling = subst (λ r. IsSettling A r L s.last.group (filter (λ b. nat_lt (base_of s.now (Live name)) b.birth) v.released) v.taken) (sym (ap reach_of to_planned))
           (plan_settles s.size s.now s.last steady.good.now steady.good.last steady.good.pair name f was ch young late own_late states v is takable);
       takable = λ n i. ⊎_elim

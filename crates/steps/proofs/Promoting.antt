@@ -35,6 +35,7 @@ use Rattle.datasets.specs.Clones.{with_promoted}
 use Rattle.clones.specs.Requests.{promoted as promoted_datasets, promote_refusal}
 use Rattle.steps.specs.Steady.{IsSteady}
 use Rattle.steps.specs.Edits.{datasets_of, with_datasets, put, CanPut}
+use Rattle.steps.proofs.Limits.{bare_limits}
 use Rattle.steps.proofs.Unlimited.{unlimited_put, still_swept, AreKnown, AreOriginsIn, same_known, put_known}
 use Rattle.steps.proofs.Putting.{put_none, kept_states}
 use Rattle.steps.proofs.Rolling.{first_then}
@@ -60,7 +61,7 @@ can_turn w name none = by_promotion (promotion_of w name) refl
 
 -- ---- the file systems after it
 
-module _ (s : State) (steady : IsSteady s) (name : List ℕ) (p : Promotion) (is : promotion_of s.now name ≡ Some p) where
+module _ (s : State) (steady : IsSteady s) (bare : IsUnlimited s.now.file_systems) (name : List ℕ) (p : Promotion) (is : promotion_of s.now name ≡ Some p) where
   P : IsPromotion s.now name p
   P = promotion_is s.now name p is
 
@@ -79,9 +80,9 @@ module _ (s : State) (steady : IsSteady s) (name : List ℕ) (p : Promotion) (is
   stayed : (t : Snap) → IsIn (demoted p).snaps t → IsIn p.system.snaps t
   stayed t i = (from_filter (λ (u : Snap). nat_lt p.origin.group u.group) p.system.snaps t i).0
 
-  turned_unlimited : IsUnlimited (insert (insert s.now.file_systems p.owner (demoted p)) name (promoted p))
-  turned_unlimited = unlimited_put mid (unlimited_put ss steady.unlimited p.owner (demoted p) (steady.unlimited p.owner p.system P.owner_at))
-      name (promoted p) (steady.unlimited name p.clone P.clone_at)
+  pub turned_unlimited : IsUnlimited (insert (insert s.now.file_systems p.owner (demoted p)) name (promoted p))
+  turned_unlimited = unlimited_put mid (unlimited_put ss bare p.owner (demoted p) (bare p.owner p.system P.owner_at))
+      name (promoted p) (bare name p.clone P.clone_at)
 
   turned_known : AreKnown s.now.file_systems (insert (insert s.now.file_systems p.owner (demoted p)) name (promoted p))
   turned_known = put_known ss mid
@@ -130,7 +131,7 @@ module _ (s : State) (steady : IsSteady s) (name : List ℕ) (p : Promotion) (is
     turned_steady = record {
       good = promote_before s steady.good name p is clash;
       swept = still_swept s (with_now s (after_promotion s.now name p)) steady refl turned_known turned_origins;
-      unlimited = turned_unlimited;
+      limits = bare_limits s (with_now s (after_promotion s.now name p)) refl turned_unlimited steady.limits;
     }
 
     turned_reach : reach_of (after_promotion s.now name p) ≡ reach_of s.now
@@ -151,14 +152,15 @@ turned_state s name = by_promotion (promotion_of s.now name) ∙ sym (put_none s
     by_promotion (Some p) = refl
 
 -- the datasets after it can be put in place
-pub promote_can : (s : State) → IsSteady s → (name : List ℕ) → promote_refusal (datasets_of s) name ≡ None → CanPut s (promoted_datasets (datasets_of s) name) 0
-promote_can s steady name none =
+pub promote_can : (s : State) → IsSteady s → IsUnlimited s.now.file_systems → (name : List ℕ) → promote_refusal (datasets_of s) name ≡ None → CanPut s (promoted_datasets (datasets_of s) name) 0
+promote_can s steady bare name none =
     let can = can_turn s.now name none in
     let is : with_now s (after_promotion s.now name can.turn) ≡ put s (promoted_datasets (datasets_of s) name) 0 =
     sym (ap (λ x. option_map_or (λ (p : Promotion). with_now s (after_promotion s.now name p)) x s) can.is) ∙ turned_state s name in
     record {
-      steady = subst IsSteady is (turned_steady s steady name can.turn can.is can.apart);
-      reach = ap (λ (x : State). reach_of x.now) (sym is) ∙ turned_reach s steady name can.turn can.is can.apart;
+      steady = subst IsSteady is (turned_steady s steady bare name can.turn can.is can.apart);
+      unlimited = λ none. subst (λ (x : State). IsUnlimited x.now.file_systems) is (turned_unlimited s steady none name can.turn can.is);
+      reach = ap (λ (x : State). reach_of x.now) (sym is) ∙ turned_reach s steady bare name can.turn can.is can.apart;
     }
 
 -- ---- steps
@@ -175,18 +177,18 @@ module _ (s : State) (name : List ℕ) where
       (λ e. subst (λ z. Step s (Promote name) (Refused z) s) (sym e) (no_memory_by (Promote name) (promote_rule name) refl s refl))
       which
 
-  module _ (steady : IsSteady s) (numbers : List BlockState) (known : HasStates s numbers) (none : promote_refusal (datasets_of s) name ≡ None) where
+  module _ (steady : IsSteady s) (bare : IsUnlimited s.now.file_systems) (numbers : List BlockState) (known : HasStates s numbers) (none : promote_refusal (datasets_of s) name ≡ None) where
     -- no limit is passed, as the same blocks are reached
     none_refuses : refusal_of s (promote_rule name) ≡ None
     unfolding refusal_of state_asked
     none_refuses =
-        let can = promote_can s steady name none in
+        let can = promote_can s steady bare name none in
         first_then (promotion_row s.now name) (limit_row (state_asked s (promote_rule name))) (λ free.
         ap (λ x. first_of (limit_row x)) (turned_state s name)
-        ∙ limits_hold (put s (promoted_datasets (datasets_of s) name) 0) can.steady numbers (kept_states s numbers known (promoted_datasets (datasets_of s) name) 0 can))
+        ∙ limits_hold (put s (promoted_datasets (datasets_of s) name) 0) can.steady (can.unlimited bare) numbers (kept_states s numbers known (promoted_datasets (datasets_of s) name) 0 can))
         ∙ none
 
     -- and one that nothing refuses
     pub promote_done : Step s (Promote name) Done (put s (promoted_datasets (datasets_of s) name) 0)
     promote_done = done_by (Promote name) (promote_rule name) refl s no_choice (put s (promoted_datasets (datasets_of s) name) 0) Done
-        refl refl none_refuses refl (sym (turned_state s name)) (promote_can s steady name none).steady
+        refl refl none_refuses refl (sym (turned_state s name)) (promote_can s steady bare name none).steady

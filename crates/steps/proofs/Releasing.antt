@@ -57,7 +57,7 @@ module _ (s : State) (tag : List ℕ) (target : Target) where
 
     -- the datasets without the tag can be put in place once they are swept
     pub release_can : CanLose s (swept (released_in (datasets_of s) tag target) s.views)
-    release_can = swept_can s to l.from steady good refl l.unlimited
+    release_can = swept_can s to l.from steady good refl l.kept
         (subst (λ (x : State). IsSafe s.views s.now x.now) (sym state_is) (tagged_safe s target fewer steady))
 
     -- and a release that nothing refuses puts them there

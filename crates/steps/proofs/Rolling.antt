@@ -35,6 +35,7 @@ use Rattle.accounts.specs.Limits.{IsUnlimited}
 use Rattle.removals.specs.Named.{has_clone}
 use Rattle.removals.specs.Requests.{rolled, rollback_refusal}
 use Rattle.steps.proofs.Losing.{can_lose, lose_limits}
+use Rattle.steps.proofs.Limits.{bare_limits}
 use Rattle.steps.proofs.Unlimited.{unlimited_put, still_swept, AreKnown, AreOriginsIn, same_known, put_known, same_origins, put_origins}
 use Rattle.steps.proofs.Ruled.{no_choice, refused_by, no_memory_by, done_by}
 use Rattle.steps.proofs.Seeing.{once, closed, seen_after}
@@ -81,15 +82,15 @@ rolled_state s target = ap (λ x. with_now s (with_losses s.now x)) (rolled_worl
 
 -- ---- the datasets after it
 
-module _ (s : State) (steady : IsSteady s) where
+module _ (s : State) (steady : IsSteady s) (bare : IsUnlimited s.now.file_systems) where
   -- of a file system
   back_unlimited : (name : Name) (t : Snap) → IsUnlimited (with_file_system s.now name (λ f. back_at f t)).file_systems
   back_unlimited name t = at (get s.now.file_systems name) refl
     where
       at : (x : Option FileSystem) → get s.now.file_systems name ≡ x
           → IsUnlimited (option_map_or (λ (f : FileSystem). record s.now { file_systems = insert s.now.file_systems name (back_at f t) }) x s.now).file_systems
-      at None e = steady.unlimited
-      at (Some f) e = unlimited_put s.now.file_systems steady.unlimited name (back_at f t) (steady.unlimited name f e)
+      at None e = bare
+      at (Some f) e = unlimited_put s.now.file_systems bare name (back_at f t) (bare name f e)
 
   back_known : (name : Name) (t : Snap) → AreKnown s.now.file_systems (with_file_system s.now name (λ f. back_at f t)).file_systems
   back_known name t = at (get s.now.file_systems name) refl
@@ -119,7 +120,7 @@ module _ (s : State) (steady : IsSteady s) where
   same_world = record {
     systems = steady.good.now.systems;
     from = same_maps s.now.file_systems;
-    unlimited = steady.unlimited;
+    unlimited = bare;
     known = same_known s.now.file_systems;
     origins = same_origins s.now.file_systems;
   }
@@ -169,7 +170,7 @@ module _ (s : State) (steady : IsSteady s) where
         let back = is_rolled bare in
         let to = record (datasets_of s) { file_systems = (rolled_back s.now target).file_systems } in
         subst (λ ss. CanLose s (record (datasets_of s) { file_systems = ss })) (ap (λ (x : World). x.file_systems) (rolled_world s target))
-        (can_lose s steady to back.systems refl back.from back.unlimited
+        (can_lose s steady to back.systems refl back.from (λ good. bare_limits s (lose s to) refl back.unlimited steady.limits) (λ none. back.unlimited)
         (λ v id e. seen_after s steady (rolled_back s.now target) safe v id e)
         (still_swept s (lose s to) steady refl back.known back.origins))
 
@@ -185,12 +186,12 @@ first_then (x ∷ xs) ys rest = by_first x.0 rest (first_then xs ys)
     by_first true k ih = refl
     by_first false k ih = ih k
 
-module _ (s : State) (steady : IsSteady s) (numbers : List BlockState) (known : HasStates s numbers) (later : Bool) (target : Target) where
+module _ (s : State) (steady : IsSteady s) (bare : IsUnlimited s.now.file_systems) (numbers : List BlockState) (known : HasStates s numbers) (later : Bool) (target : Target) where
   -- which refusal it gets
   row_is : refusal_of s (rollback_rule target later) ≡ rollback_refusal (datasets_of s) s.views target later
   unfolding refusal_of state_asked
   row_is = first_then (back_row s.now s.views target later) (limit_row (with_now s (with_losses s.now (rolled_back s.now target)))) (λ none.
-      ap (λ x. first_of (limit_row x)) (rolled_state s target) ∙ lose_limits s numbers known (rolled (datasets_of s) target) (rollback_can s steady target later none))
+      ap (λ x. first_of (limit_row x)) (rolled_state s target) ∙ lose_limits s numbers known (rolled (datasets_of s) target) (rollback_can s steady bare target later none) bare)
 
   -- ---- steps
 
@@ -206,4 +207,4 @@ module _ (s : State) (steady : IsSteady s) (numbers : List BlockState) (known : 
       → Step s (Rollback target later) Done (lose s (rolled (datasets_of s) target))
   rollback_done none = done_by (Rollback target later) (rollback_rule target later) refl s no_choice
       (lose s (rolled (datasets_of s) target)) Done refl refl (row_is ∙ none) refl
-      (sym (rolled_state s target)) (rollback_can s steady target later none).steady
+      (sym (rolled_state s target)) (rollback_can s steady bare target later none).steady

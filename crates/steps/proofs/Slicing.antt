@@ -23,6 +23,7 @@ use Rattle.steps.specs.Settles.{AreTakable, releases, AllAllocated}
 use Rattle.steps.specs.Steady.{IsSteady}
 use Rattle.steps.specs.Edits.{with_freeing, CanFree}
 use Rattle.steps.proofs.Known.{states_of, of_states}
+use Rattle.steps.proofs.Limits.{same_limits}
 use Rattle.steps.proofs.Unlimited.{still_swept, same_known, same_origins}
 use Rattle.steps.proofs.Ruled.{no_memory_by, done_by}
 use Rattle.steps.proofs.Settling as settling
@@ -33,7 +34,7 @@ module _ (s : State) (steady : IsSteady s) where
   freeing_steady taken = record {
     good = slice_before s steady.good taken;
     swept = still_swept s (with_freeing s (difference s.now.freeing taken)) steady refl (same_known s.now.file_systems) (same_origins s.now.file_systems);
-    unlimited = steady.unlimited;
+    limits = same_limits s (with_freeing s (difference s.now.freeing taken)) steady (slice_before s steady.good taken) refl refl;
   }
 
   -- blocks that are to be freed, each once

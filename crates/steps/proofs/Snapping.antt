@@ -36,6 +36,7 @@ use Rattle.steps.specs.Steady.{IsSteady}
 use Rattle.steps.specs.Edits.{datasets_of, with_datasets, put, CanPut}
 use Rattle.steps.proofs.Known.{states_of}
 use Rattle.steps.proofs.Counts.{count-free}
+use Rattle.steps.proofs.Limits.{bare_limits}
 use Rattle.steps.proofs.Unlimited.{unlimited_put, still_swept, AreKnown, AreOriginsIn, same_known, put_known, same_origins, put_origins}
 use Rattle.steps.proofs.Putting.{kept_states}
 use Rattle.steps.proofs.Ruled.{no_choice, refused_by, no_memory_by, done_by}
@@ -113,12 +114,12 @@ first_none (r ∷ rs) ys e = at r.0 e (first_none rs ys)
     at true e rest = absurd cc
     at false e rest = rest e
 
--- the limits hold between two steps
-pub limits_hold : (s : State) → IsSteady s → (numbers : List BlockState) → HasStates s numbers → first_of (limit_row s) ≡ None
-limits_hold s steady numbers known =
+-- the limits hold where there is none
+pub limits_hold : (s : State) → IsSteady s → IsUnlimited s.now.file_systems → (numbers : List BlockState) → HasStates s numbers → first_of (limit_row s) ≡ None
+limits_hold s steady bare numbers known =
     let free = count-free (reach_of s.now) (reach_of s.last) s.last.group s.now.group s.size steady.good.pair.reached numbers (states_of s numbers known) in
-    row-value _ _ _ (quotas_unlimited s.now steady.unlimited) (refquotas_unlimited s.now steady.unlimited)
-    (pool_unlimited s steady.good.now.systems steady.good.now.freeing_apart steady.unlimited ∙ le-leb (len (union (reach_of s.now) (reach_of s.last))) s.size (omega (arith, free)))
+    row-value _ _ _ (quotas_unlimited s.now bare) (refquotas_unlimited s.now bare)
+    (pool_unlimited s steady.good.now.systems steady.good.now.freeing_apart bare ∙ le-leb (len (union (reach_of s.now) (reach_of s.last))) s.size (omega (arith, free)))
   where
     row-value : (q f p : Bool) → q ≡ true → f ≡ true → p ≡ true
         → cond {A = Option Refusal} (not q) (Some Quota) (cond (not f) (Some RefQuota) (cond (not p) (Some NoSpace) None)) ≡ None
@@ -149,7 +150,7 @@ pub put_is : (s : State) (all : List Member) → nat_lt 0 (length all) ≡ true
 put_is s [] some = let l = ltb-true 0 0 some in absurd (omega arith)
 put_is s (m ∷ ms) some = λ i. record s { now = sym (now_is s (m ∷ ms)) i; next_guid = s.next_guid + length (m ∷ ms) }
 
-module _ (s : State) (steady : IsSteady s) (names : List Member) (recursive : Bool)
+module _ (s : State) (steady : IsSteady s) (bare : IsUnlimited s.now.file_systems) (names : List Member) (recursive : Bool)
     (none : first_of (taking_row s.now s.next_guid names (snapshot_names s.now names recursive)) ≡ None) where
   abbrev all : List Member
   all = snapshot_names s.now names recursive
@@ -162,7 +163,7 @@ module _ (s : State) (steady : IsSteady s) (names : List Member) (recursive : Bo
       (snapshots_before s steady.good (guid_by s.pool s.next_guid) all (takable s.now s.next_guid names recursive none))
 
   unlimited : IsUnlimited (taken_of (datasets_of s) (guid_by s.pool s.next_guid) (snapshot_names s.now names recursive)).file_systems
-  unlimited = snapshots_unlimited all (guid_by s.pool s.next_guid) (world_of (datasets_of s)) steady.unlimited
+  unlimited = snapshots_unlimited all (guid_by s.pool s.next_guid) (world_of (datasets_of s)) bare
 
   known : AreKnown s.now.file_systems (taken_of (datasets_of s) (guid_by s.pool s.next_guid) (snapshot_names s.now names recursive)).file_systems
   known = snapshots_known s.now.file_systems all (guid_by s.pool s.next_guid) (world_of (datasets_of s)) (same_known s.now.file_systems)
@@ -184,17 +185,18 @@ module _ (s : State) (steady : IsSteady s) (names : List Member) (recursive : Bo
     steady = record {
       good = record { now = good.now; last = good.last; pair = good.pair; views = good.views };
       swept = still_swept s (put s t (length all)) steady refl known origins;
-      unlimited = unlimited;
+      limits = bare_limits s (put s t (length all)) refl unlimited steady.limits;
     };
+    unlimited = λ none. unlimited;
     reach = snapshot_reach;
   }
 
-pub snapshot_can : (s : State) → IsSteady s → (names : List Member) (recursive : Bool) (asked : State)
+pub snapshot_can : (s : State) → IsSteady s → IsUnlimited s.now.file_systems → (names : List Member) (recursive : Bool) (asked : State)
     → first_of (snapshot_row s asked names (snapshot_names s.now names recursive)) ≡ None
     → CanPut s (taken_of (datasets_of s) (guid_by s.pool s.next_guid) (snapshot_names s.now names recursive)) (length (snapshot_names s.now names recursive))
-snapshot_can s steady names recursive asked none =
+snapshot_can s steady bare names recursive asked none =
     let all = snapshot_names s.now names recursive in
-    taking_can s steady names recursive (first_none (taking_row s.now s.next_guid names all) (cond (nat_lt 0 (length all)) (limit_row asked) []) none)
+    taking_can s steady bare names recursive (first_none (taking_row s.now s.next_guid names all) (cond (nat_lt 0 (length all)) (limit_row asked) []) none)
 
 -- ---- steps
 
@@ -221,7 +223,7 @@ module _ (s : State) (q : Request) (names : List Member) (recursive : Bool) (is 
       (λ e. subst (λ z. Step s q (Refused z) s) (sym e) (no_memory_by q rule is s refl))
       which
 
-  module _ (steady : IsSteady s) (none : first_of (taking_row s.now s.next_guid names (snapshot_names s.now names recursive)) ≡ None) where
+  module _ (steady : IsSteady s) (bare : IsUnlimited s.now.file_systems) (none : first_of (taking_row s.now s.next_guid names (snapshot_names s.now names recursive)) ≡ None) where
     -- no limit is passed, as the same blocks are reached
     none_refuses : (b : Bool) → nat_lt 0 (length (snapshot_names s.now names recursive)) ≡ b → (b ≡ true → first_of (limit_row (state_asked s (snapshot_rule names recursive))) ≡ None)
         → refusal_of s (snapshot_rule names recursive) ≡ None
@@ -240,10 +242,10 @@ module _ (s : State) (q : Request) (names : List Member) (recursive : Bool) (is 
         → Step s q Done (put s (taken_of (datasets_of s) (guid_by s.pool s.next_guid) (snapshot_names s.now names recursive)) (length (snapshot_names s.now names recursive)))
     unfolding state_asked
     snapshot_done numbers known some =
-        let can = taking_can s steady names recursive none in
+        let can = taking_can s steady bare names recursive none in
         let after = put_is s named some in
         done_by q rule is s no_choice (put s (taken_of (datasets_of s) (guid_by s.pool s.next_guid) named) (length named)) Done refl refl
-        (none_refuses true some (λ _. ap (λ x. first_of (limit_row x)) after ∙ limits_hold (put s (taken_of (datasets_of s) (guid_by s.pool s.next_guid) named) (length named)) can.steady numbers
+        (none_refuses true some (λ _. ap (λ x. first_of (limit_row x)) after ∙ limits_hold (put s (taken_of (datasets_of s) (guid_by s.pool s.next_guid) named) (length named)) can.steady (can.unlimited bare) numbers
         (kept_states s numbers known (taken_of (datasets_of s) (guid_by s.pool s.next_guid) named) (length named) can)))
         refl (sym after) can.steady
 

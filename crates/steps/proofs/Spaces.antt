@@ -56,22 +56,22 @@ module _ (s : State) (good : IsSteady s) where
       get_used_by_children e = get_live s good name f was UsedByChildren (Size (512 * n)) (ap (λ k. Size (512 * k)) (sym e))
 
     -- zfsprops(7), usedbyrefreservation: nothing, since nothing is kept
-    pub get_used_by_refreservation : Step s (Get (OfFileSystem name) UsedByRefReservation) (ValueIs (Size 0)) s
+    pub get_used_by_refreservation : f.limits ≡ no_limits → Step s (Get (OfFileSystem name) UsedByRefReservation) (ValueIs (Size 0)) s
     unfolding file_system_value
-    get_used_by_refreservation = get_live s good name f was UsedByRefReservation (Size 0)
-        (ap (λ (l : Limits). Size (512 * (unwrap_or l.refreservation 0 - written_of s.now (Live name)))) (good.unlimited name f was)
+    get_used_by_refreservation none = get_live s good name f was UsedByRefReservation (Size 0)
+        (ap (λ (l : Limits). Size (512 * (unwrap_or l.refreservation 0 - written_of s.now (Live name)))) none
         ∙ ap (λ k. Size (512 * k)) none_left)
       where
         none_left : 0 - written_of s.now (Live name) ≡ 0
         none_left = omega arith
 
     -- zfsprops(7), quota, refquota, reservation, refreservation: there is no such limit
-    pub get_limit : (p : Property) → is_limit p ≡ true → Step s (Get (OfFileSystem name) p) (ValueIs (Size 0)) s
+    pub get_limit : f.limits ≡ no_limits → (p : Property) → is_limit p ≡ true → Step s (Get (OfFileSystem name) p) (ValueIs (Size 0)) s
     unfolding file_system_value
-    get_limit p limit = get_live s good name f was p (Size 0) (at p limit)
+    get_limit unlimited p limit = get_live s good name f was p (Size 0) (at p limit)
       where
         none : (part : Limits → Option ℕ) → limit_value (part f.limits) ≡ limit_value (part no_limits)
-        none part = ap (λ (l : Limits). limit_value (part l)) (good.unlimited name f was)
+        none part = ap (λ (l : Limits). limit_value (part l)) unlimited
 
         at : (p : Property) → is_limit p ≡ true → file_system_value s name f p ≡ Size 0
         at Quota e = none (λ l. l.quota)

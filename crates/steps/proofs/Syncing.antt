@@ -23,6 +23,7 @@ use Rattle.model.specs.Step.{Step}
 use Rattle.world.specs.Blocks.{block_order as o}
 use Rattle.world.proofs.SetCounts.{from_difference}
 use Rattle.world.proofs.Cells.{from_number}
+use Rattle.world.specs.Worlds.{IsPoolState}
 use Rattle.world.proofs.Groups.{next_keeps, next_reach, sync_pairs}
 use Rattle.world.proofs.Views.{snap_stays}
 use Rattle.steps.specs.Settles.{state_at, AreStatesOf}
@@ -30,6 +31,7 @@ use Rattle.steps.specs.Steady.{IsSteady}
 use Rattle.world.specs.Tables.{Datasets}
 use Rattle.steps.specs.Edits.{datasets_of, synced, CanSync}
 use Rattle.steps.proofs.Known.{states_of, of_states}
+use Rattle.accounts.proofs.Steps.{sync_limits}
 use Rattle.steps.proofs.Unlimited.{still_swept, same_known, same_origins}
 use Rattle.steps.proofs.Ruled.{no_choice, refused_by, done_by}
 
@@ -65,16 +67,19 @@ module _ (s : State) (steady : IsSteady s) where
   reach_next : reach_of (with_next_group s.now) ≡ reach_of s.now
   reach_next = next_reach s.size s.now steady.good.now
 
-  next_steady : IsSteady (synced s (next_of s))
-  next_steady = record {
-    good = record {
+  next_good : IsPoolState (synced s (next_of s))
+  next_good = record {
       now = next_keeps s.size s.now steady.good.now;
       last = next_keeps s.size s.now steady.good.now;
       pair = sync_pairs s.size s.now steady.good.now s.last steady.good.pair;
       views = λ v id e. snap_stays s.now (with_next_group s.now) (s.now.group + 1) (next_keeps s.size s.now steady.good.now).systems.lines (λ q x u at h. (q, x, u, at, h, refl)) id (steady.good.views v id e);
-    };
+  }
+
+  next_steady : IsSteady (synced s (next_of s))
+  next_steady = record {
+    good = next_good;
     swept = still_swept s (synced s (next_of s)) steady refl (same_known s.now.file_systems) (same_origins s.now.file_systems);
-    unlimited = steady.unlimited;
+    limits = sync_limits s steady.good next_good steady.limits;
   }
 
   next_states : (numbers : List BlockState) → HasStates s numbers → HasStates (synced s (next_of s)) (map after_group numbers)

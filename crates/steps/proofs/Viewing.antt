@@ -36,10 +36,11 @@ use Rattle.world.proofs.StateSteps.{sweep_swept}
 use Rattle.world.proofs.States.{sweep_keeps}
 use Rattle.world.proofs.Sweep.{with_losses-same}
 use Rattle.world.proofs.WithoutSnaps.{without_from}
-use Rattle.accounts.specs.Limits.{IsUnlimited}
+use Rattle.accounts.specs.Limits.{HasLimits}
+use Rattle.accounts.proofs.Steps.{sweep_limits}
 use Rattle.removals.specs.Requests.{swept}
 use Rattle.steps.specs.Steady.{IsSteady, snap_in}
-use Rattle.steps.specs.Edits.{datasets_of, lose, viewing, closed, CanLose}
+use Rattle.steps.specs.Edits.{datasets_of, lose, viewing, closed, CanLose, StaysUnlimited}
 use Rattle.steps.proofs.Ruled.{no_choice, refused_by, no_memory_by, done_by, swept_by}
 use Rattle.steps.proofs.Unlimited.{unlimited_without}
 use Rattle.steps.proofs.Seeing.{needed_more}
@@ -130,7 +131,7 @@ module _ (s : State) where
         swept = λ n f u was h d. needed_more s.now s.views (insert s.views s.next_view (id_of t))
             (λ v id e. get-insert_other view_order s.views s.next_view (id_of t) v (λ same. let l = below v id e in absurd (omega arith)) ∙ e)
             u (steady.swept n f u was h d);
-        unlimited = steady.unlimited;
+        limits = record { now = steady.limits.now; last = steady.limits.last };
       }
 
       pub open_done : t.deferred ≡ false → full ≡ false → IsSteady (viewing s (id_of t)) → Step s (OpenView (OfSnapshot m)) (Opened s.next_view (sight_of t)) (viewing s (id_of t))
@@ -168,8 +169,11 @@ module _ (s : State) (number : ℕ) where
     unfolding state_after_sweep
     after_is = refl
 
-    left_unlimited : IsUnlimited (swept (datasets_of s) (remove s.views number)).file_systems
-    left_unlimited = unlimited_without (world_of (datasets_of s)) steady.unlimited (λ u. u.deferred && not (is_needed (world_of (datasets_of s)) (remove s.views number) u))
+    left_unlimited : StaysUnlimited (closed s number) (swept (datasets_of s) (remove s.views number))
+    left_unlimited none = unlimited_without (world_of (datasets_of s)) none (λ u. u.deferred && not (is_needed (world_of (datasets_of s)) (remove s.views number) u))
+
+    left_limits : HasLimits (state_after_sweep (closed s number))
+    left_limits = sweep_limits (closed s number) left_good (record { now = steady.limits.now; last = steady.limits.last })
 
     left_reach : reach_of (state_after_sweep (closed s number)).now ≡ reach_of s.now
     unfolding state_after_sweep
@@ -182,8 +186,9 @@ module _ (s : State) (number : ℕ) where
       steady = record {
         good = subst IsPoolState (sym after_is) (sweep_keeps (closed s number) left_good);
         swept = subst IsSwept (sym after_is) (sweep_swept (closed s number));
-        unlimited = left_unlimited;
+        limits = subst HasLimits (sym after_is) left_limits;
       };
+      unlimited = left_unlimited;
       reach = ap (λ (x : State). reach_of x.now) after_is ∙ left_reach;
     }
 

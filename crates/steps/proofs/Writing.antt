@@ -43,6 +43,7 @@ use Rattle.world.specs.Dead.{base_of}
 use Rattle.world.specs.Tables.{Datasets, world_of}
 use Rattle.world.proofs.SetCounts.{in_union_left}
 use Rattle.world.proofs.Kept.{reach_is, union-fields}
+use Rattle.accounts.specs.Limits.{IsUnlimited}
 use Rattle.steps.specs.Steady.{IsSteady, HasNoDataset}
 use Rattle.steps.specs.Edits.{datasets_of, with_datasets, CanChange}
 use Rattle.steps.proofs.Known.{states_of}
@@ -97,7 +98,7 @@ there_or s name = by (get s.now.file_systems name) refl
 live_is : (s : State) (name : Name) (there : IsThere s name) → live_of s.now.file_systems name ≡ there.system.live
 live_is s name there = ap (λ x. option_map_or (λ (f : FileSystem). f.live) x finmap.empty) there.is
 
-module _ (s : State) (steady : IsSteady s) (numbers : List BlockState) (known : HasStates s numbers) (name : Name) (to : Datasets) (ch : Changes) (done : Changed)
+module _ (s : State) (steady : IsSteady s) (bare : IsUnlimited s.now.file_systems) (numbers : List BlockState) (known : HasStates s numbers) (name : Name) (to : Datasets) (ch : Changes) (done : Changed)
     (w : HasWritten (datasets_of s) to name ch s.last.group numbers done) where
   abbrev young : ℕ
   young = young_of (datasets_of s) name s.last.group
@@ -115,7 +116,7 @@ module _ (s : State) (steady : IsSteady s) (numbers : List BlockState) (known : 
         (subst (λ bs. CanChange s (record (datasets_of s) { file_systems = with_live s.now.file_systems name w.change.new }) bs (map (λ n. n.0) done.taken.items)) released_is
         (subst (λ ns. CanChange s (record (datasets_of s) { file_systems = with_live s.now.file_systems name w.change.new })
         (filter (λ b. nat_lt (base_of s.now (Live name)) b.birth) w.change.released) ns) (sym w.taken)
-        (change_can s steady name there.system there.is numbers known ch young (young_is s name) w.change change_is)))
+        (change_can s steady bare name there.system there.is numbers known ch young (young_is s name) w.change change_is)))
 
   -- the datasets after a write to a file system that is there can be put in place
   pub written_can : (get s.now.file_systems name ≡ None → ⊥) → CanChange s to (map dead_block done.released.items) (map (λ n. n.0) done.taken.items)
@@ -126,7 +127,7 @@ module _ (s : State) (steady : IsSteady s) (numbers : List BlockState) (known : 
 not_le : (x y : ℕ) → y < x → nat_le x y ≡ false
 not_le x y h = ⊎_elim (λ t. let l = t.1 in absurd (omega arith)) (λ t. t.0) (leb_tells x y)
 
-module _ (s : State) (steady : IsSteady s) (numbers : List BlockState) (known : HasStates s numbers) (name : Name) (q : Request) (target : Target)
+module _ (s : State) (steady : IsSteady s) (bare : IsUnlimited s.now.file_systems) (numbers : List BlockState) (known : HasStates s numbers) (name : Name) (q : Request) (target : Target)
     (named : target ≡ OfFileSystem name) (ch : Changes) (in_range : Bool) (is : rule_of q None ≡ change_rule target ch in_range) (within : in_range ≡ true) where
   abbrev rule : Rule
   rule = change_rule target ch in_range
@@ -142,19 +143,19 @@ module _ (s : State) (steady : IsSteady s) (numbers : List BlockState) (known : 
       live_survey : IsSurvey there.system.live ch dropped made
       live_survey = subst (λ m. IsSurvey m ch dropped made) (live_is s name there) survey
 
-      asked_is : state_asked s rule ≡ with_now s (asked s steady name f there.is ch dropped made live_survey)
+      asked_is : state_asked s rule ≡ with_now s (asked s steady bare name f there.is ch dropped made live_survey)
       unfolding state_asked
       asked_is =
           ap (λ t. state_after_change s t ch (record { number = fresh_number s; taken = set.empty })) named
-          ∙ ap (with_now s) (asked_change s steady name f there.is ch dropped made live_survey)
+          ∙ ap (with_now s) (asked_change s steady bare name f there.is ch dropped made live_survey)
 
       -- whether the request has room
       refusal_is : (b : Bool) → nat_le (length made) (count_by is_free numbers + young_count after_base dropped) ≡ b → refusal_of s rule ≡ cond b None (Some NoSpace)
       refusal_is b e =
           change_row s steady q target ch in_range is name f named there.is b
-          (ap (λ x. quotas_hold x.now) asked_is ∙ quotas_asked s steady name f there.is ch dropped made live_survey)
-          (ap (λ x. refquotas_hold x.now) asked_is ∙ refquotas_asked s steady name f there.is ch dropped made live_survey)
-          (ap pool_holds asked_is ∙ room_asked s steady name f there.is ch dropped made live_survey after_base (young_is s name) numbers known ∙ e)
+          (ap (λ x. quotas_hold x.now) asked_is ∙ quotas_asked s steady bare name f there.is ch dropped made live_survey)
+          (ap (λ x. refquotas_hold x.now) asked_is ∙ refquotas_asked s steady bare name f there.is ch dropped made live_survey)
+          (ap pool_holds asked_is ∙ room_asked s steady bare name f there.is ch dropped made live_survey after_base (young_is s name) numbers known ∙ e)
           ∙ ap (λ i. cond i (cond b None (Some NoSpace)) (Some BadKey)) within
 
     no_space : LacksRoom (live_of s.now.file_systems name) ch (young_of (datasets_of s) name s.last.group) numbers → Step s q (Refused NoSpace) s
@@ -183,14 +184,14 @@ module _ (s : State) (steady : IsSteady s) (numbers : List BlockState) (known : 
   module _ (to : Datasets) (done : Changed) (w : HasWritten (datasets_of s) to name ch s.last.group numbers done) where
     done_there : HasRoom (live_of s.now.file_systems name) ch (young_of (datasets_of s) name s.last.group) numbers → IsThere s name → Step s q Done (with_datasets s to)
     done_there room there =
-        let change = change_is s steady numbers known name to ch done w there in
+        let change = change_is s steady bare numbers known name to ch done w there in
         subst (λ t. Step s q Done (with_datasets s t)) (sym w.to_is)
         (change_leads s steady q target ch in_range is (record { number = change.number; taken = set.empty })
         (record (datasets_of s) { file_systems = with_live s.now.file_systems name w.change.new })
         (refusal_is there room.dropped room.made room.survey true (le-leb _ _ room.enough))
-        (leads_to s steady name there.system there.is numbers known ch after_base (young_is s name) w.change change
+        (leads_to s steady bare name there.system there.is numbers known ch after_base (young_is s name) w.change change
         ∙ sym (ap (λ t. state_after_change s t ch (record { number = change.number; taken = set.empty })) named))
-        (change_steady s steady name there.system there.is numbers known ch after_base (young_is s name) w.change change))
+        (change_steady s steady bare name there.system there.is numbers known ch after_base (young_is s name) w.change change))
 
     -- a write in force, to a file system that is there
     pub written_done : HasRoom (live_of s.now.file_systems name) ch (young_of (datasets_of s) name s.last.group) numbers → (get s.now.file_systems name ≡ None → ⊥)

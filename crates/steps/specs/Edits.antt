@@ -10,6 +10,7 @@ use Rattle.model.specs.Edits.{with_now, with_losses}
 use Rattle.model.specs.Targets.{has_no_next_group}
 use Rattle.world.specs.Plans.{IsSettling}
 use Rattle.world.specs.Tables.{Datasets}
+use Rattle.accounts.specs.Limits.{IsUnlimited}
 use Rattle.steps.specs.Steady.{IsSteady}
 
 -- the datasets of a state's present world (profile)
@@ -28,10 +29,15 @@ put s t guids = record (with_datasets s t) { next_guid = s.next_guid + guids }
 abbrev pub synced : State → Datasets → State
 synced s t = record s { now = record s.now { file_systems = t.file_systems; group = t.group }; last = record s.now { file_systems = t.file_systems; group = t.group } }
 
+-- where no file system has a limit, none of these has one (zfsprops(7): quota, refquota, reservation, refreservation)
+abbrev pub StaysUnlimited : State → Datasets → Type 0
+StaysUnlimited s t = IsUnlimited s.now.file_systems → IsUnlimited t.file_systems
+
 -- They can be put there, and no number changes its state: what holds between two steps holds after it, and the same blocks are
 -- reached (profile)
 pub record CanPut (s : State) (t : Datasets) (guids : ℕ) : Type 0 where
   pub steady : IsSteady (put s t guids)
+  pub unlimited : StaysUnlimited s t
   pub reach : reach_of (put s t guids).now ≡ reach_of s.now
 
 -- the state with these datasets, where what all datasets together have lost is to be freed (zpool-features(7): async_destroy)
@@ -42,12 +48,14 @@ lose s t = with_now s (with_losses s.now (record s.now { file_systems = t.file_s
 -- reached (profile)
 pub record CanLose (s : State) (t : Datasets) : Type 0 where
   pub steady : IsSteady (lose s t)
+  pub unlimited : StaysUnlimited s t
   pub reach : reach_of (lose s t).now ≡ reach_of s.now
 
 -- They can be put there once these blocks are released and these numbers are taken: what holds between two steps holds after it,
 -- and each number is Free, or that of a released block that the last synced world hasn't (profile)
 pub record CanChange (s : State) (t : Datasets) (released : List Block) (taken : List ℕ) : Type 0 where
   pub steady : IsSteady (with_datasets s t)
+  pub unlimited : StaysUnlimited s t
   pub settling : IsSettling (reach_of s.now) (reach_of (with_datasets s t).now) (reach_of s.last) s.last.group released taken
   pub takable :
       (n : ℕ) → IsIn taken n

@@ -13,13 +13,14 @@ use Rattle.model.specs.State.{State}
 use Rattle.model.specs.Targets.{dataset_of, has_dataset}
 use Rattle.model.specs.Hierarchy.{FileSystems}
 use Rattle.world.specs.Worlds.{IsPoolState, IsSwept}
-use Rattle.accounts.specs.Limits.{IsUnlimited}
+use Rattle.accounts.specs.Limits.{HasLimits}
 
--- The facts of its worlds and views, with nothing to sweep, and no limit, which no request sets so far (profile)
+-- The facts of its worlds and views, with nothing to sweep, and with every quota and refquota met (zfsprops(7): quota, refquota; the rest
+-- is profile)
 pub record IsSteady (s : State) : Type 0 where
   pub good : IsPoolState s
   pub swept : IsSwept s
-  pub unlimited : IsUnlimited s.now.file_systems
+  pub limits : HasLimits s
 
 -- a snapshot by its name, among file systems (zfs(8))
 abbrev pub snap_in : FileSystems → Member → Option Snap

@@ -4,7 +4,7 @@ use Rattle.model.specs.State.{State, fresh_state, fresh_world}
 use Rattle.base.specs.Map.{BlockSet}
 use Rattle.views.specs.Viewing.{Viewing}
 use Rattle.world.specs.Tables.{Datasets, world_of}
-use Rattle.steps.proofs.Fresh.{first_steady, first_numbers}
+use Rattle.steps.proofs.Fresh.{first_steady, first_unlimited, first_numbers}
 use Rattle.pool.specs.Pools.{IsSound}
 use Rattle.pool.proofs.pool.Pool.fresh.Goals as goal
 
@@ -19,7 +19,7 @@ invariant_of-result c =
     λ i. state_at (c.in_ok-present.ensures.ok i) (c.new-4.ensures i) (last i) (c.new-5.ensures i) (c.in_ok-views.ensures.ok i) (fresh_state c.args.id c.args.blocks) in
     subst (λ x. IsSound x c.in_ok-allocator.allocator) (sym same)
     (subst (λ (st : List BlockState). IsSound (fresh_state c.args.id c.args.blocks) st) (sym c.in_ok-allocator.ensures.ok)
-    (record { steady = first_steady c.args.id c.args.blocks; states = first_numbers c.args.id c.args.blocks; guids = omega (arith) }))
+    (record { steady = first_steady c.args.id c.args.blocks; states = first_numbers c.args.id c.args.blocks; guids = omega (arith); unlimited = first_unlimited }))
 
 pub returns-clause-ok : goal.returns-clause-ok
 unfolding fresh_state fresh_world
