@@ -1,7 +1,9 @@
 pub mod Totals
 pub mod Names
 pub mod Space
+pub mod Pool
 pub mod Root
+pub mod Enough
 pub mod Levels
 pub mod Depth
 pub mod Limits
@@ -15,6 +17,7 @@ pub mod Clones
 pub mod Ranges
 pub mod Descendants
 pub mod Family
+pub mod Available
 pub mod Rooms
 pub mod Bounds
 pub mod Shrinks
