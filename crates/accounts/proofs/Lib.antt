@@ -1,5 +1,6 @@
 pub mod Totals
 pub mod Names
+pub mod Keys
 pub mod Space
 pub mod Pool
 pub mod Root
@@ -23,3 +24,4 @@ pub mod Bounds
 pub mod Shrinks
 pub mod Few
 pub mod Steps
+pub mod Counts
