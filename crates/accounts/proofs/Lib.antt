@@ -25,3 +25,4 @@ pub mod Shrinks
 pub mod Few
 pub mod Steps
 pub mod Counts
+pub mod Asked
