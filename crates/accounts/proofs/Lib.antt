@@ -1,7 +1,10 @@
 pub mod Totals
 pub mod Names
+pub mod Keys
 pub mod Space
+pub mod Pool
 pub mod Root
+pub mod Enough
 pub mod Levels
 pub mod Depth
 pub mod Limits
@@ -15,8 +18,11 @@ pub mod Clones
 pub mod Ranges
 pub mod Descendants
 pub mod Family
+pub mod Available
 pub mod Rooms
 pub mod Bounds
 pub mod Shrinks
 pub mod Few
 pub mod Steps
+pub mod Counts
+pub mod Asked

@@ -55,7 +55,7 @@ total_one t v (x ∷ xs) p d i e only = ⊎_elim
     at k false f = refl
 
 -- the sum over those that pass a test
-total_passing : (p : List ℕ → Bool) (f g : List ℕ → ℕ) (xs : List (List ℕ)) → ((x : List ℕ) → f x ≡ g x) → total f (filter p xs) ≡ total (λ x. cond (p x) (g x) 0) xs
+pub total_passing : (p : List ℕ → Bool) (f g : List ℕ → ℕ) (xs : List (List ℕ)) → ((x : List ℕ) → f x ≡ g x) → total f (filter p xs) ≡ total (λ x. cond (p x) (g x) 0) xs
 total_passing p f g [] h = refl
 total_passing p f g (x ∷ xs) h = at (p x) (total_passing p f g xs h)
   where
@@ -137,11 +137,15 @@ module _ (w : World) (good : IsHierarchy w.file_systems) where
     high = λ c i. let l = level_low w.file_systems good c i in omega (arith, l);
   }
 
+-- what file systems have of their own, summed down from the root, is what datasets have
+pub whole_is : (w : World) → AreFileSystems w.file_systems w.group
+    → used_within (own w) is_child (keys w.file_systems) (finmap.len w.file_systems) root_name ≡ len (union_of w)
+whole_is w good =
+    root_uses_all (own w) is_child slashes (keys w.file_systems) root_name (finmap.len w.file_systems) (are_tree w good.hierarchy)
+    ∙ own_sum w
+    ∙ own_total w w.group good.lines
+
 -- so the root uses what datasets have
 pub root_uses_union : (w : World) → AreFileSystems w.file_systems w.group → IsUnlimited w.file_systems → used_of w root_name ≡ len (union_of w)
 unfolding used_of used_by_children
-root_uses_union w good unlimited =
-    within_same w unlimited (finmap.len w.file_systems) root_name
-    ∙ root_uses_all (own w) is_child slashes (keys w.file_systems) root_name (finmap.len w.file_systems) (are_tree w good.hierarchy)
-    ∙ own_sum w
-    ∙ own_total w w.group good.lines
+root_uses_union w good unlimited = within_same w unlimited (finmap.len w.file_systems) root_name ∙ whole_is w good

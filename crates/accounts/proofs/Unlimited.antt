@@ -1,5 +1,5 @@
 -- Where no file system has a limit, the limits ask only that the blocks that are reached or wait are no more than the pool has.
-use Rattle.std.proofs.Common.{◌≡◌, ◌+◌, true, sym, ap, subst, ◌∙◌, arith}
+use Rattle.std.proofs.Common.{◌≡◌, ◌+◌, true, sym, ap, subst, arith}
 use Rattle.std.specs.Prelude.{nat_le, max}
 use Rattle.std.specs.FinSet.{len, union}
 use Rattle.name.specs.Names.{root_name}
@@ -8,13 +8,11 @@ use Rattle.model.specs.State.{State, waiting_of}
 use Rattle.model.specs.Sums.{used_of, referenced_of, reservation_of}
 use Rattle.model.specs.Fits.{quotas_hold, refquotas_hold, pool_holds}
 use Rattle.world.specs.Sets.{AreDisjoint}
-use Rattle.world.specs.Blocks.{block_order as o}
 use Rattle.world.specs.Worlds.{AreFileSystems}
-use Rattle.world.proofs.SetCounts.{len-union, len-union_disjoint}
-use Rattle.world.proofs.Kept.{reach_is}
 use Rattle.accounts.specs.Limits.{IsUnlimited, IsWithin}
 use Rattle.accounts.proofs.Root.{root_uses_union, nothing_reserved}
 use Rattle.accounts.proofs.Limits.{met_quotas, met_refquotas}
+use Rattle.accounts.proofs.Pool.{reached_is, taken_is}
 
 -- ---- no quota is set
 
@@ -30,12 +28,11 @@ refquotas_unlimited w unlimited =
 -- what is used, reserved, freeing and waiting is what both worlds reach
 pub taken_unlimited : (s : State) → AreFileSystems s.now.file_systems s.now.group → AreDisjoint (union_of s.now) s.now.freeing → IsUnlimited s.now.file_systems
     → max (used_of s.now root_name) (reservation_of s.now root_name) + len s.now.freeing + len (waiting_of s) ≡ len (union (reach_of s.now) (reach_of s.last))
-unfolding waiting_of
 taken_unlimited s good apart unlimited =
     let used = root_uses_union s.now good unlimited in
     let reserved = nothing_reserved s.now unlimited root_name in
-    let reached = ap len (reach_is s.now) ∙ len-union_disjoint o (union_of s.now) s.now.freeing apart in
-    let both = len-union o (reach_of s.now) (reach_of s.last) in
+    let reached = reached_is s.now apart in
+    let both = taken_is s in
     omega (arith, used, reserved, reached, both)
 
 -- so the pool has room where these are no more than its blocks
