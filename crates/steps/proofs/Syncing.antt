@@ -69,10 +69,10 @@ module _ (s : State) (steady : IsSteady s) where
 
   next_good : IsPoolState (synced s (next_of s))
   next_good = record {
-      now = next_keeps s.size s.now steady.good.now;
-      last = next_keeps s.size s.now steady.good.now;
-      pair = sync_pairs s.size s.now steady.good.now s.last steady.good.pair;
-      views = λ v id e. snap_stays s.now (with_next_group s.now) (s.now.group + 1) (next_keeps s.size s.now steady.good.now).systems.lines (λ q x u at h. (q, x, u, at, h, refl)) id (steady.good.views v id e);
+    now = next_keeps s.size s.now steady.good.now;
+    last = next_keeps s.size s.now steady.good.now;
+    pair = sync_pairs s.size s.now steady.good.now s.last steady.good.pair;
+    views = λ v id e. snap_stays s.now (with_next_group s.now) (s.now.group + 1) (next_keeps s.size s.now steady.good.now).systems.lines (λ q x u at h. (q, x, u, at, h, refl)) id (steady.good.views v id e);
   }
 
   next_steady : IsSteady (synced s (next_of s))
