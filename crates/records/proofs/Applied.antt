@@ -6,7 +6,6 @@ use Rattle.std.specs.Cmp.{nat_cmp_total}
 use Rattle.std.specs.FinMap.{get, get-from_entries, same_map, nat_cmp-IsAntisymmetric}
 use Rattle.std.specs.FinMap as finmap
 use Rattle.std.proofs.lemmas.Bool.{eqb-true, eq-eqb, ltb-true, ltb-false, or_cases, or_right, le-leb, and_from, false_from_ne_true}
-use Rattle.std.proofs.Math.Nat.{div-one}
 use Rattle.base.specs.declared.number.Key.{Key}
 use Rattle.base.specs.Key.{covers, parent, is_at_or_below}
 use Rattle.base.specs.Map.{Map, Cell, contents, IsTree}
@@ -17,6 +16,7 @@ use Rattle.world.proofs.Maps.{same_value, no_value}
 use Rattle.stream.specs.declared.record.Record.{Record}
 use Rattle.stream.specs.declared.record.Record.TheVariants.{Write, Free}
 use Rattle.stream.specs.Records.{records_since, written_leaves, is_freed, changes_of, apply_records}
+use Rattle.laws.proofs.Sources.{itself_below}
 use Rattle.records.specs.Records.{root_key, leaf_key, IsWritten, IsGap, IsAll, SharesUntil, AreBorn}
 use Rattle.records.specs.Laws.{SendsDifference, FullSends}
 use Rattle.records.proofs.Keys.{over, over_leaf, over_root, key_over, higher, root_there, next_over, leaf_small}
@@ -51,25 +51,19 @@ pub none_from : {X : Type 0} (o : Option X) → ((x : X) → o ≡ Some x → �
 none_from None h = refl
 none_from (Some x) h = absurd (h x refl)
 
-itself_below : (k : Key) → IsTrue (is_at_or_below k k)
-itself_below k =
-    let z : k.level - k.level ≡ 0 = omega arith in
-    and_from (nat_le k.level k.level) (k.index / 16 ^ (k.level - k.level) == k.index) (le-leb k.level k.level (omega arith))
-    (eq-eqb (k.index / 16 ^ (k.level - k.level)) k.index (ap (λ j. k.index / 16 ^ j) z ∙ div-one k.index))
-
 below_over : (x l : ℕ) → IsTrue (is_at_or_below (over x l) (leaf_key x))
 below_over x l = and_from (nat_le 0 l) (x / 16 ^ (l - 0) == x / 16 ^ l) (le-leb 0 l (omega arith))
     (let e : l - 0 ≡ l = omega arith in eq-eqb (x / 16 ^ (l - 0)) (x / 16 ^ l) (ap (λ j. x / 16 ^ j) e))
 
-module _ (n g : ℕ) (s t : Map) (source : IsTree n s) (tree : IsTree n t) (shares : SharesUntil g s t) where
+module _ (n m g : ℕ) (s t : Map) (source : IsTree n s) (tree : IsTree m t) (shares : SharesUntil g s t) where
   write_of : (x : ℕ) (b : List ℕ) → get (changes_of (records_since t g)).writes x ≡ Some b → IsWritten t g x b
   write_of x b e =
       let found = sym (get-from_entries nat_cmp_total (written_leaves (records_since t g)) x) ∙ e in
-      listed_sent n t g tree (Write x b) (written_in (records_since t g) x b (from_found _ x b found))
+      listed_sent m t g tree (Write x b) (written_in (records_since t g) x b (from_found _ x b found))
 
   of_write : (x : ℕ) (b : List ℕ) → IsWritten t g x b → get (changes_of (records_since t g)).writes x ≡ Some b
   of_write x b w =
-      let i = in_written (records_since t g) x b (sent_listed n t g tree (Write x b) w) in
+      let i = in_written (records_since t g) x b (sent_listed m t g tree (Write x b) w) in
       let f = is_found (written_leaves (records_since t g)) x b i in
       let there = get-from_entries nat_cmp_total (written_leaves (records_since t g)) x ∙ f.1 in
       let v = write_of x f.0 there in
@@ -86,10 +80,10 @@ module _ (n g : ℕ) (s t : Map) (source : IsTree n s) (tree : IsTree n t) (shar
       (λ (gap : IsGap t g k).
       let top = (tree.keys (parent k) (some_there (get t (parent k)) gap.above gap.there)).level in
       let leaf : IsSome (get t (over x 0)) = subst (λ l. IsSome (get t l)) (sym (over_leaf x)) (some_there (get t (leaf_key x)) c there) in
-      let up = higher n t tree x 0 k.level (omega arith) (omega arith) leaf in
+      let up = higher m t tree x 0 k.level (omega arith) (omega arith) leaf in
       not_there (get t k) gap.absent (subst (λ l. IsSome (get t l)) (key_over k x at) up))
       (λ (a : IsAll t k). no_value c (sym (a.nothing (leaf_key x)) ∙ there))
-      (listed_sent n t g tree (Free k) q.1))
+      (listed_sent m t g tree (Free k) q.1))
 
   covers_over : (x l : ℕ) → covers (over x l) x ≡ true
   covers_over x l = eq-eqb (x / 16 ^ l) (x / 16 ^ l) refl
@@ -99,8 +93,8 @@ module _ (n g : ℕ) (s t : Map) (source : IsTree n s) (tree : IsTree n t) (shar
   gone zero x l e small absent =
       let five : l ≡ 5 = omega arith in
       let root : get t root_key ≡ None = ap (get t) (sym (over_root x small)) ∙ ap (λ i. get t (over x i)) (sym five) ∙ absent in
-      let all : IsAll t root_key = record { nothing = λ q. none_from (get t q) (λ c there. not_there (get t root_key) root (root_there n t tree q (some_there (get t q) c there))); is = refl } in
-      inl (in_freed (records_since t g) x root_key (sent_listed n t g tree (Free root_key) (inr all)) (ap (λ k. covers k x) (sym (over_root x small)) ∙ covers_over x 5))
+      let all : IsAll t root_key = record { nothing = λ q. none_from (get t q) (λ c there. not_there (get t root_key) root (root_there m t tree q (some_there (get t q) c there))); is = refl } in
+      inl (in_freed (records_since t g) x root_key (sent_listed m t g tree (Free root_key) (inr all)) (ap (λ k. covers k x) (sym (over_root x small)) ∙ covers_over x 5))
   gone (suc d) x l e small absent = above (get t (over x (l + 1))) refl (gone d x (l + 1) (omega arith) small)
     where
       above : (o : Option Cell) → get t (over x (l + 1)) ≡ o
@@ -112,7 +106,7 @@ module _ (n g : ℕ) (s t : Map) (source : IsTree n s) (tree : IsTree n t) (shar
           by_age : (b : Bool) → nat_lt g p.birth ≡ b → (is_freed (records_since t g) x ≡ true) ⊎ (get s (leaf_key x) ≡ get t (leaf_key x))
           by_age true young =
               let gap : IsGap t g (over x l) = record { above = p; there = ap (get t) (next_over x l) ∙ there; young = ltb-true g p.birth young; absent = absent } in
-              inl (in_freed (records_since t g) x (over x l) (sent_listed n t g tree (Free (over x l)) (inl gap)) (covers_over x l))
+              inl (in_freed (records_since t g) x (over x l) (sent_listed m t g tree (Free (over x l)) (inl gap)) (covers_over x l))
           by_age false old = inr (shares (over x (l + 1)) (leaf_key x) p there (ltb-false g p.birth old) (below_over x (l + 1)))
 
   was : (x : ℕ) → get s (leaf_key x) ≡ get t (leaf_key x) → get (contents s) x ≡ get (contents t) x
@@ -168,11 +162,11 @@ module _ (n g : ℕ) (s t : Map) (source : IsTree n s) (tree : IsTree n t) (shar
   difference = same_map nat_cmp_total nat_cmp-IsAntisymmetric _ _ at_leaf
 
 pub sends_difference : SendsDifference
-sends_difference n g s t a b shares = difference n g s t a b shares
+sends_difference n m g s t a b shares = difference n m g s t a b shares
 
 -- a map that has nothing shares with every map what was born by group 0
 pub nothing_shared : (t : Map) → AreBorn t → SharesUntil 0 finmap.empty t
 nothing_shared t born k below c there low at = let y = born k c there in absurd (omega (arith, low, y))
 
 pub full_sends : FullSends
-full_sends n t tree born = ap (apply_records (records_since t 0)) (sym no_contents) ∙ difference n 0 finmap.empty t (none_tree n) tree (nothing_shared t born)
+full_sends n t tree born = ap (apply_records (records_since t 0)) (sym no_contents) ∙ difference n n 0 finmap.empty t (none_tree n) tree (nothing_shared t born)

@@ -6,3 +6,4 @@ pub mod Changed
 pub mod Applied
 pub mod Blocks
 pub mod Received
+pub mod Sends

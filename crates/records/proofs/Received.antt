@@ -92,10 +92,10 @@ pub rewrite_changes_contents : RewriteChangesContents
 rewrite_changes_contents m c g number = same_map nat_cmp_total nat_cmp-IsAntisymmetric _ _ (leaf_rewritten m c g number)
 
 pub receives_difference : ReceivesDifference
-receives_difference n t g s live sent new a b shares same done =
+receives_difference n m t g s live sent new a b shares same done =
     ap contents done.1 ∙ rewrite_changes_contents live (changes_of (records_since sent t)) g done.0
     ∙ ap (λ c. changed_contents c (changes_of (records_since sent t))) same
-    ∙ sends_difference n t s sent a b shares
+    ∙ sends_difference n m t s sent a b shares
 
 pub full_receives : FullReceives
-full_receives n g sent new tree born done = receives_difference n 0 g finmap.empty finmap.empty sent new (none_tree n) tree (nothing_shared sent born) refl done
+full_receives n g sent new tree born done = receives_difference n n 0 g finmap.empty finmap.empty sent new (none_tree n) tree (nothing_shared sent born) refl done

@@ -10,7 +10,7 @@ use Rattle.records.specs.Records.{SharesUntil, SharesBlocks, AreBirthsRising, Ar
 
 -- the records since group g, applied to what s holds, give what t holds, where s has what t has from that group and before (zfs-send(8), -i)
 abbrev pub SendsDifference : Type 0
-SendsDifference = (n g : ℕ) (s t : Map) → IsTree n s → IsTree n t → SharesUntil g s t → apply_records (records_since t g) (contents s) ≡ contents t
+SendsDifference = (n m g : ℕ) (s t : Map) → IsTree n s → IsTree m t → SharesUntil g s t → apply_records (records_since t g) (contents s) ≡ contents t
 
 -- the records since group 0, applied to nothing, give what t holds (zfs-send(8))
 abbrev pub FullSends : Type 0
@@ -36,7 +36,7 @@ RewriteChangesContents = (m : Map) (c : Changes) (g : ℕ) (number : Key → ℕ
 -- the numbers are (zfs-receive(8))
 abbrev pub ReceivesDifference : Type 0
 ReceivesDifference =
-    (n t g : ℕ) (s live sent new : Map) → IsTree n s → IsTree n sent → SharesUntil t s sent → contents live ≡ contents s
+    (n m t g : ℕ) (s live sent new : Map) → IsTree n s → IsTree m sent → SharesUntil t s sent → contents live ≡ contents s
     → IsRewrite live (changes_of (records_since sent t)) g new → contents new ≡ contents sent
 
 -- the records since group 0, as one change of a map that has nothing (zfs-receive(8))

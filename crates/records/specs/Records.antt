@@ -8,6 +8,7 @@ use Rattle.base.specs.Map.{Map, Cell, block_of}
 use Rattle.stream.specs.declared.record.Record.{Record}
 use Rattle.stream.specs.declared.record.Record.TheVariants.{Write, Free}
 use Rattle.stream.specs.Records.{start_of, end_of}
+pub use Rattle.laws.specs.Bookmarks.{SharesUntil}
 
 -- the key of a leaf (On-Disk Specification, chapter 3)
 abbrev pub leaf_key : ℕ → Key
@@ -45,10 +46,6 @@ IsSent m t (Free k) = IsGap m t k ⊎ IsAll m k
 pub record IsOver (r : Record) (leaf : ℕ) : Type 0 where
   pub from : start_of r ≤ leaf
   pub upto : leaf < end_of r
-
--- what t has and was born by group g, s has too, with all that is below it (On-Disk Specification, chapters 2 and 3)
-abbrev pub SharesUntil : ℕ → Map → Map → Type 0
-SharesUntil g s t = (k below : Key) (c : Cell) → get t k ≡ Some c → c.birth ≤ g → IsTrue (is_at_or_below k below) → get s below ≡ get t below
 
 -- the block of t is one of s at the same key, with the same bytes and the same blocks below (On-Disk Specification, chapters 2 and 3)
 pub record IsBlockOf (s t : Map) (k : Key) (c : Cell) : Type 0 where
