@@ -31,9 +31,6 @@ over_start : (r : Record) → IsOver r (start_of r)
 over_start (Write leaf bytes) = record { from = omega arith; upto = omega arith }
 over_start (Free k) = let p = power_positive k.level in record { from = omega arith; upto = omega arith }
 
-by_start : Record → ℕ × Record
-by_start r = (start_of r, r)
-
 module _ (n : ℕ) (m : Map) (t : ℕ) (tree : IsTree n m) where
   table : FinMap nat_cmp Record
   table = from_entries {R = nat_cmp} (map (λ r. (start_of r, r)) (raw m t))

@@ -40,9 +40,6 @@ either true o = refl
 either false o = refl
 
 module _ (m : Map) (c : Changes) (g : ℕ) (number : Key → ℕ) (x : ℕ) where
-  bytes_of : Option Cell → Option (List ℕ)
-  bytes_of o = option_map (λ (c : Cell). c.bytes) o
-
   -- a leaf that isn't touched isn't written, nor punched where it is present
   unwritten : is_touched m c (leaf_key x) ≡ false → get c.writes x ≡ None
   unfolding is_touched
