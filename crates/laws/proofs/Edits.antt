@@ -26,7 +26,7 @@ use Rattle.world.proofs.Maps.{same_value, no_value, entry_from_find}
 use Rattle.world.proofs.Put.{put_cases}
 use Rattle.world.proofs.Rewrites.{rewrite_is_change}
 use Rattle.world.proofs.Sweep.{get-with_file_systems}
-use Rattle.laws.proofs.Sources.{WentOn, IsLater}
+use Rattle.laws.proofs.Sources.{IsSameBelow, WentOn, IsLater}
 
 -- ---- one file system
 
@@ -35,7 +35,7 @@ pub went_same : (g : ℕ) (f later : FileSystem) → later.origin ≡ f.origin �
 went_same g f later origin snaps live = record {
   origin = origin;
   snaps = λ u h. inl (u, subst (λ l. IsIn l u) snaps h, refl, refl);
-  live = λ at b marked key c h. inl (subst (λ m. get m key ≡ Some c) live h);
+  live = λ at b marked key c h. inl (λ q l. ap (λ m. get m q) (sym live));
 }
 
 -- some snapshots go
@@ -77,9 +77,10 @@ went_written g f ch number = record {
 
     by_touch : (b : Bookmark) (key : Key) (c : Cell) → get (rewrite f.live ch g number) key ≡ Some c → (t : Bool)
         → is_touched f.live ch key ≡ t
-        → (get f.live key ≡ Some c) ⊎ (c.birth ≡ g) ⊎ ((v : Snap) × IsIn f.snaps v × (b.group ≤ v.group) × (get v.map key ≡ Some c))
+        → IsSameBelow key f.live (rewrite f.live ch g number) ⊎ (c.birth ≡ g)
+        ⊎ ((v : Snap) × IsIn f.snaps v × (b.group ≤ v.group) × IsSameBelow key v.map (rewrite f.live ch g number))
     by_touch b key c h true t = inr (inl (changes.made key c t h).1)
-    by_touch b key c h false t = inl (sym (changes.kept key t) ∙ h)
+    by_touch b key c h false t = inl (λ q l. sym (changes.kept q (changes.below key q t l)))
 
 -- it goes back to a snapshot: a bookmark that stands afterwards isn't newer than that one
 entry_passes : {X : Type 0} (p : List ℕ × X → Bool) (es : List (List ℕ × X)) (k : List ℕ) (v : X) → IsEntry (filter p es) k v
@@ -102,7 +103,7 @@ pub went_back : (g : ℕ) (f : FileSystem) (t : Snap) → IsIn f.snaps t → Wen
 went_back g f t i = record {
   origin = refl;
   snaps = λ u h. inl (u, (from_filter (λ (u : Snap). nat_le u.group t.group) f.snaps u h).0, refl, refl);
-  live = λ at b marked key c h. inr (inr (t, i, marks_upto f.bookmarks t.group at b marked, h));
+  live = λ at b marked key c h. inr (inr (t, i, marks_upto f.bookmarks t.group at b marked, λ q l. refl));
 }
 
 -- ---- worlds
@@ -229,6 +230,6 @@ module _ (w : World) where
         record {
           origin = o.3;
           snaps = λ u h. ⊎_elim (λ i. inl (u, i, refl, refl)) inr (o.4 u h);
-          live = λ mark b marked key c h. inl (subst (λ m. get m key ≡ Some c) o.2 h);
+          live = λ mark b marked key c h. inl (λ q l. ap (λ m. get m q) (sym o.2));
         },
       )

@@ -74,7 +74,7 @@ bookmark_stands s u (q ∷ qs) (r ∷ rs) mark b held (was, (t, step, rest)) sou
 -- ---- it is made
 
 -- the snapshot of a name, with its file system
-found_at : (w : World) (name : Member) (t : Snap) → snap_named w name ≡ Some t
+pub found_at : (w : World) (name : Member) (t : Snap) → snap_named w name ≡ Some t
     → (f : FileSystem) × (get w.file_systems name.file_system ≡ Some f) × IsIn f.snaps t × (placed w (OfSnapshot name) ≡ Some (f, t))
 found_at w name t e = by_system (get w.file_systems name.file_system) refl e
   where

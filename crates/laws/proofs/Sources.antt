@@ -1,7 +1,11 @@
 -- What serves as a source for a file system serves so in a later world.
-use Rattle.std.proofs.Common.{◌≡◌, ℕ, zero, ◌<◌, ◌≤◌, List, [], Some, None, refl, sym, ap, subst, ◌∙◌, ◌⊎◌, inl, inr, ⊎_elim, map, arith}
+use Rattle.std.proofs.Common.{◌≡◌, ℕ, zero, ◌-◌, ◌/◌, ◌^◌, ◌<◌, ◌≤◌, List, [], Some, None, refl, sym, ap, subst, ◌∙◌, ◌⊎◌, inl, inr, ⊎_elim, map, arith}
+use Rattle.std.specs.Prelude.{IsTrue, nat_le, ◌==◌}
 use Rattle.std.specs.FinMap.{get}
+use Rattle.std.proofs.lemmas.Bool.{eq-eqb, le-leb, and_from}
+use Rattle.std.proofs.Math.Nat.{div-one}
 use Rattle.base.specs.declared.number.Key.{Key}
+use Rattle.base.specs.Key.{is_at_or_below}
 use Rattle.base.specs.Map.{Map, Cell, blocks}
 use Rattle.base.specs.Surveys.{IsIn}
 use Rattle.model.specs.World.{World, FileSystem, Snap, SnapId, Bookmark, Dataset, Live, Snapped, id_of, map_of}
@@ -13,18 +17,28 @@ use Rattle.world.specs.Bookmarks.{IsAncestor}
 use Rattle.world.proofs.Bridge.{shape_at, shape_none, from_shape, among, from_among, map_of_live, map_of_kept, live_row, live_there}
 use Rattle.world.proofs.Maps.{same_value, no_value}
 use Rattle.world.proofs.Moves.{snapshot_of_row}
-use Rattle.laws.specs.Bookmarks.{IsSource}
+use Rattle.laws.specs.Bookmarks.{SharesUntil, IsSource}
 use Rattle.laws.proofs.Chains.{end_row, to_rows, from_rows}
 use Rattle.laws.proofs.Walking.{AreGrown, Met, at_live, taken, kept, low, row_low, past_live, walk}
 
+-- two maps are the same at a key and below it
+abbrev pub IsSameBelow : Key → Map → Map → Type 0
+IsSameBelow key m n = (q : Key) → IsTrue (is_at_or_below key q) → get m q ≡ get n q
+
+pub itself_below : (k : Key) → IsTrue (is_at_or_below k k)
+itself_below k =
+    let z : k.level - k.level ≡ 0 = omega arith in
+    and_from (nat_le k.level k.level) (k.index / 16 ^ (k.level - k.level) == k.index) (le-leb k.level k.level (omega arith))
+    (eq-eqb (k.index / 16 ^ (k.level - k.level)) k.index (ap (λ j. k.index / 16 ^ j) z ∙ div-one k.index))
+
 -- What becomes of a file system in a step, where this group is open: its snapshots are earlier ones, in identity and map, or its live map
--- as it was; what its live map has it had, or is born in the open group, or a snapshot had it that no bookmark is newer than
+-- as it was; what its live map has it had, with all below, or is born in the open group, or a snapshot had it so that no bookmark is newer than
 pub record WentOn (g : ℕ) (f later : FileSystem) : Type 0 where
   pub origin : later.origin ≡ f.origin
   pub snaps : (u : Snap) → IsIn later.snaps u
       → ((v : Snap) × IsIn f.snaps v × (id_of u ≡ id_of v) × (u.map ≡ v.map)) ⊎ ((u.group ≡ g) × (u.map ≡ f.live))
   pub live : (at : List ℕ) (b : Bookmark) → get later.bookmarks at ≡ Some b → (key : Key) (c : Cell) → get later.live key ≡ Some c
-      → (get f.live key ≡ Some c) ⊎ (c.birth ≡ g) ⊎ ((v : Snap) × IsIn f.snaps v × (b.group ≤ v.group) × (get v.map key ≡ Some c))
+      → IsSameBelow key f.live later.live ⊎ (c.birth ≡ g) ⊎ ((v : Snap) × IsIn f.snaps v × (b.group ≤ v.group) × IsSameBelow key v.map later.live)
 
 -- each file system went on so, or is new and has no snapshot
 abbrev pub IsLater : World → World → Type 0
@@ -83,20 +97,24 @@ module _ (w new : World) (good : IsGood (shapes w.file_systems) w.group) (good' 
       (λ k. absurd (no_value f (sym k.0 ∙ is)))
       (later name f' is')
 
-  of_live : (key : Key) (c : Cell) → get f.live key ≡ Some c → c.birth ≤ b.group → get held key ≡ Some c
-  of_live key c h born = source zero (Live name) key c refl (omega arith) (subst (λ m. get m key ≡ Some c) (sym (map_of_live w name f is)) h) born
+  of_live : SharesUntil b.group held f.live
+  of_live = subst (SharesUntil b.group held) (map_of_live w name f is) (source zero (Live name) refl (omega arith))
 
-  of_snap : (v : Snap) → IsIn f.snaps v → b.group ≤ v.group → (key : Key) (c : Cell) → get v.map key ≡ Some c → c.birth ≤ b.group
-      → get held key ≡ Some c
-  of_snap v i l key c h born =
+  of_snap : (v : Snap) → IsIn f.snaps v → b.group ≤ v.group → SharesUntil b.group held v.map
+  of_snap v i l =
       let k = past_live (shapes w.file_systems) w.group good name (shape_of f) shape (snap_shape v) (among f.snaps v i) in
-      source k.0 (Snapped (id_of v)) key c (from_rows w w.group good k.0 (Live name) (Snapped (id_of v)) k.1) l
-      (subst (λ m. get m key ≡ Some c) (sym (map_of_kept w w.group good name f v (id_of v) is i refl)) h) born
+      subst (SharesUntil b.group held) (map_of_kept w w.group good name f v (id_of v) is i refl)
+      (source k.0 (Snapped (id_of v)) (from_rows w w.group good k.0 (Live name) (Snapped (id_of v)) k.1) l)
 
-  new_live : (key : Key) (c : Cell) → get f'.live key ≡ Some c → c.birth ≤ b.group → get held key ≡ Some c
-  new_live key c h born = ⊎_elim
-      (λ k. of_live key c k born)
-      (⊎_elim (λ (e : c.birth ≡ w.group). absurd (omega arith)) (λ (v, i, l, k). of_snap v i l key c k born))
+  -- what is the same below a key is shared
+  through : (m n : Map) → SharesUntil b.group held m → (key below : Key) (c : Cell) → IsSameBelow key m n → get n key ≡ Some c → c.birth ≤ b.group
+      → IsTrue (is_at_or_below key below) → get held below ≡ get n below
+  through m n shares key below c same h born l = shares key below c (same key (itself_below key) ∙ h) born l ∙ same below l
+
+  new_live : SharesUntil b.group held f'.live
+  new_live key below c h born l = ⊎_elim
+      (λ k. through f.live f'.live of_live key below c k h born l)
+      (⊎_elim (λ (e : c.birth ≡ w.group). absurd (omega arith)) (λ (v, i, g, k). through v.map f'.live (of_snap v i g) key below c k h born l))
       (went.live at b marked key c h)
 
   -- a snapshot that was taken since
@@ -139,7 +157,7 @@ module _ (w new : World) (good : IsGood (shapes w.file_systems) w.group) (good' 
       (later s.1.0 x.0 x.1)
 
   pub source_stays : IsSource new name b.group held
-  source_stays k d key c before l h born = by_place (walk (shapes w.file_systems) (shapes new.file_systems) w.group new.group good good' name (shape_of f) shape
+  source_stays k d before l = by_place (walk (shapes w.file_systems) (shapes new.file_systems) w.group new.group good good' name (shape_of f) shape
       (shapes_later w new later) k (Live name) d (at_live refl) chain)
     where
       chain : IsAncestor rows' k (Live name) d
@@ -148,15 +166,15 @@ module _ (w new : World) (good : IsGood (shapes w.file_systems) w.group) (good' 
       end : (m : Row Dataset) × rows' d m
       end = end_row rows' good'.facts k (Live name) d L' in_L' chain
 
-      -- it has the cell where d is that dataset, of this map
-      has : (e : Dataset) (m : Map) → d ≡ e → map_of new e ≡ m → get m key ≡ Some c
-      has e m i maps = subst (λ x. get x key ≡ Some c) (ap (map_of new) i ∙ maps) h
+      -- it shares where d is that dataset, of this map
+      of_map : (e : Dataset) (m : Map) → d ≡ e → map_of new e ≡ m → SharesUntil b.group held m → SharesUntil b.group held (map_of new d)
+      of_map e m i maps = subst (SharesUntil b.group held) (sym (ap (map_of new) i ∙ maps))
 
-      by_place : Met (shapes w.file_systems) (shapes new.file_systems) w.group name d → get held key ≡ Some c
-      by_place (at_live e) = new_live key c (has (Live name) f'.live e (map_of_live new name f' is')) born
-      by_place (taken e u here i g e') = of_live key c (has (Snapped u.id) f.live e' (of_taken e u here i g)) born
+      by_place : Met (shapes w.file_systems) (shapes new.file_systems) w.group name d → SharesUntil b.group held (map_of new d)
+      by_place (at_live e) = of_map (Live name) f'.live e (map_of_live new name f' is') new_live
+      by_place (taken e u here i g e') = of_map (Snapped u.id) f.live e' (of_taken e u here i g) of_live
       by_place (kept j id e a) =
           let n = end_row rows good.facts j (Live name) (Snapped id) L in_L a in
           let maps = of_kept id n.0 end.0 n.1 (subst (λ y. rows' y end.0) e end.1) in
-          source j (Snapped id) key c (from_rows w w.group good j (Live name) (Snapped id) a) (subst (λ y. b.group ≤ group_of new y) e l)
-          (has (Snapped id) (map_of w (Snapped id)) e maps) born
+          of_map (Snapped id) (map_of w (Snapped id)) e maps
+          (source j (Snapped id) (from_rows w w.group good j (Live name) (Snapped id) a) (subst (λ y. b.group ≤ group_of new y) e l))

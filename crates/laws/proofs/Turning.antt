@@ -22,7 +22,7 @@ use Rattle.world.proofs.Requests.{lineage_facts}
 use Rattle.world.proofs.Viewed.{AreOnce, AreClosed, found_after}
 use Rattle.world.proofs.ViewedClones.{promoted_safe}
 use Rattle.world.proofs.ViewedSteps.{viewed}
-use Rattle.laws.specs.Bookmarks.{IsBefore, IsSource}
+use Rattle.laws.specs.Bookmarks.{IsBefore, SharesUntil, IsSource}
 
 module _ (w : World) (good : AreFileSystems w.file_systems w.group) (name : Name) (p : Promotion) (is : promotion_of w name ≡ Some p)
     (clash : (t u : Snap) → IsIn (promoted_snaps p) t → IsIn p.clone.snaps u → t.name ≡ u.name → ⊥) where
@@ -91,9 +91,9 @@ module _ (w : World) (good : AreFileSystems w.file_systems w.group) (name : Name
   -- so what served as a source serves so
   pub turned_source : (q : Name) (f : FileSystem) → get w.file_systems q ≡ Some f → (group : ℕ) (held : Map) → IsSource w q group held
       → IsSource (after_promotion w name p) q group held
-  turned_source q f at group held source k d key c before l h born =
+  turned_source q f at group held source k d before l =
       let r = turned_chain k (Live q) d (f, at) before in
-      source k d key c r.0 (subst (λ y. group ≤ y) (same_group d) l) (subst (λ m. get m key ≡ Some c) (turned_map d r.1) h) born
+      subst (SharesUntil group held) (sym (turned_map d r.1)) (source k d r.0 (subst (λ y. group ≤ y) (same_group d) l))
     where
       same_group : (d : Dataset) → group_of (after_promotion w name p) d ≡ group_of w d
       same_group (Live q) = refl

@@ -1,7 +1,8 @@
 -- What a bookmark promises in every run: the map that its snapshot had serves as a source for each later dataset of the lineage.
-use Rattle.std.specs.Prelude.{◌≡◌, ◌≤◌, ℕ, zero, suc, List, [], ◌∷◌, Some}
+use Rattle.std.specs.Prelude.{◌≡◌, ◌≤◌, ℕ, zero, suc, List, [], ◌∷◌, Some, IsTrue}
 use Rattle.std.specs.FinMap.{get}
 use Rattle.base.specs.declared.number.Key.{Key}
+use Rattle.base.specs.Key.{is_at_or_below}
 use Rattle.base.specs.Map.{Map, Cell}
 use Rattle.name.specs.declared.member.Member.{Member}
 use Rattle.name.specs.declared.target.Target.TheVariants.{Snapshot as OfSnapshot}
@@ -21,13 +22,16 @@ abbrev pub IsBefore : World → ℕ → Dataset → Dataset → Type 0
 IsBefore w zero d e = d ≡ e
 IsBefore w (suc k) d e = (id : SnapId) × (previous_of w d ≡ Some id) × IsBefore w k (Snapped id) e
 
--- What was held in this group serves as a source for a file system: what its live map has, or a dataset before it whose group is not
--- below that one, and was born by that group, is held at the same key, in the same block and with the same bytes (zfs-send(8), -i with
--- a bookmark; On-Disk Specification, chapter 4)
+-- what the map has and was born by this group, the held one has at the same key, in the same block and with the same bytes, and below it both
+-- are the same (zfs-send(8), -i; On-Disk Specification, chapters 2 and 3)
+abbrev pub SharesUntil : ℕ → Map → Map → Type 0
+SharesUntil group held m =
+    (key below : Key) (c : Cell) → get m key ≡ Some c → c.birth ≤ group → IsTrue (is_at_or_below key below) → get held below ≡ get m below
+
+-- What was held in this group serves as a source for a file system: it shares with its live map, and with each dataset before that whose
+-- group is not below this one, what they have from this group and before (zfs-send(8), -i with a bookmark; On-Disk Specification, chapter 4)
 abbrev pub IsSource : World → List ℕ → ℕ → Map → Type 0
-IsSource w name group held =
-    (k : ℕ) (d : Dataset) (key : Key) (c : Cell) → IsBefore w k (Live name) d → group ≤ group_of w d → get (map_of w d) key ≡ Some c
-    → c.birth ≤ group → get held key ≡ Some c
+IsSource w name group held = (k : ℕ) (d : Dataset) → IsBefore w k (Live name) d → group ≤ group_of w d → SharesUntil group held (map_of w d)
 
 -- a pool's state, in which the bookmark stands (zfs-bookmark(8); profile)
 abbrev pub IsMarkedBy : Member → Bookmark → State → Type 0

@@ -1,0 +1,16 @@
+use Rattle.records.proofs.Applied.{sends_difference, full_sends}
+use Rattle.records.proofs.Blocks.{blocks_are_enough}
+use Rattle.records.proofs.Ordered.{sends_are_streams}
+use Rattle.records.proofs.laws.send_laws.Goals as goal
+
+pub returns-clause-difference : goal.returns-clause-difference
+returns-clause-difference c = sends_difference
+
+pub returns-clause-full : goal.returns-clause-full
+returns-clause-full c = full_sends
+
+pub returns-clause-blocks : goal.returns-clause-blocks
+returns-clause-blocks c = blocks_are_enough
+
+pub returns-clause-streams : goal.returns-clause-streams
+returns-clause-streams c = sends_are_streams

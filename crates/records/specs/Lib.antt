@@ -1,0 +1,3 @@
+pub mod Records
+pub mod Laws
+pub mod Sends
