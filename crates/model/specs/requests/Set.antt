@@ -7,14 +7,14 @@ use Rattle.model.specs.declared.limits.Limit.{Limit}
 use Rattle.model.specs.declared.reply.Reply.TheVariants.{Done}
 use Rattle.model.specs.World.{World}
 use Rattle.model.specs.State.{State}
-use Rattle.model.specs.Limits.{with_limit}
+use Rattle.model.specs.Limits.{limited}
 use Rattle.model.specs.Edits.{with_now, with_file_system}
 use Rattle.model.specs.Rule.{Row, Rule, any_choice}
 use Rattle.model.specs.requests.Change.{limit_row}
 
 -- the file system of this name with one limit set to an amount, or to none (zfsprops(7): quota, refquota, reservation, refreservation)
 abbrev pub after_set : World → List ℕ → Limit → Option ℕ → World
-after_set w name limit amount = with_file_system w name (λ f. record f { limits = with_limit f.limits limit amount })
+after_set w name limit amount = with_file_system w name (λ f. limited f limit amount)
 
 -- the file system must be there; and all limits must hold then, except where this one is set to none (zfs-set(8), zfsprops(7): quota,
 -- refquota, reservation; that none is always let through is profile)
