@@ -12,4 +12,5 @@ pub mod Placed
 pub mod Cloned
 pub mod Promoted
 pub mod ClonesOf
+pub mod Changed
 pub mod Bookmarked

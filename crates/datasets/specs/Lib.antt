@@ -3,3 +3,4 @@ pub mod Writes
 pub mod Snapshots
 pub mod Rollbacks
 pub mod Clones
+pub mod Limits

@@ -25,12 +25,14 @@ ghost use Rattle.file_systems.specs.Clones.{row_in};
 ghost use Rattle.file_system.specs.Losses.{newest_map};
 ghost use Rattle.file_system.specs.Rows.{Row, live_of, snaps_at, with_live, snap_count, plain_snap};
 ghost use Rattle.datasets.specs.Clones.{with_clone_of, with_promoted};
+ghost use Rattle.datasets.specs.Limits.{with_limit_of};
 ghost use Rattle.datasets.specs.Rollbacks.{Loses};
 ghost use Rattle.datasets.specs.Table.{AreNumbersOne, AreBookmarksClosed, AreSnapshotsClosed};
 ghost use Rattle.datasets.specs.Writes.{young_of, AllowsWrite, HasWritten};
 ghost use Rattle.datasets.specs.Snapshots.{with_snap_at};
 
 use crate::parent::parent_of;
+use base::limit::Blocks;
 use base::meter::{Meter, SegMeter};
 use base::number::{Group, Guid};
 use base::refusal::Refusal;
@@ -38,6 +40,7 @@ use bookmarks::Bookmarks;
 use deadlist::deadlist::Deadlist;
 use file_systems::{CloneName, FileSystem, FileSystems, Lost, Snapshot};
 use holds::Holds;
+use model::limits::Limit;
 use model::snapshot_id::SnapshotId;
 use name::{Component, DsName, Member};
 use std::alloc::Global;
@@ -414,6 +417,27 @@ impl Table {
             return Err(Refusal::NoDataset);
         }
         self.systems.set_bookmarks(alloc, name, bookmarks)
+    }
+
+    /// From now on this file system has this limit, or none; whether the limits hold then isn't asked (zfsprops(7): quota, refquota,
+    /// reservation, refreservation). NoDataset exactly where there is no file system of this name; else NoMemory where there is none for
+    /// it. At `Err` the table is as it was. It costs the logarithm of the number of file systems.
+    pub fn set_limit(
+        &mut self,
+        alloc: Global,
+        name: &DsName,
+        limit: Limit,
+        amount: Option<Blocks>,
+    ) -> Result<(), Refusal>
+        ensures ok { OnOk result (self.new ≡ with_limit_of self.old name.now limit amount) }
+        ensures no_dataset { (result ≡ Err Refusal.NoDataset) ↔ (get self.old.file_systems name.now ≡ None) }
+        ensures err { OnErr result (self.new ≡ self.old) }
+        ensures only { IfErr result (λ e. (e ≡ Refusal.NoDataset) ⊎ (e ≡ Refusal.NoMemory)) }
+    {
+        if !self.systems.contains(name.as_bytes()) {
+            return Err(Refusal::NoDataset);
+        }
+        self.systems.set_limit(alloc, name, limit, amount)
     }
 
     /// Makes the map of its newest snapshot the live map of this file system (zfs-rollback(8)), by one more owner of its tree, and answers

@@ -11,7 +11,7 @@ use Rattle.std.specs.FinMap as finmap
 use Rattle.base.specs.Map.{Map}
 use Rattle.base.specs.Codes.{map_code}
 use Rattle.name.specs.Names.{name_cmp}
-use Rattle.model.specs.World.{FileSystem, Snap, SnapId, Bookmark, empty_file_system}
+use Rattle.model.specs.World.{FileSystem, Snap, SnapId, Bookmark, Limits, empty_file_system}
 pub use Rattle.model.specs.Hierarchy.{FileSystems}
 pub use Rattle.snapshots.specs.Snaps.{plain_snap}
 use Rattle.model.specs.Codes.{file_system_code}
@@ -29,10 +29,10 @@ row_code =
     code_by (List ℕ × (FileSystem × Map)) (coded× (coded_list coded_ℕ) (coded× file_system_code map_code))
     (λ r. (r.name, (r.system, r.below))) (λ p. record { name = p.0; system = p.1.0; below = p.1.1 }) (λ _. refl)
 
--- a file system of this live map, these snapshots, this origin and these bookmarks, which has no limits (On-Disk Specification, chapter 4;
--- zfs-bookmark(8))
-abbrev pub system_of : Map → List Snap → Option SnapId → FinMap name_cmp Bookmark → FileSystem
-system_of live snaps origin bookmarks = record empty_file_system { live = live; snaps = snaps; origin = origin; bookmarks = bookmarks }
+-- a file system of this live map, these snapshots, this origin, these limits and these bookmarks (On-Disk Specification, chapter 4;
+-- zfsprops(7), zfs-bookmark(8))
+abbrev pub system_of : Map → List Snap → Option SnapId → Limits → FinMap name_cmp Bookmark → FileSystem
+system_of live snaps origin limits bookmarks = record { live = live; snaps = snaps; origin = origin; limits = limits; bookmarks = bookmarks }
 
 -- a new file system under a name (zfs-create(8))
 abbrev pub new_row : List ℕ → Row

@@ -10,6 +10,7 @@ ghost use Rattle.base.specs.Map.{blocks};
 ghost use Rattle.base.specs.Surveys.{dead_block};
 ghost use Rattle.model.specs.World.{id_of, same_id, blocks_of_all};
 ghost use Rattle.model.specs.Ids.{snap_id};
+ghost use Rattle.model.specs.Limits.{limited};
 ghost use Rattle.model.specs.Sums.{size_without};
 ghost use Rattle.tree.specs.Asking.{IsNoSpaceOrNoMemory};
 ghost use Rattle.tree.specs.Change.{HasRoom, LacksRoom, CountsDropped};
@@ -33,12 +34,14 @@ use crate::mark::{Edit, edited};
 use crate::origin::{Origin, base_group, copy_of_origin, origin_in, origin_of};
 use crate::splice::{joined, joined_next, kept_of, place_of};
 use crate::written::{group_of, written_over};
+use base::limit::Blocks;
 use base::meter::{Meter, SegMeter};
 use base::number::{Dead, Group, Guid};
 use base::refusal::Refusal;
 use bookmarks::Bookmarks;
 use deadlist::deadlist::Deadlist;
 use holds::Holds;
+use model::limits::{Limit, Limits};
 use model::snapshot_id::SnapshotId;
 use name::{Component, DsName};
 use shared_list::SharedList;
@@ -50,8 +53,8 @@ use std::sync::Arc;
 use tree::{Changed, Tree, Update};
 use zalloc::Allocator;
 
-/// A file system: its name, its live dataset, its snapshots in order of their creation groups, its origin where it is a clone, and its
-/// bookmarks (On-Disk Specification, chapter 4; zfs-bookmark(8)). Contracts see its name, what a world has under that name, and the map of
+/// A file system: its name, its live dataset, its snapshots in order of their creation groups, its origin where it is a clone, its limits,
+/// and its bookmarks (On-Disk Specification, chapter 4; zfs-bookmark(8)). Contracts see its name, what a world has under that name, and the map of
 /// the origin, which is the empty one where there is none. Copies share the name, the tree, the dead lists, the snapshots, the origin and
 /// the bookmarks. It keeps two counts of blocks: of its live map without its origin's, and of its snapshots without those of either.
 #[derive(Drop)]
@@ -61,6 +64,7 @@ pub struct FileSystem {
     pub(crate) dead: Arc<Deadlist>,
     pub(crate) snapshots: Arc<Line>,
     pub(crate) origin: Option<Arc<Origin>>,
+    pub(crate) limits: Limits,
     pub(crate) bookmarks: Arc<Bookmarks>,
     pub(crate) counts: Counts,
 }
@@ -79,7 +83,7 @@ impl Model for FileSystem {
 
     ghost view = { λ f. record {
       name = f.name.value;
-      system = system_of f.live (snaps_in (arc_value f.snapshots)) (origin_id (option_map arc_value f.origin)) (arc_value f.bookmarks);
+      system = system_of f.live (snaps_in (arc_value f.snapshots)) (origin_id (option_map arc_value f.origin)) f.limits (arc_value f.bookmarks);
       below = map_below (option_map arc_value f.origin);
     } };
 
@@ -87,7 +91,7 @@ impl Model for FileSystem {
 }
 
 impl FileSystem {
-    /// A file system without a block, without an origin and without a bookmark, under this name (zfs-create(8)). NoMemory where there is
+    /// A file system without a block, an origin, a limit or a bookmark, under this name (zfs-create(8)). NoMemory where there is
     /// none for it. It costs the length of the name.
     pub fn new(alloc: Global, name: &DsName) -> Result<FileSystem, Refusal>
         ensures ok { IfOk result (λ f. f ≡ new_row name.now) }
@@ -103,13 +107,14 @@ impl FileSystem {
             dead,
             snapshots,
             origin: None,
+            limits: Limits::none(),
             bookmarks,
             counts: no_counts(),
         })
     }
 
     /// A clone of a snapshot, under this name: its live map is the snapshot's, by one more owner of its tree, and the snapshot is its
-    /// origin; it has no bookmark (zfs-clone(8)). NoMemory where there is none for it. It costs the length of the name.
+    /// origin; it has neither a limit nor a bookmark (zfs-clone(8)). NoMemory where there is none for it. It costs the length of the name.
     pub fn clone_of(
         alloc: Global,
         name: &DsName,
@@ -130,6 +135,7 @@ impl FileSystem {
             dead,
             snapshots,
             origin: Some(origin),
+            limits: Limits::none(),
             bookmarks,
             counts: no_counts(),
         })
@@ -184,6 +190,20 @@ impl FileSystem {
         ensures { option_map snap_id result ≡ self.now.system.origin }
     {
         origin_in(&self.origin).map(|origin| origin.id())
+    }
+
+    /// Its limits (zfsprops(7): quota, refquota, reservation, refreservation). Constant time.
+    pub fn limits(&self) -> Limits
+        ensures { result ≡ self.now.system.limits }
+    {
+        self.limits
+    }
+
+    /// From now on it has this limit, or none (zfsprops(7)). Constant time.
+    pub fn set_limit(&mut self, limit: Limit, amount: Option<Blocks>)
+        ensures { self.new ≡ with_system self.old (limited self.old.system limit amount) }
+    {
+        self.limits = self.limits.with(limit, amount);
     }
 
     /// Its bookmarks (zfs-bookmark(8)). Constant time.
@@ -261,6 +281,7 @@ impl FileSystem {
             dead,
             snapshots,
             origin,
+            limits: self.limits,
             bookmarks,
             counts: self.counts,
         })

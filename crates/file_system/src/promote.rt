@@ -58,7 +58,7 @@ fn appended(alloc: Global, line: Arc<Line>, others: &Line) -> Result<Arc<Line>, 
 impl FileSystem {
     /// This file system, whose origin is that snapshot of the other, and the other after a promote (zfs-promote(8)): the first has the
     /// snapshots of the other up to its origin before its own, and the other's origin; the other has its newer snapshots, and that snapshot
-    /// as its origin. Each keeps its bookmarks. No block is visited, and each dead list stays as it is, since no dataset has another before
+    /// as its origin. Each keeps its limits and its bookmarks. No block is visited, and each dead list stays as it is, since no dataset has another before
     /// it; what the live map and the snapshots of each have alone is counted again. NoMemory where there is none for it, or the
     /// snapshots of one have more blocks than a u64 counts. It costs the number of snapshots of both and the segments of their dead lists,
     /// for the counts; and where the origin isn't the other's newest snapshot or the first has some, for each snapshot of the smaller part
@@ -113,6 +113,7 @@ impl FileSystem {
             dead,
             snapshots,
             origin,
+            limits: self.limits,
             bookmarks,
             counts,
         })

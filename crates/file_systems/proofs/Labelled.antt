@@ -1,4 +1,5 @@
--- A row in place of another, from which it differs in what labels its file system: the tags and marks of its snapshots, and its bookmarks.
+-- A row in place of another, from which it differs in what labels its file system: the tags and marks of its snapshots, its limits, and its
+-- bookmarks.
 use Rattle.std.proofs.Common.{◌≡◌, ℕ, Bool, true, false, cond, List, [], ◌∷◌, length, get_or, set, map, Option, Some, is_some, refl, sym, ap, subst, ◌∙◌, true≢false}
 use Rattle.std.proofs.lemmas.List.{map-set, length-map}
 use Rattle.std.proofs.Math.Seq.{map-set_same}

@@ -1,6 +1,6 @@
 -- Rows in byte order as a map of file systems.
 use Rattle.std.proofs.Common.{◌≡◌, ℕ, ◌<◌, Bool, true, false, cond, T, List, [], ◌∷◌, length, get_or, set, map, Option, Some, None, is_some, refl, sym, ap, subst, ◌∙◌, arith, true≢false}
-use Rattle.std.specs.Prelude.{IsSome, IfSome, IsTrue}
+use Rattle.std.specs.Prelude.{IsSome, IfSome, IsTrue, OnErr}
 use Rattle.std.specs.Bool.{passes}
 use Rattle.std.specs.Option.{option_map_or}
 use Rattle.std.specs.Ordering.{is_eq, ordering_index}
@@ -25,6 +25,11 @@ use Rattle.file_systems.proofs.Sorted.{comparisons_rise, find_at, put_at, find_g
 -- only equal names tie
 pub same_name : IsAntisymmetric name_cmp
 same_name = slice_cmp-IsAntisymmetric nat_cmp-IsAntisymmetric
+
+-- what holds in any case holds on failure
+pub on_err : {T E P : Type 0} (r : Result T E) → P → OnErr r P
+on_err (Ok v) p = tt
+on_err (Err e) p = p
 
 pub true_from : (b : Bool) → T b → b ≡ true
 true_from true h = refl

@@ -4,3 +4,4 @@ pub mod Places
 pub mod Sorted
 pub mod Promotions
 pub mod Bookmarked
+pub mod Limited

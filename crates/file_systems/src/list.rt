@@ -13,6 +13,7 @@ ghost use Rattle.base.specs.Surveys.{IsIn};
 ghost use Rattle.world.specs.Dead.{HasNoCloneIn};
 ghost use Rattle.model.specs.Ids.{snap_id};
 ghost use Rattle.file_systems.specs.Bookmarked.{bookmarked_of};
+ghost use Rattle.file_systems.specs.Limited.{limited_of};
 ghost use Rattle.file_systems.specs.CloneNames.{name_of, clones_in};
 ghost use Rattle.file_systems.specs.Clones.{all_snaps, origin_at, below_at, row_in, IsTied};
 ghost use Rattle.file_system.specs.Dead.{AllowsLive, IsAbove};
@@ -32,9 +33,10 @@ ghost use Rattle.tree.specs.Updates.{changes_of};
 use crate::clones::{CloneIndex, CloneName};
 use crate::place::{gap, place};
 use crate::row::{
-    apply, defer, owner_place, promoted, put, rollback, set_bookmarks, set_tags, shared, splice,
-    take,
+    apply, defer, owner_place, promoted, put, rollback, set_bookmarks, set_limit, set_tags, shared,
+    splice, take,
 };
+use base::limit::Blocks;
 use base::meter::{Meter, SegMeter};
 use base::number::{Group, Guid};
 use base::refusal::Refusal;
@@ -42,6 +44,7 @@ use bookmarks::Bookmarks;
 use deadlist::deadlist::Deadlist;
 use file_system::{FileSystem, Lost};
 use holds::Holds;
+use model::limits::Limit;
 use model::snapshot_id::SnapshotId;
 use name::{Component, DsName};
 use std::alloc::Global;
@@ -372,6 +375,28 @@ impl FileSystems {
             unreachable!()
         };
         set_bookmarks(&mut self.rows[place], alloc, bookmarks)?;
+        Ok(())
+    }
+
+    /// From now on this file system, which is there, has this limit, or none (zfsprops(7): quota, refquota, reservation, refreservation).
+    /// NoMemory where there is none for it; then all are as they were. Where others share the file system, a copy of it takes its place. It
+    /// costs the logarithm of the number of file systems.
+    pub fn set_limit(
+        &mut self,
+        alloc: Global,
+        name: &DsName,
+        limit: Limit,
+        amount: Option<Blocks>,
+    ) -> Result<(), Refusal>
+        requires there { IsSome (get self.old name.now) }
+        ensures ok { OnOk result (self.new ≡ limited_of self.old name.now limit amount) }
+        ensures err { OnErr result (self.new ≡ self.old) }
+        ensures only { IfErr result (λ e. e ≡ Refusal.NoMemory) }
+    {
+        let Ok(place) = place(&self.rows, name.as_bytes()) else {
+            unreachable!()
+        };
+        set_limit(&mut self.rows[place], alloc, limit, amount)?;
         Ok(())
     }
 

@@ -6,6 +6,7 @@ ghost use Rattle.base.specs.Map.{blocks};
 ghost use Rattle.base.specs.Surveys.{IsIn, dead_block};
 ghost use Rattle.model.specs.World.{id_of, same_id};
 ghost use Rattle.model.specs.Ids.{snap_id};
+ghost use Rattle.model.specs.Limits.{limited};
 ghost use Rattle.world.specs.Worlds.{AreRising};
 ghost use Rattle.file_system.specs.Promotions.{promoted_row, demoted_row, CanPromote};
 ghost use Rattle.base.specs.declared.refusal.Refusal.{Refusal};
@@ -21,6 +22,7 @@ ghost use Rattle.file_system.specs.Deferred.{deferred_at, tagged_at};
 ghost use Rattle.world.specs.Deadlists.{Lists};
 ghost use Rattle.file_system.specs.Writes.{young_after, IsWritten};
 
+use base::limit::Blocks;
 use base::meter::{Meter, SegMeter};
 use base::number::{Group, Guid};
 use base::refusal::Refusal;
@@ -28,6 +30,7 @@ use bookmarks::Bookmarks;
 use deadlist::deadlist::Deadlist;
 use file_system::{FileSystem, Lost};
 use holds::Holds;
+use model::limits::Limit;
 use model::snapshot_id::SnapshotId;
 use name::Component;
 use std::alloc::Global;
@@ -231,6 +234,28 @@ pub fn set_bookmarks(
     }
     let mut file_system = row.copy()?;
     file_system.set_bookmarks(bookmarks);
+    *row = Arc::new(alloc, file_system)?;
+    Ok(())
+}
+
+/// From now on a row has this limit, or none, as `FileSystem::set_limit` says: itself, if it has no other owner, and else a copy of it,
+/// which comes to its place. NoMemory where there is none for that; then it is as it was.
+pub fn set_limit(
+    row: &mut Arc<FileSystem>,
+    alloc: Global,
+    limit: Limit,
+    amount: Option<Blocks>,
+) -> Result<(), Refusal>
+    ensures ok { OnOk result (arc_value row.new ≡ with_system (arc_value row.old) (limited (arc_value row.old).system limit amount)) }
+    ensures err { OnErr result (arc_value row.new ≡ arc_value row.old) }
+    ensures only { IfErr result (λ e. e ≡ Refusal.NoMemory) }
+{
+    if let Some(file_system) = Arc::get_mut(row) {
+        file_system.set_limit(limit, amount);
+        return Ok(());
+    }
+    let mut file_system = row.copy()?;
+    file_system.set_limit(limit, amount);
     *row = Arc::new(alloc, file_system)?;
     Ok(())
 }

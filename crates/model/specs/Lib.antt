@@ -7,6 +7,7 @@ pub mod Ids
 pub mod Hierarchy
 pub mod Codes
 pub mod Sums
+pub mod Limits
 pub mod Fits
 pub mod Properties
 pub mod Targets

@@ -51,6 +51,7 @@ pub mod Hold
 pub mod Release
 pub mod Holds
 pub mod Bookmark
+pub mod Set
 pub mod WrittenSince
 pub mod WouldFree
 

@@ -2,6 +2,7 @@
 #![tactic(auto)]
 
 pub mod entry;
+pub mod limits;
 pub mod names;
 pub mod reply;
 pub mod request;

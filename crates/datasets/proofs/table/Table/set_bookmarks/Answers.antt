@@ -6,7 +6,8 @@ use Rattle.model.specs.World.{Bookmark}
 use Rattle.file_systems.specs.Bookmarked.{bookmarked_of}
 use Rattle.world.specs.Tables.{Datasets, with_bookmarks}
 use Rattle.datasets.proofs.Kept.{added_table}
-use Rattle.datasets.proofs.Bookmarked.{bookmarked_table, is_bookmarked}
+use Rattle.datasets.proofs.Changed.{is_changed}
+use Rattle.datasets.proofs.Bookmarked.{bookmarked_table}
 use Rattle.datasets.proofs.table.Table.set_bookmarks.Goals as goal
 
 -- the bookmarks are of closed groups
@@ -21,5 +22,5 @@ invariant_of-self c =
 pub returns-clause-ok : goal.returns-clause-ok
 returns-clause-ok c =
     subst (λ (t : Datasets). OnOk c.set_bookmarks.result (record { file_systems = c.set_bookmarks.new.self; group = c.self.inside.group.0 } ≡ with_bookmarks t c.args.name.now (arc_value c.args.bookmarks))) c.self.view_is
-    (is_bookmarked (record { file_systems = c.self.inside.systems; group = c.self.inside.group.0 }) c.args.name.now (arc_value c.args.bookmarks)
+    (is_changed (record { file_systems = c.self.inside.systems; group = c.self.inside.group.0 }) c.args.name.now (λ f. record f { bookmarks = arc_value c.args.bookmarks })
     c.set_bookmarks.result c.set_bookmarks.new.self c.set_bookmarks.ensures.ok)

@@ -39,7 +39,7 @@ returns-clause-ok c =
     let origin : option_map arc_value c.in_ok-origin.origin ≡ option_map arc_value c.self.inside.origin = c.in_ok-origin.ensures.ok in
     (λ i. record {
       name = c.in_ok-name.ensures i;
-      system = system_of (live i) (snaps_in (c.in_ok-snapshots.ensures i)) (origin_id (origin i)) (c.in_ok-bookmarks.ensures i);
+      system = system_of (live i) (snaps_in (c.in_ok-snapshots.ensures i)) (origin_id (origin i)) c.self.inside.limits (c.in_ok-bookmarks.ensures i);
       below = map_below (origin i);
     })
     ∙ c.self.view_is

@@ -74,7 +74,7 @@ returns-clause-ok c =
     let at : option_map (λ (k : Kept). k.snapshot.group) (slice_get ks i) ≡ Some g = ap (λ l. option_map (λ (k : Kept). k.snapshot.group) (slice_get l i)) (sym kept) ∙ c.place_of-place.ensures.is in
     let is : IsEdited (edit_of c.args.edit) ks i c.in_ok-next.next = subst (λ l. IsEdited (edit_of c.args.edit) l i c.in_ok-next.next) kept c.in_ok-next.ensures.ok in
     let group : is.now.snapshot.group ≡ g = some_is (sym (ap (option_map (λ (k : Kept). k.snapshot.group)) is.there) ∙ at) in
-    ap (λ l. record { name = c.self.inside.name.value; system = system_of live l (origin_id (option_map arc_value c.self.inside.origin)) (arc_value c.self.inside.bookmarks); below = map_below (option_map arc_value c.self.inside.origin) }) (ap snaps_in c.in_ok-set_in.ensures.ok ∙ edited_snaps (edit_of c.args.edit) base g i ks c.in_ok-next.next is rising group)
+    ap (λ l. record { name = c.self.inside.name.value; system = system_of live l (origin_id (option_map arc_value c.self.inside.origin)) c.self.inside.limits (arc_value c.self.inside.bookmarks); below = map_below (option_map arc_value c.self.inside.origin) }) (ap snaps_in c.in_ok-set_in.ensures.ok ∙ edited_snaps (edit_of c.args.edit) base g i ks c.in_ok-next.next is rising group)
     ∙ ap (λ (r : Row). with_system r (edited_at (edit_of c.args.edit) r.system g)) c.self.view_is
 
 -- the snapshots of a clone rise above 0 too

@@ -14,16 +14,16 @@ use Rattle.file_system.proofs.file_system.FileSystem.new.Goals as goal
 -- there is no snapshot, and nothing is dead
 pub invariant_of-result : goal.invariant_of-result
 invariant_of-result c =
-    let none = c.in_ok-snapshots.ensures.ok ∙ c.new-3.ensures in
+    let bare = c.in_ok-snapshots.ensures.ok ∙ c.new-3.ensures in
     record {
-      accounted = subst (AreAccounted (blocks finmap.empty)) (sym none) tt;
-      dead = fresh_dead (blocks finmap.empty) _ _ (blocks c.new-5.result) (ap (λ (h : Held). h.entries) c.in_ok-dead.ensures.ok ∙ c.new.ensures.entries) none
+      accounted = subst (AreAccounted (blocks finmap.empty)) (sym bare) tt;
+      dead = fresh_dead (blocks finmap.empty) _ _ (blocks c.new-5.result) (ap (λ (h : Held). h.entries) c.in_ok-dead.ensures.ok ∙ c.new.ensures.entries) bare
           (subst (λ (s : BlockSet). Lists [] (difference s (blocks c.new-5.result))) (sym blocks_none) (nothing_before (blocks c.new-5.result)));
-      counted = fresh_counted finmap.empty _ c.new-5.result _ none (sym c.new-5.ensures) c.no_counts.ensures.by_dataset c.no_counts.ensures.by_snapshots;
+      counted = fresh_counted finmap.empty _ c.new-5.result _ bare (sym c.new-5.ensures) c.no_counts.ensures.by_dataset c.no_counts.ensures.by_snapshots;
     }
 
 pub returns-clause-ok : goal.returns-clause-ok
 returns-clause-ok c =
     let name : c.in_ok-name.name.value ≡ c.args.name.now = c.in_ok-name.ensures.ok in
-    let none = c.in_ok-snapshots.ensures.ok ∙ c.new-3.ensures in
-    λ i. record { name = name i; system = system_of (c.new-5.ensures i) (snaps_in (none i)) None (c.in_ok-bookmarks.ensures.ok i); below = finmap.empty }
+    let bare = c.in_ok-snapshots.ensures.ok ∙ c.new-3.ensures in
+    λ i. record { name = name i; system = system_of (c.new-5.ensures i) (snaps_in (bare i)) None (c.none.ensures i) (c.in_ok-bookmarks.ensures.ok i); below = finmap.empty }

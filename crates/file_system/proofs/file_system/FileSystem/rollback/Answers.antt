@@ -109,5 +109,5 @@ returns-clause-ok c =
     let newest : Kept = c.in-Some.newest.now in
     let last : Some newest ≡ slice_get ks (length ks - 1) = c.in-Some.ensures ∙ ap (λ (l : List Kept). slice_get l (length l - 1)) c.deref.ensures in
     let live : c.in_ok-live.live ≡ newest.snapshot.map = c.in_ok-live.ensures.ok ∙ c.tree.ensures in
-    ap (λ (m : Map). record { name = c.self.inside.name.value; system = system_of m (snaps_in ks) (origin_id (option_map arc_value c.self.inside.origin)) (arc_value c.self.inside.bookmarks); below = map_below (option_map arc_value c.self.inside.origin) }) (live ∙ sym (newest_map_is c.self.inside.live ks newest (sym last)))
+    ap (λ (m : Map). record { name = c.self.inside.name.value; system = system_of m (snaps_in ks) (origin_id (option_map arc_value c.self.inside.origin)) c.self.inside.limits (arc_value c.self.inside.bookmarks); below = map_below (option_map arc_value c.self.inside.origin) }) (live ∙ sym (newest_map_is c.self.inside.live ks newest (sym last)))
     ∙ ap (λ (r : Row). with_system r (record r.system { live = newest_map r.system.live r.system.snaps })) c.self.view_is

@@ -109,7 +109,7 @@ returns-then-place-count-clause-ok c =
     let is : IsNext bs ks i next lost =
     subst (λ x. IsNext (blocks_below x) ks i next lost) c.origin_in-origin.ensures (subst (λ l. IsNext (blocks_below (option_copied c.origin_in-origin.result)) l i next lost) kept c.in_ok-next.ensures.ok) in
     let spliced : arc_value c.splice_in.new.line ≡ set (remove ks i) i next = c.in_ok-splice_in.ensures.ok in
-    ap (λ l. record { name = c.self.inside.name.value; system = system_of live l (origin_id (option_map arc_value c.self.inside.origin)) (arc_value c.self.inside.bookmarks); below = map_below (option_map arc_value c.self.inside.origin) }) (ap snaps_in spliced ∙ next_snaps bs base ks i g live next lost is rising at)
+    ap (λ l. record { name = c.self.inside.name.value; system = system_of live l (origin_id (option_map arc_value c.self.inside.origin)) c.self.inside.limits (arc_value c.self.inside.bookmarks); below = map_below (option_map arc_value c.self.inside.origin) }) (ap snaps_in spliced ∙ next_snaps bs base ks i g live next lost is rising at)
     ∙ ap (λ (r : Row). with_system r (without_group r.system g)) c.self.view_is
 
 pub returns-then-place-count-clause-lost : goal.returns-then-place-count-clause-lost
@@ -221,7 +221,7 @@ returns-clause-ok c =
     let base = group_below o in
     let rising : AreRising base (snaps_in ks) = subst (λ (r : Row). AreRising (origin_group r.system.origin) r.system.snaps) (sym c.self.view_is) c.requires.above.rising in
     let at : option_map (λ (k : Kept). k.snapshot.group) (slice_get ks i) ≡ Some g = ap (λ l. option_map (λ (k : Kept). k.snapshot.group) (slice_get l i)) (sym kept) ∙ c.place_of-place.ensures.is in
-    ap (λ l. record { name = c.self.inside.name.value; system = system_of live l (origin_id (option_map arc_value c.self.inside.origin)) (arc_value c.self.inside.bookmarks); below = map_below (option_map arc_value c.self.inside.origin) }) (ap snaps_in c.in_ok-remove_from.ensures.ok ∙ others_stay base g i ks rising at)
+    ap (λ l. record { name = c.self.inside.name.value; system = system_of live l (origin_id (option_map arc_value c.self.inside.origin)) c.self.inside.limits (arc_value c.self.inside.bookmarks); below = map_below (option_map arc_value c.self.inside.origin) }) (ap snaps_in c.in_ok-remove_from.ensures.ok ∙ others_stay base g i ks rising at)
     ∙ ap (λ (r : Row). with_system r (without_group r.system g)) c.self.view_is
 
 pub returns-clause-lost : goal.returns-clause-lost

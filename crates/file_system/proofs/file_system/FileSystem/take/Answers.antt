@@ -46,4 +46,4 @@ returns-clause-ok c =
     let snap : c.new-snapshot.result ≡ plain_snap c.args.name.now c.self.inside.live c.args.guid.0 c.args.group.0 = c.new-snapshot.ensures ∙ λ i. plain_snap (name i) (tree i) c.args.guid.0 c.args.group.0 in
     let pushed : arc_value c.push.new.line ≡ ks ++ k ∷ [] = c.in_ok-push.ensures.ok in
     let snaps = ap snaps_in pushed ∙ snaps_more ks k ∙ ap (λ t. snaps_in ks ++ t ∷ []) snap in
-    ap (λ l. record { name = c.self.inside.name.value; system = system_of c.self.inside.live l (origin_id (option_map arc_value c.self.inside.origin)) (arc_value c.self.inside.bookmarks); below = map_below (option_map arc_value c.self.inside.origin) }) snaps ∙ ap (λ (r : Row). with_system r (with_snap r.system c.args.name.now c.args.guid.0 c.args.group.0)) c.self.view_is
+    ap (λ l. record { name = c.self.inside.name.value; system = system_of c.self.inside.live l (origin_id (option_map arc_value c.self.inside.origin)) c.self.inside.limits (arc_value c.self.inside.bookmarks); below = map_below (option_map arc_value c.self.inside.origin) }) snaps ∙ ap (λ (r : Row). with_system r (with_snap r.system c.args.name.now c.args.guid.0 c.args.group.0)) c.self.view_is

@@ -1,5 +1,5 @@
-use Rattle.std.proofs.Common.{◌≡◌, ◌<◌, Result, Ok, Err, List, [], Option, None, length, map, ap, sym, subst, ◌∙◌, arith}
-use Rattle.std.specs.Prelude.{OnErr, IfSome}
+use Rattle.std.proofs.Common.{◌≡◌, ◌<◌, List, [], Option, None, length, map, ap, sym, subst, ◌∙◌, arith}
+use Rattle.std.specs.Prelude.{IfSome}
 use Rattle.std.specs.Arc.{arc_value}
 use Rattle.std.specs.Option.{option_map_or}
 use Rattle.std.specs.FinMap.{get, from_sorted}
@@ -11,17 +11,12 @@ use Rattle.name.specs.Names.{name_cmp}
 use Rattle.file_systems.specs.Places.{IsAt, IsGapFor}
 use Rattle.file_system.specs.Rows.{entry_in, entry_of, Entry, Row, snaps_at, with_live}
 use Rattle.file_system.specs.Splices.{AreAbove}
-use Rattle.file_systems.proofs.Rows.{row_of, get_gap, row_sorted, row_is, rule_here, live_is, snaps_are}
+use Rattle.file_systems.proofs.Rows.{on_err, row_of, get_gap, row_sorted, row_is, rule_here, live_is, snaps_are}
 use Rattle.file_systems.proofs.Counts.{set_counted_same}
 use Rattle.file_systems.specs.Clones.{map_found}
 use Rattle.file_systems.proofs.Ties.{row_place, row_within, tied_set, origin_is, below_is}
 use Rattle.file_systems.proofs.Listing.{listed_set}
 use Rattle.file_systems.proofs.list.FileSystems.rollback.Goals as goal
-
--- what holds in any case holds on failure
-on_err : {T E P : Type 0} (r : Result T E) → P → OnErr r P
-on_err (Ok v) p = tt
-on_err (Err e) p = p
 
 -- a snapshot isn't of a file system that isn't there
 pub unreachable-requires : goal.unreachable-requires

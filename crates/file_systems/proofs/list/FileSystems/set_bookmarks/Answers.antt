@@ -1,15 +1,10 @@
-use Rattle.std.proofs.Common.{Result, Ok, Err, map, refl}
-use Rattle.std.specs.Prelude.{OnErr}
+use Rattle.std.proofs.Common.{map, refl}
 use Rattle.std.specs.Arc.{arc_value}
 use Rattle.file_systems.specs.Places.{IsAt, IsGapFor}
 use Rattle.file_system.specs.Rows.{entry_in}
+use Rattle.file_systems.proofs.Rows.{on_err}
 use Rattle.file_systems.proofs.Labelled.{not_in_gap, labelled_sorted, labelled_is, same_sorted, same_is}
 use Rattle.file_systems.proofs.list.FileSystems.set_bookmarks.Goals as goal
-
--- what holds in any case holds on failure
-on_err : {T E P : Type 0} (r : Result T E) → P → OnErr r P
-on_err (Ok v) p = tt
-on_err (Err e) p = p
 
 -- it is there
 pub unreachable-requires : goal.unreachable-requires

@@ -1,6 +1,6 @@
-use Rattle.std.proofs.Common.{Some, ◌≡◌, ◌+◌, Result, Ok, Err, List, [], Option, None, length, map, ap, sym, subst, ◌∙◌, arith, is_some, true≢false}
+use Rattle.std.proofs.Common.{Some, ◌≡◌, ◌+◌, List, [], Option, None, length, map, ap, sym, subst, ◌∙◌, arith, is_some, true≢false}
 use Rattle.base.specs.Map.{Map}
-use Rattle.std.specs.Prelude.{OnErr, IfSome, IsSome, ◌==◌}
+use Rattle.std.specs.Prelude.{IfSome, IsSome, ◌==◌}
 use Rattle.std.specs.Arc.{arc_value}
 use Rattle.std.specs.List.{find}
 use Rattle.std.specs.Option.{option_map_or}
@@ -13,7 +13,7 @@ use Rattle.file_system.specs.Origins.{origin_group}
 use Rattle.file_systems.specs.Places.{IsAt, IsGapFor}
 use Rattle.file_system.specs.Rows.{entry_in, entry_of, Entry, Row, snaps_at}
 use Rattle.file_system.specs.Splices.{AreAbove, without_group}
-use Rattle.file_systems.proofs.Rows.{row_of, get_gap, placed_sorted, made_is, rule_here, live_is, snaps_are}
+use Rattle.file_systems.proofs.Rows.{on_err, row_of, get_gap, placed_sorted, made_is, rule_here, live_is, snaps_are}
 use Rattle.file_systems.proofs.Counts.{set_counted_fewer}
 use Rattle.file_system.proofs.Stacks.{one_fewer}
 use Rattle.base.specs.Surveys.{IsIn}
@@ -21,11 +21,6 @@ use Rattle.file_systems.specs.Clones.{map_found}
 use Rattle.file_systems.proofs.Ties.{row_place, row_within, tied_set, row_got, found_filtered, below_is}
 use Rattle.file_systems.proofs.Listing.{listed_set}
 use Rattle.file_systems.proofs.list.FileSystems.splice.Goals as goal
-
--- what holds in any case holds on failure
-on_err : {T E P : Type 0} (r : Result T E) → P → OnErr r P
-on_err (Ok v) p = tt
-on_err (Err e) p = p
 
 -- a snapshot isn't of a file system that isn't there
 pub unreachable-requires : goal.unreachable-requires

@@ -1,5 +1,4 @@
-use Rattle.std.proofs.Common.{List, None, sym, subst, ◌≡◌, ◌+◌, Result, Ok, Err, length, map, rules, ap, ◌∙◌, ◌∷◌, [], length-append}
-use Rattle.std.specs.Prelude.{OnErr}
+use Rattle.std.proofs.Common.{List, None, sym, subst, ◌≡◌, ◌+◌, length, map, rules, ap, ◌∙◌, ◌∷◌, [], length-append}
 use Rattle.std.specs.Arc.{arc_value}
 use Rattle.std.specs.FinMap.{get, from_sorted}
 use Rattle.std.proofs.lemmas.List.{map-set}
@@ -8,7 +7,7 @@ use Rattle.name.specs.Names.{name_cmp}
 use Rattle.tree.proofs.Options.{not_some}
 use Rattle.file_systems.specs.Places.{IsAt, IsGapFor}
 use Rattle.file_system.specs.Rows.{entry_in, entry_of, Entry, Row, plain_snap, with_snap}
-use Rattle.file_systems.proofs.Rows.{row_of, get_gap, placed_sorted, made_is}
+use Rattle.file_systems.proofs.Rows.{on_err, row_of, get_gap, placed_sorted, made_is}
 use Rattle.file_systems.proofs.Counts.{set_counted}
 use Rattle.std.specs.List.{find}
 use Rattle.model.specs.World.{Snap, id_of, same_id}
@@ -16,11 +15,6 @@ use Rattle.file_systems.specs.Clones.{all_snaps, map_found}
 use Rattle.file_systems.proofs.Ties.{row_place, row_within, tied_set, row_snaps, snaps_of_all, found_more, other_id}
 use Rattle.file_systems.proofs.Listing.{listed_set}
 use Rattle.file_systems.proofs.list.FileSystems.take_snapshot.Goals as goal
-
--- what holds in any case holds on failure
-on_err : {T E P : Type 0} (r : Result T E) → P → OnErr r P
-on_err (Ok v) p = tt
-on_err (Err e) p = p
 
 -- the file system is there
 pub unreachable-requires : goal.unreachable-requires
