@@ -26,3 +26,8 @@ pub mod Few
 pub mod Steps
 pub mod Counts
 pub mod Asked
+pub mod AskedNumbers
+pub mod AskedChanges
+pub mod AskedPool
+pub mod Rows
+pub mod AskedSteps
