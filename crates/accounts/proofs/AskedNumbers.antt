@@ -51,7 +51,7 @@ any_key : (ks : List Key) (k : Key) → list_any (eq_by_cmp key_cmp k) ks ≡ tr
 any_key [] k e = absurd (true≢false (sym e))
 any_key (x ∷ xs) k e = ⊎_elim (λ t. inl (equal_keys key_order k x t)) (λ r. inr (any_key xs k r)) (or_cases _ _ e)
 
-pub key_low : (size : ℕ) (m : Map) (c : Changes) (g : ℕ) (number : Key → ℕ) → IsTree size m → (k : Key) (x : Cell) → get (rewrite m c g number) k ≡ Some x → k.level ≤ 5
+key_low : (size : ℕ) (m : Map) (c : Changes) (g : ℕ) (number : Key → ℕ) → IsTree size m → (k : Key) (x : Cell) → get (rewrite m c g number) k ≡ Some x → k.level ≤ 5
 key_low size m c g number tree k x e = by_listed (list_any (eq_by_cmp key_cmp k) (keys m ++ flat_map path (keys (changed_contents (contents m) c)))) refl (sym (get-rewrite_any m c g number k) ∙ e)
   where
     by_listed : (b : Bool) → list_any (eq_by_cmp key_cmp k) (keys m ++ flat_map path (keys (changed_contents (contents m) c))) ≡ b

@@ -1,6 +1,6 @@
 pub mod Totals
-pub mod Names
 pub mod Keys
+pub mod Names
 pub mod Space
 pub mod Pool
 pub mod Root
