@@ -1,6 +1,6 @@
 -- A change uses the same whatever numbers its new blocks have: so what is asked of a world with fresh numbers holds of the world with
 -- those that are taken.
-use Rattle.std.proofs.Common.{◌≡◌, ◌+◌, ◌-◌, ◌<◌, List, [], ◌∷◌, Option, Some, None, map, refl, sym, ap, subst, ◌∙◌, inl, inr, arith}
+use Rattle.std.proofs.Common.{◌≡◌, ◌+◌, ◌-◌, ◌<◌, [], Option, Some, None, map, refl, sym, ap, subst, ◌∙◌, arith}
 use Rattle.std.specs.Prelude.{unwrap_or}
 use Rattle.std.specs.Option.{option_map, option_or}
 use Rattle.std.specs.List.{last_or}
@@ -8,7 +8,7 @@ use Rattle.std.specs.FinMap.{get}
 use Rattle.std.specs.FinSet.{len, difference, union, empty}
 use Rattle.base.specs.Map.{Map, Block, BlockSet, blocks}
 use Rattle.base.specs.Surveys.{IsIn}
-use Rattle.model.specs.World.{World, FileSystem, Snap, SnapId, Live, Snapped, id_of, map_of, map_of_snap, previous_of, newest_or_origin, blocks_of_all}
+use Rattle.model.specs.World.{World, FileSystem, Snap, SnapId, Live, Snapped, id_of, map_of, map_of_snap, previous_of, blocks_of_all}
 use Rattle.model.specs.Sums.{used_of, referenced_of, written_of, used_by_dataset, used_by_snapshots}
 use Rattle.world.specs.Sets.{Has}
 use Rattle.world.specs.Blocks.{block_order as o}
@@ -16,7 +16,6 @@ use Rattle.world.specs.Shapes.{Name}
 use Rattle.world.specs.Worlds.{shape_of, shapes, snap_shape, AreFileSystems}
 use Rattle.world.specs.Dead.{IsThere}
 use Rattle.world.proofs.SetCounts.{same_members, in_difference, from_difference, no-empty}
-use Rattle.world.proofs.Maps.{same_value}
 use Rattle.world.proofs.Listed.{in_map}
 use Rattle.world.proofs.Requests.{lineage_facts}
 use Rattle.world.proofs.Bridge.{shape_at, among, no_block, map_of_kept, map_of_live, previous_of_live}

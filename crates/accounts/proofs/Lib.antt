@@ -1,6 +1,6 @@
 pub mod Totals
-pub mod Names
 pub mod Keys
+pub mod Names
 pub mod Space
 pub mod Pool
 pub mod Root
@@ -26,3 +26,8 @@ pub mod Few
 pub mod Steps
 pub mod Counts
 pub mod Asked
+pub mod AskedNumbers
+pub mod AskedChanges
+pub mod AskedPool
+pub mod Rows
+pub mod AskedSteps

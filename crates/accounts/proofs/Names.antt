@@ -1,5 +1,5 @@
 -- The hierarchy of file systems by their names.
-use Rattle.std.proofs.Common.{◌≡◌, ℕ, zero, suc, ◌+◌, ◌-◌, ◌<◌, Bool, true, false, cond, List, [], ◌∷◌, Option, Some, None, map, refl, sym, ap, subst, ◌∙◌, true≢false, inl, inr, ⊎_elim, ◌⊎◌, arith}
+use Rattle.std.proofs.Common.{◌≡◌, ℕ, zero, suc, ◌+◌, ◌-◌, ◌<◌, Bool, true, false, cond, List, [], ◌∷◌, Option, Some, None, refl, sym, ap, subst, ◌∙◌, true≢false, inl, inr, ⊎_elim, ◌⊎◌, arith}
 use Rattle.std.specs.Prelude.{IsSome, is_some, ◌==◌}
 use Rattle.std.specs.Option.{option_map_or, option_and_then}
 use Rattle.std.specs.FinMap.{get, entries, keys}
@@ -7,15 +7,15 @@ use Rattle.std.specs.FinMap as finmap
 use Rattle.base.specs.Surveys.{IsIn, AreDifferent}
 use Rattle.name.specs.Names.{slash, same_name, before_slash, parent_of}
 use Rattle.model.specs.World.{World, FileSystem, children_of}
-use Rattle.world.specs.Usage.{IsEntry, AreApart}
 use Rattle.world.specs.Shapes.{name_order}
 use Rattle.model.specs.Hierarchy.{FileSystems, IsHierarchy}
 use Rattle.world.proofs.Put.{parent_there}
 use Rattle.world.proofs.Finding.{name_itself, one_name, in_filter, from_filter}
-use Rattle.world.proofs.Maps.{same_value, no_value, some_of, entry_of, at_entry, entries_apart, key_cases}
+use Rattle.world.proofs.Maps.{same_value, no_value, some_of, key_cases}
 use Rattle.world.proofs.Listed.{length-mapped}
 use Rattle.world.proofs.Lists.{once_filter}
 use Rattle.accounts.specs.Levels.{slashes, above, IsUnder}
+use Rattle.accounts.proofs.Keys as map_keys
 use Rattle.accounts.proofs.Totals.{levels_few}
 
 -- ---- levels
@@ -129,31 +129,15 @@ child_is name child e = at (parent_of child) refl e
 pub is_child_of : (name child : List ℕ) → parent_of child ≡ Some name → is_child name child ≡ true
 is_child_of name child e = rw e (name_itself name)
 
-keys_different : (es : List (List ℕ × FileSystem)) → AreApart es → AreDifferent (map (λ e. e.0) es)
-keys_different [] a = tt
-keys_different (e ∷ es) a = ((λ i. let r = from_key es e.0 i in a.0 e.0 r.0 r.1 refl), keys_different es a.1)
-  where
-    from_key : (fs : List (List ℕ × FileSystem)) (q : List ℕ) → IsIn (map (λ e. e.0) fs) q → (s : FileSystem) × IsEntry fs q s
-    from_key [] q i = absurd i
-    from_key (f ∷ fs) q i = ⊎_elim (λ is. (f.1, inl (is, refl))) (λ r. let k = from_key fs q r in (k.0, inr k.1)) i
-
-key_of_entry : (es : List (List ℕ × FileSystem)) (q : List ℕ) (s : FileSystem) → IsEntry es q s → IsIn (map (λ e. e.0) es) q
-key_of_entry [] q s i = absurd i
-key_of_entry (e ∷ es) q s i = ⊎_elim (λ w. inl w.0) (λ r. inr (key_of_entry es q s r)) i
-
-entry_of_key : (es : List (List ℕ × FileSystem)) (q : List ℕ) → IsIn (map (λ e. e.0) es) q → (s : FileSystem) × IsEntry es q s
-entry_of_key [] q i = absurd i
-entry_of_key (e ∷ es) q i = ⊎_elim (λ is. (e.1, inl (is, refl))) (λ r. let k = entry_of_key es q r in (k.0, inr k.1)) i
-
 module _ (ss : FileSystems) where
   pub in_keys : (name : List ℕ) → IsSome (get ss name) → IsIn (keys ss) name
-  in_keys name h = let s = some_of (get ss name) h in key_of_entry (entries ss) name s.0 (entry_of name_order ss name s.0 s.1)
+  in_keys name h = let s = some_of (get ss name) h in map_keys.in_keys name_order ss name s.0 s.1
 
   pub from_keys : (name : List ℕ) → IsIn (keys ss) name → (s : FileSystem) × (get ss name ≡ Some s)
-  from_keys name i = let e = entry_of_key (entries ss) name i in (e.0, at_entry name_order ss name e.0 e.1)
+  from_keys = map_keys.from_keys name_order ss
 
   pub keys_once : AreDifferent (keys ss)
-  keys_once = keys_different (entries ss) (entries_apart name_order ss)
+  keys_once = map_keys.keys_once name_order ss
 
   module _ (good : IsHierarchy ss) where
     up : (c : List ℕ) → IsIn (keys ss) c → (d : ℕ) → slashes c ≡ d + 1 → (p : List ℕ) × IsIn (keys ss) p × (slashes p ≡ d)
