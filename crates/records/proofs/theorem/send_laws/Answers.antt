@@ -1,7 +1,7 @@
 use Rattle.records.proofs.Applied.{sends_difference, full_sends}
 use Rattle.records.proofs.Blocks.{blocks_are_enough}
 use Rattle.records.proofs.Ordered.{sends_are_streams}
-use Rattle.records.proofs.sends.send_laws.Goals as goal
+use Rattle.records.proofs.theorem.send_laws.Goals as goal
 
 pub returns-clause-difference : goal.returns-clause-difference
 returns-clause-difference c = sends_difference

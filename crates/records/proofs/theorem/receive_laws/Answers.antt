@@ -1,5 +1,5 @@
 use Rattle.records.proofs.Received.{rewrite_changes_contents, receives_difference, full_receives}
-use Rattle.records.proofs.sends.receive_laws.Goals as goal
+use Rattle.records.proofs.theorem.receive_laws.Goals as goal
 
 pub returns-clause-change : goal.returns-clause-change
 returns-clause-change c = rewrite_changes_contents

@@ -1,5 +1,5 @@
 use Rattle.records.proofs.Sends.{full_send_of, source_sends, snapshot_sends, bookmark_sends}
-use Rattle.records.proofs.sends.dataset_send_laws.Goals as goal
+use Rattle.records.proofs.theorem.dataset_send_laws.Goals as goal
 
 pub returns-clause-full : goal.returns-clause-full
 returns-clause-full c = full_send_of
