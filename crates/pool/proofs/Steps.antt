@@ -28,6 +28,7 @@ use Rattle.model.specs.Step.{Step}
 use Rattle.model.specs.Sums.{IsBalanced}
 use Rattle.model.specs.Numbers.{IsNumbered, HasStates}
 use Rattle.world.specs.Worlds.{IsPoolState}
+use Rattle.accounts.specs.Limits.{AreQuotasMet}
 use Rattle.model.specs.requests.Create.{create_refusal}
 use Rattle.model.specs.requests.Snapshot.{snapshot_names, taking_row, guid_by}
 use Rattle.model.specs.State.{State}
@@ -122,6 +123,10 @@ module _ (seen : Shown) (s : State) (numbers : List BlockState) (view : shown s 
   -- one number names one block
   pub numbered : IsNumbered seen.state
   numbered = subst (λ (x : Shown). IsNumbered x.state) view (state_numbered s sound.steady.good)
+
+  -- every quota and refquota is met
+  pub met : AreQuotasMet seen.state.now
+  met = subst (λ (x : Shown). AreQuotasMet x.state.now) view sound.steady.limits.now
 
   -- each number is in the state that the worlds give it
   pub in_states : HasStates seen.state seen.numbers

@@ -13,6 +13,7 @@ ghost use Rattle.model.specs.Run.{Run};
 ghost use Rattle.steps.specs.Settles.{AllAllocated, releases};
 ghost use Rattle.name.specs.declared.target.Target.{Target};
 ghost use Rattle.world.specs.Worlds.{IsPoolState};
+ghost use Rattle.accounts.specs.Limits.{AreQuotasMet};
 ghost use Rattle.pool.specs.Asked.{Asks};
 ghost use Rattle.pool.specs.Named.{IsNoLive};
 ghost use Rattle.pool.specs.Plans.{state_after_plan, CanDo};
@@ -192,6 +193,7 @@ impl Pool {
         ensures states { HasStates self.old.state self.old.numbers }
         ensures balanced { IsBalanced self.old.state }
         ensures kept { IsPoolState self.old.state }
+        ensures quotas { AreQuotasMet self.old.state.now }
     {
         let _size = self.size;
         let (reply, plan) = self.planned(alloc, request);
@@ -497,6 +499,7 @@ impl Pool {
         ensures states { HasStates self.new.state self.new.numbers }
         ensures balanced { IsBalanced self.new.state }
         ensures kept { IsPoolState self.new.state }
+        ensures quotas { AreQuotasMet self.new.state.now }
     {
         let reply = self.answer(alloc, request);
         let _size = self.size;

@@ -1,5 +1,5 @@
 use Rattle.pool.specs.Pools.{state_of}
-use Rattle.pool.proofs.Steps.{balanced, kept, numbered, in_states}
+use Rattle.pool.proofs.Steps.{balanced, kept, numbered, in_states, met}
 use Rattle.pool.proofs.pool.Pool.prepare.Goals as goal
 
 pub returns-clause-balanced : goal.returns-clause-balanced
@@ -13,3 +13,6 @@ returns-clause-states c = in_states c.args.self.now (state_of c.self.inside) c.s
 
 pub returns-clause-kept : goal.returns-clause-kept
 returns-clause-kept c = kept c.args.self.now (state_of c.self.inside) c.self.inside.allocator c.self.view_is c.self.invariant
+
+pub returns-clause-quotas : goal.returns-clause-quotas
+returns-clause-quotas c = met c.args.self.now (state_of c.self.inside) c.self.inside.allocator c.self.view_is c.self.invariant
