@@ -30,7 +30,6 @@ get-changed old c j =
     ∙ (λ i. cond (is_some (sym (get-entries c.writes j) i)) (sym (get-entries c.writes j) i) (find-where_key nat_cmp (λ n. not (c.punches n)) j (λ x t. ap (λ n. not (c.punches n)) (sym (nat_cmp-IsAntisymmetric j x t))) (entries old) i))
     ∙ (λ i. cond (is_some (get c.writes j)) (get c.writes j) (cond (not (c.punches j)) (sym (get-entries old j) i) None))
 
-
 -- a map that has nothing has no contents
 pub no_contents : contents finmap.empty ≡ finmap.empty
 no_contents = same_map nat_cmp_total nat_cmp-IsAntisymmetric _ _
