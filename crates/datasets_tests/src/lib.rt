@@ -14,6 +14,8 @@ mod held;
 #[cfg(test)]
 mod in_place;
 #[cfg(test)]
+mod limited;
+#[cfg(test)]
 mod lists;
 #[cfg(test)]
 mod marked;
