@@ -40,7 +40,6 @@ pub record IsAsked (m : Map) (o : Option Part) (us : List Update) (g y : ℕ) (s
   pub batch : IsBatchFrom 0 us
   pub sized : AreSized us
   pub unique : IsUnique m
-  pub allocated : AreAllocated m states
 
 module _ (m : Map) (o : Option Part) (us : List Update) (g y : ℕ) (states : List BlockState) (q : IsAsked m o us g y states) where
   abbrev c : Changes
@@ -262,11 +261,11 @@ module _ (m : Map) (o : Option Part) (us : List Update) (g y : ℕ) (states : Li
   no_room h = record { dropped = map dead_block D; made = map claim_key C; survey = survey; short = omega (arith, counted, made_count, h) }
 
   -- what the choice of numbers asks
-  pub released_allocated : (d : Dead) → IsIn R d → slice_get states d.block.0 ≡ Some Allocated
-  released_allocated d h =
+  pub released_allocated : AreAllocated m states → (d : Dead) → IsIn R d → slice_get states d.block.0 ≡ Some Allocated
+  released_allocated all d h =
       let r = gone_to (stays s) d h in
       let x = r.1 in
-      ap (slice_get states) (sym (ap (λ (e : Dead). e.block.0) x.is)) ∙ if_some _ _ x.cell x.there (q.allocated r.0)
+      ap (slice_get states) (sym (ap (λ (e : Dead). e.block.0) x.is)) ∙ if_some _ _ x.cell x.there (all r.0)
 
   pub released_once : AreDifferent (map (λ (d : Dead). d.block.0) R)
   released_once = gone_numbers_once (stays s)

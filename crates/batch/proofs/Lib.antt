@@ -18,3 +18,4 @@ pub mod Owned
 pub mod Batch
 pub mod OneLeaf
 pub mod Prepare
+pub mod Forecasts

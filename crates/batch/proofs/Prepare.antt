@@ -91,7 +91,7 @@ module _ (root : Option (Arc Root Global)) (count : ℕ) (us : List Update) (y :
   own_kid = root_kid (shared_part root_part) root b r.sound.well (omega arith)
 
   pub asked : (g : ℕ) → IsKid 5 g o → IsAsked m o us g y states
-  asked g kid = record { stands = stands_of root _ g r.sound.well kid; batch = r.batch; sized = r.sized; unique = r.sound.unique; allocated = r.allocated }
+  asked g kid = record { stands = stands_of root _ g r.sound.well kid; batch = r.batch; sized = r.sized; unique = r.sound.unique }
 
   pub ready_room : count_by is_fresh C ≤ count_by is_free states + count_by (is_young y) R → HasRoom m (changes_of us) y states
   ready_room h = room m o us b y states (asked b own_kid) h
@@ -103,7 +103,7 @@ module _ (root : Option (Arc Root Global)) (count : ℕ) (us : List Update) (y :
   ready_counts before after h = counts m o us b y states (asked b own_kid) before after h
 
   pub ready_allocated : (d : Dead) → IsIn R d → slice_get states d.block.0 ≡ Some Allocated
-  ready_allocated = released_allocated m o us b y states (asked b own_kid)
+  ready_allocated = released_allocated m o us b y states (asked b own_kid) r.allocated
 
   pub ready_once : AreDifferent (map (λ (d : Dead). d.block.0) R)
   ready_once = released_once m o us b y states (asked b own_kid)

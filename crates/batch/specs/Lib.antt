@@ -7,3 +7,4 @@ pub mod Numbers
 pub mod Room
 pub mod Cost
 pub mod Draft
+pub mod Forecast

@@ -47,7 +47,7 @@ fn root_of(root: &Option<Arc<Root>>) -> Option<&Root>
 }
 
 /// What a batch does to a root, with room for so many new blocks at first.
-fn plan_of(
+pub(crate) fn plan_of(
     alloc: Global,
     root: &Option<Arc<Root>>,
     updates: &[Update],

@@ -4,11 +4,13 @@
 
 mod draft;
 mod few;
+mod forecast;
 mod numbers;
 mod plan;
 mod update;
 
 pub use draft::{Draft, draft_of};
 pub use few::Few;
+pub use forecast::{Forecast, forecast_of};
 pub use numbers::NewBlock;
 pub use update::{Update, Way, Word, is_idle, split_at_leaf, way_of, word_of};

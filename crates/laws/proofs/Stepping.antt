@@ -12,8 +12,10 @@ use Rattle.name.specs.Names.{same_name}
 use Rattle.name.specs.declared.member.Member.{Member}
 use Rattle.name.specs.declared.target.Target.{Target}
 use Rattle.name.specs.declared.target.Target.TheVariants.{FileSystem as OfFileSystem, Snapshot as OfSnapshot, Bookmark as OfBookmark}
+use Rattle.model.specs.Limits.{limited}
+use Rattle.model.specs.declared.limits.Limit.{Limit}
 use Rattle.model.specs.declared.request.Request.{Request}
-use Rattle.model.specs.declared.request.Request.TheVariants.{Create as ToCreate, Write as ToWrite, Punch as ToPunch, FreeObject as ToFreeObject, Snapshot as ToSnapshot, Read as ToRead, Get as ToGet, PoolGet as ToPoolGet, List as ToList, Rollback as ToRollback, Destroy as ToDestroy, Slice as ToSlice, Sync as ToSync, OpenView as ToOpenView, CloseView as ToCloseView, Clone as ToClone, Promote as ToPromote, Hold as ToHold, Release as ToRelease, Holds as ToHolds, Bookmark as ToBookmark, WrittenSince as ToWrittenSince, WouldFree as ToWouldFree}
+use Rattle.model.specs.declared.request.Request.TheVariants.{Create as ToCreate, Write as ToWrite, Punch as ToPunch, FreeObject as ToFreeObject, Snapshot as ToSnapshot, Read as ToRead, Get as ToGet, PoolGet as ToPoolGet, List as ToList, Rollback as ToRollback, Destroy as ToDestroy, Slice as ToSlice, Sync as ToSync, OpenView as ToOpenView, CloseView as ToCloseView, Clone as ToClone, Promote as ToPromote, Hold as ToHold, Release as ToRelease, Holds as ToHolds, Bookmark as ToBookmark, WrittenSince as ToWrittenSince, WouldFree as ToWouldFree, Set as ToSet}
 use Rattle.model.specs.declared.reply.Reply.{Reply}
 use Rattle.model.specs.World.{World, FileSystem, Snap, Bookmark, id_of, empty_file_system, map_of_snap}
 use Rattle.model.specs.State.{State}
@@ -32,6 +34,7 @@ use Rattle.model.specs.requests.OpenView.{with_view}
 use Rattle.model.specs.requests.Promote.{Promotion, promotion_of, promoted_snaps, after_promotion, has_clash, promotion_row, promote_rule}
 use Rattle.model.specs.requests.Release.{without_tag}
 use Rattle.model.specs.requests.Rollback.{placed, back_at, after_rollback, rolled_back}
+use Rattle.model.specs.requests.Set.{after_set}
 use Rattle.model.specs.requests.Snapshot.{snapshots_taken, snapshot_names, guid_by}
 use Rattle.world.specs.Shapes.{Name, IsGood}
 use Rattle.world.specs.Worlds.{shapes, IsPoolState}
@@ -142,6 +145,9 @@ noted w target mark = by_place (placed w target)
     by_place (Some p) = one_later w mark.file_system (λ f. record f { bookmarks = insert f.bookmarks mark.component (bookmark_of_snap p.1) })
         (λ f at. went_same w.group f (record f { bookmarks = insert f.bookmarks mark.component (bookmark_of_snap p.1) }) refl refl refl)
 
+set_one : (w : World) (name : Name) (limit : Limit) (amount : Option ℕ) → IsLater w (after_set w name limit amount)
+set_one w name limit amount = one_later w name (λ f. limited f limit amount) (λ f at. went_same w.group f (limited f limit amount) refl refl refl)
+
 opened : (s : State) (target : Target) → IsLater s.now (option_map_or (λ p. with_view s p.1) (placed s.now target) s).now
 opened s target = by_place (placed s.now target)
   where
@@ -213,3 +219,4 @@ step_became q r s new good step = followed s new r (rule_of q step.reading) (by_
     by_request (ToBookmark target mark) c none = went (noted s.now target mark)
     by_request (ToWrittenSince target since) c none = went (same_later s.now)
     by_request (ToWouldFree name first last) c none = went (same_later s.now)
+    by_request (ToSet name limit amount) c none = went (set_one s.now name limit amount)

@@ -2,7 +2,7 @@
 use Rattle.std.specs.Prelude.{◌≡◌, Option, None}
 use Rattle.stream.specs.Spelling.{Sending}
 use Rattle.model.specs.declared.request.Request.{Request}
-use Rattle.model.specs.declared.request.Request.TheVariants.{Create as ToCreate, Write as ToWrite, Punch as ToPunch, FreeObject as ToFreeObject, Snapshot as ToSnapshot, Read as ToRead, Get as ToGet, PoolGet as ToPoolGet, List as ToList, Rollback as ToRollback, Destroy as ToDestroy, Slice as ToSlice, Sync as ToSync, OpenView as ToOpenView, CloseView as ToCloseView, Clone as ToClone, Promote as ToPromote, Hold as ToHold, Release as ToRelease, Holds as ToHolds, Bookmark as ToBookmark, WrittenSince as ToWrittenSince, WouldFree as ToWouldFree}
+use Rattle.model.specs.declared.request.Request.TheVariants.{Create as ToCreate, Write as ToWrite, Punch as ToPunch, FreeObject as ToFreeObject, Snapshot as ToSnapshot, Read as ToRead, Get as ToGet, PoolGet as ToPoolGet, List as ToList, Rollback as ToRollback, Destroy as ToDestroy, Slice as ToSlice, Sync as ToSync, OpenView as ToOpenView, CloseView as ToCloseView, Clone as ToClone, Promote as ToPromote, Hold as ToHold, Release as ToRelease, Holds as ToHolds, Bookmark as ToBookmark, WrittenSince as ToWrittenSince, WouldFree as ToWouldFree, Set as ToSet}
 use Rattle.model.specs.declared.reply.Reply.TheVariants.{Done}
 use Rattle.model.specs.State.{State}
 use Rattle.model.specs.Rule.{Rule}
@@ -28,6 +28,7 @@ use Rattle.model.specs.requests.Release.{release_rule}
 use Rattle.model.specs.requests.Holds.{holds_rule}
 use Rattle.model.specs.requests.Bookmark.{bookmark_rule}
 use Rattle.model.specs.requests.WrittenSince.{written_since_rule}
+use Rattle.model.specs.requests.Set.{set_rule}
 use Rattle.model.specs.requests.WouldFree.{would_free_rule}
 pub mod Create
 pub mod Change
@@ -84,6 +85,7 @@ rule_of (ToHolds target) reading = holds_rule target
 rule_of (ToBookmark target mark) reading = bookmark_rule target mark
 rule_of (ToWrittenSince target since) reading = written_since_rule target since
 rule_of (ToWouldFree name first last) reading = would_free_rule name first last
+rule_of (ToSet name limit amount) reading = set_rule name limit amount
 
 -- where it isn't refused, the reply is Done (profile)
 abbrev pub AnswersDone : Request → Type 0

@@ -1,8 +1,10 @@
 //! What a pool can be asked.
 ghost use Rattle.std.specs.Prelude.{◌≡◌, ◌↔◌, IsTrue};
 
+use crate::limits::Limit;
 use crate::snap_names::SnapNames;
 use base::data::Data;
+use base::limit::Blocks;
 use name::{Component, DsName, MarkName, SnapName, Tag, Target};
 
 /// What `Get` may ask of a dataset or bookmark (zfsprops(7)).
@@ -220,6 +222,14 @@ pub enum Request {
         first: Component,
         last: Component,
     },
+    /// Sets a limit of a file system to an amount, or to none (zfs-set(8)). The reply is Done. It is refused NoDataset where no file system
+    /// has the name, and then, where an amount is given, Quota, RefQuota or NoSpace where the limits of the pool afterwards would not hold:
+    /// the first of these, or NoMemory. A limit is always let go.
+    Set {
+        name: DsName,
+        limit: Limit,
+        amount: Option<Blocks>,
+    },
 }
 
 impl Request {
@@ -360,6 +370,18 @@ impl Request {
                     last: d,
                 },
             ) => n.same(m) && a.same(c) && b.same(d),
+            (
+                Request::Set {
+                    name: n,
+                    limit: l,
+                    amount: a,
+                },
+                Request::Set {
+                    name: m,
+                    limit: k,
+                    amount: b,
+                },
+            ) => n.same(m) && *l == *k && *a == *b,
             _ => false,
         }
     }

@@ -129,13 +129,13 @@ module _ (root : Option (Arc Root Global)) (count : ℕ) (us : List Update) (y :
       ready_sound = record {
         well = root_well (shared_part root_part) root' g new_kid;
         counted = new_count;
-        unique = unique_after m o us g y states (known g kid) d.taken.items h.enough hand h.once m' stands';
+        unique = unique_after m o us g y states (known g kid) r.allocated d.taken.items h.enough hand h.once m' stands';
       }
 
       pub ready_change : (n : Map) → m ≡ n → (v : Shown) → v.old ≡ n → v.new ≡ m' → v.taken ≡ numbers d.taken.items → v.released ≡ map dead_block d.released.items → v.made ≡ map made_pair (reverse d.made.items) → IsChange n (changes_of us) g y states v
       ready_change n is v p q t w x =
           subst (λ (k : Map). IsChange k (changes_of us) g y states v) is
-          (is_change m o us g y states (known g kid) d.taken.items h.enough hand h.once m' stands' v (p ∙ sym is) q t (w ∙ ap (map dead_block) h.released) (x ∙ ap (λ bs. map made_pair (reverse bs)) h.made))
+          (is_change m o us g y states (known g kid) r.allocated d.taken.items h.enough hand h.once m' stands' v (p ∙ sym is) q t (w ∙ ap (map dead_block) h.released) (x ∙ ap (λ bs. map made_pair (reverse bs)) h.made))
 
 -- a list turned round where it stands
 pub turned : {X : Type 0} (xs ys zs : List X) → ys ≡ reverse zs → length ys ≡ length zs → zs ≡ xs → refill (length xs) xs ys ≡ reverse xs

@@ -41,6 +41,7 @@ use Rattle.batch.proofs.Listing.{in_map}
 use Rattle.batch.proofs.NumberLaws.{free_apart, in_left, in_right}
 use Rattle.batch.proofs.Falling.{reverse_step, in_unreversed, rises}
 use Rattle.batch.proofs.Filled.{claim_key, filled_keys, kept_number, fresh_number, used_number, once_number, placed, in_placed, new_key}
+use Rattle.batch.specs.Room.{AreAllocated}
 use Rattle.batch.proofs.Batch.{IsAsked, IsMade, made_to, made_from, claim_keys_fall, claim_keys_once, claimed_to, claimed_from, kept_claim, claim_kept, fresh_claim, claim_fresh, claim_of_key, key_claim, released_to, released_from, released_blocks_once, gone_of, here_is}
 
 any_up : (l j : ℕ) (ns : List ℕ) → list_any (covers (key_at l j)) ns ≡ true → list_any (covers (key_at (suc l) (j / 16))) ns ≡ true
@@ -79,7 +80,7 @@ keys_reversed bs = two_maps (reverse bs) ∙ map-reversed new_key bs
     two_maps [] = refl
     two_maps (x ∷ xs) = ap (λ ks. x.key ∷ ks) (two_maps xs)
 
-module _ (m : Map) (o : Option Part) (us : List Update) (g y : ℕ) (states : List BlockState) (q : IsAsked m o us g y states)
+module _ (m : Map) (o : Option Part) (us : List Update) (g y : ℕ) (states : List BlockState) (q : IsAsked m o us g y states) (all : AreAllocated m states)
     (ns : List BlockNo) (len : length ns ≡ count_by is_fresh (claims (said us) y 5 0 o)) (hand : (n : ℕ) → IsIn (numbers ns) n → IsAtHand states y (released (said us) y 5 0 o) n) (nums : AreDifferent (numbers ns))
     (m' : Map) (st' : Stands m' (rebuilt (said us) (number_of (filled (claims (said us) y 5 0 o) ns)) g 5 0 o) g) where
   abbrev c : Changes
@@ -188,7 +189,7 @@ module _ (m : Map) (o : Option Part) (us : List Update) (g y : ℕ) (states : Li
   kept_not k x h e b n = n (record { made = made_from m o us g y states q k h; cell = x; there = e; born = b })
 
   is_allocated : (k : Key) (x : Cell) → get m k ≡ Some x → slice_get states x.number ≡ Some Allocated
-  is_allocated k x e = if_some _ _ x e (q.allocated k)
+  is_allocated k x e = if_some _ _ x e (all k)
 
   -- a new cell beside one that stays as it was
   crossed : (j k : Key) (b : Cell) → Made j → t k ≡ false → get m k ≡ Some b → N j ≡ b.number → j ≡ k

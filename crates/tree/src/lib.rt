@@ -10,7 +10,7 @@ mod same;
 mod subtree;
 mod tree;
 
-pub use batch::{Draft, Few, NewBlock, Update};
+pub use batch::{Draft, Few, Forecast, NewBlock, Update};
 pub use change::Changed;
 pub use node::Cell;
 pub use subtree::Subtree;

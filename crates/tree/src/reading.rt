@@ -1,10 +1,13 @@
 //! Reads of a tree.
-ghost use Rattle.std.specs.Prelude.{◌≡◌, ◌≤◌, IfOk, IfSome, IsSome, OnErr, map, length};
+ghost use Rattle.std.specs.Prelude.{◌≡◌, ◌≤◌, IfOk, IfSome, IsSome, OnOk, OnErr, map, length};
 ghost use Rattle.std.specs.FinMap.{get, len};
 ghost use Rattle.std.specs.Option.{option_map};
 ghost use Rattle.base.specs.Counting.{counted};
 ghost use Rattle.base.specs.Surveys.{dead_block};
 ghost use Rattle.base.specs.declared.refusal.Refusal.{Refusal};
+ghost use Rattle.batch.specs.Cost.{CountsDropped};
+ghost use Rattle.batch.specs.Forecast.{IsForecast};
+ghost use Rattle.batch.specs.Updates.{changes_of, IsBatch};
 ghost use Rattle.node.specs.Cells.{cell_of};
 ghost use Rattle.node.specs.Unique.{IsUnique};
 ghost use Rattle.node.specs.Walk.{born_after, blocks_of};
@@ -14,6 +17,7 @@ use crate::tree::Tree;
 use base::meter::Meter;
 use base::number::{Dead, Group, Key};
 use base::refusal::Refusal;
+use batch::{Forecast, Update, forecast_of};
 use node::{Cell, Level, span};
 use std::alloc::Global;
 
@@ -67,5 +71,24 @@ impl Tree {
             root.gather(cut, &mut out, meter)?;
         }
         Ok(out)
+    }
+
+    /// What a batch of changes would drop and make, in any group and with any numbers: nothing is chosen, and nothing changes. NoMemory where
+    /// there is none for the lists. It costs the nodes on the way to the changes, each with its sixteen places. The meter counts these nodes:
+    /// it rises by at least one for each block that the change would drop, and at `Err` is never lower.
+    pub fn forecast(
+        &self,
+        alloc: Global,
+        updates: &[Update],
+        meter: &mut Meter,
+    ) -> Result<Forecast, Refusal>
+        requires batch { IsBatch updates.now }
+        ensures ok { IfOk result (IsForecast self.now (changes_of updates.now)) }
+        ensures unique { IsUnique self.now }
+        ensures err { OnErr result (result ≡ Err Refusal.NoMemory) }
+        ensures metered { OnOk result (CountsDropped self.now (changes_of updates.now) meter.old meter.new) }
+        ensures never_lower { meter.old ≤ meter.new }
+    {
+        forecast_of(alloc, &self.root, updates, meter)
     }
 }

@@ -8,8 +8,11 @@ use Rattle.name.specs.declared.member.Member.{Member}
 use Rattle.name.specs.declared.target.Target.{Target}
 use Rattle.name.specs.declared.target.Target.TheVariants.{FileSystem as OfFileSystem, Snapshot as OfSnapshot, Bookmark as OfBookmark}
 use Rattle.base.specs.Rewrite.{Changes, rewrite}
+use Rattle.model.specs.Limits.{limited}
+use Rattle.model.specs.declared.limits.Limit.{Limit}
 use Rattle.model.specs.declared.request.Request.{Request}
-use Rattle.model.specs.declared.request.Request.TheVariants.{Create as ToCreate, Write as ToWrite, Punch as ToPunch, FreeObject as ToFreeObject, Snapshot as ToSnapshot, Read as ToRead, Get as ToGet, PoolGet as ToPoolGet, List as ToList, Rollback as ToRollback, Destroy as ToDestroy, Slice as ToSlice, Sync as ToSync, OpenView as ToOpenView, CloseView as ToCloseView, Clone as ToClone, Promote as ToPromote, Hold as ToHold, Release as ToRelease, Holds as ToHolds, Bookmark as ToBookmark, WrittenSince as ToWrittenSince, WouldFree as ToWouldFree}
+use Rattle.model.specs.requests.Set.{after_set}
+use Rattle.model.specs.declared.request.Request.TheVariants.{Create as ToCreate, Write as ToWrite, Punch as ToPunch, FreeObject as ToFreeObject, Snapshot as ToSnapshot, Read as ToRead, Get as ToGet, PoolGet as ToPoolGet, List as ToList, Rollback as ToRollback, Destroy as ToDestroy, Slice as ToSlice, Sync as ToSync, OpenView as ToOpenView, CloseView as ToCloseView, Clone as ToClone, Promote as ToPromote, Hold as ToHold, Release as ToRelease, Holds as ToHolds, Bookmark as ToBookmark, WrittenSince as ToWrittenSince, WouldFree as ToWouldFree, Set as ToSet}
 use Rattle.model.specs.declared.reply.Reply.{Reply}
 use Rattle.model.specs.State.{State}
 use Rattle.model.specs.Rule.{Choice, Rule}
@@ -92,6 +95,12 @@ noted q r s target mark v = by_place (placed s.now target)
     by_place (Some p) = views_stay q r s (with_file_system s.now mark.file_system (λ f. record f { bookmarks = insert f.bookmarks mark.component (bookmark_of_snap p.1) })) s.last s.next_guid v
         (one_changed s.views s.now mark.file_system (λ f. record f { bookmarks = insert f.bookmarks mark.component (bookmark_of_snap p.1) }) v.once v.closed (λ f t e h. h) (λ f t e h seen. h))
 
+-- another limit
+set_one : (q : Request) (r : Reply) (s : State) (name : List ℕ) (limit : Limit) (amount : Option ℕ) → IsViewing s → IsKeeping q r s (with_now s (after_set s.now name limit amount))
+set_one q r s name limit amount v =
+    views_stay q r s (after_set s.now name limit amount) s.last s.next_guid v
+    (one_changed s.views s.now name (λ f. limited f limit amount) v.once v.closed (λ f t e h. h) (λ f t e h seen. h))
+
 -- a rule that isn't refused
 followed : (q : Request) (r : Reply) (s new : State) (rule : Rule) → IsViewing s → ((c : Choice) → refusal_of s rule ≡ None → r ≡ rule.reply s → IsKeeping q r s (rule.after s c))
     → Follows s rule r new → IsKeeping q r s new
@@ -135,3 +144,4 @@ step_keeps q r s new v step = followed q r s new (rule_of q step.reading) v (by_
     by_request (ToBookmark target mark) c none is = noted (ToBookmark target mark) r s target mark v
     by_request (ToWrittenSince target since) c none is = state_stays (ToWrittenSince target since) r s v
     by_request (ToWouldFree name first last) c none is = state_stays (ToWouldFree name first last) r s v
+    by_request (ToSet name limit amount) c none is = set_one (ToSet name limit amount) r s name limit amount v

@@ -1,0 +1,34 @@
+-- The lists of a plan, by the lemmas of Forecasts.
+use Rattle.std.proofs.Common.{◌++◌, List, length, map, sym, ap, subst, ◌∙◌}
+use Rattle.std.proofs.lemmas.List.{length-map}
+use Rattle.base.specs.declared.number.Dead.{Dead}
+use Rattle.base.specs.Surveys.{IsSurvey, dead_block}
+use Rattle.batch.specs.Forecast.{kept_of}
+use Rattle.batch.specs.Said.{said}
+use Rattle.batch.specs.Touch.{claims}
+use Rattle.batch.specs.Updates.{changes_of}
+use Rattle.batch.proofs.Filled.{claim_key}
+use Rattle.batch.proofs.Forecasts.{root_survey, root_counts}
+use Rattle.batch.proofs.Words.{batch_in_order}
+use Rattle.batch.proofs.forecast.forecast_of.Goals as goal
+use Rattle.node.specs.Entries.{map_of}
+use Rattle.node.specs.Node.{whole, root_forest}
+
+pub plan_of-requires-clause-order : goal.plan_of-requires-clause-order
+plan_of-requires-clause-order c = batch_in_order c.args.updates.now c.requires.batch
+
+pub returns-clause-ok : goal.returns-clause-ok
+returns-clause-ok c =
+    let u = c.args.updates.now in
+    let claimed = c.in_ok-plan.ensures.claims in
+    let kept = c.in_ok-add_kept.ensures.ok ∙ (λ i. c.in_ok-plan.ensures.released i ++ kept_of ((c.deref.ensures ∙ claimed) i)) in
+    record {
+      made = map claim_key (claims (said u) 0 5 0 (whole c.args.root.now));
+      survey = subst (λ (ds : List Dead). IsSurvey (map_of (root_forest c.args.root.now)) (changes_of u) (map dead_block ds) (map claim_key (claims (said u) 0 5 0 (whole c.args.root.now)))) (sym kept)
+          (root_survey c.args.root.now u c.requires.sound c.requires.batch c.write_count.ensures.sized);
+      count = c.len-made.ensures.value ∙ ap length claimed ∙ sym (length-map (claims (said u) 0 5 0 (whole c.args.root.now)) claim_key);
+    }
+
+pub returns-clause-metered : goal.returns-clause-metered
+returns-clause-metered c =
+    root_counts c.args.root.now c.args.updates.now c.requires.sound c.requires.batch c.write_count.ensures.sized _ _ c.in_ok-plan.ensures.metered

@@ -1,0 +1,64 @@
+//! What a batch of changes would drop and make, before any number is chosen.
+ghost use Rattle.std.specs.Prelude.{◌≡◌, ◌≤◌, ◌++◌, ℕ, IfOk, OnOk, OnErr};
+ghost use Rattle.base.specs.declared.refusal.Refusal.{Refusal};
+ghost use Rattle.batch.specs.Cost.{CountsDropped};
+ghost use Rattle.batch.specs.Forecast.{kept_of, IsForecast};
+ghost use Rattle.batch.specs.Updates.{changes_of, IsBatch};
+ghost use Rattle.node.specs.Entries.{map_of};
+ghost use Rattle.node.specs.Node.{root_forest};
+ghost use Rattle.node.specs.Sound.{IsSoundTree};
+
+use crate::draft::plan_of;
+use crate::few::Few;
+use crate::plan::Claim;
+use crate::update::{Update, write_count};
+use base::meter::Meter;
+use base::number::{Dead, Group};
+use base::refusal::Refusal;
+use node::Root;
+use std::alloc::Global;
+use std::sync::Arc;
+
+/// What a change would do: the blocks that the keys have now which it touches, and how many keys it would make.
+#[derive(Drop)]
+pub struct Forecast {
+    pub dropped: Few<Dead>,
+    pub made: usize,
+}
+
+/// Adds the blocks that claims keep in place.
+fn add_kept(claims: &[Claim], dropped: &mut Few<Dead>) -> Result<(), Refusal>
+    ensures ok { OnOk result (dropped.new.items ≡ dropped.old.items ++ kept_of claims.now) }
+    ensures err { OnErr result (result ≡ Err Refusal.NoMemory) }
+{
+    for claim in claims {
+        if let Some(dead) = claim.kept {
+            dropped.push(dead)?;
+        }
+    }
+    Ok(())
+}
+
+/// What a batch would do to a root. NoMemory where there is none for the lists. It costs the nodes on the way to the changes, each with
+/// its sixteen places. The meter counts these nodes: it rises by at least one for each block that the change drops, and at `Err` is never
+/// lower.
+pub fn forecast_of(
+    alloc: Global,
+    root: &Option<Arc<Root>>,
+    updates: &[Update],
+    meter: &mut Meter,
+) -> Result<Forecast, Refusal>
+    requires sound { (count : ℕ) × IsSoundTree root.now count }
+    requires batch { IsBatch updates.now }
+    ensures ok { IfOk result (IsForecast (map_of (root_forest root.now)) (changes_of updates.now)) }
+    ensures err { OnErr result (result ≡ Err Refusal.NoMemory) }
+    ensures metered { OnOk result (CountsDropped (map_of (root_forest root.now)) (changes_of updates.now) meter.old meter.new) }
+    ensures never_lower { meter.old ≤ meter.new }
+{
+    let room = write_count(updates).saturating_add(5);
+    let (plan, _touched) = plan_of(alloc, root, updates, room, Group(0), meter)?;
+    let made = plan.claims.len();
+    let mut dropped = plan.released;
+    add_kept(&plan.claims, &mut dropped)?;
+    Ok(Forecast { dropped, made })
+}
