@@ -8,6 +8,8 @@ mod drafts;
 #[cfg(test)]
 mod equality;
 #[cfg(test)]
+mod forecasts;
+#[cfg(test)]
 mod nodes;
 #[cfg(test)]
 mod objects;

@@ -1,5 +1,5 @@
 //! Memory that is refused. Each test passes whichever allocation is the one that fails.
-use crate::ready::meter;
+use crate::ready::{is_batch, meter};
 use crate::rig::{Rig, Way, punch_at, write_at};
 use base::number::Group;
 use base::refusal::Refusal;
@@ -44,10 +44,22 @@ fn refused_in(rt: &impl Abort, alloc: Global, way: Way) {
     refused_or_done(rt, alloc, &mut rig, write_at(3, 1), Group(1), 6);
     if rig.byte(rt, 3) == 1 {
         walked_or_refused(rt, alloc, &rig);
+        forecast_or_refused(rt, alloc, &rig);
         refused_or_done(rt, alloc, &mut rig, write_at(5000, 2), Group(2), 10);
         let left = if rig.byte(rt, 5000) == 2 { 6 } else { 0 };
         refused_or_done(rt, alloc, &mut rig, punch_at(0, 3), Group(3), left);
     }
+}
+
+/// A forecast of what drops all six blocks of a tree lists them, or is refused.
+fn forecast_or_refused(rt: &impl Abort, alloc: Global, rig: &Rig) {
+    let batch = [punch_at(3, 0), punch_at(3, 1)];
+    assert!(rt; is_batch(&batch));
+    let fine = match rig.tree.forecast(alloc, &batch, &mut meter()) {
+        Ok(forecast) => forecast.dropped.len() == 6 && forecast.made == 0,
+        Err(refusal) => refusal == Refusal::NoMemory,
+    };
+    assert!(rt; fine);
 }
 
 /// A walk of a tree of six blocks lists them all, or is refused.
