@@ -12,7 +12,7 @@ use Rattle.model.specs.Step.{Step}
 use Rattle.model.specs.Targets.{guid_limit}
 use Rattle.world.specs.Tables.{Datasets}
 use Rattle.clones.specs.Requests.{cloned, clone_refusal, promoted, promote_refusal}
-use Rattle.steps.specs.Edits.{datasets_of, with_datasets, put, CanPut}
+use Rattle.steps.specs.Edits.{datasets_of, with_datasets, put, CanPut, StaysUnlimited}
 use Rattle.steps.proofs.Cloning as cloning
 use Rattle.steps.proofs.Promoting as promoting
 use Rattle.pool.specs.Pools.{IsSound}
@@ -31,6 +31,9 @@ module _ (seen : Shown) (s : State) (numbers : List BlockState) (view : shown s 
       pub clone_can : CanPut seen.state to 0 × (seen.state.next_guid + 0 ≤ guid_limit + 1)
       clone_can = subst (λ (x : Shown). CanPut x.state to 0 × (x.state.next_guid + 0 ≤ guid_limit + 1)) view
           (subst (λ t. CanPut s t 0) (sym is) (cloning.clone_can s sound.steady target name none), subst (λ n. n ≤ guid_limit + 1) (plus_none s.next_guid) sound.guids)
+
+      pub clone_stays : StaysUnlimited seen.state to
+      clone_stays = subst (λ (x : Shown). StaysUnlimited x.state to) view (subst (StaysUnlimited s) (sym is) (cloning.clone_unlimited s sound.steady target name none))
 
       pub clone_done : Step seen.state (Clone target name) Done (put seen.state to 0)
       clone_done = subst (λ (x : Shown). Step x.state (Clone target name) Done (put x.state to 0)) view

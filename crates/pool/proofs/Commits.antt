@@ -23,28 +23,28 @@ module _ (s : State) (numbers : List BlockState) (sound : IsSound s numbers) (to
   -- once other datasets are in place every number has the state that the worlds give it
   pub sound_changed : (released : List Block) (taken : List ℕ) → CanChange s to released taken
       → IsSound (with_datasets s to) (takes (releases s.last.group numbers released) taken)
-  sound_changed released taken can = record { steady = can.steady; states = put_states s sound.steady numbers sound.states to released taken can; guids = sound.guids; unlimited = can.unlimited sound.unlimited }
+  sound_changed released taken can = record { steady = can.steady; states = put_states s sound.steady numbers sound.states to released taken can; guids = sound.guids }
 
   -- and so it has where the same blocks are reached
   pub sound_put : (guids : ℕ) → CanPut s to guids → s.next_guid + guids ≤ guid_limit + 1 → IsSound (put s to guids) numbers
-  sound_put guids can fits = record { steady = can.steady; states = kept_states s numbers sound.states to guids can; guids = fits; unlimited = can.unlimited sound.unlimited }
+  sound_put guids can fits = record { steady = can.steady; states = kept_states s numbers sound.states to guids can; guids = fits }
 
   -- and where what the datasets have lost is to be freed
   pub sound_lost : CanLose s to → IsSound (lose s to) numbers
-  sound_lost can = record { steady = can.steady; states = lose_states s numbers sound.states to can; guids = sound.guids; unlimited = can.unlimited sound.unlimited }
+  sound_lost can = record { steady = can.steady; states = lose_states s numbers sound.states to can; guids = sound.guids }
 
   -- and after a sync
   pub sound_synced : CanSync s to → IsSound (synced s to) (map after_group numbers)
-  sound_synced can = record { steady = sync_steady s sound.steady to can; states = sync_states s sound.steady to can numbers sound.states; guids = sound.guids; unlimited = subst (λ (t : Datasets). IsUnlimited t.file_systems) (sym can.is) sound.unlimited }
+  sound_synced can = record { steady = sync_steady s sound.steady to can; states = sync_states s sound.steady to can numbers sound.states; guids = sound.guids }
 
 module _ (s : State) (numbers : List BlockState) (sound : IsSound s numbers) where
   -- and with one more view
   pub sound_viewing : (id : SnapId) → IsSteady (viewing s id) → IsSound (viewing s id) numbers
-  sound_viewing id steady = record { steady = steady; states = of_states (viewing s id) numbers (states_of s numbers sound.states); guids = sound.guids; unlimited = sound.unlimited }
+  sound_viewing id steady = record { steady = steady; states = of_states (viewing s id) numbers (states_of s numbers sound.states); guids = sound.guids }
 
   -- or one less
   pub sound_closed : (number : ℕ) → IsSteady (closed s number) → IsSound (closed s number) numbers
-  sound_closed number steady = record { steady = steady; states = of_states (closed s number) numbers (states_of s numbers sound.states); guids = sound.guids; unlimited = sound.unlimited }
+  sound_closed number steady = record { steady = steady; states = of_states (closed s number) numbers (states_of s numbers sound.states); guids = sound.guids }
 
   -- and without what goes with that
   pub sound_swept : (number : ℕ) (to : Datasets) → CanLose (closed s number) to → IsSound (lose (closed s number) to) numbers
@@ -52,7 +52,6 @@ module _ (s : State) (numbers : List BlockState) (sound : IsSound s numbers) whe
     steady = can.steady;
     states = lose_states (closed s number) numbers (of_states (closed s number) numbers (states_of s numbers sound.states)) to can;
     guids = sound.guids;
-    unlimited = can.unlimited sound.unlimited;
   }
 
 -- with a copy of what is to be freed, and with the present datasets in the next group
@@ -67,4 +66,4 @@ sound_copied s last now freeing numbers copied is = subst (λ x. IsSound x numbe
 -- once a slice is released every number has the state that the worlds give it
 pub sound_freed : (s : State) (numbers : List BlockState) → IsSound s numbers → (rest : BlockSet) (taken : List Block) → CanFree s rest taken
     → IsSound (with_freeing s rest) (releases s.last.group numbers taken)
-sound_freed s numbers sound rest taken can = record { steady = can.steady; states = freed_states s sound.steady numbers sound.states rest taken can; guids = sound.guids; unlimited = sound.unlimited }
+sound_freed s numbers sound rest taken can = record { steady = can.steady; states = freed_states s sound.steady numbers sound.states rest taken can; guids = sound.guids }

@@ -14,3 +14,4 @@ pub mod Sights
 pub mod Cloned
 pub mod Marked
 pub mod Joined
+pub mod Limited

@@ -17,7 +17,7 @@ use Rattle.world.specs.Tables.{Datasets, world_of}
 use Rattle.removals.specs.Edits.{HasLost}
 use Rattle.removals.specs.Requests.{swept}
 use Rattle.marks.specs.Requests.{hold_refusal, held_in, release_refusal, released_in, bookmark_refusal, bookmarked_in, holds_refusal}
-use Rattle.steps.specs.Edits.{datasets_of, put, lose, CanPut, CanLose}
+use Rattle.steps.specs.Edits.{datasets_of, put, lose, CanPut, CanLose, StaysUnlimited}
 use Rattle.steps.proofs.Holding as holding
 use Rattle.steps.proofs.Releasing as releasing
 use Rattle.steps.proofs.Marking as marking
@@ -37,6 +37,9 @@ module _ (seen : Shown) (s : State) (numbers : List BlockState) (view : shown s 
       hold_can = subst (λ (x : Shown). CanPut x.state to 0 × (x.state.next_guid + 0 ≤ guid_limit + 1)) view
           (subst (λ t. CanPut s t 0) (sym is) (holding.hold_can s tag target sound.steady none), subst (λ n. n ≤ guid_limit + 1) (plus_none s.next_guid) sound.guids)
 
+      pub hold_stays : StaysUnlimited seen.state to
+      hold_stays = subst (λ (x : Shown). StaysUnlimited x.state to) view (subst (StaysUnlimited s) (sym is) (holding.hold_unlimited s tag target sound.steady none))
+
       pub hold_done : Step seen.state (Hold tag target) Done (put seen.state to 0)
       hold_done = subst (λ (x : Shown). Step x.state (Hold tag target) Done (put x.state to 0)) view
           (subst (λ t. Step s (Hold tag target) Done (put s t 0)) (sym is) (holding.hold_done s tag target sound.steady none))
@@ -47,6 +50,9 @@ module _ (seen : Shown) (s : State) (numbers : List BlockState) (view : shown s 
     module _ (none : release_refusal (datasets_of s) tag target ≡ None) (to : Datasets) (is : to ≡ swept (released_in (datasets_of s) tag target) s.views) where
       pub release_can : (freeing : BlockSet) → HasLost (datasets_of s) s.now.freeing to freeing → CanLose seen.state to × (freeing ≡ (lose seen.state to).now.freeing)
       release_can freeing lost = with_freed seen s numbers view sound to freeing lost (subst (CanLose s) (sym is) (releasing.release_can s tag target sound.steady))
+
+      pub release_stays : StaysUnlimited seen.state to
+      release_stays = subst (λ (x : Shown). StaysUnlimited x.state to) view (subst (StaysUnlimited s) (sym is) (releasing.release_unlimited s tag target sound.steady))
 
       pub release_done : Step seen.state (Release tag target) Done (lose seen.state to)
       release_done = subst (λ (x : Shown). Step x.state (Release tag target) Done (lose x.state to)) view
@@ -60,6 +66,9 @@ module _ (seen : Shown) (s : State) (numbers : List BlockState) (view : shown s 
       pub bookmark_can : CanPut seen.state to 0 × (seen.state.next_guid + 0 ≤ guid_limit + 1)
       bookmark_can = subst (λ (x : Shown). CanPut x.state to 0 × (x.state.next_guid + 0 ≤ guid_limit + 1)) view
           (subst (λ t. CanPut s t 0) (sym is) (marking.bookmark_can s target mark sound.steady), subst (λ n. n ≤ guid_limit + 1) (plus_none s.next_guid) sound.guids)
+
+      pub bookmark_stays : StaysUnlimited seen.state to
+      bookmark_stays = subst (λ (x : Shown). StaysUnlimited x.state to) view (subst (StaysUnlimited s) (sym is) (marking.bookmark_unlimited s target mark sound.steady none))
 
       pub bookmark_done : Step seen.state (Bookmark target mark) Done (put seen.state to 0)
       bookmark_done = subst (λ (x : Shown). Step x.state (Bookmark target mark) Done (put x.state to 0)) view

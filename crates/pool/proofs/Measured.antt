@@ -111,8 +111,10 @@ module _ (seen : Shown) (s : State) (numbers : List BlockState) (view : shown s 
     pub get_absent : (free : ℕ) → None ≡ value_named (datasets_of s) free t property → Step seen.state (Get t property) (Refused NoDataset) seen.state
     get_absent free none = at _ _ (reads.get_no_dataset s sound.steady t property (nothing_named (datasets_of s) free t property none))
 
-    pub get_told : (free : ℕ) → free ≡ count_by is_free numbers → (v : Value) → Some v ≡ value_named (datasets_of s) free t property → Step seen.state (Get t property) (ValueIs v) seen.state
-    get_told free counted v is = at _ _ (value_told s sound.steady sound.unlimited numbers sound.states free counted t property v is)
+    pub get_told : (room : ℕ) → ((name : List ℕ) → t ≡ OfFileSystem name → property ≡ Available → IsSome (get seen.state.now.file_systems name) → room ≡ room_of seen.state name)
+        → (v : Value) → Some v ≡ value_named (datasets_of s) room t property → Step seen.state (Get t property) (ValueIs v) seen.state
+    get_told room told v is = at _ _ (value_told s sound.steady room t property v
+        (subst (λ (x : Shown). (name : List ℕ) → t ≡ OfFileSystem name → property ≡ Available → IsSome (get x.state.now.file_systems name) → room ≡ room_of x.state name) (sym view) told) is)
 
     pub get_wanting : (why : Refusal) → (needs_memory property ≡ true) × (why ≡ NoMemory) → Step seen.state (Get t property) (Refused why) seen.state
     get_wanting why is = at _ _ (subst (λ r. Step s (Get t property) (Refused r) s) (sym is.1) (get_no_memory s sound.steady t property is.0))

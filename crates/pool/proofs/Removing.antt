@@ -18,7 +18,7 @@ use Rattle.world.proofs.Kept.{union-fields}
 use Rattle.world.specs.Worlds.{AreFileSystems}
 use Rattle.removals.specs.Edits.{HasLost}
 use Rattle.removals.specs.Requests.{rolled, rollback_refusal, destroyed, destroy_refusal, swept}
-use Rattle.steps.specs.Edits.{datasets_of, lose, CanLose}
+use Rattle.steps.specs.Edits.{datasets_of, lose, CanLose, StaysUnlimited}
 use Rattle.steps.proofs.Freeing.{joined_losses}
 use Rattle.steps.proofs.Rolling as rolling
 use Rattle.steps.proofs.Destroying as destroying
@@ -60,6 +60,9 @@ module _ (seen : Shown) (s : State) (numbers : List BlockState) (view : shown s 
 
       pub destroy_can : (freeing : BlockSet) → HasLost (datasets_of s) s.now.freeing to freeing → CanLose seen.state to × (freeing ≡ (lose seen.state to).now.freeing)
       destroy_can freeing lost = with_freed to freeing lost (subst (CanLose s) (sym is) can)
+
+      pub destroy_stays : StaysUnlimited seen.state to
+      destroy_stays = subst (λ (x : Shown). StaysUnlimited x.state to) view (subst (StaysUnlimited s) (sym is) (destroying.destroy_unlimited s sound.steady target recursive defer))
 
       pub destroy_done : Step seen.state (Destroy target recursive defer) Done (lose seen.state to)
       destroy_done = subst (λ (x : Shown). Step x.state (Destroy target recursive defer) Done (lose x.state to)) view

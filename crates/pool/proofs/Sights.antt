@@ -24,7 +24,7 @@ use Rattle.model.specs.requests.OpenView.{view_limit}
 use Rattle.removals.specs.Edits.{HasLost}
 use Rattle.removals.specs.Requests.{swept, IsSweptBy}
 use Rattle.removals.specs.declared.edit.Edit.{Edit}
-use Rattle.steps.specs.Edits.{datasets_of, lose, viewing, closed, CanLose}
+use Rattle.steps.specs.Edits.{datasets_of, lose, viewing, closed, CanLose, StaysUnlimited}
 use Rattle.steps.specs.Steady.{IsSteady, snap_in}
 use Rattle.steps.proofs.Freeing.{joined_losses}
 use Rattle.steps.proofs.Viewing as views
@@ -127,6 +127,9 @@ module _ (seen : Shown) (s : State) (numbers : List BlockState) (view : shown s 
           pub sweep_can : CanLose (closed seen.state number) e.to × (e.freeing ≡ (lose (closed seen.state number) e.to).now.freeing)
           sweep_can = subst (λ (y : Shown). CanLose (closed y.state number) e.to × (e.freeing ≡ (lose (closed y.state number) e.to).now.freeing)) view
               (subst (CanLose (closed s number)) (sym to_is) (views.close_can s number sound.steady), joined_losses (closed s number) e.to e.freeing lost_is.joined)
+
+          pub sweep_stays : StaysUnlimited seen.state e.to
+          sweep_stays = subst (λ (x : Shown). StaysUnlimited x.state e.to) view (subst (StaysUnlimited s) (sym to_is) (views.close_unlimited s number))
 
           pub sweep_done : Step seen.state (CloseView number) Done (lose (closed seen.state number) e.to)
           sweep_done = subst (λ (y : Shown). Step y.state (CloseView number) Done (lose (closed y.state number) e.to)) view

@@ -38,7 +38,7 @@ use Rattle.world.proofs.Takings.{may_take}
 use Rattle.file_system.specs.Rows.{Entry}
 use Rattle.datasets.specs.Snapshots.{taken_of}
 use Rattle.snap.specs.Taking.{after_taking}
-use Rattle.steps.specs.Edits.{datasets_of, put, synced, CanPut, CanSync}
+use Rattle.steps.specs.Edits.{datasets_of, put, synced, CanPut, CanSync, StaysUnlimited}
 use Rattle.steps.specs.Listed.{own_names}
 use Rattle.steps.proofs.Creating as creates
 use Rattle.steps.proofs.Snapping as snaps
@@ -178,6 +178,9 @@ module _ (seen : Shown) (s : State) (numbers : List BlockState) (view : shown s 
     module _ (to : Datasets) (made : to ≡ with_system (datasets_of s) name empty_file_system) (may : create_refusal s.now.file_systems name ≡ None) where
       pub create_can : CanPut seen.state to 0 × (seen.state.next_guid + 0 ≤ guid_limit + 1)
       create_can = subst (λ (x : Shown). CanPut x.state to 0 × (x.state.next_guid + 0 ≤ guid_limit + 1)) view (subst (λ t. CanPut s t 0) (sym made) (creates.create_can s sound.steady name may), subst (λ n. n ≤ guid_limit + 1) (plus_none s.next_guid) sound.guids)
+
+      pub create_stays : StaysUnlimited seen.state to
+      create_stays = subst (λ (x : Shown). StaysUnlimited x.state to) view (subst (StaysUnlimited s) (sym made) (creates.create_unlimited s name))
 
       pub create_done : Step seen.state (Create name) Done (put seen.state to 0)
       create_done = subst (λ (x : Shown). Step x.state (Create name) Done (put x.state to 0)) view

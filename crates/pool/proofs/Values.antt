@@ -128,40 +128,40 @@ module _ (s : State) (steady : IsSteady s) where
         at None was e = absurd (no_value v (sym e))
         at (Some f) was e = within f was (find (λ (u : Snap). same_name u.name m.component) f.snaps) refl e
 
-  module _ (bare : IsUnlimited s.now.file_systems) (numbers : List BlockState) (known : HasStates s numbers) (free : ℕ) (counted : free ≡ count_by is_free numbers) where
+  module _ (room : ℕ) where
     -- a file system's, of its live map or its origin, or of its space
-    live_told : (name : List ℕ) (f : FileSystem) → get s.now.file_systems name ≡ Some f → (property : Property)
-        → Step s (Get (OfFileSystem name) property) (ValueIs (live_value (datasets_of s) free (row_in s.now.file_systems (name, f)) property)) s
+    live_told : (name : List ℕ) (f : FileSystem) → get s.now.file_systems name ≡ Some f → (property : Property) → (property ≡ Available → room ≡ room_of s name)
+        → Step s (Get (OfFileSystem name) property) (ValueIs (live_value (datasets_of s) room (row_in s.now.file_systems (name, f)) property)) s
     unfolding file_system_value
-    live_told name f was Used = get_used_of_live s steady name f was (used_of (world_of (datasets_of s)) name) (used_alike s name)
-    live_told name f was Available = get_available s steady name f was free (counted ∙ free_is_room s steady numbers known bare name f was)
-    live_told name f was Referenced = get_referenced s steady (OfFileSystem name) f.live (named_live s name f was) (map_len f.live) refl
-    live_told name f was Written = get_written_live s steady name f was (size_without (blocks f.live) (newest_blocks (blocks (below_in s.now.file_systems f.origin)) f.snaps)) refl
-    live_told name f was UsedByDataset = get_used_by_dataset s steady name f was _ refl
-    live_told name f was UsedBySnapshots = get_used_by_snapshots s steady name f was _ refl
-    live_told name f was UsedByChildren = get_used_by_children s steady name f was (used_by_children (world_of (datasets_of s)) name) (used_by_children_alike s name)
-    live_told name f was UsedByRefReservation = get_used_by_refreservation s steady name f was (bare name f was)
-    live_told name f was Quota = get_limit s steady name f was (bare name f was) Quota refl
-    live_told name f was RefQuota = get_limit s steady name f was (bare name f was) RefQuota refl
-    live_told name f was Reservation = get_limit s steady name f was (bare name f was) Reservation refl
-    live_told name f was RefReservation = get_limit s steady name f was (bare name f was) RefReservation refl
-    live_told name f was Origin = by_origin f.origin refl
+    live_told name f was Used told = get_used_of_live s steady name f was (used_of (world_of (datasets_of s)) name) (used_alike s name)
+    live_told name f was Available told = get_available s steady name f was room (told refl)
+    live_told name f was Referenced told = get_referenced s steady (OfFileSystem name) f.live (named_live s name f was) (map_len f.live) refl
+    live_told name f was Written told = get_written_live s steady name f was (size_without (blocks f.live) (newest_blocks (blocks (below_in s.now.file_systems f.origin)) f.snaps)) refl
+    live_told name f was UsedByDataset told = get_used_by_dataset s steady name f was _ refl
+    live_told name f was UsedBySnapshots told = get_used_by_snapshots s steady name f was _ refl
+    live_told name f was UsedByChildren told = get_used_by_children s steady name f was (used_by_children (world_of (datasets_of s)) name) (used_by_children_alike s name)
+    live_told name f was UsedByRefReservation told = get_unwritten s steady name f was _ refl
+    live_told name f was Quota told = get_live s steady name f was Quota (amount_value f.limits.quota) refl
+    live_told name f was RefQuota told = get_live s steady name f was RefQuota (amount_value f.limits.refquota) refl
+    live_told name f was Reservation told = get_live s steady name f was Reservation (amount_value f.limits.reservation) refl
+    live_told name f was RefReservation told = get_live s steady name f was RefReservation (amount_value f.limits.refreservation) refl
+    live_told name f was Origin told = by_origin f.origin refl
       where
         by_origin : (x : Option SnapId) → f.origin ≡ x → Step s (Get (OfFileSystem name) Origin) (ValueIs (origin_value (datasets_of s) x)) s
         by_origin None e = get_no_origin s steady name f was e
         by_origin (Some id) e = get_origin s steady name f was id e (text_of_snap s.now id) refl
-    live_told name f was Guid = get_live s steady name f was Guid NotApplicable refl
-    live_told name f was CreateTxg = get_live s steady name f was CreateTxg NotApplicable refl
-    live_told name f was Clones = get_live s steady name f was Clones NotApplicable refl
-    live_told name f was UserRefs = get_live s steady name f was UserRefs NotApplicable refl
-    live_told name f was DeferDestroy = get_live s steady name f was DeferDestroy NotApplicable refl
+    live_told name f was Guid told = get_live s steady name f was Guid NotApplicable refl
+    live_told name f was CreateTxg told = get_live s steady name f was CreateTxg NotApplicable refl
+    live_told name f was Clones told = get_live s steady name f was Clones NotApplicable refl
+    live_told name f was UserRefs told = get_live s steady name f was UserRefs NotApplicable refl
+    live_told name f was DeferDestroy told = get_live s steady name f was DeferDestroy NotApplicable refl
 
     -- of what has the name
-    pub value_told : (target : Target) (property : Property) (v : Value) → Some v ≡ value_named (datasets_of s) free target property → Step s (Get target property) (ValueIs v) s
-    value_told (OfFileSystem name) property v e =
-        let f = mapped (λ (f : FileSystem). live_value (datasets_of s) free (row_in s.now.file_systems (name, f)) property) (get s.now.file_systems name) v e in
-        subst (λ x. Step s (Get (OfFileSystem name) property) (ValueIs x) s) f.2 (live_told name f.0 f.1 property)
-    value_told (OfSnapshot m) property v e = snapshot_told m property v e
-    value_told (OfBookmark m) property v e =
+    pub value_told : (target : Target) (property : Property) (v : Value) → ((name : List ℕ) → target ≡ OfFileSystem name → property ≡ Available → IsSome (get s.now.file_systems name) → room ≡ room_of s name) → Some v ≡ value_named (datasets_of s) room target property → Step s (Get target property) (ValueIs v) s
+    value_told (OfFileSystem name) property v told e =
+        let f = mapped (λ (f : FileSystem). live_value (datasets_of s) room (row_in s.now.file_systems (name, f)) property) (get s.now.file_systems name) v e in
+        subst (λ x. Step s (Get (OfFileSystem name) property) (ValueIs x) s) f.2 (live_told name f.0 f.1 property (λ is. told name refl is (ap is_some f.1)))
+    value_told (OfSnapshot m) property v told e = snapshot_told m property v e
+    value_told (OfBookmark m) property v told e =
         let b = mapped (λ (b : Bookmark). bookmark_value b property) (bookmark_in s.now.file_systems m) v e in
         subst (λ x. Step s (Get (OfBookmark m) property) (ValueIs x) s) b.2 (get_of_bookmark m b.0 property b.1)

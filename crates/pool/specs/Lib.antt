@@ -3,3 +3,4 @@ pub mod Pools
 pub mod Plans
 pub mod Named
 pub mod Asked
+pub mod Limiting

@@ -1,7 +1,7 @@
 -- What a name stands for among file systems.
-use Rattle.std.specs.Prelude.{◌≡◌, ◌⊎◌, ◌*◌, ℕ, List, [], ◌∷◌, Option, None, Some, length, map}
+use Rattle.std.specs.Prelude.{◌≡◌, ◌⊎◌, ◌*◌, ◌-◌, ℕ, List, [], ◌∷◌, Option, None, Some, length, map}
 use Rattle.std.specs.List.{find, join_with_byte}
-use Rattle.std.specs.Option.{option_map, option_map_or, option_and_then}
+use Rattle.std.specs.Option.{option_map, option_map_or, option_and_then, unwrap_or}
 use Rattle.std.specs.FinMap.{get, len}
 use Rattle.base.specs.Map.{Map, blocks}
 use Rattle.base.specs.declared.refusal.Refusal.{Refusal}
@@ -47,27 +47,30 @@ bookmark_names e = map (λ b. mark_text (record { file_system = e.0; component =
 abbrev pub origin_value : Datasets → Option SnapId → Value
 origin_value t origin = option_map_or (λ id. Named (text_of_snap (world_of t) id)) origin NotApplicable
 
--- a property of a file system of these, of a pool with so many free blocks: it has no limit, and no property of a snapshot alone
--- (zfsprops(7))
+-- how much a limit is, in bytes; 0 where there is none (zfsprops(7): quota, refquota, reservation, refreservation)
+abbrev pub amount_value : Option ℕ → Value
+amount_value limit = Size (512 * unwrap_or limit 0)
+
+-- a property of a file system of these, to which so many blocks are available; it has no property of a snapshot alone (zfsprops(7))
 abbrev pub live_value : Datasets → ℕ → Row → Property → Value
-live_value t free r Used = Size (512 * used_of (world_of t) r.name)
-live_value t free r Available = Size (512 * free)
-live_value t free r Referenced = Size (512 * len r.system.live)
-live_value t free r Written = Size (512 * size_without (blocks r.system.live) (newest_blocks (blocks r.below) r.system.snaps))
-live_value t free r UsedByDataset = Size (512 * size_without (blocks r.system.live) (blocks r.below))
-live_value t free r UsedBySnapshots = Size (512 * size_without (blocks_of_all (map (λ t. t.map) r.system.snaps)) (blocks_of_all (r.system.live ∷ r.below ∷ [])))
-live_value t free r UsedByChildren = Size (512 * used_by_children (world_of t) r.name)
-live_value t free r UsedByRefReservation = Size 0
-live_value t free r Quota = Size 0
-live_value t free r RefQuota = Size 0
-live_value t free r Reservation = Size 0
-live_value t free r RefReservation = Size 0
-live_value t free r Origin = origin_value t r.system.origin
-live_value t free r Guid = NotApplicable
-live_value t free r CreateTxg = NotApplicable
-live_value t free r Clones = NotApplicable
-live_value t free r UserRefs = NotApplicable
-live_value t free r DeferDestroy = NotApplicable
+live_value t room r Used = Size (512 * used_of (world_of t) r.name)
+live_value t room r Available = Size (512 * room)
+live_value t room r Referenced = Size (512 * len r.system.live)
+live_value t room r Written = Size (512 * size_without (blocks r.system.live) (newest_blocks (blocks r.below) r.system.snaps))
+live_value t room r UsedByDataset = Size (512 * size_without (blocks r.system.live) (blocks r.below))
+live_value t room r UsedBySnapshots = Size (512 * size_without (blocks_of_all (map (λ t. t.map) r.system.snaps)) (blocks_of_all (r.system.live ∷ r.below ∷ [])))
+live_value t room r UsedByChildren = Size (512 * used_by_children (world_of t) r.name)
+live_value t room r UsedByRefReservation = Size (512 * (unwrap_or r.system.limits.refreservation 0 - size_without (blocks r.system.live) (newest_blocks (blocks r.below) r.system.snaps)))
+live_value t room r Quota = amount_value r.system.limits.quota
+live_value t room r RefQuota = amount_value r.system.limits.refquota
+live_value t room r Reservation = amount_value r.system.limits.reservation
+live_value t room r RefReservation = amount_value r.system.limits.refreservation
+live_value t room r Origin = origin_value t r.system.origin
+live_value t room r Guid = NotApplicable
+live_value t room r CreateTxg = NotApplicable
+live_value t room r Clones = NotApplicable
+live_value t room r UserRefs = NotApplicable
+live_value t room r DeferDestroy = NotApplicable
 
 -- a property of a snapshot of a file system, which has this name within it (zfsprops(7))
 abbrev pub kept_value : Datasets → Row → List ℕ → Snap → Property → Option Value
@@ -98,8 +101,8 @@ snapshot_value t r name property = option_and_then (λ u. kept_value t r name u 
 abbrev pub value_in : Datasets → Member → Property → Option Value
 value_in t m property = option_and_then (λ f. snapshot_value t (row_in t.file_systems (m.file_system, f)) m.component property) (get t.file_systems m.file_system)
 
--- a property of what has the name in a pool with so many free blocks, none where nothing has it (zfs-get(8))
+-- a property of what has the name, to which so many blocks are available, none where nothing has it (zfs-get(8))
 abbrev pub value_named : Datasets → ℕ → Target → Property → Option Value
-value_named t free (OfFileSystem name) property = option_map (λ f. live_value t free (row_in t.file_systems (name, f)) property) (get t.file_systems name)
-value_named t free (OfSnapshot m) property = value_in t m property
-value_named t free (OfBookmark m) property = option_map (λ b. bookmark_value b property) (bookmark_named (world_of t) m)
+value_named t room (OfFileSystem name) property = option_map (λ f. live_value t room (row_in t.file_systems (name, f)) property) (get t.file_systems name)
+value_named t room (OfSnapshot m) property = value_in t m property
+value_named t room (OfBookmark m) property = option_map (λ b. bookmark_value b property) (bookmark_named (world_of t) m)

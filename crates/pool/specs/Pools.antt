@@ -5,7 +5,6 @@ use Rattle.model.specs.State.{State}
 use Rattle.model.specs.Targets.{guid_limit}
 use Rattle.model.specs.Numbers.{HasStates}
 use Rattle.world.specs.Tables.{world_of}
-use Rattle.accounts.specs.Limits.{IsUnlimited}
 use Rattle.steps.specs.Steady.{IsSteady}
 use Rattle.pool.specs.declared.pool.Pool.TheInside.{Inside}
 
@@ -21,10 +20,9 @@ state_of p = record {
   pool = p.id;
 }
 
--- the facts of the worlds hold, each number has the state that the worlds give it, the counter of guids is no further than past its last
--- number, and no file system has a limit, which no request sets so far (profile)
+-- the facts of the worlds hold, each number has the state that the worlds give it, and the counter of guids is no further than past its last
+-- number (profile)
 pub record IsSound (s : State) (numbers : List BlockState) : Type 0 where
   pub steady : IsSteady s
   pub states : HasStates s numbers
   pub guids : s.next_guid ≤ guid_limit + 1
-  pub unlimited : IsUnlimited s.now.file_systems

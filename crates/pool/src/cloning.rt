@@ -2,6 +2,7 @@
 ghost use Rattle.std.specs.Prelude.{◌≡◌};
 ghost use Rattle.model.specs.declared.request.Request.{Request};
 ghost use Rattle.model.specs.Step.{Step};
+ghost use Rattle.accounts.specs.Limits.{IsUnlimited};
 ghost use Rattle.pool.specs.Plans.{state_after_plan, CanDo};
 
 use crate::pool::{Plan, Pool};
@@ -33,14 +34,20 @@ impl Pool {
             Ok(to) => to,
             Err(refusal) => return (Reply::Refused(refusal), Plan::Nothing),
         };
+        let freeing = self.freeing.len();
+        if let Some(refusal) = self.over(&to, freeing) {
+            return (Reply::Refused(refusal), Plan::Nothing);
+        }
         (Reply::Done, Plan::Put { to, guids: 0 })
     }
 
     // Clones at once, or answers why it can't, and then nothing has changed.
     pub(crate) fn clone_now(&mut self, target: &Target, name: &DsName) -> Reply
+        requires { IsUnlimited self.old.state.now.file_systems }
         ensures { Step self.old.state (Request.Clone target.now name.now) result self.new.state }
     {
         let _size = self.size;
+        self.limiting = None;
         if let Err(refusal) = clone_now(&mut self.present, target, name) {
             return Reply::Refused(refusal);
         }
@@ -49,9 +56,11 @@ impl Pool {
 
     // Promotes at once, or answers why it can't, and then nothing has changed.
     pub(crate) fn promote_now(&mut self, alloc: Global, name: &DsName) -> Reply
+        requires { IsUnlimited self.old.state.now.file_systems }
         ensures { Step self.old.state (Request.Promote name.now) result self.new.state }
     {
         let _size = self.size;
+        self.limiting = None;
         let done = promote_now(alloc, &mut self.present, name, &mut self.segments);
         if let Err(refusal) = done {
             return Reply::Refused(refusal);

@@ -2,6 +2,7 @@
 ghost use Rattle.std.specs.Prelude.{◌≡◌};
 ghost use Rattle.model.specs.declared.request.Request.{Request};
 ghost use Rattle.model.specs.Step.{Step};
+ghost use Rattle.accounts.specs.Limits.{IsUnlimited};
 ghost use Rattle.pool.specs.Plans.{state_after_plan, CanDo};
 
 use crate::pool::{Plan, Pool};
@@ -50,9 +51,11 @@ impl Pool {
         recursive: bool,
         defer: bool,
     ) -> Reply
+        requires { IsUnlimited self.old.state.now.file_systems }
         ensures { Step self.old.state (Request.Destroy target.now recursive defer) result self.new.state }
     {
         let _size = self.size;
+        self.limiting = None;
         let done = destroy_now(
             alloc,
             &mut self.present,

@@ -2,6 +2,7 @@
 ghost use Rattle.std.specs.Prelude.{◌≡◌};
 ghost use Rattle.model.specs.declared.request.Request.{Request};
 ghost use Rattle.model.specs.Step.{Step};
+ghost use Rattle.accounts.specs.Limits.{IsUnlimited};
 ghost use Rattle.pool.specs.Plans.{state_after_plan, CanDo};
 
 use crate::pool::{Plan, Pool};
@@ -79,9 +80,11 @@ impl Pool {
 
     // Gives a snapshot a tag at once, or answers why it can't, and then nothing has changed.
     pub(crate) fn hold_now(&mut self, alloc: Global, tag: &Tag, target: &Target) -> Reply
+        requires { IsUnlimited self.old.state.now.file_systems }
         ensures { Step self.old.state (Request.Hold tag.now target.now) result self.new.state }
     {
         let _size = self.size;
+        self.limiting = None;
         if let Err(refusal) = hold_now(alloc, &mut self.present, target, tag) {
             return Reply::Refused(refusal);
         }
@@ -90,9 +93,11 @@ impl Pool {
 
     // Makes a bookmark at once, or answers why it can't, and then nothing has changed.
     pub(crate) fn bookmark_now(&mut self, alloc: Global, target: &Target, mark: &MarkName) -> Reply
+        requires { IsUnlimited self.old.state.now.file_systems }
         ensures { Step self.old.state (Request.Bookmark target.now mark.now) result self.new.state }
     {
         let _size = self.size;
+        self.limiting = None;
         if let Err(refusal) = bookmark_now(alloc, &mut self.present, target, mark) {
             return Reply::Refused(refusal);
         }
@@ -101,9 +106,11 @@ impl Pool {
 
     // Takes a tag from a snapshot at once, or answers why it can't, and then nothing has changed.
     pub(crate) fn release_now(&mut self, alloc: Global, tag: &Tag, target: &Target) -> Reply
+        requires { IsUnlimited self.old.state.now.file_systems }
         ensures { Step self.old.state (Request.Release tag.now target.now) result self.new.state }
     {
         let _size = self.size;
+        self.limiting = None;
         let done = release_now(
             alloc,
             &mut self.present,

@@ -18,13 +18,14 @@ impl Pool {
         ensures step { Step self.old.state (Request.Get target.now property) result self.old.state }
     {
         let _size = self.size;
-        let free = self.allocator.counts().free;
+        let room = self.room_asked(target, property);
         let value = value_named(
             alloc,
             &self.present,
+            &self.limiting,
             target,
             property,
-            free,
+            room,
             &mut self.segments,
         );
         match value {

@@ -1,7 +1,7 @@
 //! File systems by a name of any kind, and what is told of them.
-ghost use Rattle.std.specs.Prelude.{◌≡◌, ◌<◌, ◌*◌, ◌^◌, ◌++◌, ◌∷◌, true, Some, IfOk, IfErr, OnOk, map};
+ghost use Rattle.std.specs.Prelude.{◌≡◌, ◌<◌, ◌*◌, ◌-◌, ◌^◌, ◌++◌, ◌∷◌, true, Some, IsSome, IfOk, IfErr, OnOk, map};
 ghost use Rattle.std.specs.Arc.{arc_value};
-ghost use Rattle.std.specs.Option.{option_copied, option_map, option_map_or};
+ghost use Rattle.std.specs.Option.{option_copied, option_map, option_map_or, unwrap_or};
 ghost use Rattle.std.specs.List.{flat_map, join_with_byte};
 ghost use Rattle.std.specs.FinMap.{get};
 ghost use Rattle.std.specs.FinSet.{len};
@@ -13,22 +13,28 @@ ghost use Rattle.model.specs.Properties.{text_of_snap, bookmark_value};
 ghost use Rattle.model.specs.World.{clones_of, bookmark_named, union_of};
 ghost use Rattle.model.specs.declared.request.Property.{Property};
 ghost use Rattle.model.specs.requests.Get.{needs_memory};
-ghost use Rattle.accounts.specs.Limits.{IsUnlimited};
 ghost use Rattle.steps.specs.Steady.{snap_in};
 ghost use Rattle.steps.specs.Listed.{own_names};
 ghost use Rattle.bookmarks.specs.Marks.{bookmark_of};
 ghost use Rattle.world.specs.Tables.{world_of};
-ghost use Rattle.pool.specs.Named.{map_named, snapshot_names, bookmark_names, live_value, origin_value, snapshot_value, value_in, value_named};
+ghost use Rattle.file_system.specs.Dead.{newest_blocks};
+ghost use Rattle.base.specs.Map.{blocks};
+ghost use Rattle.model.specs.Sums.{size_without, used_of, used_by_children};
+ghost use Rattle.pool.specs.Limiting.{IsAccounted};
+ghost use Rattle.pool.specs.Named.{amount_value, map_named, snapshot_names, bookmark_names, live_value, origin_value, snapshot_value, value_in, value_named};
 
+use crate::limiting::Limiting;
+use base::limit::Blocks;
 use base::meter::SegMeter;
 use base::refusal::Refusal;
 use base::text::Bytes;
 use datasets::Table;
 use file_systems::{CloneName, FileSystem, Snapshot};
+use model::limits::Limit;
 use model::reply::Value;
 use model::request::Property;
 use model::snapshot_id::SnapshotId;
-use name::{Member, Target};
+use name::{DsName, Member, Target};
 use space::{used, used_by_children, used_by_snapshot};
 use std::alloc::Global;
 use std::sync::Arc;
@@ -197,35 +203,94 @@ fn value_of_origin(alloc: Global, table: &Table, file_system: &FileSystem) -> Re
     }
 }
 
-// A property of a file system of the table, of a pool with so many free blocks. It has no limit, and no property of a snapshot alone.
-// NoMemory where there is none for a text. Constant time, but for what is used, which costs the number of file systems, and for the
-// origin what `value_of_origin` costs.
+// How many blocks the file system of this name uses together with all its descendants. With a ledger it costs the logarithm of the number of
+// file systems, and else that number.
+fn used_in(table: &Table, limiting: &Option<Limiting>, name: &DsName) -> u64
+    requires there { IsSome (get table.now.file_systems name.now) }
+    requires accounted { IsAccounted table.now limiting.now }
+    requires few { len (union_of (world_of table.now)) < 2 ^ 32 }
+    ensures is { result ≡ used_of (world_of table.now) name.now }
+    ensures small { result < 2 ^ 54 }
+{
+    match limiting {
+        Some(limiting) => limiting.ledger.used(table, name),
+        None => u64::from(used(table, name)),
+    }
+}
+
+// How many of these its descendants use without it. It costs what `used_in` does.
+fn used_by_children_in(table: &Table, limiting: &Option<Limiting>, name: &DsName) -> u64
+    requires there { IsSome (get table.now.file_systems name.now) }
+    requires accounted { IsAccounted table.now limiting.now }
+    requires few { len (union_of (world_of table.now)) < 2 ^ 32 }
+    ensures is { result ≡ used_by_children (world_of table.now) name.now }
+    ensures small { result < 2 ^ 54 }
+{
+    match limiting {
+        Some(limiting) => limiting.ledger.used_by_children(table, name),
+        None => u64::from(used_by_children(table, name)),
+    }
+}
+
+// How much a limit is; 0 where there is none.
+fn value_of_limit(limit: Option<Blocks>) -> Value
+    ensures { result ≡ amount_value limit }
+{
+    match limit {
+        Some(amount) => Value::Size(512 * amount.get()),
+        None => Value::Size(0),
+    }
+}
+
+// How much of a file system's refreservation isn't written. Constant time.
+fn unwritten(file_system: &FileSystem) -> u64
+    ensures is { result ≡ unwrap_or file_system.now.system.limits.refreservation 0 - size_without (blocks file_system.now.system.live) (newest_blocks (blocks file_system.now.below) file_system.now.system.snaps) }
+    ensures small { result < 2 ^ 54 }
+{
+    match file_system.limits().get(Limit::RefReservation) {
+        Some(amount) => amount.get().saturating_sub(u64::from(file_system.written())),
+        None => 0,
+    }
+}
+
+// A property of a file system of the table, to which so many blocks are available; it has no property of a snapshot alone. NoMemory where
+// there is none for a text. Constant time, but for what is used, which costs what `used_in` does, and for the origin what
+// `value_of_origin` costs.
 fn value_of_live(
     alloc: Global,
     table: &Table,
+    limiting: &Option<Limiting>,
     file_system: &FileSystem,
     property: Property,
-    free: u32,
+    room: u64,
 ) -> Result<Value, Refusal>
     requires there { get table.now.file_systems file_system.now.name ≡ Some file_system.now.system }
-    requires unlimited { IsUnlimited table.now.file_systems }
+    requires accounted { IsAccounted table.now limiting.now }
     requires few { len (union_of (world_of table.now)) < 2 ^ 32 }
-    ensures ok { IfOk result (λ value. value ≡ live_value table.now free file_system.now property) }
+    requires small { room < 2 ^ 54 }
+    ensures ok { IfOk result (λ value. value ≡ live_value table.now room file_system.now property) }
     ensures err { IfErr result (λ e. (needs_memory property ≡ true) × (e ≡ Refusal.NoMemory)) }
 {
     match property {
-        Property::Used => Ok(in_bytes(used(table, file_system.name()))),
-        Property::Available => Ok(in_bytes(free)),
+        Property::Used => Ok(many_bytes(used_in(table, limiting, file_system.name()))),
+        Property::Available => Ok(many_bytes(room)),
         Property::Referenced => Ok(in_bytes(file_system.live().node_count())),
         Property::Written => Ok(in_bytes(file_system.written())),
         Property::UsedByDataset => Ok(in_bytes(file_system.used_by_dataset())),
         Property::UsedBySnapshots => Ok(in_bytes(file_system.used_by_snapshots() as u32)),
-        Property::UsedByChildren => Ok(in_bytes(used_by_children(table, file_system.name()))),
-        Property::UsedByRefReservation
-        | Property::Quota
-        | Property::RefQuota
-        | Property::Reservation
-        | Property::RefReservation => Ok(in_bytes(0)),
+        Property::UsedByChildren => {
+            let children = used_by_children_in(table, limiting, file_system.name());
+            Ok(many_bytes(children))
+        }
+        Property::UsedByRefReservation => Ok(many_bytes(unwritten(file_system))),
+        Property::Quota => Ok(value_of_limit(file_system.limits().get(Limit::Quota))),
+        Property::RefQuota => Ok(value_of_limit(file_system.limits().get(Limit::RefQuota))),
+        Property::Reservation => {
+            Ok(value_of_limit(file_system.limits().get(Limit::Reservation)))
+        }
+        Property::RefReservation => {
+            Ok(value_of_limit(file_system.limits().get(Limit::RefReservation)))
+        }
         Property::Origin => value_of_origin(alloc, table, file_system),
         Property::Guid
         | Property::CreateTxg
@@ -302,26 +367,30 @@ fn value_of_snapshot(
     )
 }
 
-/// A property of what has the name in a pool with so many free blocks and no limit, or none where nothing has it. NoMemory where there is
+/// A property of what has the name, to which so many blocks are available, or none where nothing has it. NoMemory where there is
 /// none for a text, or to find what a snapshot alone has. It costs the logarithm of the number of file systems, and for a snapshot that of
 /// the number of its file system's; an origin costs the number of file systems times the logarithm of that of the snapshots of one, clones
 /// their names, what a file system or its children use the number of file systems, and what a snapshot uses what `used_by_snapshot` does.
-pub fn value_named(
+pub(crate) fn value_named(
     alloc: Global,
     table: &Table,
+    limiting: &Option<Limiting>,
     target: &Target,
     property: Property,
-    free: u32,
+    room: u64,
     segments: &mut SegMeter,
 ) -> Result<Option<Value>, Refusal>
-    requires unlimited { IsUnlimited table.now.file_systems }
+    requires accounted { IsAccounted table.now limiting.now }
     requires few { len (union_of (world_of table.now)) < 2 ^ 32 }
-    ensures ok { IfOk result (λ value. value ≡ value_named table.now free target.now property) }
+    requires small { room < 2 ^ 54 }
+    ensures ok { IfOk result (λ value. value ≡ value_named table.now room target.now property) }
     ensures err { IfErr result (λ e. (needs_memory property ≡ true) × (e ≡ Refusal.NoMemory)) }
 {
     match target {
         Target::FileSystem(name) => match table.find(name) {
-            Some(found) => Ok(Some(value_of_live(alloc, table, found, property, free)?)),
+            Some(found) => Ok(Some(value_of_live(
+                alloc, table, limiting, found, property, room,
+            )?)),
             None => Ok(None),
         },
         Target::Snapshot(name) => {
@@ -361,4 +430,12 @@ pub fn in_bytes(blocks: u32) -> Value
     ensures { result ≡ Value.Size (512 * blocks) }
 {
     Value::Size(512 * (blocks as u64))
+}
+
+// A number of blocks in bytes, which may be more than a pool has.
+fn many_bytes(blocks: u64) -> Value
+    requires { blocks < 2 ^ 54 }
+    ensures { result ≡ Value.Size (512 * blocks) }
+{
+    Value::Size(512 * blocks)
 }

@@ -13,11 +13,12 @@ ghost use Rattle.model.specs.Run.{Run};
 ghost use Rattle.steps.specs.Settles.{AllAllocated, releases};
 ghost use Rattle.name.specs.declared.target.Target.{Target};
 ghost use Rattle.world.specs.Worlds.{IsPoolState};
-ghost use Rattle.accounts.specs.Limits.{AreQuotasMet};
+ghost use Rattle.accounts.specs.Limits.{AreQuotasMet, IsUnlimited};
 ghost use Rattle.pool.specs.Asked.{Asks};
 ghost use Rattle.pool.specs.Named.{IsNoLive};
 ghost use Rattle.pool.specs.Plans.{state_after_plan, CanDo};
 
+use crate::limiting::{Limiting, renew};
 use crate::named::{in_bytes, names_of, tree_named};
 use base::meter::{Meter, SegMeter};
 use base::number::{Dead, Group};
@@ -50,19 +51,21 @@ const LAST_GROUP: u64 = 9223372036854775807;
 pub struct Pool {
     pub(crate) present: Table,
     pub(crate) freeing: Freeing,
-    last: Table,
+    pub(crate) last: Table,
     last_freeing: Freeing,
     pub(crate) views: Views,
     next_guid: u64,
     pub(crate) size: u32,
     id: u32,
     pub(crate) allocator: Allocator,
-    meter: Meter,
+    pub(crate) limiting: Option<Limiting>,
+    pub(crate) meter: Meter,
     pub(crate) segments: SegMeter,
 }
 
 impl Model for Pool {
     ghost use Rattle.pool.specs.Shown.{Shown, shown, shown_code};
+    ghost use Rattle.pool.specs.Limiting.{IsAccounted};
     ghost use Rattle.pool.specs.Pools.{state_of, IsSound};
 
     ghost Value = { Shown };
@@ -71,7 +74,7 @@ impl Model for Pool {
 
     ghost view = { λ p. shown (state_of p) p.allocator };
 
-    ghost invariant = { λ p. IsSound (state_of p) p.allocator };
+    ghost invariant = { λ p. IsSound (state_of p) p.allocator × IsAccounted p.present p.limiting };
 }
 
 // What a prepared step will do.
@@ -85,6 +88,10 @@ pub(crate) enum Plan {
     Put {
         to: Table,
         guids: u64,
+    },
+    Limit {
+        to: Table,
+        limiting: Limiting,
     },
     Lose {
         to: Table,
@@ -168,6 +175,7 @@ impl Pool {
             size: blocks,
             id,
             allocator,
+            limiting: None,
             meter: Meter::new(Toll::new()),
             segments: SegMeter::new(Toll::new()),
         })
@@ -253,6 +261,11 @@ impl Pool {
             Request::CloseView { view } => self.planned_close(alloc, *view),
             Request::Clone { target, name } => self.planned_clone(target, name),
             Request::Promote { name } => self.planned_promote(alloc, name),
+            Request::Set {
+                name,
+                limit,
+                amount,
+            } => self.planned_set(alloc, name, *limit, *amount),
             Request::Hold { tag, target } => self.planned_hold(alloc, tag, target),
             Request::Release { tag, target } => self.planned_release(alloc, tag, target),
             Request::Holds { target } => (self.holds(alloc, target), Plan::Nothing),
@@ -271,9 +284,10 @@ impl Pool {
         }
     }
 
-    fn planned_snapshot(&self, alloc: Global, names: &SnapNames, recursive: bool) -> (Reply, Plan)
-        ensures can { CanDo self.now.state result.1 }
-        ensures step { Step self.now.state (Request.Snapshot names.now recursive) result.0 (state_after_plan self.now.state result.1) }
+    fn planned_snapshot(&mut self, alloc: Global, names: &SnapNames, recursive: bool) -> (Reply, Plan)
+        ensures same { self.new ≡ self.old }
+        ensures can { CanDo self.old.state result.1 }
+        ensures step { Step self.old.state (Request.Snapshot names.now recursive) result.0 (state_after_plan self.old.state result.1) }
     {
         let guids = Guids {
             pool: self.id,
@@ -291,6 +305,10 @@ impl Pool {
         };
         if count == 0 {
             return (Reply::Done, Plan::Nothing);
+        }
+        let freeing = self.freeing.len();
+        if let Some(refusal) = self.over(&to, freeing) {
+            return (Reply::Refused(refusal), Plan::Nothing);
         }
         let guids = count as u64;
         (Reply::Done, Plan::Put { to, guids })
@@ -315,6 +333,9 @@ impl Pool {
             Ok(edit) => edit,
             Err(refusal) => return (Reply::Refused(refusal), Plan::Nothing),
         };
+        if let Some(refusal) = self.over(&to, freeing.len()) {
+            return (Reply::Refused(refusal), Plan::Nothing);
+        }
         (Reply::Done, Plan::Lose { to, freeing })
     }
 
@@ -356,6 +377,9 @@ impl Pool {
             Ok(update) => update,
             Err(refusal) => return (self.outside_the_limits(name, refusal), Plan::Nothing),
         };
+        if let Err(refusal) = self.ask_change(alloc, name, &update) {
+            return (Reply::Refused(refusal), Plan::Nothing);
+        }
         let mut to = match self.present.copy() {
             Ok(to) => to,
             Err(refusal) => return (Reply::Refused(refusal), Plan::Nothing),
@@ -455,14 +479,22 @@ impl Pool {
                 release_all(&mut self.allocator, &done.released, self.last.group());
                 take_all(&mut self.allocator, &done.taken);
                 self.present = to;
+                renew(&mut self.limiting, &self.present);
             }
             Plan::Put { to, guids } => {
                 self.present = to;
                 self.next_guid += guids;
+                renew(&mut self.limiting, &self.present);
+            }
+            Plan::Limit { to, limiting } => {
+                self.present = to;
+                self.limiting = Some(limiting);
+                renew(&mut self.limiting, &self.present);
             }
             Plan::Lose { to, freeing } => {
                 self.present = to;
                 self.freeing = freeing;
+                renew(&mut self.limiting, &self.present);
             }
             Plan::Free { rest, taken } => {
                 release_all(&mut self.allocator, &taken, self.last.group());
@@ -484,6 +516,7 @@ impl Pool {
                 self.views.close(number);
                 self.present = to;
                 self.freeing = freeing;
+                renew(&mut self.limiting, &self.present);
             }
         }
     }
@@ -506,8 +539,7 @@ impl Pool {
         reply
     }
 
-    // One step: a change of a tree, a creation, a snapshot of one name, a clone, a promote, a destroy and a sync at once, a question as it
-    // is, and each other request prepared and committed.
+    // One step: a change of a tree, a sync and a slice at once, a question as it is, and each other request as `edit` makes it.
     #[inline(never)]
     fn answer(&mut self, alloc: Global, request: &Request) -> Reply
         ensures { Step self.old.state request.now result self.new.state }
@@ -537,8 +569,23 @@ impl Pool {
             Request::WouldFree { name, first, last } => self.would_free(name, first, last),
             Request::PoolGet { property } => self.pool_get(*property),
             Request::List => self.list(alloc),
+            Request::Holds { target } => self.holds(alloc, target),
             Request::Slice { count } => self.slice_now(*count),
             Request::Sync => self.sync_now(),
+            _ => self.edit(alloc, request),
+        }
+    }
+
+    // One step of a request that changes file systems or views. Where no file system has a limit, a creation, a snapshot of one name, a
+    // clone, a promote, a destroy, a tag and a bookmark are made at once; all else is prepared and committed.
+    #[inline(never)]
+    fn edit(&mut self, alloc: Global, request: &Request) -> Reply
+        ensures { Step self.old.state request.now result self.new.state }
+    {
+        if self.is_limited() {
+            return self.answer_prepared(alloc, request);
+        }
+        match request {
             Request::Snapshot {
                 names,
                 recursive: false,
@@ -556,12 +603,8 @@ impl Pool {
             Request::Create { name } => self.create_now(name),
             Request::Hold { tag, target } => self.hold_now(alloc, tag, target),
             Request::Release { tag, target } => self.release_now(alloc, tag, target),
-            Request::Holds { target } => self.holds(alloc, target),
             Request::Bookmark { target, mark } => self.bookmark_now(alloc, target, mark),
-            Request::Snapshot { .. }
-            | Request::Rollback { .. }
-            | Request::OpenView { .. }
-            | Request::CloseView { .. } => self.answer_prepared(alloc, request),
+            _ => self.answer_prepared(alloc, request),
         }
     }
 
@@ -576,9 +619,11 @@ impl Pool {
 
     // Adds a file system of this name at once, or answers why it can't, and then nothing has changed.
     fn create_now(&mut self, name: &DsName) -> Reply
+        requires { IsUnlimited self.old.state.now.file_systems }
         ensures { Step self.old.state (Request.Create name.now) result self.new.state }
     {
         let _size = self.size;
+        self.limiting = None;
         if let Some(refusal) = self.present.create_refusal(name) {
             return Reply::Refused(refusal);
         }
@@ -650,6 +695,9 @@ impl Pool {
             Ok(update) => update,
             Err(refusal) => return self.outside_the_limits(name, refusal),
         };
+        if let Err(refusal) = self.ask_change(alloc, name, &update) {
+            return Reply::Refused(refusal);
+        }
         let changed = self.present.apply_live(
             name,
             alloc,
@@ -665,14 +713,17 @@ impl Pool {
         };
         release_all(&mut self.allocator, &done.released, self.last.group());
         take_all(&mut self.allocator, &done.taken);
+        renew(&mut self.limiting, &self.present);
         Reply::Done
     }
 
     // Takes a snapshot of this name alone at once.
     fn snapshot_now(&mut self, alloc: Global, name: &SnapName) -> Reply
+        requires { IsUnlimited self.old.state.now.file_systems }
         ensures { Step self.old.state (Request.Snapshot (name.now ∷ []) false) result self.new.state }
     {
         let _size = self.size;
+        self.limiting = None;
         let guids = Guids {
             pool: self.id,
             next: self.next_guid,

@@ -3,29 +3,32 @@ use Rattle.model.specs.declared.request.Request.TheVariants.{Hold}
 use Rattle.pool.specs.Pools.{state_of}
 use Rattle.pool.specs.Shown.{shown}
 use Rattle.pool.proofs.Cloned.{sound_now, same_now, step_now, refused_now}
-use Rattle.pool.proofs.Marked.{hold_refused, hold_can, hold_done}
+use Rattle.pool.proofs.Marked.{hold_refused, hold_can, hold_stays, hold_done}
+use Rattle.pool.proofs.Limited.{still_bare, same_bare}
 use Rattle.pool.proofs.pool.Pool.hold_now.Goals as goal
 
 -- where it is refused, all is as it was
 pub invariant_of-self : goal.invariant_of-self
-invariant_of-self c = same_now (state_of c.self.inside) c.self.inside.allocator c.hold_now.new.table c.self.invariant c.in-Err.ensures.unchanged
+invariant_of-self c = (same_now (state_of c.self.inside) c.self.inside.allocator c.hold_now.new.table c.self.invariant.0 c.in-Err.ensures.unchanged, same_bare c.args.self.now (state_of c.self.inside) c.self.inside.allocator c.self.view_is c.requires c.hold_now.new.table c.in-Err.ensures.unchanged)
 
 pub returns-in-Err : goal.returns-in-Err
 returns-in-Err c =
     let s = state_of c.self.inside in
     let numbers = c.self.inside.allocator in
     refused_now s numbers c.hold_now.new.table c.args.self.now c.self.view_is (Hold c.args.tag.now c.args.target.now) c.in-Err.refusal c.in-Err.ensures.unchanged
-    (hold_refused (shown s numbers) s numbers refl c.self.invariant c.args.tag.now c.args.target.now c.in-Err.refusal c.in-Err.ensures.only)
+    (hold_refused (shown s numbers) s numbers refl c.self.invariant.0 c.args.tag.now c.args.target.now c.in-Err.refusal c.in-Err.ensures.only)
 
 pub invariant_of-self-2 : goal.invariant_of-self-2
 invariant_of-self-2 c =
     let s = state_of c.self.inside in
     let numbers = c.self.inside.allocator in
-    sound_now s numbers c.hold_now.new.table c.self.invariant (hold_can (shown s numbers) s numbers refl c.self.invariant c.args.tag.now c.args.target.now c.in_default.ensures.can c.hold_now.new.table c.in_default.ensures.ok)
+    let can = hold_can (shown s numbers) s numbers refl c.self.invariant.0 c.args.tag.now c.args.target.now c.in_default.ensures.can c.hold_now.new.table c.in_default.ensures.ok in
+    let stays = hold_stays (shown s numbers) s numbers refl c.self.invariant.0 c.args.tag.now c.args.target.now c.in_default.ensures.can c.hold_now.new.table c.in_default.ensures.ok in
+    (sound_now s numbers c.hold_now.new.table c.self.invariant.0 can, still_bare c.args.self.now s numbers c.self.view_is c.requires c.hold_now.new.table stays)
 
 pub returns : goal.returns
 returns c =
     let s = state_of c.self.inside in
     let numbers = c.self.inside.allocator in
     step_now s numbers c.hold_now.new.table c.args.self.now c.self.view_is (Hold c.args.tag.now c.args.target.now)
-    (hold_done (shown s numbers) s numbers refl c.self.invariant c.args.tag.now c.args.target.now c.in_default.ensures.can c.hold_now.new.table c.in_default.ensures.ok)
+    (hold_done (shown s numbers) s numbers refl c.self.invariant.0 c.args.tag.now c.args.target.now c.in_default.ensures.can c.hold_now.new.table c.in_default.ensures.ok)

@@ -7,35 +7,35 @@ use Rattle.pool.proofs.Sights.{open_other, open_missing, open_deferred, open_ful
 use Rattle.pool.proofs.pool.Pool.next_view_of.Goals as goal
 
 pub returns-in_default : goal.returns-in_default
-returns-in_default c = record { can = tt; ok = tt; err = open_other c.args.self.now (state_of c.self.inside) c.self.inside.allocator c.self.view_is c.self.invariant c.args.target.now c.in_default.not-Snapshot }
+returns-in_default c = record { can = tt; ok = tt; err = open_other c.args.self.now (state_of c.self.inside) c.self.inside.allocator c.self.view_is c.self.invariant.0 c.args.target.now c.in_default.not-Snapshot }
 
 pub returns-in_default-snapshot_named-clause-err : goal.returns-in_default-snapshot_named-clause-err
 returns-in_default-snapshot_named-clause-err c =
-    open_missing c.args.self.now (state_of c.self.inside) c.self.inside.allocator c.self.view_is c.self.invariant c.args.target.now c.member.result.now (c.in-Snapshot.is ∙ ap OfSnapshot (sym c.member.ensures))
+    open_missing c.args.self.now (state_of c.self.inside) c.self.inside.allocator c.self.view_is c.self.invariant.0 c.args.target.now c.member.result.now (c.in-Snapshot.is ∙ ap OfSnapshot (sym c.member.ensures))
     c.in_default-snapshot_named.ensures
 
 pub returns-then-is_deferred-clause-err : goal.returns-then-is_deferred-clause-err
 returns-then-is_deferred-clause-err c =
-    open_deferred c.args.self.now (state_of c.self.inside) c.self.inside.allocator c.self.view_is c.self.invariant c.args.target.now c.member.result.now (c.in-Snapshot.is ∙ ap OfSnapshot (sym c.member.ensures))
+    open_deferred c.args.self.now (state_of c.self.inside) c.self.inside.allocator c.self.view_is c.self.invariant.0 c.args.target.now c.member.result.now (c.in-Snapshot.is ∙ ap OfSnapshot (sym c.member.ensures))
     c.in-Some.snapshot.now c.in-Some.ensures c.if-is_deferred.ensures
 
 pub returns-then-is_full-clause-err : goal.returns-then-is_full-clause-err
 returns-then-is_full-clause-err c =
-    open_full c.args.self.now (state_of c.self.inside) c.self.inside.allocator c.self.view_is c.self.invariant c.args.target.now c.member.result.now (c.in-Snapshot.is ∙ ap OfSnapshot (sym c.member.ensures))
+    open_full c.args.self.now (state_of c.self.inside) c.self.inside.allocator c.self.view_is c.self.invariant.0 c.args.target.now c.member.result.now (c.in-Snapshot.is ∙ ap OfSnapshot (sym c.member.ensures))
     c.in-Some.snapshot.now c.in-Some.ensures c.if-is_deferred.ensures c.if-is_full.ensures
 
 pub returns-clause-can : goal.returns-clause-can
 returns-clause-can c =
-    open_can c.args.self.now (state_of c.self.inside) c.self.inside.allocator c.self.view_is c.self.invariant c.args.target.now c.member.result.now (c.in-Snapshot.is ∙ ap OfSnapshot (sym c.member.ensures))
+    open_can c.args.self.now (state_of c.self.inside) c.self.inside.allocator c.self.view_is c.self.invariant.0 c.args.target.now c.member.result.now (c.in-Snapshot.is ∙ ap OfSnapshot (sym c.member.ensures))
     c.in-Some.snapshot.now c.in-Some.ensures c.if-is_deferred.ensures c.if-is_full.ensures c.len-count.ensures.below c.id.result c.id.ensures
 
 pub returns-clause-ok : goal.returns-clause-ok
 returns-clause-ok c =
-    open_done c.args.self.now (state_of c.self.inside) c.self.inside.allocator c.self.view_is c.self.invariant c.args.target.now c.member.result.now (c.in-Snapshot.is ∙ ap OfSnapshot (sym c.member.ensures))
+    open_done c.args.self.now (state_of c.self.inside) c.self.inside.allocator c.self.view_is c.self.invariant.0 c.args.target.now c.member.result.now (c.in-Snapshot.is ∙ ap OfSnapshot (sym c.member.ensures))
     c.in-Some.snapshot.now c.in-Some.ensures c.if-is_deferred.ensures c.if-is_full.ensures c.len-count.ensures.below c.id.result c.id.ensures
     c.new.result (c.new.ensures ∙ (λ i. record { map = (c.in_ok-tree.ensures.ok ∙ c.tree.ensures) i; guid = c.guid.ensures i; group = c.group.ensures i }))
 
 pub returns-in_err-tree-clause-err : goal.returns-in_err-tree-clause-err
 returns-in_err-tree-clause-err c =
     let why : IfErr c.from_residual.result (λ e. e ≡ NoMemory) = (let only = c.in_err-tree.ensures.err in search (rules, only)) in
-    open_no_memory c.args.self.now (state_of c.self.inside) c.self.inside.allocator c.self.view_is c.self.invariant c.args.target.now c.from_residual.result why
+    open_no_memory c.args.self.now (state_of c.self.inside) c.self.inside.allocator c.self.view_is c.self.invariant.0 c.args.target.now c.from_residual.result why

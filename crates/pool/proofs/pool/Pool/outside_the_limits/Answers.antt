@@ -9,10 +9,10 @@ pub returns-in-Some : goal.returns-in-Some
 returns-in-Some c q asks =
     let found = mapped (λ (f : FileSystem). row_in c.self.inside.present.file_systems (c.args.name.now, f)) _ c.in-Some.field-0.now c.in-Some.ensures in
     told c.args.self.now (state_of c.self.inside) c.self.inside.allocator c.self.view_is q _
-    (outside_refused (state_of c.self.inside) c.self.inside.allocator c.self.invariant q c.args.name.now c.args.refusal asks found.0 found.1)
+    (outside_refused (state_of c.self.inside) c.self.inside.allocator c.self.invariant.0 q c.args.name.now c.args.refusal asks found.0 found.1)
 
 pub returns-in-None : goal.returns-in-None
 returns-in-None c q asks =
     told c.args.self.now (state_of c.self.inside) c.self.inside.allocator c.self.view_is q _
-    (outside_absent (state_of c.self.inside) c.self.inside.allocator c.self.invariant q c.args.name.now c.args.refusal asks
+    (outside_absent (state_of c.self.inside) c.self.inside.allocator c.self.invariant.0 q c.args.name.now c.args.refusal asks
     (unmapped (λ (f : FileSystem). row_in c.self.inside.present.file_systems (c.args.name.now, f)) _ c.in-None.ensures))

@@ -1,15 +1,15 @@
 use Rattle.pool.specs.Pools.{state_of}
-use Rattle.pool.proofs.Cloned.{clone_refused, clone_can, clone_done}
+use Rattle.pool.proofs.Cloned.{clone_refused, clone_can, clone_stays, clone_done}
 use Rattle.pool.proofs.pool.Pool.planned_clone.Goals as goal
 
 pub returns-in-Ok-clause-can : goal.returns-in-Ok-clause-can
 returns-in-Ok-clause-can c =
-    clone_can c.args.self.now (state_of c.self.inside) c.self.inside.allocator c.self.view_is c.self.invariant c.args.target.now c.args.name.now c.in-Ok.ensures.can c.in-Ok.to c.in-Ok.ensures.ok
+    (clone_can c.args.self.now (state_of c.self.inside) c.self.inside.allocator c.self.view_is c.self.invariant.0 c.args.target.now c.args.name.now c.in-Ok.ensures.can c.in-Ok.to c.in-Ok.ensures.ok, clone_stays c.args.self.now (state_of c.self.inside) c.self.inside.allocator c.self.view_is c.self.invariant.0 c.args.target.now c.args.name.now c.in-Ok.ensures.can c.in-Ok.to c.in-Ok.ensures.ok)
 
 pub returns-in-Ok-clause-step : goal.returns-in-Ok-clause-step
 returns-in-Ok-clause-step c =
-    clone_done c.args.self.now (state_of c.self.inside) c.self.inside.allocator c.self.view_is c.self.invariant c.args.target.now c.args.name.now c.in-Ok.ensures.can c.in-Ok.to c.in-Ok.ensures.ok
+    clone_done c.args.self.now (state_of c.self.inside) c.self.inside.allocator c.self.view_is c.self.invariant.0 c.args.target.now c.args.name.now c.in-Ok.ensures.can c.in-Ok.to c.in-Ok.ensures.ok
 
 pub returns-in-Err-clause-step : goal.returns-in-Err-clause-step
 returns-in-Err-clause-step c =
-    clone_refused c.args.self.now (state_of c.self.inside) c.self.inside.allocator c.self.view_is c.self.invariant c.args.target.now c.args.name.now c.in-Err.refusal c.in-Err.ensures.only
+    clone_refused c.args.self.now (state_of c.self.inside) c.self.inside.allocator c.self.view_is c.self.invariant.0 c.args.target.now c.args.name.now c.in-Err.refusal c.in-Err.ensures.only

@@ -11,12 +11,12 @@ use Rattle.pool.proofs.Immediate.{sound_kept}
 use Rattle.pool.proofs.pool.Pool.snapshot_now.Goals as goal
 
 pub invariant_of-self : goal.invariant_of-self
-invariant_of-self c = sound_kept (state_of c.self.inside) c.self.inside.allocator c.self.invariant c.args.name.now c.snapshot_one.new.table c.in-Ok.ensures.can c.in-Ok.ensures.ok
+invariant_of-self c = sound_kept (state_of c.self.inside) c.self.inside.allocator c.self.invariant.0 c.args.name.now c.snapshot_one.new.table c.in-Ok.ensures.can c.in-Ok.ensures.ok
 
 pub returns-in-Ok : goal.returns-in-Ok
 returns-in-Ok c =
     subst (λ (x : Shown). Step x.state (Snapshot (c.args.name.now ∷ []) false) Done (put (state_of c.self.inside) c.snapshot_one.new.table 1)) c.self.view_is
-    (snapshot_done (shown (state_of c.self.inside) c.self.inside.allocator) (state_of c.self.inside) c.self.inside.allocator refl c.self.invariant (c.args.name.now ∷ []) false
+    (snapshot_done (shown (state_of c.self.inside) c.self.inside.allocator) (state_of c.self.inside) c.self.inside.allocator refl c.self.invariant.0 (c.args.name.now ∷ []) false
     c.in-Ok.ensures.can 1 refl (omega arith) c.snapshot_one.new.table c.in-Ok.ensures.ok)
 
 pub returns-in-Err : goal.returns-in-Err
@@ -24,4 +24,4 @@ returns-in-Err c =
     let e = c.in-Err.ensures in
     subst (λ (t : Datasets). Step c.args.self.now.state (Snapshot (c.args.name.now ∷ []) false) (Refused c.in-Err.refusal) (with_datasets (state_of c.self.inside) t)) (sym e.err)
     (subst (λ (x : Shown). Step x.state (Snapshot (c.args.name.now ∷ []) false) (Refused c.in-Err.refusal) (state_of c.self.inside)) c.self.view_is
-    (snapshot_refused (shown (state_of c.self.inside) c.self.inside.allocator) (state_of c.self.inside) c.self.inside.allocator refl c.self.invariant (c.args.name.now ∷ []) false c.in-Err.refusal e.only))
+    (snapshot_refused (shown (state_of c.self.inside) c.self.inside.allocator) (state_of c.self.inside) c.self.inside.allocator refl c.self.invariant.0 (c.args.name.now ∷ []) false c.in-Err.refusal e.only))

@@ -9,9 +9,9 @@ use Rattle.pool.proofs.pool.Pool.written_since.Goals.{in-Ok, in-Err}
 pub returns-clause-step : goal.returns-clause-step
 returns-clause-step c = subst (λ m. Step c.args.self.now.state (WrittenSince c.args.target.now m) c.match-written.result c.args.self.now.state) c.member.ensures (elim c.match-written.branch [
   | in-Ok w ↦ subst (λ r. Step c.args.self.now.state (WrittenSince c.args.target.now c.member.result.now) r c.args.self.now.state) (sym w.result-is)
-      (since_told c.args.self.now (state_of c.self.inside) c.self.inside.allocator c.self.view_is c.self.invariant c.args.target.now c.member.result.now
+      (since_told c.args.self.now (state_of c.self.inside) c.self.inside.allocator c.self.view_is c.self.invariant.0 c.args.target.now c.member.result.now
       w.in-Ok.ensures.can w.in-Ok.blocks w.in-Ok.ensures.ok w.in_bytes.result w.in_bytes.ensures)
   | in-Err w ↦ subst (λ r. Step c.args.self.now.state (WrittenSince c.args.target.now c.member.result.now) r c.args.self.now.state) (sym w.result-is)
-      (since_refused c.args.self.now (state_of c.self.inside) c.self.inside.allocator c.self.view_is c.self.invariant c.args.target.now c.member.result.now
+      (since_refused c.args.self.now (state_of c.self.inside) c.self.inside.allocator c.self.view_is c.self.invariant.0 c.args.target.now c.member.result.now
       w.in-Err.refusal w.in-Err.ensures.only)
 ])
