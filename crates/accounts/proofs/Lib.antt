@@ -31,3 +31,5 @@ pub mod AskedChanges
 pub mod AskedPool
 pub mod Rows
 pub mod AskedSteps
+pub mod Surveyed
+pub mod Forecasts
