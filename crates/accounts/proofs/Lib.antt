@@ -32,4 +32,5 @@ pub mod AskedPool
 pub mod Rows
 pub mod AskedSteps
 pub mod Surveyed
+pub mod Replaced
 pub mod Forecasts

@@ -1,15 +1,15 @@
 -- How many blocks of a changed map pass a test, from a survey of the change.
-use Rattle.std.proofs.Common.{◌≡◌, ℕ, ◌+◌, ◌≤◌, ◌<◌, Bool, true, false, List, Some, map, filter, length, refl, sym, ap, subst, ◌∙◌, true≢false, ◌⊎◌, inl, inr, ⊎_elim, arith}
-use Rattle.std.specs.Prelude.{count_by, is_some, nat_lt}
+use Rattle.std.proofs.Common.{◌≡◌, ℕ, ◌+◌, ◌≤◌, ◌<◌, Bool, true, false, List, [], ◌∷◌, Some, map, filter, length, refl, sym, ap, subst, ◌∙◌, true≢false, inl, inr, ⊎_elim, arith}
+use Rattle.std.specs.Prelude.{count_by, is_some, nat_le, nat_lt, cond, ◌&&◌}
 use Rattle.std.specs.FinMap.{get}
 use Rattle.std.specs.FinSet.{len, retain, difference, from_list}
-use Rattle.std.proofs.lemmas.Bool.{lt-ltb}
-use Rattle.std.proofs.lemmas.List.Sums.{length-filter}
+use Rattle.std.proofs.lemmas.Bool.{cases_lt, lt-ltb, ltb-true, le-leb, leb-true}
+use Rattle.std.proofs.lemmas.List.Sums.{length-filter, sum_by-cons}
 use Rattle.base.specs.declared.number.Key.{Key}
 use Rattle.base.specs.Map.{Map, Cell, Block, BlockSet, block_of, blocks}
 use Rattle.base.specs.Rewrite.{Changes, rewrite, is_touched}
-use Rattle.base.specs.Surveys.{IsIn, AreDifferent, IsDropped, IsSurvey}
-use Rattle.world.specs.Sets.{Has, IsSubset}
+use Rattle.base.specs.Surveys.{IsIn, AreDifferent, IsSurvey}
+use Rattle.world.specs.Sets.{Has}
 use Rattle.world.specs.Blocks.{block_cmp, block_order as o, after}
 use Rattle.world.specs.Numbering.{ChangesKeys}
 use Rattle.world.proofs.SetCounts.{Has-cases, same_members, in_difference, from_difference, in_retain, from_retain, len-two_parts}
@@ -21,12 +21,35 @@ use Rattle.world.proofs.Cells.{in_blocks, from_blocks, from_new_blocks}
 use Rattle.world.proofs.Presence.{same_presence}
 use Rattle.world.proofs.Rewrites.{rewrite_is_change}
 use Rattle.accounts.specs.Asked.{IsNumberedOnce}
-use Rattle.accounts.specs.Forecasts.{count_after}
+use Rattle.accounts.specs.Forecasts.{count_after, count_between}
 
 -- so many blocks of a list pass a test
 count_listed : (p : Block → Bool) (bs : List Block) → AreDifferent bs → len (retain (from_list {R = block_cmp} bs) p) ≡ count_by p bs
 count_listed p bs d =
     ap len (sym (from_list-filter o p bs)) ∙ len-from_list o (filter p bs) (once_filter o p bs d) ∙ length-filter p bs
+
+-- those born after a group: those born by another, and those born after that one
+pub count_split : (low high : ℕ) (bs : List Block) → low ≤ high → count_after low bs ≡ count_between low high bs + count_after high bs
+count_split low high [] l = refl
+count_split low high (x ∷ xs) l =
+    let a = sum_by-cons (λ (b : Block). cond {A = ℕ} (nat_lt low b.birth) 1 0) x xs in
+    let c = sum_by-cons (λ (b : Block). cond {A = ℕ} (nat_lt low b.birth && nat_le b.birth high) 1 0) x xs in
+    let d = sum_by-cons (λ (b : Block). cond {A = ℕ} (nat_lt high b.birth) 1 0) x xs in
+    let r = count_split low high xs l in
+    let e = by_birth (nat_lt low x.birth) refl (nat_le x.birth high) refl (nat_lt high x.birth) refl in
+    omega (arith, a, c, d, r, e)
+  where
+    by_birth : (p : Bool) → nat_lt low x.birth ≡ p → (q : Bool) → nat_le x.birth high ≡ q → (r : Bool) → nat_lt high x.birth ≡ r
+        → cond {A = ℕ} p 1 0 ≡ cond {A = ℕ} (p && q) 1 0 + cond {A = ℕ} r 1 0
+    by_birth true e true f true g = let u = leb-true x.birth high f in let v = ltb-true high x.birth g in absurd (omega (arith, u, v))
+    by_birth true e true f false g = refl
+    by_birth true e false f true g = refl
+    by_birth true e false f false g = ⊎_elim
+        (λ v. absurd (true≢false (sym (lt-ltb high x.birth v) ∙ g)))
+        (λ u. absurd (true≢false (sym (le-leb x.birth high u) ∙ f)))
+        (cases_lt high x.birth)
+    by_birth false e q f true g = let v = ltb-true high x.birth g in absurd (true≢false (sym (lt-ltb low x.birth (omega (arith, l, v))) ∙ e))
+    by_birth false e q f false g = refl
 
 -- what a set has that a second hasn't, where a third in its place has lost some blocks of a list, and has got none of the set
 pub lost_more : (x y z : BlockSet) (bs : List Block) (p : Block → Bool) → AreDifferent bs
@@ -167,6 +190,18 @@ module _ (m : Map) (once : IsNumberedOnce m) (ch : Changes) (dropped : List Bloc
     -- what passes afterwards: what passed, less what of it is dropped, and what is made
     pub count_changed : len (retain (blocks (rewrite m ch g number)) p) + count_by p dropped ≡ len (retain (blocks m) p) + length made
     count_changed = let a = before in let b = afterwards in omega (arith, a, b)
+
+  -- so it is of all
+  pub count_all : len (blocks (rewrite m ch g number)) + length dropped ≡ len (blocks m) + length made
+  count_all =
+      let c = count_changed (λ _. true) (λ b e. refl) in
+      let x = whole (blocks m) in
+      let y = whole (blocks (rewrite m ch g number)) in
+      let d = sym (count_listed (λ _. true) dropped survey.gone_once) ∙ whole (from_list dropped) ∙ len-from_list o dropped survey.gone_once in
+      omega (arith, c, x, y, d)
+    where
+      whole : (x : BlockSet) → len (retain x (λ _. true)) ≡ len x
+      whole x = ap len (same_members o _ _ (λ b h. (from_retain o x (λ _. true) b h).0) (λ b h. in_retain o x (λ _. true) b h refl))
 
   -- ---- what an older set hasn't
 
