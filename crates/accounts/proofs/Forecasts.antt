@@ -52,6 +52,7 @@ module _ (s : State) (good : IsPoolState s) (name : Name) (f : FileSystem) (at :
   abbrev w : World
   w = record s.now { file_systems = insert s.now.file_systems name (record f { live = rewrite f.live ch s.now.group (fresh_number s) }) }
 
+  -- each number is one key's, before and after
   once : IsNumberedOnce f.live
   once = once_of_pair s.size s.now s.last good.pair name f at
 
@@ -71,6 +72,7 @@ module _ (s : State) (good : IsPoolState s) (name : Name) (f : FileSystem) (at :
   fresh : (k : Key) (b : Block) → Has (blocks f.live) b → b.number ≡ fresh_number s k → ⊥
   fresh k b h e = fresh_out k b (live_in_union b h) e
 
+  -- a block of the new map was the live map's, or no dataset has it
   new : (b : Block) → Has (blocks (rewrite f.live ch s.now.group (fresh_number s))) b → Has (blocks f.live) b ⊎ ((b.birth ≡ s.now.group) × ¬ (Has (union_of s.now) b))
   new b h = ⊎_elim
       (λ (k, x, e, is, t). inl (subst (λ y. Has (blocks f.live) y) is (in_blocks f.live k x e)))
@@ -84,6 +86,7 @@ module _ (s : State) (good : IsPoolState s) (name : Name) (f : FileSystem) (at :
   dropped_goes : (b : Block) → IsIn dropped b → ¬ (Has (blocks (rewrite f.live ch s.now.group (fresh_number s))) b)
   dropped_goes = goes f.live once ch dropped made survey s.now.group (fresh_number s) once_after fresh
 
+  -- and what the new one hasn't is dropped
   gone_dropped : (b : Block) → Has (blocks f.live) b → ¬ (Has (blocks (rewrite f.live ch s.now.group (fresh_number s))) b) → IsIn dropped b
   gone_dropped = gone f.live once ch dropped made survey s.now.group (fresh_number s) once_after fresh
 
@@ -187,10 +190,12 @@ module _ (s : State) (good : IsPoolState s) (name : Name) (f : FileSystem) (at :
       in_freeing : (b : Block) → Has s.now.freeing b → Has (reach_of s.now) b
       in_freeing b h = subst (λ x. Has x b) (sym (reach_is s.now)) (in_union_right o (union_of s.now) s.now.freeing b h)
 
+  -- ---- the world that limits are asked of
+
   asked_is : after_change s.now name ch (fresh_number s) ≡ record s.now { file_systems = insert s.now.file_systems name (record f { live = rewrite f.live ch s.now.group (fresh_number s) }) }
   asked_is = after_is s.now name f at ch (fresh_number s)
 
-  -- the counts of the file system and of what waits, in the world that limits are asked of
+  -- the counts of its file system and of what waits
   pub outlook : IsOutlook s (after_change s.now name ch (fresh_number s)) name f (record f { live = rewrite f.live ch s.now.group (fresh_number s) }) dropped (length made)
   outlook = subst (λ v. IsOutlook s v name f after_f dropped (length made)) (sym asked_is)
       (record { referenced = referenced; written = written; by_dataset = by_dataset; by_snapshots = by_snapshots; waiting = waiting })
@@ -198,6 +203,7 @@ module _ (s : State) (good : IsPoolState s) (name : Name) (f : FileSystem) (at :
   abbrev asked : World
   asked = after_change s.now name ch (fresh_number s)
 
+  -- its file systems, and what it frees
   pub asked_there : get (after_change s.now name ch (fresh_number s)).file_systems name ≡ Some (record f { live = rewrite f.live ch s.now.group (fresh_number s) })
   asked_there = ap (λ (v : World). get v.file_systems name) asked_is ∙ put_here s.now.file_systems name after_f
 
@@ -207,7 +213,7 @@ module _ (s : State) (good : IsPoolState s) (name : Name) (f : FileSystem) (at :
   pub asked_freeing : (after_change s.now name ch (fresh_number s)).freeing ≡ s.now.freeing
   asked_freeing = change_frees_none s.now name f at ch (fresh_number s)
 
-  -- what of `used` isn't the children's
+  -- what of the file system's `used` isn't its children's
   pub asked_used_here : used_here (after_change s.now name ch (fresh_number s)) name ≡ outlook_here s name f dropped (length made)
   asked_used_here =
       let l = outlook in

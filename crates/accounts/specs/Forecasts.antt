@@ -22,10 +22,9 @@ count_between low high = count_by (λ b. nat_lt low b.birth && nat_le b.birth hi
 abbrev pub count_before : ℕ → ℕ → List Block → ℕ
 count_before low high = count_by (λ b. nat_lt low b.birth && nat_lt b.birth high)
 
--- The five counts once the live map of this file system, f, has given way to that of t, for which these blocks are dropped and so many are
--- made. A dropped block that what stands before has stays with the snapshots; one that the live map alone has waits where it was born
--- before the group that the last sync opened, and else is free (zfsprops(7): referenced, written, usedbydataset, usedbysnapshots; waiting
--- is profile)
+-- The counts once a change has dropped these blocks of the live map of f and made so many in their place, which gives t: a snapshot keeps a
+-- dropped block that was born by its group, and one that the live map alone has waits where it was born before the last synced world's open
+-- group (zfsprops(7): referenced, written, usedbydataset, usedbysnapshots; waiting is profile)
 pub record IsOutlook (s : State) (new : World) (name : List ℕ) (f t : FileSystem) (dropped : List Block) (made : ℕ) : Type 0 where
   pub referenced : referenced_of new (Live name) + length dropped ≡ referenced_of s.now (Live name) + made
   pub written : written_of new (Live name) + count_after (base_of s.now (Live name)) dropped ≡ written_of s.now (Live name) + made
@@ -33,8 +32,8 @@ pub record IsOutlook (s : State) (new : World) (name : List ℕ) (f t : FileSyst
   pub by_snapshots : used_by_snapshots new t ≡ used_by_snapshots s.now f + count_between (origin_group f) (base_of s.now (Live name)) dropped
   pub waiting : len (waiting_of (with_now s new)) ≡ len (waiting_of s) + count_before (base_of s.now (Live name)) s.last.group dropped
 
--- what of `used` isn't its children's, after such a change: what the file system has of its own and what isn't written of its
--- refreservation, of which the dropped blocks are less that the live map alone has (zfsprops(7): used, usedbyrefreservation)
+-- what of `used` isn't its children's after such a change: what the file system has of its own, and what of its refreservation isn't
+-- written; the dropped blocks that the live map alone has count in neither any more (zfsprops(7): used, usedbyrefreservation)
 abbrev pub outlook_here : State → List ℕ → FileSystem → List Block → ℕ → ℕ
 outlook_here s name f dropped made =
     (used_by_dataset s.now f + used_by_snapshots s.now f + made - count_after (base_of s.now (Live name)) dropped)
