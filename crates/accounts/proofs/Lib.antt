@@ -31,3 +31,6 @@ pub mod AskedChanges
 pub mod AskedPool
 pub mod Rows
 pub mod AskedSteps
+pub mod Surveyed
+pub mod Replaced
+pub mod Forecasts
