@@ -1,5 +1,6 @@
 //! Lines that set a limit of a file system.
-ghost use Rattle.std.specs.Prelude.{◌≡◌, ◌≤◌, ◌^◌};
+ghost use Rattle.std.specs.Prelude.{◌≡◌, ◌≤◌, ◌<◌, ◌^◌, ◌==◌, IfSome, length};
+ghost use Rattle.std.specs.List.{position};
 ghost use Rattle.std.specs.Option.{option_map, option_copied};
 ghost use Rattle.script.specs.Words.{at_equals, limit_of_word, amount_of_bytes, amount_of_word};
 ghost use Rattle.script.specs.Meaning.{set_of};
@@ -46,11 +47,22 @@ pub(crate) fn set(alloc: Global, operands: Option<&[u8]>) -> Result<Request, Ref
 }
 
 // What stands before and after the first `=`.
+#[tactic(auto, using(crate::proofs::WordsLemmas::range_from))]
 fn split_at_equals(word: &[u8]) -> Option<(&[u8], &[u8])>
     ensures { option_map (λ w. (w.0.now, w.1.now)) result ≡ at_equals word.now }
 {
-    let at = word.iter().position(|b| *b == b'=')?;
-    Some((&word[..at], &word[at + 1..]))
+    match equals_place(word) {
+        Some(end) => Some((&word[..end], &word[end + 1..])),
+        None => None,
+    }
+}
+
+// The place of the first `=`.
+fn equals_place(word: &[u8]) -> Option<usize>
+    ensures place { result ≡ position (λ b. b == 61) word.now }
+    ensures within { IfSome result (λ n. n < length word.now) }
+{
+    word.iter().position(|b| *b == b'=')
 }
 
 #[tactic(auto, unfolding(crate::specs::Words::limit_of_word))]
