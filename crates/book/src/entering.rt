@@ -54,6 +54,7 @@ fn answers_done(request: &Request) -> bool
             | Request::Hold { .. }
             | Request::Release { .. }
             | Request::Bookmark { .. }
+            | Request::Set { .. }
     )
 }
 

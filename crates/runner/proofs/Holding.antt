@@ -5,7 +5,7 @@ use Rattle.std.specs.List.{list_any, position, position_or_len, prefix_len}
 use Rattle.std.specs.List.Sorted.{IsPermutation}
 use Rattle.std.proofs.lemmas.List.Sorted.{IsPermutation-refl}
 use Rattle.model.specs.declared.request.Request.{Request}
-use Rattle.model.specs.declared.request.Request.TheVariants.{Create, Write, Punch, FreeObject, Snapshot, Read, Get, PoolGet, List as ToList, Rollback, Destroy, Slice, Sync, OpenView, CloseView, Clone, Promote, Hold, Release, Holds, Bookmark, WrittenSince, WouldFree}
+use Rattle.model.specs.declared.request.Request.TheVariants.{Create, Write, Punch, FreeObject, Snapshot, Read, Get, PoolGet, List as ToList, Rollback, Destroy, Slice, Sync, OpenView, CloseView, Clone, Promote, Hold, Release, Holds, Bookmark, WrittenSince, WouldFree, Set}
 use Rattle.model.specs.declared.reply.Reply.{Reply}
 use Rattle.model.specs.declared.reply.Reply.TheVariants.{Done, Refused, Data, Value, Group, Names, Count, Opened}
 use Rattle.book.specs.Entered.{is_opened}
@@ -38,6 +38,7 @@ same_held (Holds target) r held e = IsPermutation-refl held
 same_held (Bookmark target mark) r held e = IsPermutation-refl held
 same_held (WrittenSince target since) r held e = IsPermutation-refl held
 same_held (WouldFree name first last) r held e = IsPermutation-refl held
+same_held (Set name limit amount) r held e = IsPermutation-refl held
 
 -- a reply that opened none
 pub none_opened : (r : Reply) → is_opened r ≡ false → where_opened r ≡ []
@@ -91,6 +92,7 @@ not_of_views (Holds target) to_open to_close = refl
 not_of_views (Bookmark target mark) to_open to_close = refl
 not_of_views (WrittenSince target since) to_open to_close = refl
 not_of_views (WouldFree name first last) to_open to_close = refl
+not_of_views (Set name limit amount) to_open to_close = refl
 
 -- ---- a view by its number
 

@@ -5,7 +5,7 @@ use Rattle.std.specs.List.Sorted.{IsPermutation}
 use Rattle.base.specs.declared.refusal.Refusal.{Refusal}
 use Rattle.base.specs.declared.refusal.Refusal.TheVariants.{NoView}
 use Rattle.model.specs.declared.request.Request.{Request}
-use Rattle.model.specs.declared.request.Request.TheVariants.{Create, Write, Punch, FreeObject, Snapshot, Read, Get, PoolGet, List as ToList, Rollback, Destroy, Slice, Sync, OpenView, CloseView, Clone, Promote, Hold, Release, Holds, Bookmark, WrittenSince, WouldFree}
+use Rattle.model.specs.declared.request.Request.TheVariants.{Create, Write, Punch, FreeObject, Snapshot, Read, Get, PoolGet, List as ToList, Rollback, Destroy, Slice, Sync, OpenView, CloseView, Clone, Promote, Hold, Release, Holds, Bookmark, WrittenSince, WouldFree, Set}
 use Rattle.model.specs.declared.reply.Reply.{Reply}
 use Rattle.model.specs.declared.reply.Reply.TheVariants.{Done, Refused, Data, Value, Group, Names, Count, Opened}
 use Rattle.model.specs.declared.entry.Entry.{Entry}
@@ -64,6 +64,7 @@ opened_by (Holds target) r = []
 opened_by (Bookmark target mark) r = []
 opened_by (WrittenSince target since) r = []
 opened_by (WouldFree name first last) r = []
+opened_by (Set name limit amount) r = []
 
 -- the view that a request closed with this reply (profile)
 abbrev pub closed_by : Request → Reply → List ℕ
@@ -90,6 +91,7 @@ closed_by (Holds target) r = []
 closed_by (Bookmark target mark) r = []
 closed_by (WrittenSince target since) r = []
 closed_by (WouldFree name first last) r = []
+closed_by (Set name limit amount) r = []
 
 -- a request to close a view that the seat doesn't hold (profile)
 abbrev pub IsUnheld : Request → List ℕ → Type 0

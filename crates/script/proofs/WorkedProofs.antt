@@ -4,12 +4,12 @@ use Rattle.std.specs.Fmt.{digits}
 use Rattle.hex.proofs.OnLiterals.{hex_on_literals}
 use Rattle.name.specs.Reading.{name_of, component_of, snap_of, mark_of, tag_of, target_of}
 use Rattle.script.specs.Lines.{lines, line_limit}
-use Rattle.script.specs.Words.{number_of_word, block_of_word, property_of_word, pool_property_of_word, word_within}
-use Rattle.script.specs.Meaning.{meaning, request_of, words_meaning, command_of, name_request_of, clone_of, tag_request_of, bookmark_of, write_of, block_request_of, free_object_of, snapshots_of, snapshot_of, target_request_of, rollback_of, destroyed_of, destroy_of, number_request_of, get_property_of, since_snap_of, since_word_of, written_since_of, get_of, would_free_of, pool_get_of}
+use Rattle.script.specs.Words.{number_up_to, number_of_word, block_of_word, property_of_word, pool_property_of_word, limit_of_word, amount_of_bytes, amount_of_word, word_within}
+use Rattle.script.specs.Meaning.{meaning, request_of, words_meaning, command_of, name_request_of, clone_of, tag_request_of, bookmark_of, write_of, block_request_of, free_object_of, snapshots_of, snapshot_of, target_request_of, rollback_of, destroyed_of, destroy_of, number_request_of, get_property_of, since_snap_of, since_word_of, written_since_of, get_of, would_free_of, set_of, pool_get_of}
 use Rattle.script.specs.Examples.{WorkedLines}
 
 pub worked_lines : WorkedLines
-unfolding lines line_limit meaning request_of words_meaning command_of name_request_of clone_of tag_request_of bookmark_of write_of block_request_of free_object_of snapshots_of snapshot_of target_request_of rollback_of destroyed_of destroy_of number_request_of get_property_of since_snap_of since_word_of written_since_of get_of would_free_of pool_get_of number_of_word block_of_word property_of_word pool_property_of_word word_within name_of component_of snap_of mark_of tag_of target_of digits hex_on_literals
+unfolding lines line_limit meaning request_of words_meaning command_of name_request_of clone_of tag_request_of bookmark_of write_of block_request_of free_object_of snapshots_of snapshot_of target_request_of rollback_of destroyed_of destroy_of number_request_of get_property_of since_snap_of since_word_of written_since_of get_of would_free_of set_of pool_get_of number_up_to number_of_word block_of_word property_of_word pool_property_of_word limit_of_word amount_of_bytes amount_of_word word_within name_of component_of snap_of mark_of tag_of target_of digits hex_on_literals
 worked_lines = record {
   three = refl;
   ended = refl;
@@ -75,6 +75,23 @@ worked_lines = record {
   reservation = refl;
   refreservation = refl;
   set_quota = refl;
+  set_refquota = refl;
+  set_reservation_none = refl;
+  set_refreservation_zero = refl;
+  set_greatest = refl;
+  set_too_great = refl;
+  set_no_multiple = refl;
+  set_leading_zero = refl;
+  set_signed = refl;
+  set_with_unit = refl;
+  set_no_size = refl;
+  set_no_equals = refl;
+  set_two_equals = refl;
+  set_spaced = refl;
+  set_no_limit = refl;
+  set_alone = refl;
+  set_snapshot = refl;
+  set_shape_first = refl;
   since_word = refl;
   since_word_of_snapshot = refl;
   since_word_of_bookmark = refl;
@@ -117,6 +134,8 @@ worked_lines = record {
   group = refl;
   count = refl;
   opened = refl;
+  size = refl;
+  no_limit = refl;
   no_names = refl;
   names = refl;
   text = refl;

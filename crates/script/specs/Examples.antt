@@ -1,16 +1,17 @@
 -- Worked lines.
-use Rattle.std.specs.Prelude.{◌≡◌, ◌↔◌, ◌≤◌, ℕ, true, false, List, Some, ◌++◌, [], ◌∷◌, codes, replicate}
+use Rattle.std.specs.Prelude.{◌≡◌, ◌↔◌, ◌≤◌, ◌<◌, ◌^◌, ℕ, true, false, List, Some, None, ◌++◌, [], ◌∷◌, codes, replicate}
 use Rattle.std.specs.Fmt.{decimal}
 use Rattle.std.specs.FinMap as finmap
 use Rattle.base.specs.declared.refusal.Refusal.TheVariants.{BadName, NoDataset, BadLine}
 use Rattle.name.specs.declared.target.Target.TheVariants.{FileSystem, Snapshot, Bookmark}
 use Rattle.model.specs.declared.request.Property.TheVariants.{Used, Available, Referenced, Written, UsedByDataset, UsedBySnapshots, UsedByChildren, UsedByRefReservation, Quota, RefQuota, Reservation, RefReservation, Guid, CreateTxg, Origin, Clones, UserRefs, DeferDestroy}
+use Rattle.model.specs.declared.limits.Limit.TheVariants as limits
 use Rattle.model.specs.declared.request.PoolProperty.TheVariants.{Free, Freeing}
-use Rattle.model.specs.declared.request.Request.TheVariants.{Create, Write, Punch, FreeObject, Snapshot as TakeSnapshots, Read, Get, PoolGet, List as ListNames, Rollback, Destroy, Slice, Sync, OpenView, CloseView, Clone, Promote, Hold, Release, Holds, Bookmark as MakeBookmark, WrittenSince, WouldFree}
+use Rattle.model.specs.declared.request.Request.TheVariants.{Create, Write, Punch, FreeObject, Snapshot as TakeSnapshots, Read, Get, PoolGet, List as ListNames, Rollback, Destroy, Slice, Sync, OpenView, CloseView, Clone, Promote, Hold, Release, Holds, Bookmark as MakeBookmark, WrittenSince, WouldFree, Set}
 use Rattle.model.specs.declared.reply.Reply.TheVariants.{Done, Refused, Value as ValueIs, Group, Names, Count, Opened}
-use Rattle.model.specs.declared.reply.Value.TheVariants.{Named, Truth}
+use Rattle.model.specs.declared.reply.Value.TheVariants.{Size, Named, Truth}
 use Rattle.script.specs.Lines.{lines}
-use Rattle.script.specs.Words.{number_of_word}
+use Rattle.script.specs.Words.{number_up_to}
 use Rattle.script.specs.Meaning.{meaning, Silent, Faulty, Asks}
 use Rattle.script.specs.Text.{line_of}
 
@@ -95,7 +96,24 @@ pub record WorkedLines : Type 0 where
   pub refquota : meaning (codes "get refquota p") ≡ Asks (Get (FileSystem (codes "p")) RefQuota)
   pub reservation : meaning (codes "get reservation p") ≡ Asks (Get (FileSystem (codes "p")) Reservation)
   pub refreservation : meaning (codes "get refreservation p") ≡ Asks (Get (FileSystem (codes "p")) RefReservation)
-  pub set_quota : meaning (codes "set quota 1024 p") ≡ Faulty BadLine
+  pub set_quota : meaning (codes "set quota=1024 p/a") ≡ Asks (Set (codes "p/a") limits.Quota (Some 2))
+  pub set_refquota : meaning (codes "set refquota=512 p") ≡ Asks (Set (codes "p") limits.RefQuota (Some 1))
+  pub set_reservation_none : meaning (codes "set reservation=none p") ≡ Asks (Set (codes "p") limits.Reservation None)
+  pub set_refreservation_zero : meaning (codes "set refreservation=0 p") ≡ Asks (Set (codes "p") limits.RefReservation None)
+  pub set_greatest : meaning (codes "set quota=562949953421312 p") ≡ Asks (Set (codes "p") limits.Quota (Some 1099511627776))
+  pub set_too_great : meaning (codes "set quota=562949953421824 p") ≡ Faulty BadLine
+  pub set_no_multiple : meaning (codes "set quota=1000 p") ≡ Faulty BadLine
+  pub set_leading_zero : meaning (codes "set quota=0512 p") ≡ Faulty BadLine
+  pub set_signed : meaning (codes "set quota=+512 p") ≡ Faulty BadLine
+  pub set_with_unit : meaning (codes "set quota=1K p") ≡ Faulty BadLine
+  pub set_no_size : meaning (codes "set quota= p") ≡ Faulty BadLine
+  pub set_no_equals : meaning (codes "set quota p") ≡ Faulty BadLine
+  pub set_two_equals : meaning (codes "set quota=512=512 p") ≡ Faulty BadLine
+  pub set_spaced : meaning (codes "set quota 1024 p") ≡ Faulty BadLine
+  pub set_no_limit : meaning (codes "set used=512 p") ≡ Faulty BadLine
+  pub set_alone : meaning (codes "set quota=512") ≡ Faulty BadLine
+  pub set_snapshot : meaning (codes "set quota=512 p@s") ≡ Faulty BadName
+  pub set_shape_first : meaning (codes "set quota=1 p@s") ≡ Faulty BadLine
   pub since_word :
       meaning (codes "get written@s p/a")
       ≡ Asks (WrittenSince (FileSystem (codes "p/a")) (record { file_system = codes "p/a"; component = codes "s" }))
@@ -148,6 +166,8 @@ pub record WorkedLines : Type 0 where
   pub group : line_of (Group 12) ≡ codes "12" ++ 10 ∷ []
   pub count : line_of (Count 20) ≡ codes "20" ++ 10 ∷ []
   pub opened : line_of (Opened 3 (record { map = finmap.empty; guid = 5; group = 7 })) ≡ codes "3" ++ 10 ∷ []
+  pub size : line_of (ValueIs (Size 1024)) ≡ codes "1024" ++ 10 ∷ []
+  pub no_limit : line_of (ValueIs (Size 0)) ≡ codes "0" ++ 10 ∷ []
   pub no_names : line_of (Names []) ≡ codes "-" ++ 10 ∷ []
   pub names : line_of (Names (codes "p" ∷ codes "p/a" ∷ [])) ≡ codes "p p/a" ++ 10 ∷ []
   pub text : line_of (ValueIs (Named (codes "p/c,p/d"))) ≡ codes "p/c,p/d" ++ 10 ∷ []
@@ -156,6 +176,6 @@ pub record WorkedLines : Type 0 where
   pub off : line_of (ValueIs (Truth false)) ≡ codes "off" ++ 10 ∷ []
   pub refused : line_of (Refused NoDataset) ≡ codes "error 2 NoDataset" ++ 10 ∷ []
 
--- a number has one spelling, the one in which it is printed (profile)
+-- a number has one spelling, the one in which it is printed, whatever is the greatest (profile)
 abbrev pub HasOneSpelling : Type 0
-HasOneSpelling = (word : List ℕ) (n : ℕ) → n ≤ 4294967295 → (number_of_word word ≡ Some n) ↔ (word ≡ decimal n)
+HasOneSpelling = (most : ℕ) (word : List ℕ) (n : ℕ) → most < 2 ^ 64 → n ≤ most → (number_up_to most word ≡ Some n) ↔ (word ≡ decimal n)

@@ -9,9 +9,9 @@ use Rattle.name.specs.declared.member.Member.{Member}
 use Rattle.name.specs.declared.target.Target.{Target}
 use Rattle.name.specs.Reading.{name_of, snap_of, mark_of, tag_of, target_of}
 use Rattle.model.specs.declared.request.Request.{Request}
-use Rattle.model.specs.declared.request.Request.TheVariants.{Create, Write, Punch, FreeObject, Snapshot, Read, Get, PoolGet, List as ListNames, Rollback, Destroy, Slice, Sync, OpenView, CloseView, Clone, Promote, Hold, Release, Holds, Bookmark, WrittenSince, WouldFree}
+use Rattle.model.specs.declared.request.Request.TheVariants.{Create, Write, Punch, FreeObject, Snapshot, Read, Get, PoolGet, List as ListNames, Rollback, Destroy, Slice, Sync, OpenView, CloseView, Clone, Promote, Hold, Release, Holds, Bookmark, WrittenSince, WouldFree, Set}
 use Rattle.script.specs.Lines.{line_limit}
-use Rattle.script.specs.Words.{is_printable, words_of, is_word, number_of_word, block_of_word, property_of_word, pool_property_of_word, since_word, file_system_of, word_within, snap_within}
+use Rattle.script.specs.Words.{is_printable, words_of, is_word, number_of_word, block_of_word, property_of_word, pool_property_of_word, at_equals, limit_of_word, amount_of_word, since_word, file_system_of, word_within, snap_within}
 
 -- a line asks for nothing and has no reply, is at fault and is refused so, or asks a request (profile)
 pub data Meaning : Type 0 where
@@ -160,6 +160,12 @@ would_free_of operands =
     shaped (three_of operands) (λ w. named (name_of w.0) (λ name. named (word_within name w.1) (λ first.
     named (word_within name w.2) (λ last. Asks (WouldFree name first last)))))
 
+-- `set PROP=SIZE NAME` (zfs-set(8))
+unfoldable pub set_of : List (List ℕ) → Meaning
+set_of operands =
+    shaped (two_of operands) (λ w. shaped (at_equals w.0) (λ setting. shaped (limit_of_word setting.0) (λ limit.
+    shaped (amount_of_word setting.1) (λ amount. named (name_of w.1) (λ name. Asks (Set name limit amount))))))
+
 -- `pget PROP` (profile)
 unfoldable pub pool_get_of : List (List ℕ) → Meaning
 pool_get_of operands = shaped (one_of operands) (λ w. shaped (pool_property_of_word w) (λ property. Asks (PoolGet property)))
@@ -194,6 +200,7 @@ command_of command operands =
     else if bytes_eq command (codes "holds") then target_request_of Holds operands
     else if bytes_eq command (codes "bookmark") then bookmark_of operands
     else if bytes_eq command (codes "wouldfree") then would_free_of operands
+    else if bytes_eq command (codes "set") then set_of operands
     else Faulty BadLine
 
 -- by the words (profile)

@@ -1,7 +1,7 @@
 -- The words of a line, and what they say.
-use Rattle.std.specs.Prelude.{ℕ, ◌+◌, ◌-◌, ◌*◌, ◌==◌, ◌&&◌, Bool, nat_lt, nat_le, List, [], ◌∷◌, ◌++◌, Option, Some, None, Result, Ok, Err, length, take, drop, replicate, if◌then◌else◌, codes}
-use Rattle.std.specs.List.{slice_split}
-use Rattle.std.specs.Option.{option_map}
+use Rattle.std.specs.Prelude.{ℕ, ◌+◌, ◌-◌, ◌*◌, ◌/◌, ◌%◌, ◌^◌, ◌==◌, ◌&&◌, Bool, nat_lt, nat_le, List, [], ◌∷◌, ◌++◌, Option, Some, None, Result, Ok, Err, length, take, drop, replicate, if◌then◌else◌, codes}
+use Rattle.std.specs.List.{slice_split, position}
+use Rattle.std.specs.Option.{option_map, option_and_then}
 use Rattle.std.specs.Str.{bytes_eq}
 use Rattle.hex.specs.Hex.{decode_of}
 use Rattle.hex.specs.declared.error.FromHexError.{FromHexError}
@@ -10,6 +10,8 @@ use Rattle.name.specs.declared.target.Target.{Target}
 use Rattle.name.specs.declared.target.Target.TheVariants.{FileSystem, Snapshot, Bookmark}
 use Rattle.name.specs.Names.{whole_length}
 use Rattle.name.specs.Reading.{component_of}
+use Rattle.model.specs.declared.limits.Limit.{Limit}
+use Rattle.model.specs.declared.limits.Limit.TheVariants as limits
 use Rattle.model.specs.declared.request.Property.{Property}
 use Rattle.model.specs.declared.request.Property.TheVariants.{Used, Available, Referenced, Written, UsedByDataset, UsedBySnapshots, UsedByChildren, UsedByRefReservation, Quota, RefQuota, Reservation, RefReservation, Guid, CreateTxg, Origin, Clones, UserRefs, DeferDestroy}
 use Rattle.model.specs.declared.request.PoolProperty.{PoolProperty}
@@ -27,22 +29,26 @@ words_of line = slice_split (λ b. b == 32) line
 abbrev pub is_word : List ℕ → Bool
 is_word word = nat_lt 0 (length word)
 
--- the number of these digits after n, at most 2^32 - 1 (profile)
-abbrev pub number_from : ℕ → List ℕ → Option ℕ
-number_from n [] = Some n
-number_from n (c ∷ cs) =
+-- the number of these digits after n, at most this one (profile)
+abbrev pub number_from : ℕ → ℕ → List ℕ → Option ℕ
+number_from most n [] = Some n
+number_from most n (c ∷ cs) =
     if nat_le 48 c && nat_le c 57
-    then (if nat_le (10 * n + (c - 48)) 4294967295 then number_from (10 * n + (c - 48)) cs else None)
+    then (if nat_le (10 * n + (c - 48)) most then number_from most (10 * n + (c - 48)) cs else None)
     else None
 
 -- a number that is not `0` (profile)
-abbrev pub number_without_zero : List ℕ → Option ℕ
-number_without_zero [] = None
-number_without_zero (c ∷ cs) = if c == 48 then None else number_from 0 (c ∷ cs)
+abbrev pub number_without_zero : ℕ → List ℕ → Option ℕ
+number_without_zero most [] = None
+number_without_zero most (c ∷ cs) = if c == 48 then None else number_from most 0 (c ∷ cs)
 
--- NUM: decimal digits without a leading zero, at most 2^32 - 1 (profile)
+-- decimal digits without a leading zero, at most this number (profile)
+unfoldable pub number_up_to : ℕ → List ℕ → Option ℕ
+number_up_to most word = if bytes_eq word (codes "0") then Some 0 else number_without_zero most word
+
+-- NUM: a number of at most 2^32 - 1 (profile)
 unfoldable pub number_of_word : List ℕ → Option ℕ
-number_of_word word = if bytes_eq word (codes "0") then Some 0 else number_without_zero word
+number_of_word word = number_up_to 4294967295 word
 
 -- zero bytes fill a block (profile)
 abbrev pub filled : Result (List ℕ) FromHexError → Option (List ℕ)
@@ -89,6 +95,32 @@ pool_property_of_word word =
     else if bytes_eq word (codes "waiting") then Some Waiting
     else if bytes_eq word (codes "group") then Some Group
     else None
+
+-- what stands before and after the first `=` of a word (zfs-set(8))
+abbrev pub at_equals : List ℕ → Option (List ℕ × List ℕ)
+at_equals word = option_map (λ n. (take n word, drop (n + 1) word)) (position (λ b. b == 61) word)
+
+-- PROP of a limit: a property's name (zfsprops(7))
+unfoldable pub limit_of_word : List ℕ → Option Limit
+limit_of_word word =
+    if bytes_eq word (codes "quota") then Some limits.Quota
+    else if bytes_eq word (codes "refquota") then Some limits.RefQuota
+    else if bytes_eq word (codes "reservation") then Some limits.Reservation
+    else if bytes_eq word (codes "refreservation") then Some limits.RefReservation
+    else None
+
+-- so many bytes in blocks: 0 is no limit, and what is no multiple of 512 is no amount (zfsprops(7): quota; that it is whole blocks is profile)
+unfoldable pub amount_of_bytes : ℕ → Option (Option ℕ)
+amount_of_bytes bytes =
+    if bytes == 0 then Some None
+    else if bytes % 512 == 0 then Some (Some (bytes / 512))
+    else None
+
+-- SIZE: `none`, or a number of bytes, at most those of 2^40 blocks (zfsprops(7): quota; the greatest is profile)
+unfoldable pub amount_of_word : List ℕ → Option (Option ℕ)
+amount_of_word word =
+    if bytes_eq word (codes "none") then Some None
+    else option_and_then amount_of_bytes (number_up_to (2 ^ 49) word)
 
 -- what stands after `written@`, where a word begins so (zfsprops(7): written@snapshot)
 abbrev pub since_word : List ℕ → Option (List ℕ)

@@ -1,15 +1,16 @@
 //! What a line asks for.
-ghost use Rattle.std.specs.Prelude.{◌≡◌, ℕ, List, ◌*◌, Some, None, length, replicate};
+ghost use Rattle.std.specs.Prelude.{◌≡◌, ◌≤◌, ◌^◌, ℕ, List, ◌*◌, Some, None, IfSome, length, replicate};
 ghost use Rattle.std.specs.Bool.{OnTrue, OnFalse};
 ghost use Rattle.std.specs.Option.{option_copied};
 ghost use Rattle.hex.specs.Hex.{decode_of};
 ghost use Rattle.name.specs.Reading.{Reads};
 ghost use Rattle.model.specs.declared.request.Request.{Request};
-ghost use Rattle.script.specs.Words.{words_of, number_of_word, number_without_zero, number_from, block_of_word, filled, pool_property_of_word};
+ghost use Rattle.script.specs.Words.{words_of, number_of_word, number_up_to, number_without_zero, number_from, block_of_word, filled, pool_property_of_word};
 ghost use Rattle.script.specs.Meaning.{request_of, command_of, clone_of, tag_request_of, bookmark_of, name_request_of, write_of, block_request_of, free_object_of, snap_names_of, snapshots_of, snapshot_of, rollback_of, destroyed_of, destroy_of, number_request_of, target_request_of, pool_get_of, bare};
 ghost use Rattle.script.specs.Reading.{words_left, Means, MeansBlock, MeansTagged, MeansTarget, MeansName, MeansNumber, MeansBare};
 
 use crate::lines::LINE_LIMIT;
+use crate::settings::set;
 use crate::space::{get, would_free};
 use crate::words::{
     four, has_only_words, is_all_printable, leading_option, next_word, one, three, two,
@@ -87,6 +88,8 @@ fn command_at(alloc: Global, command: &[u8], operands: Option<&[u8]>) -> Result<
         bookmark(alloc, operands)
     } else if command == b"wouldfree".as_slice() {
         would_free(alloc, operands)
+    } else if command == b"set".as_slice() {
+        set(alloc, operands)
     } else {
         Err(Refusal::BadLine)
     }
@@ -450,35 +453,52 @@ fn pool_property_named(word: &[u8]) -> Option<PoolProperty>
 pub fn number(word: &[u8]) -> Option<u32>
     ensures { result ≡ number_of_word word.now }
 {
+    match number_up_to(word, u64::from(u32::MAX)) {
+        Some(number) => Some(number as u32),
+        None => None,
+    }
+}
+
+/// The number that a word says: decimal digits without a leading zero, at most this number (profile).
+#[tactic(auto, unfolding(crate::specs::Words::number_up_to))]
+pub(crate) fn number_up_to(word: &[u8], most: u64) -> Option<u64>
+    requires { most ≤ 2 ^ 60 }
+    ensures value { result ≡ number_up_to most word.now }
+    ensures within { IfSome result (λ n. n ≤ most) }
+{
     if word == b"0".as_slice() {
         return Some(0);
     }
-    number_over_zero(word)
+    number_over_zero(word, most)
 }
 
-fn number_over_zero(word: &[u8]) -> Option<u32>
-    ensures { result ≡ number_without_zero word.now }
+fn number_over_zero(word: &[u8], most: u64) -> Option<u64>
+    requires { most ≤ 2 ^ 60 }
+    ensures value { result ≡ number_without_zero most word.now }
+    ensures within { IfSome result (λ n. n ≤ most) }
 {
     match word {
         [] => None,
         [b'0', ..] => None,
-        _ => digits(word),
+        _ => digits(word, most),
     }
 }
 
-fn digits(word: &[u8]) -> Option<u32>
-    ensures { result ≡ number_from 0 word.now }
+fn digits(word: &[u8], most: u64) -> Option<u64>
+    requires { most ≤ 2 ^ 60 }
+    ensures value { result ≡ number_from most 0 word.now }
+    ensures within { IfSome result (λ n. n ≤ most) }
 {
-    let mut value: u32 = 0;
+    let mut value: u64 = 0;
     for c in word {
         if !(b'0' <= *c && *c <= b'9') {
             return None;
         }
-        let longer = 10 * u64::from(value) + u64::from(*c - b'0');
-        if longer > u64::from(u32::MAX) {
+        let longer = 10 * value + u64::from(*c - b'0');
+        if longer > most {
             return None;
         }
-        value = longer as u32;
+        value = longer;
     }
     Some(value)
 }
