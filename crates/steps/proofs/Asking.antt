@@ -1,12 +1,12 @@
 -- Requests that ask limits of the state that they lead to: what their rows come to, and what holds of that state then.
-use Rattle.std.proofs.Common.{◌≡◌, ◌+◌, Bool, true, false, cond, not, List, [], ◌∷◌, ◌++◌, Option, Some, None, refl, sym, subst, ◌∙◌, arith}
-use Rattle.std.specs.FinSet.{union, len}
+use Rattle.std.proofs.Common.{◌≡◌, Bool, true, false, cond, not, List, [], ◌∷◌, ◌++◌, Option, Some, None, refl, sym, subst, ◌∙◌, arith}
+use Rattle.std.specs.FinSet.{union, difference, len}
 use Rattle.std.proofs.lemmas.Bool.{le-leb}
 use Rattle.base.specs.declared.refusal.Refusal.{Refusal}
 use Rattle.base.specs.declared.refusal.Refusal.TheVariants.{Quota, RefQuota, NoSpace}
 use Rattle.zalloc.specs.declared.BlockState.{BlockState}
 use Rattle.model.specs.World.{reach_of}
-use Rattle.model.specs.State.{State}
+use Rattle.model.specs.State.{State, waiting_of}
 use Rattle.model.specs.Numbers.{HasStates}
 use Rattle.model.specs.Rule.{Row, first_of}
 use Rattle.model.specs.requests.Change.{limit_row}
@@ -69,6 +69,11 @@ module _ (s new : State) (is : IsUnasked s new) where
       (subst (λ n. AreStatesOf (reach_of new.now) (reach_of new.last) n numbers) (sym is.size)
       (subst (λ w. AreStatesOf (reach_of new.now) (reach_of w) s.size numbers) (sym is.last)
       (subst (λ r. AreStatesOf r (reach_of s.last) s.size numbers) (sym is.reach) (states_of s numbers known))))
+
+  -- and the same blocks wait
+  pub unasked_waiting : waiting_of new ≡ waiting_of s
+  unfolding waiting_of
+  unasked_waiting i = difference (reach_of (is.last i)) (is.reach i)
 
   -- where no file system has a limit, none is passed
   pub unasked_fits : IsUnlimited new.now.file_systems → (numbers : List BlockState) → HasStates s numbers → first_of (limit_row new) ≡ None

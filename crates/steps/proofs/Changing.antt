@@ -73,9 +73,12 @@ module _ (s : State) (steady : IsSteady s) (q : Request) (target : Target) (ch :
     unfolding refusal_of
     change_bad_key e = refused_by q rule is s BadKey (first-bad_key _ _ _ _ there live_name e)
 
+    -- the state that its limits are asked of
+    pub change_asked : state_asked s rule ≡ asked_by_change s name ch
+    unfolding state_asked
+    change_asked = ap (λ t. state_after_change s t ch (record { number = fresh_number s; taken = set.empty })) named
+
     -- what earlier rows don't refuse, the limits say
     pub change_asks : in_range ≡ true → refusal_of s rule ≡ first_of (limit_row (asked_by_change s name ch))
-    unfolding refusal_of state_asked
-    change_asks within =
-        first-limits _ _ in_range _ there live_name within
-        ∙ ap (λ t. first_of (limit_row (state_after_change s t ch (record { number = fresh_number s; taken = set.empty })))) named
+    unfolding refusal_of
+    change_asks within = first-limits _ _ in_range _ there live_name within ∙ ap (λ x. first_of (limit_row x)) change_asked

@@ -138,7 +138,7 @@ module _ (s : State) (steady : IsSteady s) (name : Name) (f : FileSystem) (was :
     new : (b : Block) → Has (blocks (rewrite f.live ch s.now.group (fresh_number s))) b → Has (blocks f.live) b ⊎ ((b.birth ≡ s.now.group) × ¬ (Has (union_of s.now) b))
     new b h = ⊎_elim inl (λ k. inr (k.0, (not_in_both b k.1).0)) (new_or_old b h)
 
-    asked_systems : AreFileSystems (insert s.now.file_systems name (record f { live = rewrite f.live ch s.now.group (fresh_number s) })) s.now.group
+    pub asked_systems : AreFileSystems (insert s.now.file_systems name (record f { live = rewrite f.live ch s.now.group (fresh_number s) })) s.now.group
     asked_systems = live_systems s.now steady.good.now.systems name f was m new
 
     asked_apart : AreDisjoint (union_of asked) s.now.freeing

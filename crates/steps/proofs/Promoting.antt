@@ -164,7 +164,7 @@ promote_unlimited s name bare = by_promotion (promotion_of s.now name) refl
 
 module _ (s : State) (steady : IsSteady s) (name : List ℕ) (none : promote_refusal (datasets_of s) name ≡ None) where
   -- what holds of it whatever the limits
-  promote_unasked : IsUnasked s (asked_by_promote s name)
+  pub promote_unasked : IsUnasked s (asked_by_promote s name)
   promote_unasked =
       let can = can_turn s.now name none in
       subst (IsUnasked s) (sym (ap (λ x. option_map_or (λ (p : Promotion). with_now s (after_promotion s.now name p)) x s) can.is) ∙ turned_state s name)

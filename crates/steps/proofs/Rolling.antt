@@ -1,5 +1,5 @@
 -- A rollback: the datasets after it, why it is refused, and its steps.
-use Rattle.std.proofs.Common.{◌≡◌, ◌⊎◌, ◌<◌, Bool, true, false, List, [], Option, Some, None, refl, sym, ap, subst, ◌∙◌, inl, inr, ⊎_elim, map}
+use Rattle.std.proofs.Common.{◌≡◌, ◌⊎◌, ◌<◌, Bool, false, List, [], Option, Some, None, refl, sym, ap, subst, ◌∙◌, inl, inr, ⊎_elim, map}
 use Rattle.std.specs.Prelude.{nat_le, nat_lt}
 use Rattle.std.specs.Option.{option_map_or}
 use Rattle.std.specs.FinMap.{get, insert}
@@ -168,7 +168,7 @@ module _ (s : State) (steady : IsSteady s) where
       back = is_rolled (row_false (back_row s.now s.views target later) none (has_clone_outside s.now [] (newer_snaps s.now target), HasClones) (inr (inr (inr (inr (inl refl))))))
 
       -- what holds of the state after it whatever the limits, where nothing newer is viewed
-      rollback_unasked : IsUnasked s (asked_by_rollback s target)
+      pub rollback_unasked : IsUnasked s (asked_by_rollback s target)
       rollback_unasked =
           let idle = row_false (back_row s.now s.views target later) none (is_busy s.now s.views (newer_snaps s.now target), Busy) (inr (inr (inr (inl refl)))) in
           let safe = rollback_safe s.views s.now target (once s.size s.now steady.good.now) (closed s.size s.now steady.good.now) idle in

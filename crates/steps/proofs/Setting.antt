@@ -6,12 +6,11 @@ use Rattle.std.specs.FinMap.{get, insert}
 use Rattle.std.specs.FinSet.{union}
 use Rattle.base.specs.declared.refusal.Refusal.{Refusal}
 use Rattle.base.specs.declared.refusal.Refusal.TheVariants.{NoDataset, NoMemory}
-use Rattle.zalloc.specs.declared.BlockState.{BlockState}
 use Rattle.model.specs.declared.limits.Limit.{Limit}
 use Rattle.model.specs.declared.limits.Limit.TheVariants.{Quota, RefQuota, Reservation, RefReservation}
 use Rattle.model.specs.declared.request.Request.TheVariants.{Set}
 use Rattle.model.specs.declared.reply.Reply.TheVariants.{Done, Refused}
-use Rattle.model.specs.World.{World, FileSystem, union_of, reach_of}
+use Rattle.model.specs.World.{World, FileSystem, union_of}
 use Rattle.model.specs.State.{State}
 use Rattle.model.specs.Limits.{limited}
 use Rattle.model.specs.Edits.{with_now}
@@ -20,7 +19,7 @@ use Rattle.model.specs.requests.Change.{limit_row}
 use Rattle.model.specs.requests.Set.{after_set, set_rule}
 use Rattle.model.specs.Refusals.{refusal_of, state_asked}
 use Rattle.model.specs.Step.{Step}
-use Rattle.world.specs.Tables.{Datasets, world_of}
+use Rattle.world.specs.Tables.{world_of}
 use Rattle.world.specs.Worlds.{IsTidy, IsPoolState}
 use Rattle.world.proofs.Kept.{reach_is}
 use Rattle.accounts.specs.Limits.{IsShrunk, HasLimits}
@@ -90,7 +89,7 @@ module _ (s : State) (name : List ℕ) (limit : Limit) (amount : Option ℕ) whe
             }
 
     -- what holds of it whatever the limits
-    set_unasked : IsUnasked s (asked_by_set s name limit amount)
+    pub set_unasked : IsUnasked s (asked_by_set s name limit amount)
     set_unasked = subst (IsUnasked s) set_state (record {
       good = is_limited.good;
       swept = still_swept s (with_now s (after_set s.now name limit amount)) steady refl is_limited.known is_limited.origins;

@@ -153,7 +153,7 @@ module _ (s : State) (steady : IsSteady s) (names : List Member) (recursive : Bo
       ∙ sym (reach_is s.now)
 
   -- what holds of the state with snapshots that no row refuses, whatever the limits
-  taking_unasked : IsUnasked s (asked_by_snapshot s names recursive)
+  pub taking_unasked : IsUnasked s (asked_by_snapshot s names recursive)
   taking_unasked = record {
     good = record { now = good.now; last = good.last; pair = good.pair; views = good.views };
     swept = still_swept s (put s t (length all)) steady refl known origins;

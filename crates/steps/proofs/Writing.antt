@@ -39,6 +39,7 @@ use Rattle.model.specs.Step.{Step}
 use Rattle.world.specs.Sets.{Has}
 use Rattle.world.specs.Blocks.{block_order as o}
 use Rattle.world.specs.Shapes.{Name}
+use Rattle.world.specs.Worlds.{AreFileSystems}
 use Rattle.world.specs.Dead.{base_of}
 use Rattle.world.specs.Tables.{Datasets, world_of}
 use Rattle.world.proofs.SetCounts.{in_union_left}
@@ -53,7 +54,7 @@ use Rattle.steps.proofs.Known.{states_of}
 use Rattle.steps.proofs.States.{state_at-now}
 use Rattle.steps.proofs.Ruled.{refused_by}
 use Rattle.steps.proofs.Changing.{change_no_dataset, change_no_memory, change_asks, change_leads}
-use Rattle.steps.proofs.Planning.{live_unlimited, asked, asked_change, room_enough, limits_asked_bare, leads_to, change_steady_within, change_steady_bare, change_can}
+use Rattle.steps.proofs.Planning.{live_unlimited, asked, asked_change, asked_systems, room_enough, limits_asked_bare, leads_to, change_steady_within, change_steady_bare, change_can}
 
 -- ---- the world of the datasets alone has the same blocks, and the same stands before its live maps
 
@@ -166,6 +167,11 @@ module _ (s : State) (steady : IsSteady s) (numbers : List BlockState) (known : 
     asked_is : asked_by_change s name ch ≡ with_now s (asked s steady name here.system here.is ch dropped made live_survey)
     asked_is = ap (with_now s) (asked_change s steady name here.system here.is ch dropped made live_survey)
 
+    -- what holds of the file systems that they are asked of
+    pub change_systems : AreFileSystems (asked_by_change s name ch).now.file_systems (asked_by_change s name ch).now.group
+    change_systems = subst (λ (x : State). AreFileSystems x.now.file_systems x.now.group) (sym asked_is)
+        (asked_systems s steady name here.system here.is ch dropped made live_survey)
+
     -- where no file system has a limit, they are the room by the survey's counts
     pub limits_of_survey : IsUnlimited s.now.file_systems
         → (b : Bool) → nat_le (length made) (count_by is_free numbers + young_count (young_of (datasets_of s) name s.last.group) dropped) ≡ b
@@ -200,15 +206,12 @@ module _ (s : State) (steady : IsSteady s) (numbers : List BlockState) (known : 
 
 -- ---- steps
 
-module _ (s : State) (steady : IsSteady s) (numbers : List BlockState) (known : HasStates s numbers) (name : Name) (q : Request) (target : Target)
-    (named : target ≡ OfFileSystem name) (ch : Changes) (in_range : Bool) (is : rule_of q None ≡ change_rule target ch in_range) (within : in_range ≡ true) where
+module _ (s : State) (steady : IsSteady s) (name : Name) (q : Request) (target : Target) (named : target ≡ OfFileSystem name) (ch : Changes) (in_range : Bool)
+    (is : rule_of q None ≡ change_rule target ch in_range) (within : in_range ≡ true) where
   abbrev rule : Rule
   rule = change_rule target ch in_range
 
-  with_reason : (why y : Refusal) → why ≡ y → Step s q (Refused y) s → Step s q (Refused why) s
-  with_reason why y e step = subst (λ z. Step s q (Refused z) s) (sym e) step
-
-  row_is : (there : IsThere s name) → refusal_of s (change_rule target ch in_range) ≡ first_of (limit_row (asked_by_change s name ch))
+  row_is : IsThere s name → refusal_of s (change_rule target ch in_range) ≡ first_of (limit_row (asked_by_change s name ch))
   row_is there = change_asks s steady q target ch in_range is name there.system named there.is within
 
   no_dataset_here : get s.now.file_systems name ≡ None → Step s q (Refused NoDataset) s
@@ -221,9 +224,14 @@ module _ (s : State) (steady : IsSteady s) (numbers : List BlockState) (known : 
       (λ none. absurd (there none))
       (there_or s name)
 
+module _ (s : State) (steady : IsSteady s) (numbers : List BlockState) (known : HasStates s numbers) (name : Name) (q : Request) (target : Target)
+    (named : target ≡ OfFileSystem name) (ch : Changes) (in_range : Bool) (is : rule_of q None ≡ change_rule target ch in_range) (within : in_range ≡ true) where
   module _ (why : Refusal) (tells : (why ≡ NoDataset) ↔ (get s.now.file_systems name ≡ None))
       (lacks : why ≡ NoSpace → LacksRoom (live_of s.now.file_systems name) ch (young_of (datasets_of s) name s.last.group) numbers)
       (which : (why ≡ NoDataset) ⊎ ((why ≡ NoSpace) ⊎ (why ≡ NoMemory))) where
+    with_reason : (y : Refusal) → why ≡ y → Step s q (Refused y) s → Step s q (Refused why) s
+    with_reason y e step = subst (λ z. Step s q (Refused z) s) (sym e) step
+
     apart : NoSpace ≡ NoDataset → ⊥
     apart e = cc
 
@@ -233,10 +241,10 @@ module _ (s : State) (steady : IsSteady s) (numbers : List BlockState) (known : 
 
     by_reason : (why ≡ NoSpace → Step s q (Refused NoSpace) s) → Step s q (Refused why) s
     by_reason full = ⊎_elim
-        (λ e. with_reason why NoDataset e (no_dataset_here (tells.0 e)))
+        (λ e. with_reason NoDataset e (no_dataset_here s steady name q target named ch in_range is within (tells.0 e)))
         (⊎_elim
-        (λ e. with_reason why NoSpace e (full e))
-        (λ e. with_reason why NoMemory e (change_no_memory s steady q target ch in_range is)))
+        (λ e. with_reason NoSpace e (full e))
+        (λ e. with_reason NoMemory e (change_no_memory s steady q target ch in_range is)))
         which
 
     -- a write that the table refused: where the limits hold then, it doesn't want room
@@ -245,7 +253,8 @@ module _ (s : State) (steady : IsSteady s) (numbers : List BlockState) (known : 
 
     -- and where no file system has a limit, it does where the pool is full
     write_refused_bare : IsUnlimited s.now.file_systems → Step s q (Refused why) s
-    write_refused_bare bare = by_reason (λ e. write_refused_by_limit (there_full e) NoSpace (change_short s steady numbers known name ch (there_full e) bare (lacks e)))
+    write_refused_bare bare = by_reason (λ e. write_refused_by_limit s steady name q target named ch in_range is within (there_full e) NoSpace
+        (change_short s steady numbers known name ch (there_full e) bare (lacks e)))
 
   module _ (to : Datasets) (done : Changed) (w : HasWritten (datasets_of s) to name ch s.last.group numbers done) where
     done_there : first_of (limit_row (asked_by_change s name ch)) ≡ None → IsThere s name → Step s q Done (with_datasets s to)
@@ -254,7 +263,7 @@ module _ (s : State) (steady : IsSteady s) (numbers : List BlockState) (known : 
         subst (λ t. Step s q Done (with_datasets s t)) (sym w.to_is)
         (change_leads s steady q target ch in_range is (record { number = change.number; taken = set.empty })
         (record (datasets_of s) { file_systems = with_live s.now.file_systems name w.change.new })
-        (row_is there ∙ fits)
+        (row_is s steady name q target named ch in_range is within there ∙ fits)
         (leads_to s steady name there.system there.is numbers known ch (young_of (datasets_of s) name s.last.group) (young_is s name) w.change change
         ∙ sym (ap (λ t. state_after_change s t ch (record { number = change.number; taken = set.empty })) named))
         (steady_within s steady numbers known name to ch done w there fits))
