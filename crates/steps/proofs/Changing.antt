@@ -1,25 +1,26 @@
 -- The steps that change a live map: the refusals of a write, and of each request like it, and what one leads to.
 use Rattle.std.proofs.Common.{◌≡◌, Bool, true, false, cond, not, Option, Some, None, refl, ap, ◌∙◌}
 use Rattle.std.specs.FinMap.{get}
+use Rattle.std.specs.FinSet as set
 use Rattle.name.specs.declared.target.Target.{Target}
 use Rattle.name.specs.declared.target.Target.TheVariants.{FileSystem as OfFileSystem}
 use Rattle.base.specs.declared.refusal.Refusal.{Refusal}
-use Rattle.base.specs.declared.refusal.Refusal.TheVariants.{NoDataset, ReadOnly, Quota, RefQuota, BadKey, NoSpace, NoMemory}
+use Rattle.base.specs.declared.refusal.Refusal.TheVariants.{NoDataset, ReadOnly, BadKey, NoMemory}
 use Rattle.base.specs.Rewrite.{Changes}
 use Rattle.model.specs.declared.request.Request.{Request}
 use Rattle.model.specs.declared.reply.Reply.TheVariants.{Done, Refused}
 use Rattle.model.specs.World.{FileSystem}
 use Rattle.model.specs.State.{State}
-use Rattle.model.specs.Fits.{quotas_hold, refquotas_hold, pool_holds}
 use Rattle.model.specs.Targets.{has_dataset, is_snapshot_name}
-use Rattle.model.specs.Rule.{Choice, Rule}
+use Rattle.model.specs.Rule.{Choice, Rule, first_of}
 use Rattle.model.specs.requests.{rule_of}
-use Rattle.model.specs.requests.Change.{change_rule}
-use Rattle.model.specs.Refusals.{refusal_of, state_asked}
+use Rattle.model.specs.requests.Change.{limit_row, state_after_change, change_rule}
+use Rattle.model.specs.Refusals.{refusal_of, state_asked, fresh_number}
 use Rattle.model.specs.Step.{Step}
 use Rattle.world.specs.Shapes.{Name}
 use Rattle.world.specs.Tables.{Datasets}
 use Rattle.steps.specs.Steady.{IsSteady, HasNoDataset}
+use Rattle.steps.specs.Asked.{asked_by_change}
 use Rattle.steps.specs.Edits.{with_datasets}
 use Rattle.steps.proofs.Unlimited.{has_file_system, no_dataset}
 use Rattle.steps.proofs.Ruled.{refused_by, no_memory_by, done_by}
@@ -36,13 +37,9 @@ first-bad_key : (d r i : Bool) (rest : Option Refusal) → d ≡ true → r ≡ 
     → cond {A = Option Refusal} (not d) (Some NoDataset) (cond r (Some ReadOnly) (cond (not i) (Some BadKey) rest)) ≡ Some BadKey
 first-bad_key d r i rest a b e = rw (a, b, e) refl
 
-first-room : (d r i q f p room : Bool) → d ≡ true → r ≡ false → q ≡ true → f ≡ true → p ≡ room
-    → cond {A = Option Refusal} (not d) (Some NoDataset) (cond r (Some ReadOnly) (cond (not i) (Some BadKey)
-    (cond (not q) (Some Quota) (cond (not f) (Some RefQuota) (cond (not p) (Some NoSpace) None)))))
-    ≡ cond i (cond room None (Some NoSpace)) (Some BadKey)
-first-room d r true q f p true a b e g h = rw (a, b, e, g, h) refl
-first-room d r true q f p false a b e g h = rw (a, b, e, g, h) refl
-first-room d r false q f p room a b e g h = rw (a, b) refl
+first-limits : (d r i : Bool) (rest : Option Refusal) → d ≡ true → r ≡ false → i ≡ true
+    → cond {A = Option Refusal} (not d) (Some NoDataset) (cond r (Some ReadOnly) (cond (not i) (Some BadKey) rest)) ≡ rest
+first-limits d r i rest a b e = rw (a, b, e) refl
 
 module _ (s : State) (steady : IsSteady s) (q : Request) (target : Target) (ch : Changes) (in_range : Bool) (is : rule_of q None ≡ change_rule target ch in_range) where
   abbrev rule : Rule
@@ -76,8 +73,12 @@ module _ (s : State) (steady : IsSteady s) (q : Request) (target : Target) (ch :
     unfolding refusal_of
     change_bad_key e = refused_by q rule is s BadKey (first-bad_key _ _ _ _ there live_name e)
 
-    -- which refusal it gets, where the state that is asked of its limits has no limit but the pool's room
-    pub change_row : (room : Bool) → quotas_hold (state_asked s rule).now ≡ true → refquotas_hold (state_asked s rule).now ≡ true
-        → pool_holds (state_asked s rule) ≡ room → refusal_of s rule ≡ cond in_range (cond room None (Some NoSpace)) (Some BadKey)
+    -- the state that its limits are asked of
+    pub change_asked : state_asked s rule ≡ asked_by_change s name ch
+    unfolding state_asked
+    change_asked = ap (λ t. state_after_change s t ch (record { number = fresh_number s; taken = set.empty })) named
+
+    -- what earlier rows don't refuse, the limits say
+    pub change_asks : in_range ≡ true → refusal_of s rule ≡ first_of (limit_row (asked_by_change s name ch))
     unfolding refusal_of
-    change_row room quotas refquotas holds = first-room _ _ in_range _ _ _ room there live_name quotas refquotas holds
+    change_asks within = first-limits _ _ in_range _ there live_name within ∙ ap (λ x. first_of (limit_row x)) change_asked

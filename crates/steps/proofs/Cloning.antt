@@ -29,7 +29,7 @@ use Rattle.world.proofs.ViewedRequests.{from_placed}
 use Rattle.datasets.specs.Clones.{with_clone_of}
 use Rattle.clones.specs.Requests.{cloned, clone_refusal}
 use Rattle.steps.specs.Steady.{IsSteady}
-use Rattle.steps.specs.Edits.{datasets_of, with_datasets, put, CanPut}
+use Rattle.steps.specs.Edits.{datasets_of, with_datasets, put, StaysUnlimited, CanPut}
 use Rattle.steps.proofs.Creating.{CanAdd, can_add}
 use Rattle.accounts.specs.Limits.{IsUnlimited}
 use Rattle.accounts.proofs.Steps.{shrunk_cloned}
@@ -122,9 +122,12 @@ module _ (s : State) (steady : IsSteady s) (target : Target) (name : List ℕ) (
   pub clone_can : CanPut s (cloned (datasets_of s) target name) 0
   clone_can = record {
     steady = subst IsSteady state_is with_clone_steady;
-    unlimited = λ none. subst (λ (x : State). IsUnlimited x.now.file_systems) state_is (unlimited_put s.now.file_systems none name clone refl);
     reach = clone_reach;
   }
+
+  -- where there was no limit, there is none
+  pub clone_unlimited : StaysUnlimited s (cloned (datasets_of s) target name)
+  clone_unlimited none = subst (λ (x : State). IsUnlimited x.now.file_systems) state_is (unlimited_put s.now.file_systems none name clone refl)
 
 -- ---- steps
 

@@ -19,7 +19,7 @@ use Rattle.world.proofs.Creations.{create_union}
 use Rattle.world.proofs.Kept.{reach_is}
 use Rattle.world.proofs.StateSteps.{begun, create_before}
 use Rattle.steps.specs.Steady.{IsSteady}
-use Rattle.steps.specs.Edits.{datasets_of, with_datasets, put, CanPut}
+use Rattle.steps.specs.Edits.{datasets_of, with_datasets, put, StaysUnlimited, CanPut}
 use Rattle.accounts.proofs.Steps.{shrunk_created}
 use Rattle.steps.proofs.Limits.{kept_limits}
 use Rattle.steps.proofs.Unlimited.{unlimited_put, still_swept, same_known, put_known, new_origins}
@@ -77,9 +77,12 @@ module _ (s : State) (steady : IsSteady s) (name : List ℕ) (may : create_refus
   pub create_can : CanPut s (with_system (datasets_of s) name empty_file_system) 0
   create_can = record {
     steady = create_steady;
-    unlimited = λ none. unlimited_put s.now.file_systems none name empty_file_system refl;
     reach = create_reach;
   }
+
+-- where there was no limit, there is none
+pub create_unlimited : (s : State) (name : List ℕ) → StaysUnlimited s (with_system (datasets_of s) name empty_file_system)
+create_unlimited s name none = unlimited_put s.now.file_systems none name empty_file_system refl
 
 -- ---- steps
 

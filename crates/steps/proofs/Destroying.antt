@@ -35,7 +35,7 @@ use Rattle.accounts.specs.Steps.{AreKept}
 use Rattle.accounts.proofs.Steps.{shrunk_snaps, kept_trans, kept_shrunk, kept_same, kept_put, kept_without, kept_deferred, kept_names}
 use Rattle.removals.specs.Requests.{destroyed, destroy_refusal, swept}
 use Rattle.steps.specs.Steady.{IsSteady}
-use Rattle.steps.specs.Edits.{datasets_of, lose, CanLose}
+use Rattle.steps.specs.Edits.{datasets_of, lose, StaysUnlimited, CanLose}
 use Rattle.steps.proofs.Labelling.{from_changed, changed_maps, maps_fewer}
 use Rattle.steps.proofs.Losing.{can_lose}
 use Rattle.steps.proofs.Limits.{kept_limits, unlimited_kept}
@@ -163,10 +163,13 @@ module _ (s : State) (t : Datasets) (from : AreMapsFrom s.now.file_systems t.fil
   pub swept_can : IsSteady s → AreFileSystems (swept t s.views).file_systems s.now.group → t.group ≡ s.now.group → AreKept s.now (world_of t) → IsSafe s.views s.now (lose s t).now
       → CanLose s (swept t s.views)
   swept_can steady good open_is kept safe = can_lose s steady (swept t s.views) (subst (AreFileSystems (swept t s.views).file_systems) (sym open_is) good) open_is swept_from
-      (λ good. kept_limits s (lose s (swept t s.views)) steady good refl (kept_shrunk s.now (lose s (swept t s.views)).now (swept_kept kept)))
-      (unlimited_kept s.now (lose s (swept t s.views)).now (swept_kept kept))
       (λ v id e. seen_after s steady (without_snaps (lose s t).now unneeded) (swept_safe safe) v id e)
       (subst IsSwept (sym swept_state) (sweep_swept (lose s t)))
+      (λ good. kept_limits s (lose s (swept t s.views)) steady good refl (kept_shrunk s.now (lose s (swept t s.views)).now (swept_kept kept)))
+
+  -- where there was no limit, there is none
+  pub swept_unlimited : AreKept s.now (world_of t) → StaysUnlimited s (swept t s.views)
+  swept_unlimited kept = unlimited_kept s.now (lose s (swept t s.views)).now (swept_kept kept)
 
 -- ---- steps
 
@@ -189,6 +192,11 @@ module _ (s : State) (steady : IsSteady s) (target : Target) (recursive defer : 
       swept_can s (destroyed (datasets_of s) s.views target recursive defer) (destroy_from s steady recursive defer target) steady good refl
       (destroy_kept s steady recursive defer target)
       (subst (λ (x : World). IsSafe s.views s.now (with_losses s.now x)) (destroyed_world s target recursive defer) safe)
+
+  -- where there was no limit, there is none
+  pub destroy_unlimited : StaysUnlimited s (swept (destroyed (datasets_of s) s.views target recursive defer) s.views)
+  destroy_unlimited = swept_unlimited s (destroyed (datasets_of s) s.views target recursive defer) (destroy_from s steady recursive defer target)
+      (destroy_kept s steady recursive defer target)
 
   -- a destroy that is refused, or has no memory
   pub destroy_refused : (why : Refusal) → (destroy_refusal (datasets_of s) s.views target recursive defer ≡ Some why) ⊎ (why ≡ NoMemory) → Step s (Destroy target recursive defer) (Refused why) s

@@ -29,7 +29,7 @@ use Rattle.accounts.specs.Limits.{IsShrunk}
 use Rattle.accounts.specs.Steps.{AreKept}
 use Rattle.accounts.proofs.Steps.{shrunk_snaps, kept_same, kept_put, kept_shrunk}
 use Rattle.steps.specs.Steady.{IsSteady}
-use Rattle.steps.specs.Edits.{datasets_of, with_datasets, lose, CanPut}
+use Rattle.steps.specs.Edits.{datasets_of, with_datasets, lose, StaysUnlimited, CanPut}
 use Rattle.steps.proofs.Putting.{put_none}
 use Rattle.steps.proofs.Limits.{kept_limits, unlimited_kept}
 use Rattle.steps.proofs.Unlimited.{AreKnown, AreOriginsIn, same_origins, put_origins, still_swept}
@@ -152,9 +152,9 @@ same_label s steady = record {
   origins = same_origins s.now.file_systems;
 }
 
--- one of the same shape and limits put in its place
+-- one of the same shape put in its place
 module _ (s : State) (steady : IsSteady s) (name : Name) (f x : FileSystem) (at : get s.now.file_systems name ≡ Some f) (shape : shape_of x ≡ shape_of f)
-    (maps : maps_of x ≡ maps_of f) (tidy : IsTidy s.now.group x) (limits : x.limits ≡ f.limits) where
+    (maps : maps_of x ≡ maps_of f) (tidy : IsTidy s.now.group x) where
   abbrev new : World
   new = record s.now { file_systems = insert s.now.file_systems name x }
 
@@ -176,25 +176,33 @@ module _ (s : State) (steady : IsSteady s) (name : Name) (f x : FileSystem) (at 
       (λ (other : ¬ (q ≡ name)). inr (q, y, put_other s.now.file_systems name x q other ∙ e, h))
       (key_cases name_order q name)
 
-  shrunk : IsShrunk f x
-  shrunk = shrunk_snaps f x
-      (same_first x.live f.live (map (λ t. t.map) x.snaps) (map (λ t. t.map) f.snaps) maps)
-      (ap (λ (z : Shape). z.origin) shape) limits
-      (paired x.snaps f.snaps (ap (λ (z : Shape). z.snapshots) shape) (same_rest x.live f.live (map (λ t. t.map) x.snaps) (map (λ t. t.map) f.snaps) maps))
+  from_old : AreMapsFrom s.now.file_systems (insert s.now.file_systems name x)
+  from_old = label_from s.now.file_systems s.now.group steady.good.now.systems name f x at shape inside tidy
 
-  pub label : IsLabelled s (insert s.now.file_systems name x)
-  label =
-      let from = label_from s.now.file_systems s.now.group steady.good.now.systems name f x at shape inside tidy in
-      record {
-        good = now_keeps s steady.good new
-            (label_world s.size s.now steady.good.now name f x at shape inside tidy)
-            (label_pairs s.size s.now steady.good.now name f x at shape inside tidy s.last steady.good.pair)
-            (snaps_in_put s.now.file_systems name x snap_there);
-        from = from;
-        union = same_members o (union_of new) (union_of s.now) (maps_fewer s.now new from) (maps_fewer new s.now from_new);
-        kept = kept_put s.now name f x at shrunk;
-        origins = put_origins s.now.file_systems s.now.file_systems (same_origins s.now.file_systems) name f x at (ap (λ (z : Shape). z.origin) shape);
-      }
+  -- it is a pool's state
+  pub label_good : IsPoolState (with_now s (record s.now { file_systems = insert s.now.file_systems name x }))
+  label_good = now_keeps s steady.good new
+      (label_world s.size s.now steady.good.now name f x at shape inside tidy)
+      (label_pairs s.size s.now steady.good.now name f x at shape inside tidy s.last steady.good.pair)
+      (snaps_in_put s.now.file_systems name x snap_there)
+
+  -- whose datasets have the same blocks
+  pub label_union : union_of (record s.now { file_systems = insert s.now.file_systems name x }) ≡ union_of s.now
+  label_union = same_members o (union_of new) (union_of s.now) (maps_fewer s.now new from_old) (maps_fewer new s.now from_new)
+
+  pub label_origins : AreOriginsIn s.now.file_systems (insert s.now.file_systems name x)
+  label_origins = put_origins s.now.file_systems s.now.file_systems (same_origins s.now.file_systems) name f x at (ap (λ (z : Shape). z.origin) shape)
+
+  -- where its limits are the same too
+  module _ (limits : x.limits ≡ f.limits) where
+    shrunk : IsShrunk f x
+    shrunk = shrunk_snaps f x
+        (same_first x.live f.live (map (λ t. t.map) x.snaps) (map (λ t. t.map) f.snaps) maps)
+        (ap (λ (z : Shape). z.origin) shape) limits
+        (paired x.snaps f.snaps (ap (λ (z : Shape). z.snapshots) shape) (same_rest x.live f.live (map (λ t. t.map) x.snaps) (map (λ t. t.map) f.snaps) maps))
+
+    pub label : IsLabelled s (insert s.now.file_systems name x)
+    label = record { good = label_good; from = from_old; union = label_union; kept = kept_put s.now name f x at shrunk; origins = label_origins }
 
 -- ---- what can be put in place
 
@@ -213,9 +221,12 @@ module _ (s : State) (steady : IsSteady s) (ss : FileSystems) (l : IsLabelled s 
       swept = still_swept s after steady refl known l.origins;
       limits = kept_limits s after steady l.good refl (kept_shrunk s.now after.now l.kept);
     });
-    unlimited = unlimited_kept s.now after.now l.kept;
     reach = reach_is after.now ∙ ap (λ u. union u s.now.freeing) l.union ∙ sym (reach_is s.now);
   }
+
+  -- where there was no limit, there is none
+  pub label_unlimited : StaysUnlimited s (record (datasets_of s) { file_systems = ss })
+  label_unlimited = unlimited_kept s.now after.now l.kept
 
   -- nothing is lost
   pub label_loses : lose s (record (datasets_of s) { file_systems = ss }) ≡ with_datasets s (record (datasets_of s) { file_systems = ss })

@@ -6,6 +6,7 @@ pub mod Lookups
 pub mod Ruled
 pub mod Room
 pub mod Limits
+pub mod Asking
 pub mod Unlimited
 pub mod Named
 pub mod Questions
@@ -41,6 +42,7 @@ pub mod Tagging
 pub mod Holding
 pub mod Releasing
 pub mod Marking
+pub mod Setting
 pub mod Tags
 pub mod Spaces
 pub mod Alike

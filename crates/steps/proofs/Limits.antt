@@ -1,11 +1,15 @@
--- Quotas between two steps: who keeps them, and what is so where no file system has a limit.
+-- Quotas between two steps: who keeps them, who asks them, and what is so where no file system has a limit.
 use Rattle.std.proofs.Common.{◌≡◌, ℕ, Option, None, sym, ap, subst, ◌∙◌, ⊎_elim}
 use Rattle.model.specs.World.{World, FileSystem, Live, Limits, no_limits}
 use Rattle.model.specs.State.{State}
 use Rattle.model.specs.Sums.{used_of, referenced_of}
+use Rattle.model.specs.Rule.{first_of}
+use Rattle.model.specs.requests.Change.{limit_row}
 use Rattle.world.specs.Worlds.{IsPoolState}
 use Rattle.accounts.specs.Limits.{IsUnlimited, IsWithin, IsKeptOrNone, IsShrunk, AreShrunk, AreQuotasMet, HasLimits}
 use Rattle.accounts.specs.Steps.{AreKept}
+use Rattle.accounts.proofs.Limits.{limits_met}
+use Rattle.accounts.proofs.Rows.{limits_asked}
 use Rattle.accounts.proofs.Steps.{step_keeps, kept_same, kept_shrunk}
 use Rattle.steps.specs.Steady.{IsSteady}
 
@@ -17,6 +21,12 @@ kept_limits s new steady good last shrunk = step_keeps s new steady.good good la
 -- the same file systems
 pub same_limits : (s new : State) → IsSteady s → IsPoolState new → new.last ≡ s.last → new.now.file_systems ≡ s.now.file_systems → HasLimits new
 same_limits s new steady good last same = kept_limits s new steady good last (kept_shrunk s.now new.now (kept_same s.now new.now same))
+
+-- ---- requests that ask limits
+
+-- where those hold that are asked of the state that it leads to
+pub asked_limits : (s new : State) → new.last ≡ s.last → first_of (limit_row new) ≡ None → HasLimits s → HasLimits new
+asked_limits s new last fits has = record { now = (limits_met new (limits_asked new fits)).0; last = subst AreQuotasMet (sym last) has.last }
 
 -- ---- where no file system has a limit
 

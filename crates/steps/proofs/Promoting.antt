@@ -12,7 +12,7 @@ use Rattle.name.specs.Names.{same_name}
 use Rattle.zalloc.specs.declared.BlockState.{BlockState}
 use Rattle.model.specs.declared.request.Request.TheVariants.{Promote}
 use Rattle.model.specs.declared.reply.Reply.TheVariants.{Done, Refused}
-use Rattle.model.specs.World.{World, FileSystem, Snap, reach_of}
+use Rattle.model.specs.World.{World, FileSystem, Snap}
 use Rattle.model.specs.State.{State}
 use Rattle.model.specs.Edits.{with_now}
 use Rattle.model.specs.Numbers.{HasStates}
@@ -34,13 +34,12 @@ use Rattle.accounts.specs.Limits.{IsUnlimited}
 use Rattle.datasets.specs.Clones.{with_promoted}
 use Rattle.clones.specs.Requests.{promoted as promoted_datasets, promote_refusal}
 use Rattle.steps.specs.Steady.{IsSteady}
-use Rattle.steps.specs.Edits.{datasets_of, with_datasets, put, CanPut}
-use Rattle.steps.proofs.Limits.{bare_limits}
+use Rattle.steps.specs.Asked.{asked_by_promote}
+use Rattle.steps.specs.Edits.{datasets_of, with_datasets, put, StaysUnlimited, CanPut}
+use Rattle.steps.proofs.Asking.{first_left, first_after, IsUnasked, asked_steady, bare_steady, unasked_fits}
 use Rattle.steps.proofs.Unlimited.{unlimited_put, still_swept, AreKnown, AreOriginsIn, same_known, put_known}
-use Rattle.steps.proofs.Putting.{put_none, kept_states}
-use Rattle.steps.proofs.Rolling.{first_then}
+use Rattle.steps.proofs.Putting.{put_none}
 use Rattle.steps.proofs.Ruled.{no_choice, refused_by, no_memory_by, done_by}
-use Rattle.steps.proofs.Snapping.{first_left, limits_hold}
 
 -- ---- what nothing refuses
 
@@ -61,7 +60,7 @@ can_turn w name none = by_promotion (promotion_of w name) refl
 
 -- ---- the file systems after it
 
-module _ (s : State) (steady : IsSteady s) (bare : IsUnlimited s.now.file_systems) (name : List ℕ) (p : Promotion) (is : promotion_of s.now name ≡ Some p) where
+module _ (s : State) (name : List ℕ) (p : Promotion) (is : promotion_of s.now name ≡ Some p) where
   P : IsPromotion s.now name p
   P = promotion_is s.now name p is
 
@@ -80,8 +79,8 @@ module _ (s : State) (steady : IsSteady s) (bare : IsUnlimited s.now.file_system
   stayed : (t : Snap) → IsIn (demoted p).snaps t → IsIn p.system.snaps t
   stayed t i = (from_filter (λ (u : Snap). nat_lt p.origin.group u.group) p.system.snaps t i).0
 
-  pub turned_unlimited : IsUnlimited (insert (insert s.now.file_systems p.owner (demoted p)) name (promoted p))
-  turned_unlimited = unlimited_put mid (unlimited_put ss bare p.owner (demoted p) (bare p.owner p.system P.owner_at))
+  turned_unlimited : IsUnlimited s.now.file_systems → IsUnlimited (insert (insert s.now.file_systems p.owner (demoted p)) name (promoted p))
+  turned_unlimited bare = unlimited_put mid (unlimited_put ss bare p.owner (demoted p) (bare p.owner p.system P.owner_at))
       name (promoted p) (bare name p.clone P.clone_at)
 
   turned_known : AreKnown s.now.file_systems (insert (insert s.now.file_systems p.owner (demoted p)) name (promoted p))
@@ -120,30 +119,29 @@ module _ (s : State) (steady : IsSteady s) (bare : IsUnlimited s.now.file_system
       (key_cases name_order q p.owner))
       (key_cases name_order q name)
 
-  module _ (apart : has_clash p ≡ false) where
+  module _ (steady : IsSteady s) (apart : has_clash p ≡ false) where
     clash : (t u : Snap) → IsIn (promoted_snaps p) t → IsIn p.clone.snaps u → t.name ≡ u.name → ⊥
     clash t u h k same = true≢false (
         sym (ap (same_name u.name) same ∙ name_itself u.name)
         ∙ any_none (λ (v : Snap). same_name v.name t.name) p.clone.snaps
         (any_none (λ (t : Snap). list_any (λ (v : Snap). same_name v.name t.name) p.clone.snaps) (promoted_snaps p) apart t h) u k)
 
-    turned_steady : IsSteady (with_now s (after_promotion s.now name p))
-    turned_steady = record {
+    turned_unasked : IsUnasked s (with_now s (after_promotion s.now name p))
+    turned_unasked = record {
       good = promote_before s steady.good name p is clash;
       swept = still_swept s (with_now s (after_promotion s.now name p)) steady refl turned_known turned_origins;
-      limits = bare_limits s (with_now s (after_promotion s.now name p)) refl turned_unlimited steady.limits;
+      reach =
+          reach_is (after_promotion s.now name p)
+          ∙ ap (λ u. union u s.now.freeing) (promote_union s.now steady.good.now.systems name p is clash)
+          ∙ sym (reach_is s.now);
+      last = refl;
+      size = refl;
     }
-
-    turned_reach : reach_of (after_promotion s.now name p) ≡ reach_of s.now
-    turned_reach =
-        reach_is (after_promotion s.now name p)
-        ∙ ap (λ u. union u s.now.freeing) (promote_union s.now steady.good.now.systems name p is clash)
-        ∙ sym (reach_is s.now)
 
 -- ---- the state after it
 
 turned_state : (s : State) (name : List ℕ)
-    → option_map_or (λ (p : Promotion). with_now s (after_promotion s.now name p)) (promotion_of s.now name) s ≡ put s (promoted_datasets (datasets_of s) name) 0
+    → option_map_or (λ (p : Promotion). with_now s (after_promotion s.now name p)) (promotion_of s.now name) s ≡ asked_by_promote s name
 turned_state s name = by_promotion (promotion_of s.now name) ∙ sym (put_none s (promoted_datasets (datasets_of s) name))
   where
     by_promotion : (x : Option Promotion)
@@ -151,17 +149,41 @@ turned_state s name = by_promotion (promotion_of s.now name) ∙ sym (put_none s
     by_promotion None = refl
     by_promotion (Some p) = refl
 
--- the datasets after it can be put in place
+-- its limits are asked of it
+pub promote_asked : (s : State) (name : List ℕ) → state_asked s (promote_rule name) ≡ asked_by_promote s name
+unfolding state_asked
+promote_asked s name = turned_state s name
+
+-- where no file system had a limit, none has one
+pub promote_unlimited : (s : State) (name : List ℕ) → StaysUnlimited s (promoted_datasets (datasets_of s) name)
+promote_unlimited s name bare = by_promotion (promotion_of s.now name) refl
+  where
+    by_promotion : (x : Option Promotion) → promotion_of s.now name ≡ x → IsUnlimited (option_map_or (with_promoted (datasets_of s) name) x (datasets_of s)).file_systems
+    by_promotion None e = bare
+    by_promotion (Some p) e = turned_unlimited s name p e bare
+
+module _ (s : State) (steady : IsSteady s) (name : List ℕ) (none : promote_refusal (datasets_of s) name ≡ None) where
+  -- what holds of it whatever the limits
+  pub promote_unasked : IsUnasked s (asked_by_promote s name)
+  promote_unasked =
+      let can = can_turn s.now name none in
+      subst (IsUnasked s) (sym (ap (λ x. option_map_or (λ (p : Promotion). with_now s (after_promotion s.now name p)) x s) can.is) ∙ turned_state s name)
+      (turned_unasked s name can.turn can.is steady can.apart)
+
+  -- where the limits hold then, the datasets after it can be put in place
+  pub promote_can_within : first_of (limit_row (asked_by_promote s name)) ≡ None → CanPut s (promoted_datasets (datasets_of s) name) 0
+  promote_can_within fits = record { steady = asked_steady s (asked_by_promote s name) promote_unasked steady fits; reach = promote_unasked.reach }
+
+  -- and where no file system has a limit
+  promote_can_bare : IsUnlimited s.now.file_systems → CanPut s (promoted_datasets (datasets_of s) name) 0
+  promote_can_bare bare = record { steady = bare_steady s (asked_by_promote s name) promote_unasked steady (promote_unlimited s name bare); reach = promote_unasked.reach }
+
+  -- no limit is passed where there is none
+  pub promote_fits : IsUnlimited s.now.file_systems → (numbers : List BlockState) → HasStates s numbers → first_of (limit_row (asked_by_promote s name)) ≡ None
+  promote_fits bare = unasked_fits s (asked_by_promote s name) promote_unasked (promote_unlimited s name bare)
+
 pub promote_can : (s : State) → IsSteady s → IsUnlimited s.now.file_systems → (name : List ℕ) → promote_refusal (datasets_of s) name ≡ None → CanPut s (promoted_datasets (datasets_of s) name) 0
-promote_can s steady bare name none =
-    let can = can_turn s.now name none in
-    let is : with_now s (after_promotion s.now name can.turn) ≡ put s (promoted_datasets (datasets_of s) name) 0 =
-    sym (ap (λ x. option_map_or (λ (p : Promotion). with_now s (after_promotion s.now name p)) x s) can.is) ∙ turned_state s name in
-    record {
-      steady = subst IsSteady is (turned_steady s steady bare name can.turn can.is can.apart);
-      unlimited = λ none. subst (λ (x : State). IsUnlimited x.now.file_systems) is (turned_unlimited s steady none name can.turn can.is);
-      reach = ap (λ (x : State). reach_of x.now) (sym is) ∙ turned_reach s steady bare name can.turn can.is can.apart;
-    }
+promote_can s steady bare name none = promote_can_bare s steady name none bare
 
 -- ---- steps
 
@@ -177,18 +199,24 @@ module _ (s : State) (name : List ℕ) where
       (λ e. subst (λ z. Step s (Promote name) (Refused z) s) (sym e) (no_memory_by (Promote name) (promote_rule name) refl s refl))
       which
 
-  module _ (steady : IsSteady s) (bare : IsUnlimited s.now.file_systems) (numbers : List BlockState) (known : HasStates s numbers) (none : promote_refusal (datasets_of s) name ≡ None) where
-    -- no limit is passed, as the same blocks are reached
-    none_refuses : refusal_of s (promote_rule name) ≡ None
-    unfolding refusal_of state_asked
-    none_refuses =
-        let can = promote_can s steady bare name none in
-        first_then (promotion_row s.now name) (limit_row (state_asked s (promote_rule name))) (λ free.
-        ap (λ x. first_of (limit_row x)) (turned_state s name)
-        ∙ limits_hold (put s (promoted_datasets (datasets_of s) name) 0) can.steady (can.unlimited bare) numbers (kept_states s numbers known (promoted_datasets (datasets_of s) name) 0 can))
-        ∙ none
+  module _ (none : promote_refusal (datasets_of s) name ≡ None) where
+    -- what earlier rows don't refuse, the limits say
+    row_is : refusal_of s (promote_rule name) ≡ first_of (limit_row (asked_by_promote s name))
+    unfolding refusal_of
+    row_is =
+        first_after (promotion_row s.now name) (limit_row (state_asked s (promote_rule name))) none
+        ∙ ap (λ x. first_of (limit_row x)) (promote_asked s name)
 
-    -- and one that nothing refuses
+    -- a limit would be passed
+    pub promote_refused_by_limit : (why : Refusal) → first_of (limit_row (asked_by_promote s name)) ≡ Some why → Step s (Promote name) (Refused why) s
+    promote_refused_by_limit why over = refused_by (Promote name) (promote_rule name) refl s why (row_is ∙ over)
+
+    -- and a promote that nothing refuses
+    pub promote_done_within : IsSteady s → first_of (limit_row (asked_by_promote s name)) ≡ None → Step s (Promote name) Done (put s (promoted_datasets (datasets_of s) name) 0)
+    promote_done_within steady fits = done_by (Promote name) (promote_rule name) refl s no_choice (put s (promoted_datasets (datasets_of s) name) 0) Done
+        refl refl (row_is ∙ fits) refl (sym (turned_state s name)) (promote_can_within s steady name none fits).steady
+
+  -- where no file system has a limit
+  module _ (steady : IsSteady s) (bare : IsUnlimited s.now.file_systems) (numbers : List BlockState) (known : HasStates s numbers) (none : promote_refusal (datasets_of s) name ≡ None) where
     pub promote_done : Step s (Promote name) Done (put s (promoted_datasets (datasets_of s) name) 0)
-    promote_done = done_by (Promote name) (promote_rule name) refl s no_choice (put s (promoted_datasets (datasets_of s) name) 0) Done
-        refl refl none_refuses refl (sym (turned_state s name)) (promote_can s steady bare name none).steady
+    promote_done = promote_done_within none steady (promote_fits s steady name none bare numbers known)

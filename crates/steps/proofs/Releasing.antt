@@ -18,9 +18,9 @@ use Rattle.world.proofs.States.{sweep_keeps}
 use Rattle.world.proofs.Viewed.{IsSafe}
 use Rattle.removals.specs.Requests.{swept}
 use Rattle.steps.specs.Steady.{IsSteady}
-use Rattle.steps.specs.Edits.{datasets_of, lose, CanLose}
+use Rattle.steps.specs.Edits.{datasets_of, lose, StaysUnlimited, CanLose}
 use Rattle.marks.specs.Requests.{release_refusal, released_in}
-use Rattle.steps.proofs.Destroying.{swept_state, swept_can}
+use Rattle.steps.proofs.Destroying.{swept_state, swept_can, swept_unlimited}
 use Rattle.steps.proofs.Labelling.{IsLabelled, label_loses}
 use Rattle.steps.proofs.Ruled.{no_choice, refused_by, no_memory_by, swept_by}
 use Rattle.steps.proofs.Tagging.{tagged, tagged_state, tagged_label, tagged_safe}
@@ -59,6 +59,10 @@ module _ (s : State) (tag : List ℕ) (target : Target) where
     pub release_can : CanLose s (swept (released_in (datasets_of s) tag target) s.views)
     release_can = swept_can s to l.from steady good refl l.kept
         (subst (λ (x : State). IsSafe s.views s.now x.now) (sym state_is) (tagged_safe s target fewer steady))
+
+    -- where there was no limit, there is none
+    pub release_unlimited : StaysUnlimited s (swept (released_in (datasets_of s) tag target) s.views)
+    release_unlimited = swept_unlimited s to l.from l.kept
 
     -- and a release that nothing refuses puts them there
     pub release_done : release_refusal (datasets_of s) tag target ≡ None

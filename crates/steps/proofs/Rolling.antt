@@ -1,5 +1,5 @@
 -- A rollback: the datasets after it, why it is refused, and its steps.
-use Rattle.std.proofs.Common.{◌≡◌, ◌⊎◌, ◌<◌, Bool, true, false, cond, List, [], ◌∷◌, ◌++◌, Option, Some, None, refl, sym, ap, subst, ◌∙◌, inl, inr, ⊎_elim, map}
+use Rattle.std.proofs.Common.{◌≡◌, ◌⊎◌, ◌<◌, Bool, false, List, [], Option, Some, None, refl, sym, ap, subst, ◌∙◌, inl, inr, ⊎_elim, map}
 use Rattle.std.specs.Prelude.{nat_le, nat_lt}
 use Rattle.std.specs.Option.{option_map_or}
 use Rattle.std.specs.FinMap.{get, insert}
@@ -14,7 +14,7 @@ use Rattle.model.specs.declared.reply.Reply.TheVariants.{Done, Refused}
 use Rattle.model.specs.World.{World, FileSystem, Snap, SnapId, id_of, snap_at}
 use Rattle.model.specs.State.{State}
 use Rattle.model.specs.Numbers.{HasStates}
-use Rattle.model.specs.Rule.{Row, first_of}
+use Rattle.model.specs.Rule.{first_of}
 use Rattle.model.specs.Refusals.{refusal_of, state_asked}
 use Rattle.model.specs.Edits.{with_now, with_losses, with_file_system}
 use Rattle.model.specs.Step.{Step}
@@ -30,12 +30,13 @@ use Rattle.world.proofs.Listed.{map_in}
 use Rattle.world.proofs.Maps.{same_value}
 use Rattle.world.proofs.Rollbacks.{rollback_systems, rollback_from}
 use Rattle.steps.specs.Steady.{IsSteady}
-use Rattle.steps.specs.Edits.{datasets_of, lose, CanLose}
+use Rattle.steps.specs.Asked.{asked_by_rollback}
+use Rattle.steps.specs.Edits.{datasets_of, lose, StaysUnlimited, CanLose}
 use Rattle.accounts.specs.Limits.{IsUnlimited}
 use Rattle.removals.specs.Named.{has_clone}
 use Rattle.removals.specs.Requests.{rolled, rollback_refusal}
-use Rattle.steps.proofs.Losing.{can_lose, lose_limits}
-use Rattle.steps.proofs.Limits.{bare_limits}
+use Rattle.steps.proofs.Asking.{first_left, first_after, IsUnasked, asked_steady, bare_steady, unasked_fits}
+use Rattle.steps.proofs.Losing.{lost_unasked}
 use Rattle.steps.proofs.Unlimited.{unlimited_put, still_swept, AreKnown, AreOriginsIn, same_known, put_known, same_origins, put_origins}
 use Rattle.steps.proofs.Ruled.{no_choice, refused_by, no_memory_by, done_by}
 use Rattle.steps.proofs.Seeing.{once, closed, seen_after}
@@ -82,10 +83,10 @@ rolled_state s target = ap (λ x. with_now s (with_losses s.now x)) (rolled_worl
 
 -- ---- the datasets after it
 
-module _ (s : State) (steady : IsSteady s) (bare : IsUnlimited s.now.file_systems) where
+module _ (s : State) (steady : IsSteady s) where
   -- of a file system
-  back_unlimited : (name : Name) (t : Snap) → IsUnlimited (with_file_system s.now name (λ f. back_at f t)).file_systems
-  back_unlimited name t = at (get s.now.file_systems name) refl
+  back_unlimited : (name : Name) (t : Snap) → IsUnlimited s.now.file_systems → IsUnlimited (with_file_system s.now name (λ f. back_at f t)).file_systems
+  back_unlimited name t bare = at (get s.now.file_systems name) refl
     where
       at : (x : Option FileSystem) → get s.now.file_systems name ≡ x
           → IsUnlimited (option_map_or (λ (f : FileSystem). record s.now { file_systems = insert s.now.file_systems name (back_at f t) }) x s.now).file_systems
@@ -112,7 +113,7 @@ module _ (s : State) (steady : IsSteady s) (bare : IsUnlimited s.now.file_system
   record IsBack (to : World) : Type 0 where
     systems : AreFileSystems to.file_systems s.now.group
     from : AreMapsFrom s.now.file_systems to.file_systems
-    unlimited : IsUnlimited to.file_systems
+    unlimited : IsUnlimited s.now.file_systems → IsUnlimited to.file_systems
     known : AreKnown s.now.file_systems to.file_systems
     origins : AreOriginsIn s.now.file_systems to.file_systems
 
@@ -120,7 +121,7 @@ module _ (s : State) (steady : IsSteady s) (bare : IsUnlimited s.now.file_system
   same_world = record {
     systems = steady.good.now.systems;
     from = same_maps s.now.file_systems;
-    unlimited = bare;
+    unlimited = λ bare. bare;
     known = same_known s.now.file_systems;
     origins = same_origins s.now.file_systems;
   }
@@ -145,7 +146,7 @@ module _ (s : State) (steady : IsSteady s) (bare : IsUnlimited s.now.file_system
     is_back = record {
       systems = rollback_systems s.size s.now steady.good.now (id_of p.1) (name, p.1) found uncloned;
       from = rollback_from s.size s.now steady.good.now (id_of p.1) (name, p.1) found uncloned;
-      unlimited = subst (λ x. IsUnlimited (by_snap x).file_systems) (sym found) (back_unlimited name p.1);
+      unlimited = λ bare. subst (λ x. IsUnlimited (by_snap x).file_systems) (sym found) (back_unlimited name p.1 bare);
       known = subst (λ x. AreKnown s.now.file_systems (by_snap x).file_systems) (sym found) (back_known name p.1);
       origins = subst (λ x. AreOriginsIn s.now.file_systems (by_snap x).file_systems) (sym found) (back_origins name p.1);
     }
@@ -161,50 +162,85 @@ module _ (s : State) (steady : IsSteady s) (bare : IsUnlimited s.now.file_system
         at None e k = same_world
         at (Some p) e k = let r = from_placed s.now target p e in is_back r.0 p r.1 r.2 k
 
-    -- where nothing newer is viewed or has a clone, the datasets after a rollback can be put in place
-    pub rollback_can : (later : Bool) → rollback_refusal (datasets_of s) s.views target later ≡ None → CanLose s (rolled (datasets_of s) target)
-    rollback_can later none =
-        let idle = row_false (back_row s.now s.views target later) none (is_busy s.now s.views (newer_snaps s.now target), Busy) (inr (inr (inr (inl refl)))) in
-        let bare = row_false (back_row s.now s.views target later) none (has_clone_outside s.now [] (newer_snaps s.now target), HasClones) (inr (inr (inr (inr (inl refl))))) in
-        let safe = rollback_safe s.views s.now target (once s.size s.now steady.good.now) (closed s.size s.now steady.good.now) idle in
-        let back = is_rolled bare in
-        let to = record (datasets_of s) { file_systems = (rolled_back s.now target).file_systems } in
-        subst (λ ss. CanLose s (record (datasets_of s) { file_systems = ss })) (ap (λ (x : World). x.file_systems) (rolled_world s target))
-        (can_lose s steady to back.systems refl back.from (λ good. bare_limits s (lose s to) refl back.unlimited steady.limits) (λ none. back.unlimited)
-        (λ v id e. seen_after s steady (rolled_back s.now target) safe v id e)
-        (still_swept s (lose s to) steady refl back.known back.origins))
+    module _ (later : Bool) (none : rollback_refusal (datasets_of s) s.views target later ≡ None) where
+      -- where nothing newer has a clone
+      back : IsBack (rolled_back s.now target)
+      back = is_rolled (row_false (back_row s.now s.views target later) none (has_clone_outside s.now [] (newer_snaps s.now target), HasClones) (inr (inr (inr (inr (inl refl))))))
 
--- ---- its refusals
+      -- what holds of the state after it whatever the limits, where nothing newer is viewed
+      pub rollback_unasked : IsUnasked s (asked_by_rollback s target)
+      rollback_unasked =
+          let idle = row_false (back_row s.now s.views target later) none (is_busy s.now s.views (newer_snaps s.now target), Busy) (inr (inr (inr (inl refl)))) in
+          let safe = rollback_safe s.views s.now target (once s.size s.now steady.good.now) (closed s.size s.now steady.good.now) idle in
+          let to = record (datasets_of s) { file_systems = (rolled_back s.now target).file_systems } in
+          subst (λ ss. IsUnasked s (lose s (record (datasets_of s) { file_systems = ss }))) (ap (λ (x : World). x.file_systems) (rolled_world s target))
+          (lost_unasked s steady to back.systems refl back.from
+          (λ v id e. seen_after s steady (rolled_back s.now target) safe v id e)
+          (still_swept s (lose s to) steady refl back.known back.origins))
 
--- a row and then another that refuses nothing
-pub first_then : (xs ys : Row) → (first_of xs ≡ None → first_of ys ≡ None) → first_of (xs ++ ys) ≡ first_of xs
-first_then [] ys rest = rest refl
-first_then (x ∷ xs) ys rest = by_first x.0 rest (first_then xs ys)
-  where
-    by_first : (b : Bool) → (cond b (Some x.1) (first_of xs) ≡ None → first_of ys ≡ None) → ((first_of xs ≡ None → first_of ys ≡ None) → first_of (xs ++ ys) ≡ first_of xs)
-        → cond b (Some x.1) (first_of (xs ++ ys)) ≡ cond b (Some x.1) (first_of xs)
-    by_first true k ih = refl
-    by_first false k ih = ih k
+      -- where no file system had a limit, none has one
+      pub rollback_unlimited : StaysUnlimited s (rolled (datasets_of s) target)
+      rollback_unlimited bare = subst IsUnlimited (ap (λ (x : World). x.file_systems) (rolled_world s target)) (back.unlimited bare)
 
-module _ (s : State) (steady : IsSteady s) (bare : IsUnlimited s.now.file_systems) (numbers : List BlockState) (known : HasStates s numbers) (later : Bool) (target : Target) where
-  -- which refusal it gets
-  row_is : refusal_of s (rollback_rule target later) ≡ rollback_refusal (datasets_of s) s.views target later
-  unfolding refusal_of state_asked
-  row_is = first_then (back_row s.now s.views target later) (limit_row (with_now s (with_losses s.now (rolled_back s.now target)))) (λ none.
-      ap (λ x. first_of (limit_row x)) (rolled_state s target) ∙ lose_limits s numbers known (rolled (datasets_of s) target) (rollback_can s steady bare target later none) bare)
+      -- where the limits hold then, the datasets after it can be put in place
+      pub rollback_can_within : first_of (limit_row (asked_by_rollback s target)) ≡ None → CanLose s (rolled (datasets_of s) target)
+      rollback_can_within fits = record { steady = asked_steady s (asked_by_rollback s target) rollback_unasked steady fits; reach = rollback_unasked.reach }
 
-  -- ---- steps
+      -- and where no file system has a limit
+      rollback_can_bare : IsUnlimited s.now.file_systems → CanLose s (rolled (datasets_of s) target)
+      rollback_can_bare bare = record { steady = bare_steady s (asked_by_rollback s target) rollback_unasked steady (rollback_unlimited bare); reach = rollback_unasked.reach }
 
-  -- a rollback that is refused, or has no memory
-  pub rollback_refused : (why : Refusal) → (rollback_refusal (datasets_of s) s.views target later ≡ Some why) ⊎ (why ≡ NoMemory) → Step s (Rollback target later) (Refused why) s
-  rollback_refused why which = ⊎_elim
-      (λ e. refused_by (Rollback target later) (rollback_rule target later) refl s why (row_is ∙ e))
+      -- no limit is passed where there is none
+      pub rollback_fits : IsUnlimited s.now.file_systems → (numbers : List BlockState) → HasStates s numbers → first_of (limit_row (asked_by_rollback s target)) ≡ None
+      rollback_fits bare = unasked_fits s (asked_by_rollback s target) rollback_unasked (rollback_unlimited bare)
+
+pub rollback_can : (s : State) → IsSteady s → IsUnlimited s.now.file_systems → (target : Target) (later : Bool) → rollback_refusal (datasets_of s) s.views target later ≡ None
+    → CanLose s (rolled (datasets_of s) target)
+rollback_can s steady bare target later none = rollback_can_bare s steady target later none bare
+
+-- ---- its steps
+
+module _ (s : State) (target : Target) (later : Bool) where
+  -- the state that its limits are asked of
+  pub rollback_asked : state_asked s (rollback_rule target later) ≡ asked_by_rollback s target
+  unfolding state_asked
+  rollback_asked = rolled_state s target
+
+  refused_row : (why : Refusal) → rollback_refusal (datasets_of s) s.views target later ≡ Some why → refusal_of s (rollback_rule target later) ≡ Some why
+  unfolding refusal_of
+  refused_row why e = first_left (back_row s.now s.views target later) (limit_row (state_asked s (rollback_rule target later))) why e
+
+  -- a rollback that is refused whatever the limits, or has no memory
+  pub rollback_refused_before : (why : Refusal) → (rollback_refusal (datasets_of s) s.views target later ≡ Some why) ⊎ (why ≡ NoMemory) → Step s (Rollback target later) (Refused why) s
+  rollback_refused_before why which = ⊎_elim
+      (λ e. refused_by (Rollback target later) (rollback_rule target later) refl s why (refused_row why e))
       (λ e. subst (λ z. Step s (Rollback target later) (Refused z) s) (sym e) (no_memory_by (Rollback target later) (rollback_rule target later) refl s refl))
       which
 
-  -- and one that nothing refuses
+  module _ (none : rollback_refusal (datasets_of s) s.views target later ≡ None) where
+    -- what earlier rows don't refuse, the limits say
+    row_is : refusal_of s (rollback_rule target later) ≡ first_of (limit_row (asked_by_rollback s target))
+    unfolding refusal_of
+    row_is =
+        first_after (back_row s.now s.views target later) (limit_row (state_asked s (rollback_rule target later))) none
+        ∙ ap (λ x. first_of (limit_row x)) rollback_asked
+
+    -- a limit would be passed
+    pub rollback_refused_by_limit : (why : Refusal) → first_of (limit_row (asked_by_rollback s target)) ≡ Some why → Step s (Rollback target later) (Refused why) s
+    rollback_refused_by_limit why over = refused_by (Rollback target later) (rollback_rule target later) refl s why (row_is ∙ over)
+
+    -- and a rollback that nothing refuses
+    pub rollback_done_within : IsSteady s → first_of (limit_row (asked_by_rollback s target)) ≡ None
+        → Step s (Rollback target later) Done (lose s (rolled (datasets_of s) target))
+    rollback_done_within steady fits = done_by (Rollback target later) (rollback_rule target later) refl s no_choice
+        (lose s (rolled (datasets_of s) target)) Done refl refl (row_is ∙ fits) refl
+        (sym (rolled_state s target)) (rollback_can_within s steady target later none fits).steady
+
+-- where no file system has a limit
+module _ (s : State) (steady : IsSteady s) (bare : IsUnlimited s.now.file_systems) (numbers : List BlockState) (known : HasStates s numbers) (later : Bool) (target : Target) where
+  pub rollback_refused : (why : Refusal) → (rollback_refusal (datasets_of s) s.views target later ≡ Some why) ⊎ (why ≡ NoMemory) → Step s (Rollback target later) (Refused why) s
+  rollback_refused = rollback_refused_before s target later
+
   pub rollback_done : rollback_refusal (datasets_of s) s.views target later ≡ None
       → Step s (Rollback target later) Done (lose s (rolled (datasets_of s) target))
-  rollback_done none = done_by (Rollback target later) (rollback_rule target later) refl s no_choice
-      (lose s (rolled (datasets_of s) target)) Done refl refl (row_is ∙ none) refl
-      (sym (rolled_state s target)) (rollback_can s steady bare target later none).steady
+  rollback_done none = rollback_done_within s target later none steady (rollback_fits s steady target later none bare numbers known)

@@ -1,12 +1,12 @@
 -- Snapshots taken: what nothing refuses can be put in place, and the steps of a request that takes them.
-use Rattle.std.proofs.Common.{◌≡◌, ℕ, ◌+◌, Bool, true, false, cond, not, List, [], ◌∷◌, ◌++◌, Option, Some, None, refl, sym, ap, subst, ◌∙◌, true≢false, ◌⊎◌, inl, inr, ⊎_elim, length, arith}
+use Rattle.std.proofs.Common.{◌≡◌, ℕ, ◌+◌, Bool, true, false, cond, List, [], ◌∷◌, ◌++◌, Option, Some, None, refl, sym, ap, subst, ◌∙◌, ◌⊎◌, inl, inr, ⊎_elim, length, arith}
 use Rattle.std.specs.Prelude.{nat_lt}
 use Rattle.std.specs.Option.{option_map_or}
 use Rattle.std.specs.FinMap.{get, insert}
-use Rattle.std.specs.FinSet.{empty, union, len}
-use Rattle.std.proofs.lemmas.Bool.{le-leb, ltb-true, ltb-false}
+use Rattle.std.specs.FinSet.{empty, union}
+use Rattle.std.proofs.lemmas.Bool.{ltb-true, ltb-false}
 use Rattle.base.specs.declared.refusal.Refusal.{Refusal}
-use Rattle.base.specs.declared.refusal.Refusal.TheVariants.{Quota, RefQuota, NoSpace, NoMemory}
+use Rattle.base.specs.declared.refusal.Refusal.TheVariants.{NoMemory}
 use Rattle.base.specs.Map.{BlockSet}
 use Rattle.base.specs.Surveys.{IsIn}
 use Rattle.name.specs.declared.member.Member.{Member}
@@ -31,14 +31,11 @@ use Rattle.world.proofs.StateSteps.{snapshots_before}
 use Rattle.world.proofs.Takings.{takable, snapshots_leave}
 use Rattle.datasets.specs.Snapshots.{taken_of}
 use Rattle.accounts.specs.Limits.{IsUnlimited}
-use Rattle.accounts.proofs.Unlimited.{quotas_unlimited, refquotas_unlimited, pool_unlimited}
 use Rattle.steps.specs.Steady.{IsSteady}
-use Rattle.steps.specs.Edits.{datasets_of, with_datasets, put, CanPut}
-use Rattle.steps.proofs.Known.{states_of}
-use Rattle.steps.proofs.Counts.{count-free}
-use Rattle.steps.proofs.Limits.{bare_limits}
+use Rattle.steps.specs.Edits.{datasets_of, with_datasets, put, StaysUnlimited, CanPut}
+use Rattle.steps.specs.Asked.{asked_by_snapshot}
+use Rattle.steps.proofs.Asking.{first_left, first_after, IsUnasked, asked_steady, bare_steady, unasked_fits}
 use Rattle.steps.proofs.Unlimited.{unlimited_put, still_swept, AreKnown, AreOriginsIn, same_known, put_known, same_origins, put_origins}
-use Rattle.steps.proofs.Putting.{kept_states}
 use Rattle.steps.proofs.Ruled.{no_choice, refused_by, no_memory_by, done_by}
 
 -- ---- what snapshots of a list leave: no limits, and what is to be freed apart
@@ -92,20 +89,6 @@ snapshots_freed freeing (m ∷ ms) guid w = by_name (λ v. snapshots_freed freei
     by_name rest None = rest w
     by_name rest (Some f) = rest (longer w m guid f)
 
--- ---- rows
-
-pub first_left : (xs ys : Row) (why : Refusal) → first_of xs ≡ Some why → first_of (xs ++ ys) ≡ Some why
-first_left [] ys why e = absurd cc
-first_left (r ∷ rs) ys why e = at r.0 e (first_left rs ys why)
-  where
-    at : (b : Bool) → cond b (Some r.1) (first_of rs) ≡ Some why → (first_of rs ≡ Some why → first_of (rs ++ ys) ≡ Some why) → cond b (Some r.1) (first_of (rs ++ ys)) ≡ Some why
-    at true e rest = e
-    at false e rest = rest e
-
-first_both : (xs ys : Row) → first_of ys ≡ None → first_of (xs ++ ys) ≡ first_of xs
-first_both [] ys e = e
-first_both (r ∷ rs) ys e = ap (cond r.0 (Some r.1)) (first_both rs ys e)
-
 first_none : (xs ys : Row) → first_of (xs ++ ys) ≡ None → first_of xs ≡ None
 first_none [] ys e = refl
 first_none (r ∷ rs) ys e = at r.0 e (first_none rs ys)
@@ -113,17 +96,6 @@ first_none (r ∷ rs) ys e = at r.0 e (first_none rs ys)
     at : (b : Bool) → cond b (Some r.1) (first_of (rs ++ ys)) ≡ None → (first_of (rs ++ ys) ≡ None → first_of rs ≡ None) → cond b (Some r.1) (first_of rs) ≡ None
     at true e rest = absurd cc
     at false e rest = rest e
-
--- the limits hold where there is none
-pub limits_hold : (s : State) → IsSteady s → IsUnlimited s.now.file_systems → (numbers : List BlockState) → HasStates s numbers → first_of (limit_row s) ≡ None
-limits_hold s steady bare numbers known =
-    let free = count-free (reach_of s.now) (reach_of s.last) s.last.group s.now.group s.size steady.good.pair.reached numbers (states_of s numbers known) in
-    row-value _ _ _ (quotas_unlimited s.now bare) (refquotas_unlimited s.now bare)
-    (pool_unlimited s steady.good.now.systems steady.good.now.freeing_apart bare ∙ le-leb (len (union (reach_of s.now) (reach_of s.last))) s.size (omega (arith, free)))
-  where
-    row-value : (q f p : Bool) → q ≡ true → f ≡ true → p ≡ true
-        → cond {A = Option Refusal} (not q) (Some Quota) (cond (not f) (Some RefQuota) (cond (not p) (Some NoSpace) None)) ≡ None
-    row-value q f p a b c = rw (a, b, c) refl
 
 -- ---- what can be put in place
 
@@ -150,7 +122,11 @@ pub put_is : (s : State) (all : List Member) → nat_lt 0 (length all) ≡ true
 put_is s [] some = let l = ltb-true 0 0 some in absurd (omega arith)
 put_is s (m ∷ ms) some = λ i. record s { now = sym (now_is s (m ∷ ms)) i; next_guid = s.next_guid + length (m ∷ ms) }
 
-module _ (s : State) (steady : IsSteady s) (bare : IsUnlimited s.now.file_systems) (names : List Member) (recursive : Bool)
+-- where no file system had a limit, none has one
+pub snapshot_unlimited : (s : State) (names : List Member) (recursive : Bool) → StaysUnlimited s (taken_of (datasets_of s) (guid_by s.pool s.next_guid) (snapshot_names s.now names recursive))
+snapshot_unlimited s names recursive bare = snapshots_unlimited (snapshot_names s.now names recursive) (guid_by s.pool s.next_guid) (world_of (datasets_of s)) bare
+
+module _ (s : State) (steady : IsSteady s) (names : List Member) (recursive : Bool)
     (none : first_of (taking_row s.now s.next_guid names (snapshot_names s.now names recursive)) ≡ None) where
   abbrev all : List Member
   all = snapshot_names s.now names recursive
@@ -161,9 +137,6 @@ module _ (s : State) (steady : IsSteady s) (bare : IsUnlimited s.now.file_system
   good : IsPoolState (with_datasets s (taken_of (datasets_of s) (guid_by s.pool s.next_guid) (snapshot_names s.now names recursive)))
   good = subst (λ w. IsPoolState (with_now s w)) (sym (now_is s all))
       (snapshots_before s steady.good (guid_by s.pool s.next_guid) all (takable s.now s.next_guid names recursive none))
-
-  unlimited : IsUnlimited (taken_of (datasets_of s) (guid_by s.pool s.next_guid) (snapshot_names s.now names recursive)).file_systems
-  unlimited = snapshots_unlimited all (guid_by s.pool s.next_guid) (world_of (datasets_of s)) bare
 
   known : AreKnown s.now.file_systems (taken_of (datasets_of s) (guid_by s.pool s.next_guid) (snapshot_names s.now names recursive)).file_systems
   known = snapshots_known s.now.file_systems all (guid_by s.pool s.next_guid) (world_of (datasets_of s)) (same_known s.now.file_systems)
@@ -179,17 +152,33 @@ module _ (s : State) (steady : IsSteady s) (bare : IsUnlimited s.now.file_system
       ((snapshots_leave all (guid_by s.pool s.next_guid) s.now).1 i))
       ∙ sym (reach_is s.now)
 
-  -- snapshots that no row refuses can be put in place, with so many guids more
-  pub taking_can : CanPut s (taken_of (datasets_of s) (guid_by s.pool s.next_guid) (snapshot_names s.now names recursive)) (length (snapshot_names s.now names recursive))
-  taking_can = record {
-    steady = record {
-      good = record { now = good.now; last = good.last; pair = good.pair; views = good.views };
-      swept = still_swept s (put s t (length all)) steady refl known origins;
-      limits = bare_limits s (put s t (length all)) refl unlimited steady.limits;
-    };
-    unlimited = λ none. unlimited;
+  -- what holds of the state with snapshots that no row refuses, whatever the limits
+  pub taking_unasked : IsUnasked s (asked_by_snapshot s names recursive)
+  taking_unasked = record {
+    good = record { now = good.now; last = good.last; pair = good.pair; views = good.views };
+    swept = still_swept s (put s t (length all)) steady refl known origins;
     reach = snapshot_reach;
+    last = refl;
+    size = refl;
   }
+
+  -- where the limits hold then, they can be put in place, with so many guids more
+  pub taking_can_within : first_of (limit_row (asked_by_snapshot s names recursive)) ≡ None
+      → CanPut s (taken_of (datasets_of s) (guid_by s.pool s.next_guid) (snapshot_names s.now names recursive)) (length (snapshot_names s.now names recursive))
+  taking_can_within fits = record { steady = asked_steady s (put s t (length all)) taking_unasked steady fits; reach = snapshot_reach }
+
+  -- and where no file system has a limit
+  taking_can_bare : IsUnlimited s.now.file_systems → CanPut s (taken_of (datasets_of s) (guid_by s.pool s.next_guid) (snapshot_names s.now names recursive)) (length (snapshot_names s.now names recursive))
+  taking_can_bare bare = record { steady = bare_steady s (put s t (length all)) taking_unasked steady (snapshot_unlimited s names recursive bare); reach = snapshot_reach }
+
+  -- no limit is passed where there is none
+  pub snapshot_fits : IsUnlimited s.now.file_systems → (numbers : List BlockState) → HasStates s numbers → first_of (limit_row (asked_by_snapshot s names recursive)) ≡ None
+  snapshot_fits bare = unasked_fits s (put s t (length all)) taking_unasked (snapshot_unlimited s names recursive bare)
+
+pub taking_can : (s : State) → IsSteady s → IsUnlimited s.now.file_systems → (names : List Member) (recursive : Bool)
+    → first_of (taking_row s.now s.next_guid names (snapshot_names s.now names recursive)) ≡ None
+    → CanPut s (taken_of (datasets_of s) (guid_by s.pool s.next_guid) (snapshot_names s.now names recursive)) (length (snapshot_names s.now names recursive))
+taking_can s steady bare names recursive none = taking_can_bare s steady names recursive none bare
 
 pub snapshot_can : (s : State) → IsSteady s → IsUnlimited s.now.file_systems → (names : List Member) (recursive : Bool) (asked : State)
     → first_of (snapshot_row s asked names (snapshot_names s.now names recursive)) ≡ None
@@ -223,37 +212,49 @@ module _ (s : State) (q : Request) (names : List Member) (recursive : Bool) (is 
       (λ e. subst (λ z. Step s q (Refused z) s) (sym e) (no_memory_by q rule is s refl))
       which
 
-  module _ (steady : IsSteady s) (bare : IsUnlimited s.now.file_systems) (none : first_of (taking_row s.now s.next_guid names (snapshot_names s.now names recursive)) ≡ None) where
-    -- no limit is passed, as the same blocks are reached
-    none_refuses : (b : Bool) → nat_lt 0 (length (snapshot_names s.now names recursive)) ≡ b → (b ≡ true → first_of (limit_row (state_asked s (snapshot_rule names recursive))) ≡ None)
-        → refusal_of s (snapshot_rule names recursive) ≡ None
-    unfolding refusal_of
-    none_refuses b e limits =
-        ap (λ x. first_of (row ++ cond x (limit_row (state_asked s rule)) [])) e
-        ∙ first_both row (cond b (limit_row (state_asked s rule)) []) (at b limits) ∙ none
-      where
-        at : (b : Bool) → (b ≡ true → first_of (limit_row (state_asked s (snapshot_rule names recursive))) ≡ None)
-            → first_of (cond b (limit_row (state_asked s (snapshot_rule names recursive))) []) ≡ None
-        at true limits = limits refl
-        at false limits = refl
+  -- the state that its limits are asked of
+  pub snapshot_asked : nat_lt 0 (length (snapshot_names s.now names recursive)) ≡ true → state_asked s (snapshot_rule names recursive) ≡ asked_by_snapshot s names recursive
+  unfolding state_asked
+  snapshot_asked some = put_is s named some
 
-    -- it takes the snapshots that its names stand for
-    pub snapshot_done : (numbers : List BlockState) → HasStates s numbers → nat_lt 0 (length (snapshot_names s.now names recursive)) ≡ true
-        → Step s q Done (put s (taken_of (datasets_of s) (guid_by s.pool s.next_guid) (snapshot_names s.now names recursive)) (length (snapshot_names s.now names recursive)))
-    unfolding state_asked
-    snapshot_done numbers known some =
-        let can = taking_can s steady bare names recursive none in
-        let after = put_is s named some in
-        done_by q rule is s no_choice (put s (taken_of (datasets_of s) (guid_by s.pool s.next_guid) named) (length named)) Done refl refl
-        (none_refuses true some (λ _. ap (λ x. first_of (limit_row x)) after ∙ limits_hold (put s (taken_of (datasets_of s) (guid_by s.pool s.next_guid) named) (length named)) can.steady (can.unlimited bare) numbers
-        (kept_states s numbers known (taken_of (datasets_of s) (guid_by s.pool s.next_guid) named) (length named) can)))
-        refl (sym after) can.steady
+  module _ (none : first_of (taking_row s.now s.next_guid names (snapshot_names s.now names recursive)) ≡ None) where
+    -- what earlier rows don't refuse, the limits say
+    row_then : (b : Bool) → nat_lt 0 (length (snapshot_names s.now names recursive)) ≡ b
+        → refusal_of s (snapshot_rule names recursive) ≡ first_of (cond b (limit_row (state_asked s (snapshot_rule names recursive))) [])
+    unfolding refusal_of
+    row_then b e =
+        ap (λ x. first_of (row ++ cond x (limit_row (state_asked s rule)) [])) e
+        ∙ first_after row (cond b (limit_row (state_asked s rule)) []) none
 
     -- names that stand for nothing
-    pub snapshot_nothing : nat_lt 0 (length (snapshot_names s.now names recursive)) ≡ false → Step s q Done s
-    snapshot_nothing empty_list = done_by q rule is s no_choice s Done refl refl
-        (none_refuses false empty_list (λ e. absurd (true≢false (sym e)))) refl (nothing named empty_list) steady
+    pub snapshot_nothing_within : IsSteady s → nat_lt 0 (length (snapshot_names s.now names recursive)) ≡ false → Step s q Done s
+    snapshot_nothing_within steady empty_list = done_by q rule is s no_choice s Done refl refl
+        (row_then false empty_list) refl (nothing named empty_list) steady
       where
         nothing : (ms : List Member) → nat_lt 0 (length ms) ≡ false → s ≡ snapshots_taken s ms
         nothing [] e = refl
         nothing (m ∷ ms) e = let l = ltb-false 0 (length (m ∷ ms)) e in absurd (omega arith)
+
+    module _ (some : nat_lt 0 (length (snapshot_names s.now names recursive)) ≡ true) where
+      row_is : refusal_of s (snapshot_rule names recursive) ≡ first_of (limit_row (asked_by_snapshot s names recursive))
+      row_is = row_then true some ∙ ap (λ x. first_of (limit_row x)) (snapshot_asked some)
+
+      -- a limit would be passed
+      pub snapshot_refused_by_limit : (why : Refusal) → first_of (limit_row (asked_by_snapshot s names recursive)) ≡ Some why
+          → Step s q (Refused why) s
+      snapshot_refused_by_limit why over = refused_by q rule is s why (row_is ∙ over)
+
+      -- it takes the snapshots that its names stand for, where the limits hold then
+      pub snapshot_done_within : IsSteady s → first_of (limit_row (asked_by_snapshot s names recursive)) ≡ None
+          → Step s q Done (put s (taken_of (datasets_of s) (guid_by s.pool s.next_guid) (snapshot_names s.now names recursive)) (length (snapshot_names s.now names recursive)))
+      snapshot_done_within steady fits = done_by q rule is s no_choice (put s (taken_of (datasets_of s) (guid_by s.pool s.next_guid) named) (length named)) Done refl refl
+          (row_is ∙ fits) refl (sym (put_is s named some)) (taking_can_within s steady names recursive none fits).steady
+
+  -- where no file system has a limit
+  module _ (steady : IsSteady s) (bare : IsUnlimited s.now.file_systems) (none : first_of (taking_row s.now s.next_guid names (snapshot_names s.now names recursive)) ≡ None) where
+    pub snapshot_done : (numbers : List BlockState) → HasStates s numbers → nat_lt 0 (length (snapshot_names s.now names recursive)) ≡ true
+        → Step s q Done (put s (taken_of (datasets_of s) (guid_by s.pool s.next_guid) (snapshot_names s.now names recursive)) (length (snapshot_names s.now names recursive)))
+    snapshot_done numbers known some = snapshot_done_within none some steady (snapshot_fits s steady names recursive none bare numbers known)
+
+    pub snapshot_nothing : nat_lt 0 (length (snapshot_names s.now names recursive)) ≡ false → Step s q Done s
+    snapshot_nothing = snapshot_nothing_within none steady

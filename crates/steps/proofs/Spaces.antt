@@ -1,24 +1,27 @@
--- The steps that ask for space: what a file system and each part of it uses, what is available to it, its limits, of which it has none so
--- far, and what a snapshot alone has.
-use Rattle.std.proofs.Common.{◌≡◌, ℕ, ◌*◌, ◌-◌, true, List, [], ◌∷◌, map, Option, Some, refl, sym, ap, ◌∙◌, true≢false, arith}
+-- The steps that ask for space: what a file system and each part of it uses, what is available to it, its limits, and what a snapshot
+-- alone has.
+use Rattle.std.proofs.Common.{◌≡◌, ℕ, ◌*◌, ◌-◌, true, List, [], ◌∷◌, map, Some, None, refl, sym, ap, subst, ◌∙◌, true≢false, arith}
 use Rattle.std.specs.Prelude.{unwrap_or}
 use Rattle.std.specs.FinMap.{get}
 use Rattle.base.specs.Map.{Map, blocks}
 use Rattle.name.specs.declared.member.Member.{Member}
 use Rattle.name.specs.declared.target.Target.TheVariants.{FileSystem as OfFileSystem, Snapshot as OfSnapshot}
+use Rattle.model.specs.declared.limits.Limit.{Limit}
+use Rattle.model.specs.declared.limits.Limit.TheVariants.{Quota as QuotaIs, RefQuota as RefQuotaIs, Reservation as ReservationIs, RefReservation as RefReservationIs}
 use Rattle.model.specs.declared.request.Request.TheVariants.{Get}
 use Rattle.model.specs.declared.request.Property.{Property}
 use Rattle.model.specs.declared.request.Property.TheVariants.{Used, Available, UsedByDataset, UsedBySnapshots, UsedByChildren, UsedByRefReservation, Quota, RefQuota, Reservation, RefReservation}
 use Rattle.model.specs.declared.reply.Reply.TheVariants.{Value as ValueIs}
 use Rattle.model.specs.declared.reply.Value.TheVariants.{Size, NotApplicable}
 use Rattle.model.specs.World.{FileSystem, Snap, Limits, Live, no_limits, id_of, blocks_of_all}
-use Rattle.model.specs.Sums.{size_without, used_of, room_of, used_by_snap, used_by_children, written_of}
+use Rattle.model.specs.Limits.{limit_of}
+use Rattle.model.specs.Sums.{size_without, used_of, room_of, used_by_snap, used_by_children, used_by_refreservation, written_of}
 use Rattle.model.specs.Properties.{file_system_value, snap_value, limit_value}
 use Rattle.model.specs.State.{State}
 use Rattle.model.specs.Step.{Step}
 use Rattle.file_systems.specs.Clones.{below_in}
 use Rattle.datasets.proofs.Above.{below_is_map}
-use Rattle.steps.specs.Spaces.{is_limit, is_of_live}
+use Rattle.steps.specs.Spaces.{is_limit, is_of_live, property_of}
 use Rattle.steps.specs.Steady.{IsSteady, snap_in}
 use Rattle.steps.proofs.Identities.{get_live, get_snap}
 
@@ -55,29 +58,42 @@ module _ (s : State) (good : IsSteady s) where
       unfolding file_system_value
       get_used_by_children e = get_live s good name f was UsedByChildren (Size (512 * n)) (ap (λ k. Size (512 * k)) (sym e))
 
-    -- zfsprops(7), usedbyrefreservation: nothing, since nothing is kept
-    pub get_used_by_refreservation : f.limits ≡ no_limits → Step s (Get (OfFileSystem name) UsedByRefReservation) (ValueIs (Size 0)) s
+    -- zfsprops(7), usedbyrefreservation: what is kept for the live map and isn't written
+    pub get_refreserved : (n : ℕ) → n ≡ used_by_refreservation s.now name f → Step s (Get (OfFileSystem name) UsedByRefReservation) (ValueIs (Size (512 * n))) s
     unfolding file_system_value
-    get_used_by_refreservation none = get_live s good name f was UsedByRefReservation (Size 0)
-        (ap (λ (l : Limits). Size (512 * (unwrap_or l.refreservation 0 - written_of s.now (Live name)))) none
-        ∙ ap (λ k. Size (512 * k)) none_left)
+    get_refreserved n e = get_live s good name f was UsedByRefReservation (Size (512 * n)) (ap (λ k. Size (512 * k)) (sym e))
+
+    -- where nothing is kept, nothing
+    pub get_used_by_refreservation : f.limits ≡ no_limits → Step s (Get (OfFileSystem name) UsedByRefReservation) (ValueIs (Size 0)) s
+    get_used_by_refreservation none = get_refreserved 0 (sym (ap (λ (l : Limits). unwrap_or l.refreservation 0 - written_of s.now (Live name)) none ∙ none_left))
       where
         none_left : 0 - written_of s.now (Live name) ≡ 0
         none_left = omega arith
 
-    -- zfsprops(7), quota, refquota, reservation, refreservation: there is no such limit
-    pub get_limit : f.limits ≡ no_limits → (p : Property) → is_limit p ≡ true → Step s (Get (OfFileSystem name) p) (ValueIs (Size 0)) s
+    -- zfsprops(7), quota, refquota, reservation, refreservation
+    pub get_limit_of : (limit : Limit) → Step s (Get (OfFileSystem name) (property_of limit)) (ValueIs (limit_value (limit_of f.limits limit))) s
     unfolding file_system_value
-    get_limit unlimited p limit = get_live s good name f was p (Size 0) (at p limit)
-      where
-        none : (part : Limits → Option ℕ) → limit_value (part f.limits) ≡ limit_value (part no_limits)
-        none part = ap (λ (l : Limits). limit_value (part l)) unlimited
+    get_limit_of QuotaIs = get_live s good name f was Quota (limit_value f.limits.quota) refl
+    get_limit_of RefQuotaIs = get_live s good name f was RefQuota (limit_value f.limits.refquota) refl
+    get_limit_of ReservationIs = get_live s good name f was Reservation (limit_value f.limits.reservation) refl
+    get_limit_of RefReservationIs = get_live s good name f was RefReservation (limit_value f.limits.refreservation) refl
 
-        at : (p : Property) → is_limit p ≡ true → file_system_value s name f p ≡ Size 0
-        at Quota e = none (λ l. l.quota)
-        at RefQuota e = none (λ l. l.refquota)
-        at Reservation e = none (λ l. l.reservation)
-        at RefReservation e = none (λ l. l.refreservation)
+    -- where there is one
+    pub get_limit_amount : (limit : Limit) (amount : ℕ) → limit_of f.limits limit ≡ Some amount → Step s (Get (OfFileSystem name) (property_of limit)) (ValueIs (Size (512 * amount))) s
+    get_limit_amount limit amount is = subst (λ x. Step s (Get (OfFileSystem name) (property_of limit)) (ValueIs (limit_value x)) s) is (get_limit_of limit)
+
+    -- and where there is none
+    pub get_limit_none : (limit : Limit) → limit_of f.limits limit ≡ None → Step s (Get (OfFileSystem name) (property_of limit)) (ValueIs (Size 0)) s
+    get_limit_none limit is = subst (λ x. Step s (Get (OfFileSystem name) (property_of limit)) (ValueIs (limit_value x)) s) is (get_limit_of limit)
+
+    pub get_limit : f.limits ≡ no_limits → (p : Property) → is_limit p ≡ true → Step s (Get (OfFileSystem name) p) (ValueIs (Size 0)) s
+    get_limit unlimited = at
+      where
+        at : (p : Property) → is_limit p ≡ true → Step s (Get (OfFileSystem name) p) (ValueIs (Size 0)) s
+        at Quota e = get_limit_none QuotaIs (ap (λ (l : Limits). l.quota) unlimited)
+        at RefQuota e = get_limit_none RefQuotaIs (ap (λ (l : Limits). l.refquota) unlimited)
+        at Reservation e = get_limit_none ReservationIs (ap (λ (l : Limits). l.reservation) unlimited)
+        at RefReservation e = get_limit_none RefReservationIs (ap (λ (l : Limits). l.refreservation) unlimited)
         at _ e = absurd (true≢false (sym e))
 
   module _ (m : Member) (t : Snap) (found : snap_in s.now.file_systems m ≡ Some t) where

@@ -169,8 +169,9 @@ module _ (s : State) (number : ℕ) where
     unfolding state_after_sweep
     after_is = refl
 
-    left_unlimited : StaysUnlimited (closed s number) (swept (datasets_of s) (remove s.views number))
-    left_unlimited none = unlimited_without (world_of (datasets_of s)) none (λ u. u.deferred && not (is_needed (world_of (datasets_of s)) (remove s.views number) u))
+    -- where there was no limit, there is none
+    pub close_unlimited : StaysUnlimited (closed s number) (swept (datasets_of s) (remove s.views number))
+    close_unlimited none = unlimited_without (world_of (datasets_of s)) none (λ u. u.deferred && not (is_needed (world_of (datasets_of s)) (remove s.views number) u))
 
     left_limits : HasLimits (state_after_sweep (closed s number))
     left_limits = sweep_limits (closed s number) left_good (record { now = steady.limits.now; last = steady.limits.last })
@@ -188,7 +189,6 @@ module _ (s : State) (number : ℕ) where
         swept = subst IsSwept (sym after_is) (sweep_swept (closed s number));
         limits = subst HasLimits (sym after_is) left_limits;
       };
-      unlimited = left_unlimited;
       reach = ap (λ (x : State). reach_of x.now) after_is ∙ left_reach;
     }
 

@@ -37,7 +37,6 @@ StaysUnlimited s t = IsUnlimited s.now.file_systems → IsUnlimited t.file_syste
 -- reached (profile)
 pub record CanPut (s : State) (t : Datasets) (guids : ℕ) : Type 0 where
   pub steady : IsSteady (put s t guids)
-  pub unlimited : StaysUnlimited s t
   pub reach : reach_of (put s t guids).now ≡ reach_of s.now
 
 -- the state with these datasets, where what all datasets together have lost is to be freed (zpool-features(7): async_destroy)
@@ -48,14 +47,12 @@ lose s t = with_now s (with_losses s.now (record s.now { file_systems = t.file_s
 -- reached (profile)
 pub record CanLose (s : State) (t : Datasets) : Type 0 where
   pub steady : IsSteady (lose s t)
-  pub unlimited : StaysUnlimited s t
   pub reach : reach_of (lose s t).now ≡ reach_of s.now
 
 -- They can be put there once these blocks are released and these numbers are taken: what holds between two steps holds after it,
 -- and each number is Free, or that of a released block that the last synced world hasn't (profile)
 pub record CanChange (s : State) (t : Datasets) (released : List Block) (taken : List ℕ) : Type 0 where
   pub steady : IsSteady (with_datasets s t)
-  pub unlimited : StaysUnlimited s t
   pub settling : IsSettling (reach_of s.now) (reach_of (with_datasets s t).now) (reach_of s.last) s.last.group released taken
   pub takable :
       (n : ℕ) → IsIn taken n

@@ -5,3 +5,4 @@ pub mod Steady
 pub mod Edits
 pub mod Listed
 pub mod Spaces
+pub mod Asked
