@@ -5,20 +5,21 @@ use Rattle.std.specs.FinSet.{len}
 use Rattle.base.specs.Rewrite.{Changes}
 use Rattle.batch.specs.Forecast.{IsForecast}
 use Rattle.batch.specs.declared.forecast.Forecast.{Forecast}
-use Rattle.model.specs.World.{World, Live, map_of_snap, union_of}
+use Rattle.model.specs.World.{World, Live, union_of}
 use Rattle.model.specs.State.{State, waiting_of}
 use Rattle.model.specs.Edits.{with_now, after_change}
 use Rattle.model.specs.Refusals.{fresh_number}
 use Rattle.model.specs.Sums.{used_here, referenced_of}
 use Rattle.world.specs.Worlds.{IsPoolState}
 use Rattle.file_system.specs.Rows.{Row}
+use Rattle.file_systems.specs.Clones.{below_in}
 use Rattle.outlook.specs.declared.outlook.Outlook.{Outlook}
 
 -- the row is of a file system of the state, this is a forecast of the change of its live map, and the last sync opened that group (profile)
 pub record IsAhead (s : State) (c : Changes) (r : Row) (f : Forecast) (synced : ℕ) : Type 0 where
   pub good : IsPoolState s
   pub there : get s.now.file_systems r.name ≡ Some r.system
-  pub below : r.below ≡ map_of_snap s.now r.system.origin
+  pub below : r.below ≡ below_in s.now.file_systems r.system.origin
   pub forecast : IsForecast r.system.live c f
   pub synced : synced ≡ s.last.group
   pub few : len (union_of s.now) < 2 ^ 32

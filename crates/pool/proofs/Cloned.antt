@@ -18,6 +18,11 @@ use Rattle.steps.proofs.Promoting as promoting
 use Rattle.pool.specs.Pools.{IsSound}
 use Rattle.pool.specs.Shown.{Shown, shown}
 use Rattle.pool.proofs.Commits.{sound_put}
+use Rattle.model.specs.Rule.{first_of}
+use Rattle.model.specs.requests.Change.{limit_row}
+use Rattle.accounts.specs.Limits.{IsUnlimited}
+use Rattle.steps.specs.Asked.{asked_by_promote}
+use Rattle.steps.proofs.Asking.{IsUnasked}
 
 pub plus_none : (n : ℕ) → n ≡ n + 0
 plus_none n = omega (arith)
@@ -44,13 +49,31 @@ module _ (seen : Shown) (s : State) (numbers : List BlockState) (view : shown s 
     promote_refused why which = subst (λ (x : Shown). Step x.state (Promote name) (Refused why) x.state) view (promoting.promote_refused s name why which)
 
     module _ (none : promote_refusal (datasets_of s) name ≡ None) (to : Datasets) (is : to ≡ promoted (datasets_of s) name) where
-      pub promote_can : CanPut seen.state to 0 × (seen.state.next_guid + 0 ≤ guid_limit + 1)
-      promote_can = subst (λ (x : Shown). CanPut x.state to 0 × (x.state.next_guid + 0 ≤ guid_limit + 1)) view
-          (subst (λ t. CanPut s t 0) (sym is) (promoting.promote_can s sound.steady sound.unlimited name none), subst (λ n. n ≤ guid_limit + 1) (plus_none s.next_guid) sound.guids)
+      -- the state that its limits are asked of has these datasets
+      pub promote_systems : (asked_by_promote s name).now.file_systems ≡ to.file_systems
+      promote_systems = ap (λ (t : Datasets). t.file_systems) (sym is)
 
-      pub promote_done : Step seen.state (Promote name) Done (put seen.state to 0)
-      promote_done = subst (λ (x : Shown). Step x.state (Promote name) Done (put x.state to 0)) view
-          (subst (λ t. Step s (Promote name) Done (put s t 0)) (sym is) (promoting.promote_done s name sound.steady sound.unlimited numbers sound.states none))
+      pub promote_unasked : IsUnasked s (asked_by_promote s name)
+      promote_unasked = promoting.promote_unasked s sound.steady name none
+
+      -- a limit would be broken
+      pub promote_over : (why : Refusal) → first_of (limit_row (asked_by_promote s name)) ≡ Some why → Step seen.state (Promote name) (Refused why) seen.state
+      promote_over why over = subst (λ (x : Shown). Step x.state (Promote name) (Refused why) x.state) view (promoting.promote_refused_by_limit s name none why over)
+
+      pub promote_stays : StaysUnlimited seen.state to
+      promote_stays = subst (λ (x : Shown). StaysUnlimited x.state to) view (subst (StaysUnlimited s) (sym is) (promoting.promote_unlimited s name))
+
+      -- where no file system has one, none would
+      pub promote_free : IsUnlimited s.now.file_systems → first_of (limit_row (asked_by_promote s name)) ≡ None
+      promote_free bare = promoting.promote_fits s sound.steady name none bare numbers sound.states
+
+      pub promote_can : first_of (limit_row (asked_by_promote s name)) ≡ None → CanPut seen.state to 0 × (seen.state.next_guid + 0 ≤ guid_limit + 1)
+      promote_can fits = subst (λ (x : Shown). CanPut x.state to 0 × (x.state.next_guid + 0 ≤ guid_limit + 1)) view
+          (subst (λ t. CanPut s t 0) (sym is) (promoting.promote_can_within s sound.steady name none fits), subst (λ n. n ≤ guid_limit + 1) (plus_none s.next_guid) sound.guids)
+
+      pub promote_done : first_of (limit_row (asked_by_promote s name)) ≡ None → Step seen.state (Promote name) Done (put seen.state to 0)
+      promote_done fits = subst (λ (x : Shown). Step x.state (Promote name) Done (put x.state to 0)) view
+          (subst (λ t. Step s (Promote name) Done (put s t 0)) (sym is) (promoting.promote_done_within s name none sound.steady fits))
 
 -- no guid is made for a clone or a promote
 put_none : (s : State) (to : Datasets) → put s to 0 ≡ with_datasets s to

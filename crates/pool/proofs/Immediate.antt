@@ -1,7 +1,7 @@
 -- A change of a live map that is in force, and a snapshot of one name: what is asked for can be done, then the pool is sound again, and
 -- that is a step.
-use Rattle.std.proofs.Common.{◌≡◌, ◌⊎◌, ◌↔◌, ◌+◌, ◌≤◌, ℕ, List, Result, Ok, Err, None, false, refl, sym, ap, subst, [], ◌∷◌, map, arith}
-use Rattle.std.specs.Prelude.{IfOk, IfErr, OnOk}
+use Rattle.std.proofs.Common.{◌≡◌, ◌⊎◌, ◌↔◌, ◌+◌, ◌≤◌, ℕ, List, Result, Ok, Err, None, false, refl, sym, ap, subst, ◌∙◌, [], ◌∷◌, map, ⊎_elim, arith}
+use Rattle.std.specs.Prelude.{IfOk, IfErr, OnOk, is_some, IsSome}
 use Rattle.std.specs.FinMap.{get}
 use Rattle.name.specs.declared.member.Member.{Member}
 use Rattle.name.specs.declared.target.Target.{Target}
@@ -16,6 +16,7 @@ use Rattle.batch.specs.Updates.{IsBatch}
 use Rattle.tree.specs.Updates.{changes_of}
 use Rattle.tree.specs.Change.{HasRoom, LacksRoom}
 use Rattle.model.specs.declared.request.Request.{Request}
+use Rattle.model.specs.declared.request.Request.TheVariants.{Snapshot}
 use Rattle.model.specs.declared.reply.Reply.TheVariants.{Done, Refused}
 use Rattle.model.specs.Step.{Step}
 use Rattle.model.specs.Targets.{guid_limit}
@@ -26,14 +27,21 @@ use Rattle.world.specs.Tables.{Datasets}
 use Rattle.file_system.specs.Rows.{live_of}
 use Rattle.datasets.specs.Writes.{young_of, AllowsWrite, HasWritten}
 use Rattle.snap.specs.Taking.{after_taking}
-use Rattle.steps.specs.Edits.{datasets_of, with_datasets, put, CanChange, CanPut}
-use Rattle.steps.proofs.Writing.{allows, written_can, written_done, write_refused}
+use Rattle.steps.specs.Edits.{datasets_of, with_datasets, put, StaysUnlimited, CanChange, CanPut}
+use Rattle.steps.proofs.Changing.{change_no_dataset}
+use Rattle.steps.proofs.Snapping.{snapshot_fits}
+use Rattle.steps.proofs.Writing.{allows, written_can, written_can_within, written_unlimited, written_done, written_done_within, write_refused, write_refused_within, write_refused_by_limit}
 use Rattle.pool.specs.Asked.{Asks}
 use Rattle.pool.specs.Pools.{IsSound}
-use Rattle.pool.specs.Shown.{shown}
-use Rattle.pool.proofs.Changes.{within, rule}
+use Rattle.pool.specs.Shown.{Shown, shown}
+use Rattle.pool.proofs.Changes.{within, rule, update_no_memory}
 use Rattle.pool.proofs.Commits.{sound_put}
-use Rattle.pool.proofs.Steps.{snapshot_can}
+use Rattle.pool.proofs.Steps.{snapshot_can, snapshot_stays, snapshot_done}
+use Rattle.model.specs.requests.Change.{limit_row}
+use Rattle.accounts.specs.Limits.{IsUnlimited}
+use Rattle.steps.specs.Asked.{asked_by_snapshot}
+use Rattle.pool.specs.Limiting.{IsNoChange, MayChange}
+use Rattle.pool.proofs.Limited.{bare_here}
 
 -- a change that the table refuses
 abbrev table_error : Refusal → Result Changed Refusal
@@ -52,7 +60,7 @@ module _ (s : State) (numbers : List BlockState) (sound : IsSound s numbers) (ol
   pub allowed : (us : List Update) → IsBatch us → AllowsWrite old us synced numbers
   allowed us batch = subst (λ g. AllowsWrite old us g numbers) (sym since) (subst (λ t. AllowsWrite t us s.last.group numbers) (sym same) (allows s sound.steady numbers sound.states us batch))
 
-  module _ (name : List ℕ) (new : Datasets) (u : Update) (us : List Update) (one : us ≡ u ∷ []) where
+  module _ (name : List ℕ) (new : Datasets) (u : Update) (us : List Update) (one : us ≡ u ∷ []) (may : MayChange s name (changes_of (u ∷ []))) where
     here : (r : Result Changed Refusal) → IsApplied old new name us synced numbers r → IsApplied (datasets_of s) new name (u ∷ []) s.last.group numbers r
     here r applied =
         subst (λ g. IsApplied (datasets_of s) new name (u ∷ []) g numbers r) since
@@ -62,9 +70,15 @@ module _ (s : State) (numbers : List BlockState) (sound : IsSound s numbers) (ol
     pub refused_now : (why : Refusal) → IsApplied old new name us synced numbers (Err why) → (q : Request) → Asks q (OfFileSystem name) (Ok u) → Step s q (Refused why) s
     refused_now why applied q asks =
         let refusal = here (Err why) applied in
-        write_refused s sound.steady sound.unlimited numbers sound.states name q (OfFileSystem name) refl (changes_of (u ∷ [])) asks.in_range (rule s numbers sound q name u asks)
-        (within s numbers sound q name u asks) why (λ e. refusal.no_dataset.0 (ap Err e), λ none. told (refusal.no_dataset.1 none))
-        (λ e. refusal.no_space (ap Err e)) refusal.only
+        let is = rule s numbers sound q name u asks in
+        let in_range = within s numbers sound q name u asks in
+        let tells = (λ e. refusal.no_dataset.0 (ap Err e), λ none. told (refusal.no_dataset.1 none)) in
+        ⊎_elim
+        (λ bare. write_refused s sound.steady bare numbers sound.states name q (OfFileSystem name) refl (changes_of (u ∷ [])) asks.in_range is in_range why tells
+        (λ e. refusal.no_space (ap Err e)) refusal.only)
+        (λ fits. write_refused_within s sound.steady numbers sound.states name q (OfFileSystem name) refl (changes_of (u ∷ [])) asks.in_range is in_range why tells
+        (λ e. refusal.no_space (ap Err e)) refusal.only fits)
+        may
       where
         told : table_error why ≡ table_error NoDataset → why ≡ NoDataset
         told e = cc
@@ -79,24 +93,73 @@ module _ (s : State) (numbers : List BlockState) (sound : IsSound s numbers) (ol
 
       -- the new datasets can be put in place
       pub can_now : CanChange s new (map dead_block done.released.items) (map (λ n. n.0) done.taken.items)
-      can_now = written_can s sound.steady sound.unlimited numbers sound.states name new (changes_of (u ∷ [])) done (here (Ok done) applied).ok there
+      can_now = ⊎_elim
+          (λ bare. written_can s sound.steady bare numbers sound.states name new (changes_of (u ∷ [])) done (here (Ok done) applied).ok there)
+          (λ fits. written_can_within s sound.steady numbers sound.states name new (changes_of (u ∷ [])) done (here (Ok done) applied).ok fits there)
+          may
+
+      pub stays_now : StaysUnlimited s new
+      stays_now = written_unlimited s numbers name new (changes_of (u ∷ [])) done (here (Ok done) applied).ok
 
       pub done_now : (q : Request) → Asks q (OfFileSystem name) (Ok u) → Step s q Done (with_datasets s new)
       done_now q asks =
-          written_done s sound.steady sound.unlimited numbers sound.states name q (OfFileSystem name) refl (changes_of (u ∷ [])) asks.in_range (rule s numbers sound q name u asks)
-          (within s numbers sound q name u asks) new done (here (Ok done) applied).ok (here (Ok done) applied).room there
+          let is = rule s numbers sound q name u asks in
+          let in_range = within s numbers sound q name u asks in
+          let written = here (Ok done) applied in
+          ⊎_elim
+          (λ bare. written_done s sound.steady bare numbers sound.states name q (OfFileSystem name) refl (changes_of (u ∷ [])) asks.in_range is in_range new done written.ok written.room there)
+          (λ fits. written_done_within s sound.steady numbers sound.states name q (OfFileSystem name) refl (changes_of (u ∷ [])) asks.in_range is in_range new done written.ok fits there)
+          may
+
+-- limits may be asked of what contracts see
+pub may_here : (seen : Shown) (s : State) (numbers : List BlockState) → shown s numbers ≡ seen → (name : List ℕ) (c : Changes) → MayChange seen.state name c → MayChange s name c
+may_here seen s numbers view name c may = subst (λ (x : Shown). MayChange x.state name c) (sym view) may
+
+-- a change that isn't asked of the table, since a limit would be broken, the file system isn't there, or there is no memory to ask
+pub not_asked : (seen : Shown) (s : State) (numbers : List BlockState) → shown s numbers ≡ seen → IsSound s numbers → (name : List ℕ) (u : Update) (q : Request)
+    → Asks q (OfFileSystem name) (Ok u) → (why : Refusal) → IsNoChange seen.state name (changes_of (u ∷ [])) why → Step seen.state q (Refused why) seen.state
+not_asked seen s numbers view sound name u q asks why is =
+    subst (λ (x : Shown). Step x.state q (Refused why) x.state) view
+    (by_reason (subst (λ (x : Shown). IsNoChange x.state name (changes_of (u ∷ [])) why) (sym view) is))
+  where
+    absent : IsSome (get s.now.file_systems name) → get s.now.file_systems name ≡ None → ⊥
+    absent some none = let e = sym some ∙ ap is_some none in cc
+
+    by_reason : IsNoChange s name (changes_of (u ∷ [])) why → Step s q (Refused why) s
+    by_reason is = ⊎_elim
+        (λ e. subst (λ x. Step s q (Refused x) s) (sym e) (update_no_memory s numbers sound q name u asks))
+        (⊎_elim
+        (λ n. subst (λ x. Step s q (Refused x) s) (sym n.0)
+        (change_no_dataset s sound.steady q (OfFileSystem name) (changes_of (u ∷ [])) asks.in_range (rule s numbers sound q name u asks) n.1))
+        (λ l. write_refused_by_limit s sound.steady name q (OfFileSystem name) refl (changes_of (u ∷ [])) asks.in_range (rule s numbers sound q name u asks)
+        (within s numbers sound q name u asks) (absent l.0) why l.1))
+        is
 
 -- the request asks for this update of the file system of this name
 pub asks_here : (q : Request) (target : Target) (update : Result Update Refusal) (name : List ℕ) (r : Result Update Refusal) → target ≡ OfFileSystem name → update ≡ r
     → Asks q target update → Asks q (OfFileSystem name) r
 asks_here q target update name r named is asks = subst (λ t. Asks q t r) named (subst (λ x. Asks q target x) is asks)
 
--- a snapshot of one name that nothing refuses
-module _ (s : State) (numbers : List BlockState) (sound : IsSound s numbers) (m : Member) (to : Datasets)
+-- a snapshot of one name that nothing refuses, where no file system has a limit
+module _ (seen : Shown) (s : State) (numbers : List BlockState) (view : shown s numbers ≡ seen) (sound : IsSound s numbers) (bare : IsUnlimited seen.state.now.file_systems)
+    (m : Member) (to : Datasets)
     (none : first_of (taking_row s.now s.next_guid (m ∷ []) (m ∷ [])) ≡ None) (is : to ≡ after_taking (datasets_of s) (guid_by s.pool s.next_guid) (m ∷ [])) where
+  abbrev free : IsUnlimited s.now.file_systems
+  free = bare_here seen s numbers view bare
+
+  fits : first_of (limit_row (asked_by_snapshot s (m ∷ []) false)) ≡ None
+  fits = snapshot_fits s sound.steady (m ∷ []) false none free numbers sound.states
+
   -- the datasets with it can be put in place, and the counter has a next number
-  pub can_keep : CanPut s to 1 × (s.next_guid + 1 ≤ guid_limit + 1)
-  can_keep = snapshot_can (shown s numbers) s numbers refl sound (m ∷ []) false none 1 refl (omega arith) to is
+  can_keep : CanPut s to 1 × (s.next_guid + 1 ≤ guid_limit + 1)
+  can_keep = snapshot_can (shown s numbers) s numbers refl sound (m ∷ []) false none 1 refl (omega arith) to is fits
 
   pub sound_kept : IsSound (put s to 1) numbers
   sound_kept = sound_put s numbers sound to 1 can_keep.0 can_keep.1
+
+  pub kept_bare : IsUnlimited to.file_systems
+  kept_bare = snapshot_stays (shown s numbers) s numbers refl sound (m ∷ []) false none 1 refl (omega arith) to is free
+
+  pub kept_done : Step seen.state (Snapshot (m ∷ []) false) Done (put s to 1)
+  kept_done = subst (λ (x : Shown). Step x.state (Snapshot (m ∷ []) false) Done (put s to 1)) view
+      (snapshot_done (shown s numbers) s numbers refl sound (m ∷ []) false none 1 refl (omega arith) to is fits)

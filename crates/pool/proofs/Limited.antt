@@ -1,15 +1,28 @@
 -- Where no file system has a limit, none has one after a request that sets none; and what limits say where some have.
-use Rattle.std.proofs.Common.{◌≡◌, ◌<◌, ◌^◌, ◌+◌, ℕ, List, Option, None, Some, refl, sym, ap, subst, ◌∙◌}
+use Rattle.std.proofs.Common.{◌≡◌, ◌<◌, ◌^◌, ◌+◌, ℕ, List, Option, None, Some, refl, sym, ap, subst, ◌∙◌, ⊎_elim, arith}
 use Rattle.std.specs.FinSet as set
+use Rattle.std.specs.FinSet.{difference}
+use Rattle.base.specs.declared.refusal.Refusal.{Refusal}
 use Rattle.zalloc.specs.declared.BlockState.{BlockState}
-use Rattle.model.specs.State.{State}
-use Rattle.model.specs.Sums.{used_by_children, referenced_of, written_of}
-use Rattle.model.specs.World.{union_of, previous_of}
+use Rattle.model.specs.State.{State, waiting_of}
+use Rattle.model.specs.Hierarchy.{FileSystems}
+use Rattle.model.specs.Numbers.{HasStates}
+use Rattle.model.specs.Rule.{first_of}
+use Rattle.model.specs.requests.Change.{limit_row}
+use Rattle.model.specs.Sums.{used_by_children, referenced_of, written_of, allocated_of}
+use Rattle.model.specs.World.{World, union_of, reach_of, previous_of}
+use Rattle.world.specs.Sets.{Has}
+use Rattle.world.specs.Blocks.{block_order as o}
+use Rattle.world.proofs.Kept.{reach_is, union-fields}
+use Rattle.world.proofs.SetCounts.{in_union_left, len-subset}
+use Rattle.steps.specs.Steady.{IsSteady}
+use Rattle.steps.proofs.Asking.{IsUnasked}
+use Rattle.steps.proofs.Properties.{are_balanced}
 use Rattle.world.specs.Tables.{Datasets, world_of}
 use Rattle.accounts.specs.Limits.{IsUnlimited}
 use Rattle.steps.specs.Edits.{datasets_of, StaysUnlimited}
 use Rattle.limits.specs.Ledgers.{ledger_of}
-use Rattle.pool.specs.Limiting.{IsAccounted}
+use Rattle.pool.specs.Limiting.{IsAccounted, IsAsked, IsOver}
 use Rattle.pool.specs.Pools.{IsSound}
 use Rattle.pool.specs.Shown.{Shown, shown}
 use Rattle.pool.specs.declared.limiting.Limiting.{Limiting}
@@ -46,3 +59,36 @@ same_ledger t group = refl
 pub accounted_next : (t next : Datasets) (l : Option Limiting) → next ≡ record t { group = t.group + 1 } → IsAccounted t l → IsAccounted next l
 accounted_next t next None is kept = subst (λ (d : Datasets). IsUnlimited d.file_systems) (sym is) kept
 accounted_next t next (Some l) is kept = kept ∙ same_ledger t (t.group + 1) ∙ ap (λ (d : Datasets). ledger_of (world_of d)) (sym is)
+
+-- ---- what limits say of the state that a request leads to
+
+-- a ledger hangs on the file systems alone
+pub ledger_alike : (v w : World) → v.file_systems ≡ w.file_systems → ledger_of v ≡ ledger_of w
+unfolding ledger_of used_by_children referenced_of written_of previous_of
+ledger_alike v w same = ap (λ (ss : FileSystems). ledger_of (record v { file_systems = ss })) same
+
+module _ (s new : State) (is : IsUnasked s new) where
+  -- as many wait
+  waiting_same : set.len (waiting_of new) ≡ set.len (waiting_of s)
+  unfolding waiting_of
+  waiting_same = (λ i. set.len (difference (reach_of (is.last i)) (is.reach i)))
+
+  module _ (to : Datasets) (systems : new.now.file_systems ≡ to.file_systems) (freeing : ℕ) (freed : set.len new.now.freeing ≡ freeing) where
+    is_asked : IsAsked s to freeing new
+    is_asked = record { systems = systems; freeing = freed; waiting = waiting_same; size = is.size }
+
+    -- what was found is what the row of its limits says
+    pub over_is : (r : Option Refusal) → IsOver s to freeing r → (IsUnlimited s.now.file_systems → first_of (limit_row new) ≡ None) → first_of (limit_row new) ≡ r
+    over_is r over bare = ⊎_elim (λ b. bare b.0 ∙ sym b.1) (λ all. sym (all new is_asked)) over
+
+  -- what its datasets have can be counted by so many bits
+  pub few_unasked : IsSteady s → (numbers : List BlockState) → HasStates s numbers → s.size < 2 ^ 32 → (to : Datasets) → to.file_systems ≡ new.now.file_systems
+      → set.len (union_of (world_of to)) < 2 ^ 32
+  unfolding allocated_of
+  few_unasked steady numbers known small to same =
+      let b = are_balanced s steady numbers known in
+      let a : allocated_of s ≡ set.len (reach_of s.now) = refl in
+      let l = len-subset o (union_of new.now) (reach_of new.now) (λ k h. subst (λ x. Has x k) (sym (reach_is new.now)) (in_union_left o (union_of new.now) new.now.freeing k h)) in
+      let r = ap set.len is.reach in
+      let u = ap set.len (union-fields (world_of to) new.now same) in
+      omega (arith, a, b, l, r, u, small)

@@ -25,6 +25,12 @@ use Rattle.steps.proofs.Destroying as destroying
 use Rattle.pool.specs.Pools.{IsSound}
 use Rattle.pool.specs.Shown.{Shown, shown}
 use Rattle.pool.proofs.Commits.{sound_lost}
+use Rattle.std.specs.FinSet as set
+use Rattle.model.specs.Rule.{first_of}
+use Rattle.model.specs.requests.Change.{limit_row}
+use Rattle.accounts.specs.Limits.{IsUnlimited}
+use Rattle.steps.specs.Asked.{asked_by_rollback}
+use Rattle.steps.proofs.Asking.{IsUnasked}
 
 module _ (seen : Shown) (s : State) (numbers : List BlockState) (view : shown s numbers ≡ seen) (sound : IsSound s numbers) where
   -- no block of a dataset is to be freed
@@ -38,15 +44,36 @@ module _ (seen : Shown) (s : State) (numbers : List BlockState) (view : shown s 
   module _ (target : Target) (later : Bool) where
     pub rollback_refused : (why : Refusal) → (rollback_refusal (datasets_of s) s.views target later ≡ Some why) ⊎ (why ≡ NoMemory) → Step seen.state (Rollback target later) (Refused why) seen.state
     rollback_refused why which = subst (λ (x : Shown). Step x.state (Rollback target later) (Refused why) x.state) view
-        (rolling.rollback_refused s sound.steady sound.unlimited numbers sound.states later target why which)
+        (rolling.rollback_refused_before s target later why which)
 
     module _ (none : rollback_refusal (datasets_of s) s.views target later ≡ None) (to : Datasets) (is : to ≡ rolled (datasets_of s) target) where
-      pub rollback_can : (freeing : BlockSet) → HasLost (datasets_of s) s.now.freeing to freeing → CanLose seen.state to × (freeing ≡ (lose seen.state to).now.freeing)
-      rollback_can freeing lost = with_freed to freeing lost (subst (CanLose s) (sym is) (rolling.rollback_can s sound.steady sound.unlimited target later none))
+      -- the state that its limits are asked of has these datasets, and so many blocks to be freed
+      pub rollback_systems : (asked_by_rollback s target).now.file_systems ≡ to.file_systems
+      rollback_systems = ap (λ (t : Datasets). t.file_systems) (sym is)
 
-      pub rollback_done : Step seen.state (Rollback target later) Done (lose seen.state to)
-      rollback_done = subst (λ (x : Shown). Step x.state (Rollback target later) Done (lose x.state to)) view
-          (subst (λ t. Step s (Rollback target later) Done (lose s t)) (sym is) (rolling.rollback_done s sound.steady sound.unlimited numbers sound.states later target none))
+      pub rollback_freed : (freeing : BlockSet) → HasLost (datasets_of s) s.now.freeing to freeing → set.len (asked_by_rollback s target).now.freeing ≡ set.len freeing
+      rollback_freed freeing lost = ap set.len (ap (λ t. (lose s t).now.freeing) (sym is) ∙ sym (joined_losses s to freeing lost.joined))
+
+      pub rollback_unasked : IsUnasked s (asked_by_rollback s target)
+      rollback_unasked = rolling.rollback_unasked s sound.steady target later none
+
+      -- a limit would be broken
+      pub rollback_over : (why : Refusal) → first_of (limit_row (asked_by_rollback s target)) ≡ Some why → Step seen.state (Rollback target later) (Refused why) seen.state
+      rollback_over why over = subst (λ (x : Shown). Step x.state (Rollback target later) (Refused why) x.state) view (rolling.rollback_refused_by_limit s target later none why over)
+
+      pub rollback_stays : StaysUnlimited seen.state to
+      rollback_stays = subst (λ (x : Shown). StaysUnlimited x.state to) view (subst (StaysUnlimited s) (sym is) (rolling.rollback_unlimited s sound.steady target later none))
+
+      -- where no file system has one, none would
+      pub rollback_free : IsUnlimited s.now.file_systems → first_of (limit_row (asked_by_rollback s target)) ≡ None
+      rollback_free bare = rolling.rollback_fits s sound.steady target later none bare numbers sound.states
+
+      pub rollback_can : first_of (limit_row (asked_by_rollback s target)) ≡ None → (freeing : BlockSet) → HasLost (datasets_of s) s.now.freeing to freeing → CanLose seen.state to × (freeing ≡ (lose seen.state to).now.freeing)
+      rollback_can fits freeing lost = with_freed to freeing lost (subst (CanLose s) (sym is) (rolling.rollback_can_within s sound.steady target later none fits))
+
+      pub rollback_done : first_of (limit_row (asked_by_rollback s target)) ≡ None → Step seen.state (Rollback target later) Done (lose seen.state to)
+      rollback_done fits = subst (λ (x : Shown). Step x.state (Rollback target later) Done (lose x.state to)) view
+          (subst (λ t. Step s (Rollback target later) Done (lose s t)) (sym is) (rolling.rollback_done_within s target later none sound.steady fits))
 
   module _ (target : Target) (recursive defer : Bool) where
     pub destroy_refused : (why : Refusal) → (destroy_refusal (datasets_of s) s.views target recursive defer ≡ Some why) ⊎ (why ≡ NoMemory) → Step seen.state (Destroy target recursive defer) (Refused why) seen.state

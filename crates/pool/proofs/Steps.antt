@@ -51,6 +51,9 @@ use Rattle.pool.specs.Pools.{IsSound}
 use Rattle.pool.specs.Shown.{Shown, shown}
 use Rattle.pool.proofs.Changes.{not_false, block_tells}
 use Rattle.pool.proofs.Names.{found, absent}
+use Rattle.model.specs.requests.Change.{limit_row}
+use Rattle.steps.specs.Asked.{asked_by_snapshot}
+use Rattle.steps.proofs.Asking.{IsUnasked}
 
 -- a read that was refused
 abbrev no_bytes : (B : Type 0) → Refusal → Result B Refusal
@@ -200,7 +203,7 @@ module _ (seen : Shown) (s : State) (numbers : List BlockState) (view : shown s 
     module _ (none : first_of (taking_row s.now s.next_guid names (snapshot_names s.now names recursive)) ≡ None) (count : ℕ) (counted : count ≡ length (snapshot_names s.now names recursive)) where
       -- no name at all
       pub snapshot_nothing : count ≡ 0 → Step seen.state (Snapshot names recursive) Done seen.state
-      snapshot_nothing e = at _ _ (snaps.snapshot_nothing s (Snapshot names recursive) names recursive refl sound.steady sound.unlimited none (ap (λ n. nat_lt 0 n) (sym counted ∙ e)))
+      snapshot_nothing e = at _ _ (snaps.snapshot_nothing_within s (Snapshot names recursive) names recursive refl none sound.steady (ap (λ n. nat_lt 0 n) (sym counted ∙ e)))
 
       module _ (some : 0 < count) (to : Datasets) (is : to ≡ after_taking (datasets_of s) (guid_by s.pool s.next_guid) (snapshot_names s.now names recursive)) where
         longer : nat_lt 0 (length all) ≡ true
@@ -209,15 +212,33 @@ module _ (seen : Shown) (s : State) (numbers : List BlockState) (view : shown s 
         taken_is : to ≡ taken_of (datasets_of s) (guid_by s.pool s.next_guid) all
         taken_is = is ∙ taken_some (datasets_of s) (guid_by s.pool s.next_guid) all longer
 
-        pub snapshot_can : CanPut seen.state to count × (seen.state.next_guid + count ≤ guid_limit + 1)
-        snapshot_can = subst (λ (x : Shown). CanPut x.state to count × (x.state.next_guid + count ≤ guid_limit + 1)) view
-            (subst (λ n. CanPut s to n) (sym counted) (subst (λ t. CanPut s t (length all)) (sym taken_is) (snaps.taking_can s sound.steady sound.unlimited names recursive none)), guids_fit s.now s.next_guid names all none longer count counted)
+        -- the state that its limits are asked of has these datasets
+        pub snapshot_systems : (asked_by_snapshot s names recursive).now.file_systems ≡ to.file_systems
+        snapshot_systems = ap (λ (t : Datasets). t.file_systems) (sym taken_is)
 
-        pub snapshot_done : Step seen.state (Snapshot names recursive) Done (put seen.state to count)
-        snapshot_done = subst (λ (x : Shown). Step x.state (Snapshot names recursive) Done (put x.state to count)) view
+        pub snapshot_unasked : IsUnasked s (asked_by_snapshot s names recursive)
+        snapshot_unasked = snaps.taking_unasked s sound.steady names recursive none
+
+        -- a limit would be broken
+        pub snapshot_over : (why : Refusal) → first_of (limit_row (asked_by_snapshot s names recursive)) ≡ Some why → Step seen.state (Snapshot names recursive) (Refused why) seen.state
+        snapshot_over why over = at _ _ (snaps.snapshot_refused_by_limit s (Snapshot names recursive) names recursive refl none longer why over)
+
+        pub snapshot_stays : StaysUnlimited seen.state to
+        snapshot_stays = subst (λ (x : Shown). StaysUnlimited x.state to) view (subst (StaysUnlimited s) (sym taken_is) (snaps.snapshot_unlimited s names recursive))
+
+        -- where no file system has one, none would
+        pub snapshot_free : IsUnlimited s.now.file_systems → first_of (limit_row (asked_by_snapshot s names recursive)) ≡ None
+        snapshot_free bare = snaps.snapshot_fits s sound.steady names recursive none bare numbers sound.states
+
+        pub snapshot_can : first_of (limit_row (asked_by_snapshot s names recursive)) ≡ None → CanPut seen.state to count × (seen.state.next_guid + count ≤ guid_limit + 1)
+        snapshot_can fits = subst (λ (x : Shown). CanPut x.state to count × (x.state.next_guid + count ≤ guid_limit + 1)) view
+            (subst (λ n. CanPut s to n) (sym counted) (subst (λ t. CanPut s t (length all)) (sym taken_is) (snaps.taking_can_within s sound.steady names recursive none fits)), guids_fit s.now s.next_guid names all none longer count counted)
+
+        pub snapshot_done : first_of (limit_row (asked_by_snapshot s names recursive)) ≡ None → Step seen.state (Snapshot names recursive) Done (put seen.state to count)
+        snapshot_done fits = subst (λ (x : Shown). Step x.state (Snapshot names recursive) Done (put x.state to count)) view
             (subst (λ n. Step s (Snapshot names recursive) Done (put s to n)) (sym counted)
             (subst (λ t. Step s (Snapshot names recursive) Done (put s t (length all))) (sym taken_is)
-            (snaps.snapshot_done s (Snapshot names recursive) names recursive refl sound.steady sound.unlimited none numbers sound.states longer)))
+            (snaps.snapshot_done_within s (Snapshot names recursive) names recursive refl none longer sound.steady fits)))
 
   -- ---- a sync
 

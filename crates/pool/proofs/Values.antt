@@ -140,7 +140,7 @@ module _ (s : State) (steady : IsSteady s) where
     live_told name f was UsedByDataset told = get_used_by_dataset s steady name f was _ refl
     live_told name f was UsedBySnapshots told = get_used_by_snapshots s steady name f was _ refl
     live_told name f was UsedByChildren told = get_used_by_children s steady name f was (used_by_children (world_of (datasets_of s)) name) (used_by_children_alike s name)
-    live_told name f was UsedByRefReservation told = get_unwritten s steady name f was _ refl
+    live_told name f was UsedByRefReservation told = get_refreserved s steady name f was _ (ap (λ n. unwrap_or f.limits.refreservation 0 - n) (sym (written_of_live s.now steady.good.now.systems name f was)))
     live_told name f was Quota told = get_live s steady name f was Quota (amount_value f.limits.quota) refl
     live_told name f was RefQuota told = get_live s steady name f was RefQuota (amount_value f.limits.refquota) refl
     live_told name f was Reservation told = get_live s steady name f was Reservation (amount_value f.limits.reservation) refl

@@ -6,12 +6,11 @@ use Rattle.base.specs.Rewrite.{Changes}
 use Rattle.base.specs.declared.refusal.Refusal.{Refusal}
 use Rattle.base.specs.declared.refusal.Refusal.TheVariants.{NoDataset, NoMemory}
 use Rattle.model.specs.State.{State, waiting_of}
-use Rattle.model.specs.Edits.{with_now, after_change}
-use Rattle.model.specs.Refusals.{fresh_number}
 use Rattle.model.specs.Rule.{first_of}
 use Rattle.model.specs.requests.Change.{limit_row}
 use Rattle.world.specs.Tables.{Datasets, world_of}
 use Rattle.accounts.specs.Limits.{IsUnlimited}
+use Rattle.steps.specs.Asked.{asked_by_change}
 use Rattle.limits.specs.Ledgers.{ledger_of}
 use Rattle.pool.specs.declared.limiting.Limiting.{Limiting}
 
@@ -32,11 +31,11 @@ pub record IsAsked (s : State) (t : Datasets) (freeing : ℕ) (asked : State) : 
 abbrev pub IsOver : State → Datasets → ℕ → Option Refusal → Type 0
 IsOver s t freeing r = (IsUnlimited s.now.file_systems × (r ≡ None)) ⊎ ((asked : State) → IsAsked s t freeing asked → r ≡ first_of (limit_row asked))
 
--- the state that limits are asked of before a change of a live map (zfsprops(7): quota, refquota, reservation)
-abbrev pub after_update : State → List ℕ → Changes → State
-after_update s name c = with_now s (after_change s.now name c (fresh_number s))
-
 -- why a change isn't made: there is no memory to ask, no file system of the name, or this limit would be broken (profile)
 abbrev pub IsNoChange : State → List ℕ → Changes → Refusal → Type 0
 IsNoChange s name c why =
-    (why ≡ NoMemory) ⊎ (((why ≡ NoDataset) × (get s.now.file_systems name ≡ None)) ⊎ (IsSome (get s.now.file_systems name) × (first_of (limit_row (after_update s name c)) ≡ Some why)))
+    (why ≡ NoMemory) ⊎ (((why ≡ NoDataset) × (get s.now.file_systems name ≡ None)) ⊎ (IsSome (get s.now.file_systems name) × (first_of (limit_row (asked_by_change s name c)) ≡ Some why)))
+
+-- a change of a live map may be made: no file system has a limit, or the limits hold then (zfsprops(7): quota, refquota, reservation)
+abbrev pub MayChange : State → List ℕ → Changes → Type 0
+MayChange s name c = IsUnlimited s.now.file_systems ⊎ (first_of (limit_row (asked_by_change s name c)) ≡ None)

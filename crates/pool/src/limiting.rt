@@ -19,7 +19,7 @@ ghost use Rattle.accounts.specs.Limits.{IsUnlimited};
 ghost use Rattle.datasets.specs.Limits.{with_limit_of};
 ghost use Rattle.steps.specs.Edits.{datasets_of, with_datasets};
 ghost use Rattle.limits.specs.Ledgers.{IsSpaceOf};
-ghost use Rattle.pool.specs.Limiting.{IsAccounted, IsOver, after_update, IsNoChange};
+ghost use Rattle.pool.specs.Limiting.{IsAccounted, IsOver, IsNoChange, MayChange};
 ghost use Rattle.pool.specs.Plans.{state_after_plan, CanDo};
 
 use crate::pool::{Plan, Pool};
@@ -118,7 +118,7 @@ impl Pool {
     pub(crate) fn ask_change(&mut self, alloc: Global, name: &DsName, update: &Update) -> Result<(), Refusal>
         requires { IsBatch (update.now ∷ []) }
         ensures same { self.new ≡ self.old }
-        ensures ok { OnOk result (IsUnlimited self.old.state.now.file_systems ⊎ (first_of (limit_row (after_update self.old.state name.now (changes_of (update.now ∷ [])))) ≡ None)) }
+        ensures ok { OnOk result (MayChange self.old.state name.now (changes_of (update.now ∷ []))) }
         ensures err { IfErr result (IsNoChange self.old.state name.now (changes_of (update.now ∷ []))) }
     {
         let mut space = self.space(self.freeing.len());

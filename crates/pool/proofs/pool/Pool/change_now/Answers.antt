@@ -27,7 +27,7 @@ pub release_all-requires : goal.release_all-requires
 release_all-requires c =
     let e = c.in-Ok-changed.ensures in
     let can = can_now (state_of c.self.inside) c.self.inside.allocator c.self.invariant.0 c.self.inside.present refl c.group.result.0 c.group.ensures c.in-Ok.name.now
-    c.apply_live-changed.new.self c.in-Ok-update.update c.from_ref.result.now c.from_ref.ensures.value c.in-Ok-changed.done
+    c.apply_live-changed.new.self c.in-Ok-update.update c.from_ref.result.now c.from_ref.ensures.value (may c) c.in-Ok-changed.done
     (record { ok = e.ok; room = e.room; no_dataset = e.no_dataset; no_space = e.no_space; only = e.only }) in
     rw (c.deref.ensures, c.group-2.ensures) (release_them (state_of c.self.inside) c.self.invariant.0.steady c.self.inside.allocator c.self.invariant.0.states c.apply_live-changed.new.self _ _ can)
 
@@ -35,7 +35,7 @@ pub take_all-requires : goal.take_all-requires
 take_all-requires c =
     let e = c.in-Ok-changed.ensures in
     let can = can_now (state_of c.self.inside) c.self.inside.allocator c.self.invariant.0 c.self.inside.present refl c.group.result.0 c.group.ensures c.in-Ok.name.now
-    c.apply_live-changed.new.self c.in-Ok-update.update c.from_ref.result.now c.from_ref.ensures.value c.in-Ok-changed.done
+    c.apply_live-changed.new.self c.in-Ok-update.update c.from_ref.result.now c.from_ref.ensures.value (may c) c.in-Ok-changed.done
     (record { ok = e.ok; room = e.room; no_dataset = e.no_dataset; no_space = e.no_space; only = e.only }) in
     rw (c.release_all.ensures, c.deref.ensures, c.deref-2.ensures, c.group-2.ensures)
     (take_them (state_of c.self.inside) c.self.invariant.0.steady c.self.inside.allocator c.self.invariant.0.states c.apply_live-changed.new.self _ _ can)
@@ -44,7 +44,7 @@ pub invariant_of-self-2 : goal.invariant_of-self-2
 invariant_of-self-2 c =
     let e = c.in-Ok-changed.ensures in
     let can = can_now (state_of c.self.inside) c.self.inside.allocator c.self.invariant.0 c.self.inside.present refl c.group.result.0 c.group.ensures c.in-Ok.name.now
-    c.apply_live-changed.new.self c.in-Ok-update.update c.from_ref.result.now c.from_ref.ensures.value c.in-Ok-changed.done
+    c.apply_live-changed.new.self c.in-Ok-update.update c.from_ref.result.now c.from_ref.ensures.value (may c) c.in-Ok-changed.done
     (record { ok = e.ok; room = e.room; no_dataset = e.no_dataset; no_space = e.no_space; only = e.only }) in
     rw (c.take_all.ensures, c.release_all.ensures, c.deref.ensures, c.deref-2.ensures, c.group-2.ensures)
     (sound_changed (state_of c.self.inside) c.self.inside.allocator c.self.invariant.0 c.apply_live-changed.new.self _ _ can)
@@ -54,7 +54,7 @@ returns c q asks =
     let e = c.in-Ok-changed.ensures in
     subst (λ (x : Shown). Step x.state q Done (with_datasets (state_of c.self.inside) c.apply_live-changed.new.self)) c.self.view_is
     (done_now (state_of c.self.inside) c.self.inside.allocator c.self.invariant.0 c.self.inside.present refl c.group.result.0 c.group.ensures c.in-Ok.name.now
-    c.apply_live-changed.new.self c.in-Ok-update.update c.from_ref.result.now c.from_ref.ensures.value c.in-Ok-changed.done
+    c.apply_live-changed.new.self c.in-Ok-update.update c.from_ref.result.now c.from_ref.ensures.value (may c) c.in-Ok-changed.done
     (record { ok = e.ok; room = e.room; no_dataset = e.no_dataset; no_space = e.no_space; only = e.only })
     q (asks_here q c.args.target.now c.args.update c.in-Ok.name.now (Ok c.in-Ok-update.update) c.in-Ok.ensures.ok c.in-Ok-update.is asks))
 
@@ -64,6 +64,6 @@ returns-in-Err-changed c q asks =
     subst (λ (t : Datasets). Step c.args.self.now.state q (Refused c.in-Err-changed.refusal) (with_datasets (state_of c.self.inside) t)) (sym e.err)
     (subst (λ (x : Shown). Step x.state q (Refused c.in-Err-changed.refusal) (state_of c.self.inside)) c.self.view_is
     (refused_now (state_of c.self.inside) c.self.inside.allocator c.self.invariant.0 c.self.inside.present refl c.group.result.0 c.group.ensures c.in-Ok.name.now
-    c.apply_live-changed.new.self c.in-Ok-update.update c.from_ref.result.now c.from_ref.ensures.value c.in-Err-changed.refusal
+    c.apply_live-changed.new.self c.in-Ok-update.update c.from_ref.result.now c.from_ref.ensures.value (may c) c.in-Err-changed.refusal
     (record { ok = e.ok; room = e.room; no_dataset = e.no_dataset; no_space = e.no_space; only = e.only })
     q (asks_here q c.args.target.now c.args.update c.in-Ok.name.now (Ok c.in-Ok-update.update) c.in-Ok.ensures.ok c.in-Ok-update.is asks)))
