@@ -12,13 +12,14 @@ use Rattle.std.proofs.lemmas.List.Sums.{sum_by-cons}
 use Rattle.base.specs.declared.number.Dead.{Dead}
 use Rattle.base.specs.declared.number.Key.{Key}
 use Rattle.base.specs.Map.{Map, Block, BlockSet, blocks}
-use Rattle.base.specs.Rewrite.{Changes}
+use Rattle.base.specs.Rewrite.{Changes, rewrite}
 use Rattle.base.specs.Surveys.{IsIn, dead_block}
 use Rattle.batch.specs.declared.forecast.Forecast.{Forecast}
 use Rattle.model.specs.State.{State, waiting_of}
 use Rattle.model.specs.World.{World, FileSystem, Snap, SnapId, Live, id_of, map_of_snap, maps_of, previous_of, blocks_of_all, union_of}
 use Rattle.model.specs.Sums.{size_without, used_here, referenced_of, written_of, used_by_dataset, used_by_snapshots}
 use Rattle.model.specs.Edits.{with_now}
+use Rattle.model.specs.Refusals.{fresh_number}
 use Rattle.world.specs.Dead.{base_of}
 use Rattle.world.specs.Sets.{IsSubset}
 use Rattle.world.specs.Sums.{origin_group as origin_in}
@@ -57,7 +58,7 @@ module _ (s : State) (c : Changes) (r : Row) (f : Forecast) (synced : ℕ) (is :
   abbrev dropped : List Block
   dropped = map dead_block f.dropped.items
 
-  look : IsOutlook s (ahead s c r) r.name r.system (record r.system { live = _ }) dropped (length is.forecast.made)
+  look : IsOutlook s (ahead s c r) r.name r.system (record r.system { live = rewrite r.system.live c s.now.group (fresh_number s) }) dropped (length is.forecast.made)
   look = outlook s is.good r.name r.system is.there c dropped is.forecast.made is.forecast.survey
 
   -- the newest snapshot's group, or else the origin's
@@ -124,7 +125,7 @@ module _ (s : State) (c : Changes) (r : Row) (f : Forecast) (synced : ℕ) (is :
       ≡ count_before (base_of s.now (Live r.name)) s.last.group (map dead_block f.dropped.items)
   waits_is =
       sym (count_dead (λ b. nat_lt (newest_group (origin_group r.system.origin) r.system.snaps) b.birth && nat_lt b.birth synced) f.dropped.items)
-      ∙ (λ i. count_before (base_is (~ i)) (is.synced i) (map dead_block f.dropped.items))
+      ∙ (λ i. count_before (sym base_is i) (is.opened i) (map dead_block f.dropped.items))
 
   -- no more than was there or is made
   pub own_written : count_after (base_of s.now (Live r.name)) (map dead_block f.dropped.items) ≤ written_of s.now (Live r.name) + f.made

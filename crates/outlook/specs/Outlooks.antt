@@ -21,7 +21,7 @@ pub record IsAhead (s : State) (c : Changes) (r : Row) (f : Forecast) (synced : 
   pub there : get s.now.file_systems r.name ≡ Some r.system
   pub below : r.below ≡ below_in s.now.file_systems r.system.origin
   pub forecast : IsForecast r.system.live c f
-  pub synced : synced ≡ s.last.group
+  pub opened : synced ≡ s.last.group
   pub few : len (union_of s.now) < 2 ^ 32
 
 -- the world that limits are asked of (zfsprops(7): quota, refquota, reservation)
