@@ -26,10 +26,7 @@ pub struct Outlook {
 fn count_after(dropped: &[Dead], group: Group) -> usize
     ensures { result ≡ count_by (λ d. nat_lt group.0 d.birth.0) dropped.now }
 {
-    dropped
-        .iter()
-        .filter(|dead| dead.birth.0 > group.0)
-        .count()
+    dropped.iter().filter(|dead| dead.birth.0 > group.0).count()
 }
 
 // How many were born after one group and before another.
@@ -60,7 +57,8 @@ pub fn outlook_of(
     let made = u64::from(made);
     let before = file_system.newest_group();
     let own = count_after(&forecast.dropped, before) as u64;
-    let held = u64::from(file_system.used_by_dataset()) + file_system.used_by_snapshots() + made - own;
+    let held = u64::from(file_system.used_by_dataset()) + file_system.used_by_snapshots() + made
+        - own;
     let written = u64::from(file_system.written()) + made - own;
     let kept = match file_system.limits().get(Limit::RefReservation) {
         Some(amount) => amount.get(),

@@ -71,7 +71,7 @@ returns-clause-ok c = λ s ch k.
     let h = here_after _ _ _ _ _ k in
     let r = referenced_after _ _ _ _ _ k in
     let w = c.count_before.ensures
-        ∙ (λ i. count_by (λ d. nat_lt (c.newest_group-before.ensures i) d.birth.0 && nat_lt d.birth.0 c.args.synced.0) (c.deref-2.ensures i)) ∙ waits_is _ _ _ _ _ k in
+    ∙ (λ i. count_by (λ d. nat_lt (c.newest_group-before.ensures i) d.birth.0 && nat_lt d.birth.0 c.args.synced.0) (c.deref-2.ensures i)) ∙ waits_is _ _ _ _ _ k in
     let t = waiting_after _ _ _ _ _ k in
     let q = c.saturating_sub.ensures in
     record {
