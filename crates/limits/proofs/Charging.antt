@@ -1,0 +1,109 @@
+-- Each line's charge added to its parent's, from the last to the first.
+use Rattle.std.proofs.Common.{◌≡◌, ℕ, zero, suc, ◌+◌, ◌*◌, ◌<◌, ◌≤◌, ◌^◌, Bool, true, false, cond, List, [], ◌∷◌, length, get_or, set, map, take, drop, Option, Some, None, is_some, refl, sym, ap, subst, ◌∙◌, inl, inr, ◌⊎◌, ⊎_elim, arith, add-one}
+use Rattle.std.specs.Prelude.{max, unwrap_or}
+use Rattle.std.specs.List.{All, filter}
+use Rattle.std.specs.FinMap.{get, entries, keys}
+use Rattle.std.proofs.lemmas.Bool.{cases_eq}
+use Rattle.std.proofs.lemmas.List.{length-map, length-set, get_or-map, get_or-set_same, get_or-set_other, map-set, set-get_or, drop_more, drop_all, same_lists}
+use Rattle.std.proofs.lemmas.List.Elements.{All-set}
+use Rattle.name.specs.Names.{parent_of}
+use Rattle.model.specs.World.{World, FileSystem}
+use Rattle.model.specs.Hierarchy.{FileSystems, IsHierarchy}
+use Rattle.model.specs.Sums.{used_here, used_by_children, reservation_of}
+use Rattle.world.specs.Trees.{total}
+use Rattle.accounts.specs.Levels.{charge_of}
+use Rattle.accounts.proofs.Levels.{reserved_is, used_by_children_is, used-split}
+use Rattle.accounts.proofs.Names.{is_child, child_is, is_child_of}
+use Rattle.limits.specs.declared.account.Account.{Account}
+use Rattle.limits.specs.declared.line.Line.{Line}
+use Rattle.limits.specs.Lines.{used_in, reserved_in, charge_in}
+use Rattle.limits.specs.Ledgers.{account_in, accounts_in, line_in, ledger_of}
+use Rattle.limits.specs.Charging.{children_from, HasCharges, IsCharged}
+use Rattle.limits.proofs.Order.{no_entry, keys_long, key_is, one_place, child_later, children_behind, entry_at}
+
+-- ---- sums over the first of a list
+
+module _ {A : Type 0} (f : A → ℕ) where
+  total_next : (xs : List A) (i : ℕ) (d : A) → i < length xs → total f (take (suc i) xs) ≡ total f (take i xs) + f (get_or xs i d)
+  total_next [] i d lt = absurd (omega (arith, lt))
+  total_next (x ∷ xs) zero d lt = omega arith
+  total_next (x ∷ xs) (suc i) d lt = let r = total_next xs i d (omega (arith, lt)) in omega (arith, r)
+
+  total_more : (xs : List A) (i : ℕ) (d : A) → i < length xs → total f (take (i + 1) xs) ≡ total f (take i xs) + f (get_or xs i d)
+  total_more xs i d lt = rw add-one (total_next xs i d lt)
+
+  total_set : (xs : List A) (k p : ℕ) (y d : A) → p < k → p < length xs → total f (take k (set xs p y)) + f (get_or xs p d) ≡ total f (take k xs) + f y
+  total_set [] k p y d lt within = absurd (omega (arith, within))
+  total_set (x ∷ xs) zero p y d lt within = absurd (omega (arith, lt))
+  total_set (x ∷ xs) (suc k) zero y d lt within = omega arith
+  total_set (x ∷ xs) (suc k) (suc p) y d lt within = let r = total_set xs k p y d (omega (arith, lt)) (omega (arith, within)) in omega (arith, r)
+
+  total_item : (xs : List A) (k p : ℕ) (d : A) → p < k → p < length xs → f (get_or xs p d) ≤ total f (take k xs)
+  total_item [] k p d lt within = absurd (omega (arith, within))
+  total_item (x ∷ xs) zero p d lt within = absurd (omega (arith, lt))
+  total_item (x ∷ xs) (suc k) zero d lt within = omega arith
+  total_item (x ∷ xs) (suc k) (suc p) d lt within = let r = total_item xs k p d (omega (arith, lt)) (omega (arith, within)) in omega (arith, r)
+
+-- ---- the accounts of a world, by places
+
+abbrev pub account_is : Line → Account
+account_is l = l.account
+
+module _ (m : FileSystems) (ls : List Line) (w : World) (good : IsHierarchy w.file_systems) (named : keys w.file_systems ≡ keys m)
+    (has : accounts_in w ≡ map account_is ls) where
+  long : length ls ≡ length (keys m)
+  unfolding accounts_in
+  long =
+      let a = ap length has in
+      let b = length-map ls account_is in
+      let c = length-map (entries w.file_systems) (λ (e : List ℕ × FileSystem). account_in w e.0 e.1) in
+      let d = keys_long w.file_systems in
+      let e = ap length named in
+      omega (arith, a, b, c, d, e)
+
+  module _ (k : ℕ) (lt : k < length ls) (d : Line) where
+    in_world : k < length (keys w.file_systems)
+    in_world = let l = long in let e = ap length named in omega (arith, l, e, lt)
+
+    abbrev entry : List ℕ × FileSystem
+    entry = get_or (entries w.file_systems) k no_entry
+
+    name_is : get_or (keys m) k [] ≡ entry.0
+    name_is = sym (ap (λ l. get_or l k []) named) ∙ key_is w.file_systems k in_world
+
+    account_at : account_in w entry.0 entry.1 ≡ (get_or ls k d).account
+    unfolding accounts_in
+    account_at =
+        let l = keys_long w.file_systems in
+        let i = in_world in
+        sym (get_or-map (λ (e : List ℕ × FileSystem). account_in w e.0 e.1) (entries w.file_systems) k no_entry d.account (omega (arith, l, i)))
+        ∙ ap (λ l. get_or l k d.account) has
+        ∙ get_or-map account_is ls k d d.account lt
+
+    there : get w.file_systems (get_or (keys m) k []) ≡ Some entry.1
+    there = ap (get w.file_systems) (sym (ap (λ l. get_or l k []) named)) ∙ entry_at w.file_systems k in_world
+
+    here_is : used_here w (get_or (keys m) k []) ≡ (get_or ls k d).account.here
+    here_is = ap (used_here w) name_is ∙ ap (λ (a : Account). a.here) account_at
+
+    reserved_at : reservation_of w (get_or (keys m) k []) ≡ reserved_in (get_or ls k d)
+    reserved_at = reserved_is w (get_or (keys m) k []) entry.1 there ∙ ap (λ (a : Account). unwrap_or a.limits.reservation 0) account_at
+
+    -- where a line has all its children's charges, its own is that of the world
+    module _ (i : ℕ) (le : i ≤ k + 1) (sum : (get_or ls k d).children ≡ total (charge_of w) (children_from (keys m) i (get_or (keys m) k []))) where
+      children_are : used_by_children w (get_or (keys m) k []) ≡ (get_or ls k d).children
+      children_are =
+          let l = long in
+          used_by_children_is w good (get_or (keys m) k [])
+          ∙ ap (λ ns. total (charge_of w) (filter (is_child (get_or (keys m) k [])) ns)) named
+          ∙ sym (ap (total (charge_of w)) (children_behind m i k le (omega (arith, l, lt))))
+          ∙ sym sum
+
+      charge_is : charge_of w (get_or (keys m) k []) ≡ charge_in (get_or ls k d)
+      charge_is =
+          (λ i. max (used-split w good (get_or (keys m) k []) i) (reserved_at i))
+          ∙ (λ i. max (here_is i + children_are i) (reserved_in (get_or ls k d)))
+
+      -- and it is the line of the world
+      line_is : get_or ls k d ≡ line_in w entry
+      line_is = λ i. record { account = sym account_at i; children = (sym children_are ∙ ap (used_by_children w) name_is) i }
