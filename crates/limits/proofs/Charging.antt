@@ -7,10 +7,11 @@ use Rattle.std.proofs.lemmas.Bool.{cases_eq}
 use Rattle.std.proofs.lemmas.List.{length-map, length-set, get_or-map, get_or-set_same, get_or-set_other, map-set, set-get_or, drop_more, drop_all, same_lists}
 use Rattle.std.proofs.lemmas.List.Elements.{All-set}
 use Rattle.name.specs.Names.{parent_of}
-use Rattle.model.specs.World.{World, FileSystem}
+use Rattle.model.specs.World.{World, FileSystem, no_limits}
 use Rattle.model.specs.Hierarchy.{FileSystems, IsHierarchy}
 use Rattle.model.specs.Sums.{used_here, used_by_children, reservation_of}
 use Rattle.world.specs.Trees.{total}
+use Rattle.world.proofs.Maps.{no_value}
 use Rattle.accounts.specs.Levels.{charge_of}
 use Rattle.accounts.proofs.Levels.{reserved_is, used_by_children_is, used-split}
 use Rattle.accounts.proofs.Names.{is_child, child_is, is_child_of}
@@ -107,3 +108,58 @@ module _ (m : FileSystems) (ls : List Line) (w : World) (good : IsHierarchy w.fi
       -- and it is the line of the world
       line_is : get_or ls k d ≡ line_in w entry
       line_is = λ i. record { account = sym account_at i; children = (sym children_are ∙ ap (used_by_children w) name_is) i }
+
+abbrev children_in : Line → ℕ
+children_in l = l.children
+
+-- ---- one line charged
+
+module _ (m : FileSystems) (k : ℕ) (ls : List Line) (as_long : length ls ≡ length (keys m)) (lt : k < length ls) (was : IsCharged m (k + 1) ls) where
+  abbrev key : List ℕ
+  key = get_or (keys m) k []
+
+  next : (name : List ℕ) → children_from (keys m) k name
+      ≡ cond (is_child name (get_or (keys m) k [])) (get_or (keys m) k [] ∷ children_from (keys m) (k + 1) name) (children_from (keys m) (k + 1) name)
+  next name = ap (filter (is_child name)) (drop_more (keys m) k [] (omega (arith, as_long, lt)))
+
+  its_parent : (name : List ℕ) → parent_of (get_or (keys m) k []) ≡ Some name → children_from (keys m) k name ≡ get_or (keys m) k [] ∷ children_from (keys m) (k + 1) name
+  its_parent name e =
+      next name ∙ ap (λ b. cond b (get_or (keys m) k [] ∷ children_from (keys m) (k + 1) name) (children_from (keys m) (k + 1) name)) (is_child_of name (get_or (keys m) k []) e)
+
+  no_parent : (name : List ℕ) → (parent_of (get_or (keys m) k []) ≡ Some name → ⊥) → children_from (keys m) k name ≡ children_from (keys m) (k + 1) name
+  no_parent name ne = next name ∙ at (is_child name (get_or (keys m) k [])) refl
+    where
+      at : (b : Bool) → is_child name (get_or (keys m) k []) ≡ b
+          → cond b (get_or (keys m) k [] ∷ children_from (keys m) (k + 1) name) (children_from (keys m) (k + 1) name) ≡ children_from (keys m) (k + 1) name
+      at true e = absurd (ne (child_is name (get_or (keys m) k []) e))
+      at false e = refl
+
+  -- a file system with no parent
+  pub charged_alone : parent_of (get_or (keys m) k []) ≡ None → IsCharged m k ls
+  charged_alone none = record {
+    charges = λ w good named has j d lj. was.charges w good named has j d lj
+        ∙ sym (ap (total (charge_of w)) (no_parent (get_or (keys m) j []) (λ e. no_value (get_or (keys m) j []) (sym none ∙ e))));
+    left = let l = was.left in let t = total_more children_in ls k (get_or ls k (no_line k)) lt in omega (arith, l, t);
+    most = was.most;
+    here = was.here;
+    few = was.few;
+  }
+    where
+      no_line : ℕ → Line
+      no_line n = record { account = record { here = 0; referenced = 0; limits = no_limits }; children = 0 }
+
+  -- and one with a parent
+  module _ (p : ℕ) (lp : p < length (keys m)) (parent : parent_of (get_or (keys m) k []) ≡ Some (get_or (keys m) p [])) (line old new : Line)
+      (line_at : line ≡ get_or ls k line) (old_at : old ≡ get_or ls p old) (charge : ℕ) (charge_is : charge ≡ charge_in line) (low : charge ≤ used_in line + 2 ^ 40)
+      (same : new.account ≡ old.account) (more : new.children ≡ old.children + charge) where
+    within : p < length ls
+    within = omega (arith, lp, as_long)
+
+    before : p < k
+    before = child_later m k p (omega (arith, lt, as_long)) lp parent
+
+    accounts_same : map account_is (set ls p new) ≡ map account_is ls
+    accounts_same =
+        map-set account_is ls p new
+        ∙ ap (set (map account_is ls) p) (same ∙ ap account_is old_at ∙ sym (get_or-map account_is ls p old old.account within))
+        ∙ set-get_or (map account_is ls) p old.account
