@@ -5,19 +5,19 @@ use Rattle.std.specs.List.{All, filter}
 use Rattle.std.specs.FinMap.{get, entries, keys}
 use Rattle.std.proofs.lemmas.Bool.{cases_eq}
 use Rattle.std.proofs.lemmas.List.{length-map, length-set, get_or-map, get_or-set_same, get_or-set_other, map-set, set-get_or, drop_more, drop_all, same_lists}
-use Rattle.std.proofs.lemmas.List.Elements.{All-set}
+use Rattle.std.proofs.lemmas.List.Elements.{All-set, All-map}
 use Rattle.name.specs.Names.{parent_of}
 use Rattle.model.specs.World.{World, FileSystem, no_limits}
 use Rattle.model.specs.Hierarchy.{FileSystems, IsHierarchy}
 use Rattle.model.specs.Sums.{used_here, used_by_children, reservation_of}
 use Rattle.world.specs.Trees.{total}
-use Rattle.world.proofs.Maps.{no_value}
+use Rattle.world.proofs.Maps.{same_value, no_value}
 use Rattle.accounts.specs.Levels.{charge_of}
 use Rattle.accounts.proofs.Levels.{reserved_is, used_by_children_is, used-split}
 use Rattle.accounts.proofs.Names.{is_child, child_is, is_child_of}
 use Rattle.limits.specs.declared.account.Account.{Account}
 use Rattle.limits.specs.declared.line.Line.{Line}
-use Rattle.limits.specs.Lines.{used_in, reserved_in, charge_in}
+use Rattle.limits.specs.Lines.{used_in, reserved_in, charge_in, IsSmall}
 use Rattle.limits.specs.Ledgers.{account_in, accounts_in, line_in, ledger_of}
 use Rattle.limits.specs.Charging.{children_from, HasCharges, IsCharged}
 use Rattle.limits.proofs.Order.{no_entry, keys_long, key_is, one_place, child_later, children_behind, entry_at}
@@ -150,7 +150,7 @@ module _ (m : FileSystems) (k : ℕ) (ls : List Line) (as_long : length ls ≡ l
 
   -- and one with a parent
   module _ (p : ℕ) (lp : p < length (keys m)) (parent : parent_of (get_or (keys m) k []) ≡ Some (get_or (keys m) p [])) (line old new : Line)
-      (line_at : line ≡ get_or ls k line) (old_at : old ≡ get_or ls p old) (charge : ℕ) (charge_is : charge ≡ charge_in line) (low : charge ≤ used_in line + 2 ^ 40)
+      (line_at : line ≡ get_or ls k line) (old_at : old ≡ get_or ls p old) (charge : ℕ) (charged : charge ≡ charge_in line) (low : charge ≤ used_in line + 2 ^ 40)
       (same : new.account ≡ old.account) (more : new.children ≡ old.children + charge) where
     within : p < length ls
     within = omega (arith, lp, as_long)
@@ -163,3 +163,109 @@ module _ (m : FileSystems) (k : ℕ) (ls : List Line) (as_long : length ls ≡ l
         map-set account_is ls p new
         ∙ ap (set (map account_is ls) p) (same ∙ ap account_is old_at ∙ sym (get_or-map account_is ls p old old.account within))
         ∙ set-get_or (map account_is ls) p old.account
+
+    long_set : length (set ls p new) ≡ length ls
+    long_set = length-set ls p new
+
+    up_charges : HasCharges m k (set ls p new)
+    up_charges w good named has j d lj = ⊎_elim
+        (λ is. subst (λ n. (get_or (set ls p new) n d).children ≡ total (charge_of w) (children_from (keys m) k (get_or (keys m) n []))) (sym is) here)
+        (λ ne.
+        ap children_in (get_or-set_other ls p j new d ne)
+        ∙ was.charges w good named has' j d (omega (arith, lj, long_set))
+        ∙ sym (ap (total (charge_of w)) (no_parent (get_or (keys m) j [])
+        (λ e. ne (one_place m j p (omega (arith, lj, long_set, as_long)) lp (same_value (get_or (keys m) j []) (get_or (keys m) p []) (sym e ∙ parent)))))))
+        (cases_eq j p)
+      where
+        has' : accounts_in w ≡ map account_is ls
+        has' = has ∙ accounts_same
+
+        here : (get_or (set ls p new) p d).children ≡ total (charge_of w) (children_from (keys m) k (get_or (keys m) p []))
+        here =
+            let a = was.charges w good named has' p old within in
+            let b = ap children_in old_at in
+            let c = charge_is m ls w good named has' k lt line (k + 1) (omega arith) (was.charges w good named has' k line lt) in
+            let e = ap charge_in line_at in
+            let f = ap (total (charge_of w)) (its_parent (get_or (keys m) p []) parent) in
+            let g = ap children_in (get_or-set_same ls p new d within) in
+            omega (arith, a, b, c, e, f, g, charged, more)
+
+    up_left : total children_in (take k (set ls p new)) + k * 2 ^ 43 ≤ length (set ls p new) * 2 ^ 43
+    up_left =
+        let a = total_set children_in ls k p new old before within in
+        let b = total_more children_in ls k line lt in
+        let c = ap children_in old_at in
+        let d = ap children_in line_at in
+        let e = was.here k line lt in
+        let f = ap (λ (l : Line). l.account.here) line_at in
+        let l = was.left in
+        omega (arith, a, b, c, d, e, f, l, low, more, long_set)
+
+    up_most : new.children ≤ 2 ^ 53
+    up_most =
+        let a = total_item children_in ls k p old before within in
+        let b = total_more children_in ls k line lt in
+        let c = ap children_in old_at in
+        let d = ap children_in line_at in
+        let e = was.here k line lt in
+        let f = ap (λ (l : Line). l.account.here) line_at in
+        let l = was.left in
+        let n = was.few in
+        omega (arith, a, b, c, d, e, f, l, low, more, n)
+
+    pub charged_up : IsCharged m k (set ls p new)
+    charged_up = record {
+      charges = up_charges;
+      left = up_left;
+      most = All-set (λ (l : Line). l.children ≤ 2 ^ 53) ls p new up_most was.most;
+      here = All-set (λ (l : Line). l.account.here < 2 ^ 42) ls p new
+          (let h = was.here p old within in let a = ap (λ (l : Line). l.account.here) old_at in let b = ap (λ (a : Account). a.here) same in omega (arith, h, a, b)) was.here;
+      few = let f = was.few in omega (arith, f, long_set);
+    }
+
+-- ---- at first
+
+abbrev pub fresh : Account → Line
+fresh a = record { account = a; children = 0 }
+
+total_fresh : (bs : List Account) (i : ℕ) → total children_in (take i (map fresh bs)) ≡ 0
+total_fresh [] zero = refl
+total_fresh [] (suc i) = refl
+total_fresh (a ∷ bs) zero = refl
+total_fresh (a ∷ bs) (suc i) = let t = total_fresh bs i in omega (arith, t)
+
+-- no line is charged
+pub none_charged : (m : FileSystems) (bs : List Account) (n : ℕ) → n ≡ length bs → n ≡ length (keys m) → n ≤ 1024 → All (λ a. a.here < 2 ^ 42) bs → IsCharged m n (map fresh bs)
+none_charged m bs n long as_long few here = record {
+  charges = λ w good named has j d lj.
+      let l = length-map bs fresh in
+      let a : Account = d.account in
+      ap children_in (get_or-map fresh bs j a d (omega (arith, lj, l)))
+      ∙ sym (ap (λ ns. total (charge_of w) (filter (is_child (get_or (keys m) j [])) ns)) (drop_all n (keys m) (omega (arith, as_long))));
+  left = let t = total_fresh bs n in let l = length-map bs fresh in omega (arith, t, l, long);
+  most = All-map (λ (l : Line). l.children ≤ 2 ^ 53) fresh bs (λ k d lt. omega arith);
+  here = All-map (λ (l : Line). l.account.here < 2 ^ 42) fresh bs here;
+  few = let l = length-map bs fresh in omega (arith, l, long, few);
+}
+
+-- ---- at last
+
+module _ (m : FileSystems) (ls : List Line) (all : IsCharged m 0 ls) where
+  -- the lines are those of the world
+  pub charged_is : (w : World) → IsHierarchy w.file_systems → keys w.file_systems ≡ keys m → accounts_in w ≡ map account_is ls → ls ≡ ledger_of w
+  unfolding ledger_of
+  charged_is w good named has = same_lists ls (map (line_in w) (entries w.file_systems))
+      (let l = long m ls w good named has in
+      let a = ap length named in
+      let b = keys_long w.file_systems in
+      let c = length-map (entries w.file_systems) (line_in w) in
+      omega (arith, l, a, b, c))
+      (λ k d lt.
+      let l = long m ls w good named has in
+      let a = ap length named in
+      let b = keys_long w.file_systems in
+      line_is m ls w good named has k lt d 0 (omega arith) (all.charges w good named has k d lt)
+      ∙ sym (get_or-map (line_in w) (entries w.file_systems) k no_entry d (omega (arith, l, a, b, lt))))
+
+  pub charged_small : All IsSmall ls
+  charged_small k d lt = let a = all.here k d lt in let b = all.most k d lt in omega (arith, a, b)
