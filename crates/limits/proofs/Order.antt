@@ -116,7 +116,7 @@ module _ (m : FileSystems) where
       rw (key_is i lt) (get-entries m (get_or (entries m) i no_entry).0 ∙ find_at nat_list_cmp_total (entries m) (entries_sorted m) i no_entry (omega (arith, l, lt)))
 
   module _ (good : IsHierarchy m) where
-    not_empty : zero < length (keys m)
+    pub not_empty : zero < length (keys m)
     not_empty = let p = place_in (keys m) root_name (in_keys m root_name good.root) in let l = p.1 in omega (arith, l)
 
     -- the root stands first

@@ -7,6 +7,7 @@ use Rattle.model.specs.State.{State, waiting_of}
 use Rattle.model.specs.Sums.{used_here, used_by_children, referenced_of}
 use Rattle.limits.specs.declared.account.Account.{Account}
 use Rattle.limits.specs.declared.line.Line.{Line}
+use Rattle.limits.specs.declared.pool_space.Space.{Space}
 
 -- what a file system has and keeps of its own, what its live map has, and its limits (zfsprops(7): used, referenced, quota, refquota,
 -- reservation, refreservation)
@@ -24,3 +25,9 @@ line_in w e = record { account = account_in w e.0 e.1; children = used_by_childr
 -- of each file system, in byte order of the names (profile)
 unfoldable pub ledger_of : World → List Line
 ledger_of w = map (line_in w) (entries w.file_systems)
+
+-- what a state's pool has beside its file systems (zpoolprops(7): size, freeing; waiting is profile)
+pub record IsSpaceOf (s : State) (space : Space) : Type 0 where
+  pub size : space.size ≡ s.size
+  pub freeing : space.freeing ≡ len s.now.freeing
+  pub waiting : space.waiting ≡ len (waiting_of s)

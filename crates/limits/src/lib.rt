@@ -6,6 +6,8 @@
 
 mod account;
 mod line;
+mod pool_space;
 
 pub use crate::account::Account;
 pub use crate::line::Line;
+pub use crate::pool_space::Space;
