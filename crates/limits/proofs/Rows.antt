@@ -15,7 +15,7 @@ use Rattle.model.specs.Sums.{used_of, referenced_of}
 use Rattle.model.specs.Fits.{quotas_hold, refquotas_hold, pool_holds}
 use Rattle.model.specs.Rule.{first_of}
 use Rattle.model.specs.requests.Change.{limit_row}
-use Rattle.world.proofs.Maps.{same_value}
+use Rattle.world.proofs.Maps.{same_value, no_value}
 use Rattle.accounts.proofs.Levels.{reserved_is}
 use Rattle.accounts.proofs.Pool.{pool_holds_is}
 use Rattle.limits.specs.declared.line.Line.{Line}
@@ -75,5 +75,16 @@ module _ (s : State) (good : IsHierarchy s.now.file_systems) where
       over_refquota e = within_quota ∙ ap (λ b. first_of ((not b, RefQuota) ∷ (not (pool_holds s), NoSpace) ∷ [])) (refquotas_are s.now ∙ ap (list_all is_in_refquota) (sym all) ∙ e)
 
       module _ (within : list_all is_in_refquota lines ≡ true) where
-        pub by_room : first_of (limit_row s) ≡ first_of ((not (pool_holds s), NoSpace) ∷ [])
+        by_room : first_of (limit_row s) ≡ first_of ((not (pool_holds s), NoSpace) ∷ [])
         by_room = within_quota ∙ ap (λ b. first_of ((not b, RefQuota) ∷ (not (pool_holds s), NoSpace) ∷ [])) (refquotas_are s.now ∙ ap (list_all is_in_refquota) (sym all) ∙ within)
+
+        -- by the root's line
+        pub told_by_room : (l : Line) → slice_get lines zero ≡ Some l → (charge : ℕ) → charge ≡ charge_in l → (b : Bool) → b ≡ nat_le (charge + space.freeing + space.waiting) space.size
+            → first_of (limit_row s) ≡ first_of ((not b, NoSpace) ∷ [])
+        told_by_room l e charge is b room =
+            by_room
+            ∙ ap (λ x. first_of ((not x, NoSpace) ∷ [])) (room_is l e ∙ ap (λ n. nat_le (n + space.freeing + space.waiting) space.size) (sym is) ∙ sym room)
+
+    -- the root has a line
+    pub has_root : slice_get lines zero ≡ None → ⊥
+    has_root e = no_value (line_in s.now (root_name, root.1)) (sym e ∙ ap (λ ls. slice_get ls zero) all ∙ root_line)

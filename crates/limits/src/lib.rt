@@ -5,9 +5,11 @@
 #![tactic(auto)]
 
 mod account;
+mod ledger;
 mod line;
 mod pool_space;
 
 pub use crate::account::Account;
+pub use crate::ledger::Ledger;
 pub use crate::line::Line;
 pub use crate::pool_space::Space;
