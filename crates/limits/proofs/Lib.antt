@@ -1,5 +1,6 @@
 pub mod Sorted
 pub mod Order
-pub mod Charging
-pub mod Rows
+pub mod Charges
+pub mod LimitRow
 pub mod Alike
+pub mod Rooms

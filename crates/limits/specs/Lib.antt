@@ -1,4 +1,4 @@
 -- Which limits a world breaks, from numbers that are kept by file system.
 pub mod Lines
 pub mod Ledgers
-pub mod Charging
+pub mod Charges

@@ -5,6 +5,7 @@
 #![tactic(auto)]
 
 mod account;
+mod charging;
 mod ledger;
 mod line;
 mod pool_space;

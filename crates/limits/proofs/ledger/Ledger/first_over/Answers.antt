@@ -6,7 +6,7 @@ use Rattle.std.proofs.lemmas.List.{take_all}
 use Rattle.std.proofs.lemmas.List.Folds.{list_all_at}
 use Rattle.limits.specs.declared.line.Line.{Line}
 use Rattle.limits.specs.Lines.{charge_in, is_in_quota, is_in_refquota}
-use Rattle.limits.proofs.Rows.{over_quota, over_refquota, told_by_room, has_root}
+use Rattle.limits.proofs.LimitRow.{over_quota, over_refquota, told_by_room, has_root}
 use Rattle.limits.proofs.ledger.Ledger.first_over.Goals as goal
 
 pub returns-then-not-is_in_quota : goal.returns-then-not-is_in_quota

@@ -8,8 +8,13 @@ use Rattle.model.specs.World.{World}
 use Rattle.model.specs.Hierarchy.{FileSystems, IsHierarchy}
 use Rattle.world.specs.Trees.{total}
 use Rattle.accounts.specs.Levels.{charge_of}
+use Rattle.limits.specs.declared.account.Account.{Account}
 use Rattle.limits.specs.declared.line.Line.{Line}
 use Rattle.limits.specs.Ledgers.{accounts_in}
+
+-- an account's line, with no child charged (profile)
+abbrev pub fresh : Account → Line
+fresh a = record { account = a; children = 0 }
 
 -- the children of a file system among names from a place on (zfs(8))
 abbrev pub children_from : List (List ℕ) → ℕ → List ℕ → List (List ℕ)

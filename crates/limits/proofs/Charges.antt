@@ -19,7 +19,7 @@ use Rattle.limits.specs.declared.account.Account.{Account}
 use Rattle.limits.specs.declared.line.Line.{Line}
 use Rattle.limits.specs.Lines.{used_in, reserved_in, charge_in, IsSmall}
 use Rattle.limits.specs.Ledgers.{account_in, accounts_in, line_in, ledger_of}
-use Rattle.limits.specs.Charging.{children_from, HasCharges, IsCharged}
+use Rattle.limits.specs.Charges.{fresh, children_from, HasCharges, IsCharged}
 use Rattle.limits.proofs.Order.{no_entry, keys_long, key_is, one_place, child_later, children_behind, entry_at}
 
 -- ---- sums over the first of a list
@@ -224,9 +224,6 @@ module _ (m : FileSystems) (k : ℕ) (ls : List Line) (as_long : length ls ≡ l
     }
 
 -- ---- at first
-
-abbrev pub fresh : Account → Line
-fresh a = record { account = a; children = 0 }
 
 total_fresh : (bs : List Account) (i : ℕ) → total children_in (take i (map fresh bs)) ≡ 0
 total_fresh [] zero = refl
