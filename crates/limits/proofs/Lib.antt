@@ -1,6 +1,7 @@
-pub mod Sorted
 pub mod Order
 pub mod Charges
 pub mod LimitRow
 pub mod Alike
 pub mod Rooms
+pub mod Rows
+pub mod Places
