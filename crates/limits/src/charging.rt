@@ -50,6 +50,7 @@ fn charge(table: &Table, lines: &mut [Line], place: usize)
 {
     let amount = lines[place].charge();
     if let Some(parent) = parent_place(table, place) {
-        lines[parent].children += amount;
+        let line = &mut lines[parent];
+        line.children += amount;
     }
 }
