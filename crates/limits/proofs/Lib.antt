@@ -1,0 +1,7 @@
+pub mod Order
+pub mod Charges
+pub mod LimitRow
+pub mod Alike
+pub mod Rooms
+pub mod Rows
+pub mod Places

@@ -1,0 +1,6 @@
+-- Which limits a world breaks, from numbers that are kept by file system.
+pub mod Lines
+pub mod Ledgers
+pub mod Charges
+pub mod Places
+pub mod Rows

@@ -1,0 +1,18 @@
+//! The limits of file systems: which one a world breaks, what each file system uses, and what is available to it, from numbers that are
+//! kept by file system (zfsprops(7): quota, refquota, reservation, refreservation, used, available).
+//!
+//! Nothing here visits a block.
+#![tactic(auto)]
+
+mod account;
+mod charging;
+mod ledger;
+mod line;
+mod parent;
+mod place;
+mod pool_space;
+
+pub use crate::account::{Account, account_of, accounts_of, used_by_refreservation};
+pub use crate::ledger::Ledger;
+pub use crate::line::Line;
+pub use crate::pool_space::Space;
