@@ -3,7 +3,8 @@
 use crate::rig::assert_rows;
 
 // A snapshot of what was written gives the refreservation of ten back: six and ten are more than a quota of 15. The refused one uses up
-// no guid and closes no group. One more of the same map changes nothing.
+// no guid and closes no group. One more of the same map changes nothing. Another version comes out of the ten, twelve and four left are
+// 16 again; a snapshot of it would give the ten back, past a quota of 16 that the root has.
 #[test]
 fn a_snapshot_asks_for_a_quota(rt: HostRuntime) {
     let rows = "
@@ -27,6 +28,11 @@ fn a_snapshot_asks_for_a_quota(rt: HostRuntime) {
         snapshot -r p@t => ok
         get used p/a => 8192
         get guid p/a@t => 4294967299
+        set quota=none p/a => ok
+        set quota=8192 p => ok
+        write p/a 0 0 62 => ok
+        get used p => 8192
+        snapshot p/a@u => error 18 Quota
     ";
     assert_rows(&rt, rt.alloc(), 1000, rows);
 }

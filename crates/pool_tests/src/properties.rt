@@ -98,8 +98,9 @@ fn of_a_clone_with_limits(rt: HostRuntime) {
     assert_rows(&rt, rt.alloc(), 1000, rows);
 }
 
-// s has leaf 0 and the five above it: p/a still has the leaf, and p/c none of them. t has leaf 0 of p/c and the five above it, of which
-// p/c still has the leaf; all six were written since the origin. s is the first snapshot and t the second, each in a group of its own.
+// s has leaf 0 and the five above it. p/a still has the leaf, p/a/b, a clone that has written to another object, the three above it too,
+// and p/c none: s alone has two. t has leaf 0 of p/c and the five above it, of which p/c still has the leaf; all six were written since
+// the origin. s is the first snapshot and t the second, each in a group of its own.
 #[test]
 fn of_a_snapshot_beside_limits(rt: HostRuntime) {
     let rows = "
@@ -111,12 +112,12 @@ fn of_a_snapshot_beside_limits(rt: HostRuntime) {
         write p/a 0 1 62 => ok
         clone p/a@s p/c => ok
         clone p/a@s p/a/b => ok
-        write p/a/b 0 0 66 => ok
+        write p/a/b 1 0 66 => ok
         write p/c 0 0 64 => ok
         snapshot p/c@t => ok
         write p/c 0 1 65 => ok
         hold x p/a@s => ok
-        get used p/a@s => 2560
+        get used p/a@s => 1024
         get available p/a@s => -
         get referenced p/a@s => 3072
         get written p/a@s => 3072

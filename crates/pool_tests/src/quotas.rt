@@ -148,8 +148,8 @@ fn a_refquota_is_of_the_live_map(rt: HostRuntime) {
     assert_rows(&rt, rt.alloc(), 1000, rows);
 }
 
-// A quota of twelve counts p/a and all below it, and not p/a-x. A leaf written over in the open group makes no more. At the end p/a uses
-// 7 of 12 by p/a/x/y, and p uses 13 of 1,000.
+// A quota of twelve counts p/a and all below it, and not p/a-x and what is below that. A leaf written over in the open group makes no
+// more. At the end p/a uses 7 of 12 by p/a/x/y, and p uses 13 of 1,000.
 #[test]
 fn a_quota_is_of_the_family(rt: HostRuntime) {
     let rows = "
@@ -157,10 +157,11 @@ fn a_quota_is_of_the_family(rt: HostRuntime) {
         create p/a/x => ok
         create p/a/x/y => ok
         create p/a-x => ok
+        create p/a-x/y => ok
         set quota=6144 p/a => ok
         write p/a/x/y 0 0 61 => ok
         write p/a 0 0 62 => ok
-        write p/a-x 0 0 63 => ok
+        write p/a-x/y 0 0 63 => ok
         write p/a/x 0 0 64 => error 18 Quota
         write p/a/x/y 0 1 65 => error 18 Quota
         write p/a/x/y 0 0 66 => ok
@@ -178,7 +179,7 @@ fn a_quota_is_of_the_family(rt: HostRuntime) {
         get available p/a/x/y => 2560
         get available p/a-x => 505344
         set quota=6656 p => ok
-        write p/a-x 0 1 67 => error 18 Quota
+        write p/a-x/y 0 1 67 => error 18 Quota
         write p 0 0 68 => error 18 Quota
         get available p/a => 0
     ";
@@ -186,7 +187,8 @@ fn a_quota_is_of_the_family(rt: HostRuntime) {
 }
 
 // The first snapshot of the clone has the origin's seven blocks, and so the clone uses none of them, be they in its live map or not: its
-// quota of six is met by the six that its first write makes. The next snapshot has these six and the origin's other leaf.
+// quota of six is met by the six that its first write makes. The next snapshot has these six and the origin's other leaf. A refquota
+// counts the origin's blocks too: the live map has seven before the first write, and after it.
 #[test]
 fn a_clones_quota_leaves_out_its_origin(rt: HostRuntime) {
     let rows = "
@@ -198,7 +200,10 @@ fn a_clones_quota_leaves_out_its_origin(rt: HostRuntime) {
         set quota=3072 p/c => ok
         snapshot p/c@t => ok
         get usedbysnapshots p/c => 0
+        set refquota=3072 p/c => error 19 RefQuota
+        set refquota=3584 p/c => ok
         write p/c 0 0 63 => ok
+        set refquota=3072 p/c => error 19 RefQuota
         get usedbydataset p/c => 3072
         get usedbysnapshots p/c => 0
         get used p/c => 3072

@@ -252,9 +252,8 @@ fn rooms_below_a_quota(rt: HostRuntime) {
     assert_rows(&rt, rt.alloc(), 100, rows);
 }
 
-// The same in 40 blocks, where what is to be freed and what waits counts below a quota of 40 too: p has 40 - 10 - 6, and p/a no more; with
-// 4 of the 6 taken out after a sync, which then wait, the same, and after the next sync 40 - 10 - 2. A reservation below gets the 4 that are
-// left of its ten beside it.
+// In 40 blocks what is to be freed and what waits counts below a quota of 40 too: p has 40 - 10 - 6, and p/a no more; the same once four
+// of the six are taken out after a sync and wait, and 40 - 10 - 2 after the next sync. p/a/b has the four left of its ten beside that.
 #[test]
 fn rooms_beside_what_is_freed_and_what_waits(rt: HostRuntime) {
     let rows = "

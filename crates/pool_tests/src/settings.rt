@@ -169,49 +169,51 @@ fn is_done(alloc: Global, pool: &mut Pool, request: Request) -> Option<bool> {
     done
 }
 
-/// Whether a quota of six and a reservation of seven are set, or refused memory and not set.
-fn is_tried(alloc: Global, pool: &mut Pool, sets: [Request; 2], gets: [Request; 2]) -> bool {
-    let [quota, reservation] = sets;
-    let [quota_of, reservation_of] = gets;
-    let quota = is_done(alloc, pool, quota);
-    let reservation = is_done(alloc, pool, reservation);
-    let first = is_set(alloc, pool, quota_of, quota, 3072);
-    let second = is_set(alloc, pool, reservation_of, reservation, 3584);
-    first & second
-}
-
-/// Whether a limit is so many bytes where it was done, and 0 where it wasn't.
-fn is_set(alloc: Global, pool: &mut Pool, get: Request, done: Option<bool>, bytes: u64) -> bool {
-    let wanted = match done {
-        Some(true) => bytes,
+/// Whether a limit of the root is set to seven blocks, or refused memory and not set. NoMemory where there is none for the requests.
+fn is_tried(
+    alloc: Global,
+    pool: &mut Pool,
+    limit: Limit,
+    property: Property,
+) -> Result<bool, Refusal> {
+    let name = DsName::read(alloc, b"p")?;
+    let target = Target::read(alloc, b"p")?;
+    let amount = Blocks::new(7).ok();
+    let set = Request::Set {
+        name,
+        limit,
+        amount,
+    };
+    let done = is_done(alloc, pool, set);
+    let bytes = match done {
+        Some(true) => 3584,
         _ => 0,
     };
-    done.is_some() & answers(alloc, pool, get, Reply::Value(Value::Size(wanted)))
+    let get = Request::Get { target, property };
+    Ok(done.is_some() & answers(alloc, pool, get, Reply::Value(Value::Size(bytes))))
 }
 
-/// Whether a pool is tried, or refused memory itself.
-fn is_tried_or_refused(alloc: Global, sets: [Request; 2], gets: [Request; 2]) -> bool {
-    match Pool::create(alloc, 1, 12) {
-        Ok(mut pool) => is_tried(alloc, &mut pool, sets, gets),
-        Err(refusal) => {
-            drop(sets);
-            drop(gets);
-            refusal.same(Refusal::NoMemory)
-        }
+/// Whether two limits are tried, of which the second is asked against what is used. NoMemory where there is none for the requests.
+fn are_tried(alloc: Global, pool: &mut Pool) -> Result<bool, Refusal> {
+    let quota = is_tried(alloc, pool, Limit::Quota, Property::Quota)?;
+    let reservation = is_tried(alloc, pool, Limit::Reservation, Property::Reservation)?;
+    Ok(quota & reservation)
+}
+
+/// Whether two limits are tried in a pool of twelve blocks, or memory is refused before.
+fn are_tried_or_refused(alloc: Global) -> bool {
+    let tried = match Pool::create(alloc, 1, 12) {
+        Ok(mut pool) => are_tried(alloc, &mut pool),
+        Err(refusal) => Err(refusal),
+    };
+    match tried {
+        Ok(fine) => fine,
+        Err(refusal) => refusal.same(Refusal::NoMemory),
     }
 }
 
 /// Run it with each allocation refused in turn: a limit is set, or as it was.
 #[test]
 fn refused_memory_sets_nothing(rt: HostRuntime) {
-    let alloc = rt.alloc();
-    let sets = [
-        set_of(&rt, alloc, b"p", Limit::Quota, 6),
-        set_of(&rt, alloc, b"p", Limit::Reservation, 7),
-    ];
-    let gets = [
-        get_of(&rt, alloc, Property::Quota),
-        get_of(&rt, alloc, Property::Reservation),
-    ];
-    assert!(rt; is_tried_or_refused(alloc, sets, gets));
+    assert!(rt; are_tried_or_refused(rt.alloc()));
 }
