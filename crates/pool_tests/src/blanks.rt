@@ -25,7 +25,6 @@ fn a_file_system_has_no_limit(rt: HostRuntime) {
         get refquota p/a => 0
         get reservation p/a => 0
         get refreservation p/a => 0
-        set quota=3072 p/a => error 28 BadLine
         set quota 3072 p/a => error 28 BadLine
         get quota p => 0
         get quota p/b => error 2 NoDataset

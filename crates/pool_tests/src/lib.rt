@@ -2,6 +2,8 @@
 #![tactic(auto)]
 
 #[cfg(test)]
+mod asked;
+#[cfg(test)]
 mod blanks;
 #[cfg(test)]
 mod bookmarked;
@@ -14,13 +16,21 @@ mod held;
 #[cfg(test)]
 mod pools;
 #[cfg(test)]
+mod properties;
+#[cfg(test)]
+mod quotas;
+#[cfg(test)]
 mod ranges;
 #[cfg(test)]
 mod removed;
 #[cfg(test)]
+mod reserved;
+#[cfg(test)]
 mod rig;
 #[cfg(test)]
 mod rows;
+#[cfg(test)]
+mod settings;
 #[cfg(test)]
 mod spaces;
 #[cfg(test)]
