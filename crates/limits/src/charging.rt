@@ -1,29 +1,34 @@
 //! How the lines of a ledger get what children use.
-ghost use Rattle.std.specs.Prelude.{◌≡◌, ◌<◌, ◌+◌, IfOk, IfErr, length, map};
+ghost use Rattle.std.specs.Prelude.{◌≡◌, ◌<◌, ◌≤◌, ◌+◌, ◌^◌, length, map};
+ghost use Rattle.std.specs.Arc.{arc_value};
 ghost use Rattle.std.specs.FinMap.{len};
-ghost use Rattle.base.specs.declared.refusal.Refusal.{Refusal};
+ghost use Rattle.std.specs.List.{All};
+ghost use Rattle.world.specs.Trees.{total};
+ghost use Rattle.limits.specs.Rows.{own_in, account_at};
 ghost use Rattle.limits.specs.Charges.{fresh, IsCharged};
 
-use crate::account::Account;
+use crate::account::account_of;
 use crate::line::Line;
 use crate::place::parent_place;
-use base::refusal::Refusal;
 use datasets::Table;
-use std::alloc::Global;
+use file_systems::FileSystem;
+use std::sync::Arc;
 
-/// A line for each of these accounts, with no child charged. NoMemory where there is none for them. It costs their number.
-pub fn lines_of(alloc: Global, accounts: &[Account]) -> Result<Vec<Line>, Refusal>
-    ensures ok { IfOk result (λ v. v.items ≡ map fresh accounts.now) }
-    ensures err { IfErr result (λ e. e ≡ Refusal.NoMemory) }
+/// The lines become those of these file systems, for which there is room, with no child charged. It costs their number.
+pub fn refill(lines: &mut Vec<Line>, file_systems: &[Arc<FileSystem>])
+    requires room { length file_systems.now ≤ lines.old.cap }
+    requires few { total own_in (map arc_value file_systems.now) < 2 ^ 32 }
+    ensures ok { lines.new.items ≡ map fresh (map account_at (map arc_value file_systems.now)) }
+    ensures small { All (λ a. a.here < 2 ^ 42) (map account_at (map arc_value file_systems.now)) }
+    ensures kept { lines.new.cap ≡ lines.old.cap }
 {
-    let lines = accounts
-        .iter()
-        .map(|account| Line {
-            account: *account,
+    lines.clear();
+    for file_system in file_systems {
+        lines.push_reserved(Line {
+            account: account_of(file_system),
             children: 0,
-        })
-        .collect(alloc)?;
-    Ok(lines)
+        });
+    }
 }
 
 /// Adds the charge of each line to what the children of its parent use, from the last line to the first: a child stands after its parent.

@@ -1,27 +1,26 @@
 //! The ledger of a pool's file systems.
-ghost use Rattle.std.specs.Prelude.{◌≡◌, ◌<◌, ◌≤◌, ◌+◌, ◌*◌, ◌^◌, IsSome, IfSome, IfOk, IfErr};
-ghost use Rattle.std.specs.FinMap.{get, keys};
-ghost use Rattle.std.specs.List.{All};
+ghost use Rattle.std.specs.Prelude.{◌≡◌, ◌<◌, [], ◌≤◌, ◌+◌, ◌*◌, ◌^◌, IsSome, IfSome, IfOk, IfErr};
+ghost use Rattle.std.specs.FinMap.{get};
+ghost use Rattle.std.specs.FinSet.{len};
 ghost use Rattle.base.specs.declared.refusal.Refusal.{Refusal};
 ghost use Rattle.model.specs.Hierarchy.{IsHierarchy};
 ghost use Rattle.model.specs.Rule.{first_of};
 ghost use Rattle.model.specs.State.{State};
 ghost use Rattle.model.specs.Sums.{used_of, used_by_children, room_of};
-ghost use Rattle.model.specs.World.{World};
+ghost use Rattle.model.specs.World.{union_of};
 ghost use Rattle.model.specs.requests.Change.{limit_row};
 ghost use Rattle.world.specs.Tables.{world_of};
 ghost use Rattle.accounts.specs.Levels.{slashes};
 ghost use Rattle.limits.specs.Lines.{IsSmall};
-ghost use Rattle.limits.specs.Ledgers.{accounts_in, line_in, ledger_of, IsSpaceOf};
+ghost use Rattle.limits.specs.Ledgers.{line_in, ledger_of, IsSpaceOf};
 
-use crate::account::Account;
-use crate::charging::{charge_all, lines_of};
+use crate::charging::{charge_all, refill};
 use crate::line::Line;
 use crate::parent::parent_of;
 use crate::place::place_of;
 use crate::pool_space::Space;
 use base::refusal::Refusal;
-use datasets::Table;
+use datasets::{FILE_SYSTEM_LIMIT, Table};
 use name::DsName;
 use std::alloc::Global;
 use std::marker::Model;
@@ -33,7 +32,7 @@ pub struct Ledger {
 }
 
 impl Model for Ledger {
-    ghost use Rattle.std.specs.Prelude.{List};
+    ghost use Rattle.std.specs.Prelude.{List, ◌≤◌};
     ghost use Rattle.std.specs.List.{All};
     ghost use Rattle.limits.specs.declared.line.Line.{Line};
     ghost use Rattle.limits.specs.Lines.{IsSmall};
@@ -42,25 +41,29 @@ impl Model for Ledger {
 
     ghost view = { λ l. l.lines.items };
 
-    ghost invariant = { λ l. All IsSmall l.lines.items };
+    ghost invariant = { λ l. All IsSmall l.lines.items × (1024 ≤ l.lines.cap) };
 }
 
 impl Ledger {
-    /// The ledger of every world with the file systems of this table and these accounts of them, as a world that a change is asked of, whose
-    /// numbers are known before it is made. NoMemory where there is none for it. It costs the number of file systems times its logarithm, and
-    /// the length of their names.
-    pub fn of(alloc: Global, table: &Table, accounts: &[Account]) -> Result<Ledger, Refusal>
-        requires small { All (λ a. a.here < 2 ^ 42) accounts.now }
-        ensures ok { IfOk result (λ l. (w : World) → IsHierarchy w.file_systems → keys w.file_systems ≡ keys table.now.file_systems → accounts_in w ≡ accounts.now → l ≡ ledger_of w) }
+    /// A ledger without a line, with room for those of as many file systems as a table can have. NoMemory where there is none for them.
+    pub fn new(alloc: Global) -> Result<Ledger, Refusal>
+        ensures ok { IfOk result (λ l. l ≡ []) }
         ensures err { IfErr result (λ e. e ≡ Refusal.NoMemory) }
     {
-        let mut lines = lines_of(alloc, accounts)?;
-
-        // Any other number of accounts is that of no world.
-        if lines.len() == table.len() {
-            charge_all(table, &mut lines);
-        }
+        let lines = Vec::with_capacity(alloc, FILE_SYSTEM_LIMIT)?;
         Ok(Ledger { lines })
+    }
+
+    /// It becomes the ledger of this table. It takes no memory, and costs the number of file systems times its logarithm, and the length of
+    /// their names.
+    pub fn fill(&mut self, table: &Table)
+        requires few { len (union_of (world_of table.now)) < 2 ^ 32 }
+        ensures { self.new ≡ ledger_of (world_of table.now) }
+    {
+        // It tells what holds of the file systems.
+        let _count = table.len();
+        refill(&mut self.lines, table.file_systems());
+        charge_all(table, &mut self.lines);
     }
 
     /// The limit that is broken, where the pool has this beside its file systems: Quota, else RefQuota, else NoSpace where the pool has no

@@ -12,7 +12,7 @@ mod parent;
 mod place;
 mod pool_space;
 
-pub use crate::account::{Account, account_of, accounts_of, used_by_refreservation};
+pub use crate::account::{Account, account_of, used_by_refreservation};
 pub use crate::ledger::Ledger;
 pub use crate::line::Line;
 pub use crate::pool_space::Space;
