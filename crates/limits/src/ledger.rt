@@ -57,9 +57,10 @@ impl Ledger {
         let mut lines = lines_of(alloc, accounts)?;
 
         // Any other number of accounts is that of no world.
-        if lines.len() == table.len() {
-            charge_all(table, &mut lines);
+        if lines.len() != table.len() {
+            return Ok(Ledger { lines });
         }
+        charge_all(table, &mut lines);
         Ok(Ledger { lines })
     }
 
