@@ -48,20 +48,23 @@ module _ {A : Type 0} (f : A → ℕ) where
 
 -- ---- the accounts of a world, by places
 
+-- accounts of a world are as many as its file systems
+pub accounts_long : (m : FileSystems) (bs : List Account) (w : World) → keys w.file_systems ≡ keys m → accounts_in w ≡ bs → length bs ≡ length (keys m)
+unfolding accounts_in
+accounts_long m bs w named has =
+    let a = ap length has in
+    let c = length-map (entries w.file_systems) (λ (e : List ℕ × FileSystem). account_in w e.0 e.1) in
+    let d = keys_long w.file_systems in
+    let e = ap length named in
+    omega (arith, a, c, d, e)
+
 abbrev pub account_is : Line → Account
 account_is l = l.account
 
 module _ (m : FileSystems) (ls : List Line) (w : World) (good : IsHierarchy w.file_systems) (named : keys w.file_systems ≡ keys m)
     (has : accounts_in w ≡ map account_is ls) where
   long : length ls ≡ length (keys m)
-  unfolding accounts_in
-  long =
-      let a = ap length has in
-      let b = length-map ls account_is in
-      let c = length-map (entries w.file_systems) (λ (e : List ℕ × FileSystem). account_in w e.0 e.1) in
-      let d = keys_long w.file_systems in
-      let e = ap length named in
-      omega (arith, a, b, c, d, e)
+  long = sym (length-map ls account_is) ∙ accounts_long m (map account_is ls) w named has
 
   module _ (k : ℕ) (lt : k < length ls) (d : Line) where
     in_world : k < length (keys w.file_systems)
@@ -272,6 +275,13 @@ none_charged m bs n long as_long few here = record {
   here = All-map (λ (l : Line). l.account.here < 2 ^ 42) fresh bs here;
   few = let l = length-map bs fresh in omega (arith, l, long, few);
 }
+
+pub fresh_small : (bs : List Account) → All (λ a. a.here < 2 ^ 42) bs → All IsSmall (map fresh bs)
+fresh_small bs here = All-map IsSmall fresh bs (λ k d lt. let h = here k d lt in omega (arith, h))
+
+pub fresh_accounts : (bs : List Account) → map account_is (map fresh bs) ≡ bs
+fresh_accounts [] = refl
+fresh_accounts (a ∷ bs) = ap (λ l. a ∷ l) (fresh_accounts bs)
 
 -- ---- at last
 

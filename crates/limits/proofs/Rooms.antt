@@ -1,10 +1,12 @@
 -- What a file system of a table uses, and what is available to it, by the line of its ledger.
-use Rattle.std.proofs.Common.{◌≡◌, ℕ, ◌+◌, ◌-◌, ◌≤◌, ◌<◌, List, [], ◌∷◌, Option, Some, None, is_some, refl, sym, ap, subst, ◌∙◌, ⊎_elim, arith}
-use Rattle.std.specs.Prelude.{IsSome}
-use Rattle.std.specs.FinMap.{get}
+use Rattle.std.proofs.Common.{◌≡◌, ℕ, ◌+◌, ◌-◌, ◌≤◌, ◌<◌, List, [], ◌∷◌, length, get_or, Option, Some, None, is_some, refl, sym, ap, subst, ◌∙◌, ⊎_elim, arith}
+use Rattle.std.specs.Prelude.{IsSome, IfSome}
+use Rattle.std.specs.Cmp.Lexicographic.{nat_list_cmp_total}
+use Rattle.std.specs.FinMap.{get, entries, entries_sorted, get-entries, find}
 use Rattle.std.specs.FinSet.{len}
-use Rattle.name.specs.Names.{root_name, parent_of}
-use Rattle.model.specs.World.{FileSystem}
+use Rattle.std.proofs.lemmas.List.{length-map, get_or-map}
+use Rattle.name.specs.Names.{name_cmp, root_name, parent_of}
+use Rattle.model.specs.World.{World, FileSystem}
 use Rattle.model.specs.Hierarchy.{IsHierarchy}
 use Rattle.model.specs.State.{State, waiting_of}
 use Rattle.model.specs.Sums.{used_of, used_by_children, reservation_of, unspent_of, within_quota, pool_room, room_of}
@@ -15,10 +17,13 @@ use Rattle.accounts.specs.Levels.{slashes}
 use Rattle.accounts.proofs.Names.{in_keys, from_keys, level_low, parent_in}
 use Rattle.accounts.proofs.Levels.{reserved_is}
 use Rattle.accounts.proofs.Available.{room_root, room_below}
+use Rattle.file_systems.specs.Places.{IsAt}
+use Rattle.file_systems.proofs.Sorted.{find_at}
 use Rattle.limits.specs.declared.line.Line.{Line}
 use Rattle.limits.specs.declared.pool_space.Space.{Space}
 use Rattle.limits.specs.Lines.{used_in, reserved_in, unspent_in}
-use Rattle.limits.specs.Ledgers.{line_in, IsSpaceOf}
+use Rattle.limits.specs.Ledgers.{line_in, ledger_of, IsSpaceOf}
+use Rattle.limits.proofs.Order.{no_entry}
 use Rattle.limits.proofs.Alike.{used_alike}
 
 module _ (t : Datasets) (good : IsHierarchy t.file_systems) where
@@ -72,3 +77,30 @@ module _ (t : Datasets) (good : IsHierarchy t.file_systems) where
       child_room parent e above is_above =
           room_below s good_now name f at_now parent e
           ∙ (λ i. within_quota (quota_now i) (used_now i) (sym is_above i + unspent_now i))
+
+-- the line at the place of a name
+module _ (w : World) (lines : List Line) (all : lines ≡ ledger_of w) (name : List ℕ) (i : ℕ) (at : IsAt (entries w.file_systems) name i) where
+  pub line_within : i < length lines
+  unfolding ledger_of
+  line_within = let a = ap length all in let b = length-map (entries w.file_systems) (line_in w) in let l = at.within in omega (arith, a, b, l)
+
+  pub line_at : (l : Line) → l ≡ get_or lines i l → IfSome (get w.file_systems name) (λ f. l ≡ line_in w (name, f))
+  unfolding ledger_of
+  line_at l is = subst (λ o. IfSome o (λ f. l ≡ line_in w (name, f))) (sym found) line
+    where
+      found : get w.file_systems name ≡ Some (get_or (entries w.file_systems) i no_entry).1
+      found =
+          get-entries w.file_systems name ∙ ap (λ k. find name_cmp k (entries w.file_systems)) (sym (at.named no_entry))
+          ∙ find_at nat_list_cmp_total (entries w.file_systems) (entries_sorted w.file_systems) i no_entry at.within
+
+      line : l ≡ line_in w (name, (get_or (entries w.file_systems) i no_entry).1)
+      line =
+          is ∙ ap (λ ls. get_or ls i l) all ∙ get_or-map (line_in w) (entries w.file_systems) i no_entry l at.within
+          ∙ ap (λ n. line_in w (n, (get_or (entries w.file_systems) i no_entry).1)) (at.named no_entry)
+
+-- the line that was found is that of a file system that is there
+pub line_found : (t : Datasets) (name : List ℕ) (l : Line) → IsSome (get t.file_systems name) → IfSome (get t.file_systems name) (λ f. l ≡ line_in (world_of t) (name, f))
+    → (f : FileSystem) × (get t.file_systems name ≡ Some f) × (l ≡ line_in (world_of t) (name, f))
+line_found t name l there line =
+    let s = some_of (get t.file_systems name) there in
+    (s.0, s.1, subst (λ o. IfSome o (λ f. l ≡ line_in (world_of t) (name, f))) s.1 line)

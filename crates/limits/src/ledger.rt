@@ -50,7 +50,13 @@ impl Ledger {
         ensures ok { IfOk result (λ l. l ≡ []) }
         ensures err { IfErr result (λ e. e ≡ Refusal.NoMemory) }
     {
-        let lines = Vec::with_capacity(alloc, FILE_SYSTEM_LIMIT)?;
+        let mut lines = lines_of(alloc, accounts)?;
+
+        // Any other number of accounts is that of no world.
+        if lines.len() != table.len() {
+            return Ok(Ledger { lines });
+        }
+        charge_all(table, &mut lines);
         Ok(Ledger { lines })
     }
 
