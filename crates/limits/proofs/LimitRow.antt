@@ -1,17 +1,15 @@
 -- The row of a state's limits, by the lines of its ledger.
-use Rattle.std.proofs.Common.{◌≡◌, ℕ, zero, ◌+◌, ◌<◌, Bool, true, false, List, [], ◌∷◌, length, get_or, map, Option, Some, None, refl, sym, ap, subst, ◌∙◌, arith}
+use Rattle.std.proofs.Common.{◌≡◌, ℕ, zero, ◌+◌, ◌<◌, Bool, true, false, List, [], ◌∷◌, length, get_or, map, Some, None, refl, sym, ap, ◌∙◌, arith}
 use Rattle.std.specs.Prelude.{not, nat_le, slice_get}
 use Rattle.std.specs.List.{list_all}
-use Rattle.std.specs.Option.{option_map_or}
-use Rattle.std.specs.FinMap.{get, entries, keys}
+use Rattle.std.specs.FinMap.{get, entries}
 use Rattle.std.proofs.lemmas.List.Folds.{list_all-map}
-use Rattle.base.specs.declared.refusal.Refusal.{Refusal}
 use Rattle.base.specs.declared.refusal.Refusal.TheVariants.{Quota, RefQuota, NoSpace}
 use Rattle.name.specs.Names.{root_name}
-use Rattle.model.specs.World.{World, FileSystem, Live}
+use Rattle.model.specs.World.{World, FileSystem}
 use Rattle.model.specs.Hierarchy.{IsHierarchy}
-use Rattle.model.specs.State.{State, waiting_of}
-use Rattle.model.specs.Sums.{used_of, referenced_of}
+use Rattle.model.specs.State.{State}
+use Rattle.model.specs.Sums.{used_of}
 use Rattle.model.specs.Fits.{quotas_hold, refquotas_hold, pool_holds}
 use Rattle.model.specs.Rule.{first_of}
 use Rattle.model.specs.requests.Change.{limit_row}

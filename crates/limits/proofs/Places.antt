@@ -1,5 +1,5 @@
 -- A binary search among the rows of a table finds the place of a name.
-use Rattle.std.proofs.Common.{◌≡◌, ℕ, ◌+◌, ◌<◌, T, List, [], ◌∷◌, Option, Some, None, is_some, length, get_or, map, refl, sym, ap, subst, ◌∙◌, arith}
+use Rattle.std.proofs.Common.{◌≡◌, ℕ, ◌<◌, T, List, [], ◌∷◌, Option, Some, None, is_some, length, get_or, map, refl, sym, ap, subst, ◌∙◌, arith}
 use Rattle.std.specs.Prelude.{Result, Ok, Err, IfOk, IfErr, IfSome, IfNone, IsTrue}
 use Rattle.std.specs.Result.{result_ok}
 use Rattle.std.specs.Arc.{arc_value}
@@ -43,8 +43,10 @@ module _ (m : FileSystems) (rows : List (Arc Row Global)) (all : map arc_value r
       at : (r : Result ℕ ℕ) → IfOk r (IsAt (map entry_in rows) name) × IfErr r (IsGapFor (map entry_in rows) name)
           → IfSome (result_ok r) (IsAt (entries m) name) × IfNone (result_ok r) (get m name ≡ None)
       at (Ok i) h = (subst (λ es. IsAt es name i) entries_are h.0, tt)
-      at (Err i) h = (tt,
-        (let g = subst (λ es. IsGapFor es name i) entries_are h.1 in get-entries m name ∙ find_gap nat_list_cmp_total (entries m) name i g.below g.above))
+      at (Err i) h = (
+        tt,
+        (let g = subst (λ es. IsGapFor es name i) entries_are h.1 in get-entries m name ∙ find_gap nat_list_cmp_total (entries m) name i g.below g.above),
+      )
 
   rows_long : length rows ≡ length (entries m)
   rows_long = sym (length-map rows entry_in) ∙ ap length entries_are

@@ -1,15 +1,14 @@
 -- What a file system of a table uses, and what is available to it, by the line of its ledger.
-use Rattle.std.proofs.Common.{◌≡◌, ℕ, ◌+◌, ◌-◌, ◌≤◌, ◌<◌, List, [], ◌∷◌, length, get_or, Option, Some, None, is_some, refl, sym, ap, subst, ◌∙◌, ⊎_elim, arith}
+use Rattle.std.proofs.Common.{◌≡◌, ℕ, ◌+◌, ◌-◌, ◌<◌, List, length, get_or, Some, None, is_some, sym, ap, subst, ◌∙◌, ⊎_elim, arith}
 use Rattle.std.specs.Prelude.{IsSome, IfSome}
 use Rattle.std.specs.Cmp.Lexicographic.{nat_list_cmp_total}
 use Rattle.std.specs.FinMap.{get, entries, entries_sorted, get-entries, find}
-use Rattle.std.specs.FinSet.{len}
 use Rattle.std.proofs.lemmas.List.{length-map, get_or-map}
 use Rattle.name.specs.Names.{name_cmp, root_name, parent_of}
 use Rattle.model.specs.World.{World, FileSystem}
 use Rattle.model.specs.Hierarchy.{IsHierarchy}
-use Rattle.model.specs.State.{State, waiting_of}
-use Rattle.model.specs.Sums.{used_of, used_by_children, reservation_of, unspent_of, within_quota, pool_room, room_of}
+use Rattle.model.specs.State.{State}
+use Rattle.model.specs.Sums.{used_of, unspent_of, within_quota, pool_room, room_of}
 use Rattle.world.specs.Tables.{Datasets, world_of}
 use Rattle.world.proofs.Maps.{no_value, some_of}
 use Rattle.world.proofs.Put.{parent_there}
@@ -26,6 +25,10 @@ use Rattle.limits.specs.Ledgers.{line_in, ledger_of, IsSpaceOf}
 use Rattle.limits.proofs.Order.{no_entry}
 use Rattle.limits.proofs.Alike.{used_alike}
 
+pub used_is : (t : Datasets) (name : List ℕ) (f : FileSystem) (l : Line) → l ≡ line_in (world_of t) (name, f) → used_in l ≡ used_of (world_of t) name
+unfolding used_of
+used_is t name f l is = ap used_in is
+
 module _ (t : Datasets) (good : IsHierarchy t.file_systems) where
   -- the parent of a file system that is there is there
   pub parent_stands : (name parent : List ℕ) → IsSome (get t.file_systems name) → parent_of name ≡ Some parent → IsSome (get t.file_systems parent)
@@ -37,13 +40,6 @@ module _ (t : Datasets) (good : IsHierarchy t.file_systems) where
   few_slashes name there = let l = level_low t.file_systems good name (in_keys t.file_systems name there) in let f = good.few in omega (arith, l, f)
 
   module _ (name : List ℕ) (f : FileSystem) (at : get t.file_systems name ≡ Some f) (l : Line) (is : l ≡ line_in (world_of t) (name, f)) where
-    pub used_is : used_in l ≡ used_of (world_of t) name
-    unfolding used_of
-    used_is = ap used_in is
-
-    pub children_is : l.children ≡ used_by_children (world_of t) name
-    children_is = ap (λ (x : Line). x.children) is
-
     module _ (s : State) (same : s.now.file_systems ≡ t.file_systems) where
       at_now : get s.now.file_systems name ≡ Some f
       at_now = ap (λ m. get m name) same ∙ at
@@ -52,7 +48,7 @@ module _ (t : Datasets) (good : IsHierarchy t.file_systems) where
       good_now = subst IsHierarchy (sym same) good
 
       used_now : used_of s.now name ≡ used_in l
-      used_now = used_alike s.now (world_of t) same name ∙ sym used_is
+      used_now = used_alike s.now (world_of t) same name ∙ sym (used_is t name f l is)
 
       unspent_now : unspent_of s.now name ≡ unspent_in l
       unspent_now = λ i. (reserved_is s.now name f at_now ∙ sym (ap reserved_in is)) i - used_now i

@@ -27,9 +27,7 @@ pub fn used_by_refreservation(file_system: &FileSystem) -> u64
     ensures most { result ≤ 2 ^ 40 }
 {
     match file_system.limits().get(Limit::RefReservation) {
-        Some(kept) => kept
-            .get()
-            .saturating_sub(u64::from(file_system.written())),
+        Some(kept) => kept.get().saturating_sub(u64::from(file_system.written())),
         None => 0,
     }
 }

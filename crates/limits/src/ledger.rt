@@ -1,5 +1,5 @@
 //! The ledger of a pool's file systems.
-ghost use Rattle.std.specs.Prelude.{◌≡◌, ◌<◌, [], ◌≤◌, ◌+◌, ◌*◌, ◌^◌, IsSome, IfSome, IfOk, IfErr};
+ghost use Rattle.std.specs.Prelude.{[], ◌≡◌, ◌<◌, ◌≤◌, ◌+◌, ◌*◌, ◌^◌, IsSome, IfSome, IfOk, IfErr};
 ghost use Rattle.std.specs.FinMap.{get};
 ghost use Rattle.std.specs.FinSet.{len};
 ghost use Rattle.base.specs.declared.refusal.Refusal.{Refusal};
@@ -50,13 +50,7 @@ impl Ledger {
         ensures ok { IfOk result (λ l. l ≡ []) }
         ensures err { IfErr result (λ e. e ≡ Refusal.NoMemory) }
     {
-        let mut lines = lines_of(alloc, accounts)?;
-
-        // Any other number of accounts is that of no world.
-        if lines.len() != table.len() {
-            return Ok(Ledger { lines });
-        }
-        charge_all(table, &mut lines);
+        let lines = Vec::with_capacity(alloc, FILE_SYSTEM_LIMIT)?;
         Ok(Ledger { lines })
     }
 
@@ -101,7 +95,8 @@ impl Ledger {
     pub fn used(&self, table: &Table, name: &DsName) -> u64
         requires there { IsSome (get table.now.file_systems name.now) }
         requires own { self.now ≡ ledger_of (world_of table.now) }
-        ensures { result ≡ used_of (world_of table.now) name.now }
+        ensures value { result ≡ used_of (world_of table.now) name.now }
+        ensures small { result < 2 ^ 54 }
     {
         self.line(table, name.as_bytes()).used()
     }
@@ -110,7 +105,8 @@ impl Ledger {
     pub fn used_by_children(&self, table: &Table, name: &DsName) -> u64
         requires there { IsSome (get table.now.file_systems name.now) }
         requires own { self.now ≡ ledger_of (world_of table.now) }
-        ensures { result ≡ used_by_children (world_of table.now) name.now }
+        ensures value { result ≡ used_by_children (world_of table.now) name.now }
+        ensures small { result < 2 ^ 54 }
     {
         self.line(table, name.as_bytes()).children
     }
@@ -121,8 +117,11 @@ impl Ledger {
     pub fn room(&self, table: &Table, name: &DsName, space: Space) -> u64
         requires there { IsSome (get table.now.file_systems name.now) }
         requires own { self.now ≡ ledger_of (world_of table.now) }
-        ensures { (s : State) → s.now.file_systems ≡ table.now.file_systems → IsSpaceOf s space → result ≡ room_of s name.now }
+        ensures value { (s : State) → s.now.file_systems ≡ table.now.file_systems → IsSpaceOf s space → result ≡ room_of s name.now }
+        ensures small { result < 2 ^ 54 }
     {
+        // It tells that there are few file systems.
+        let _count = table.len();
         self.room_at(table, name.as_bytes(), &space)
     }
 

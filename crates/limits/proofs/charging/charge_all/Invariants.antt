@@ -1,5 +1,4 @@
-use Rattle.std.proofs.Common.{◌≡◌, map, length}
-use Rattle.std.specs.FinMap.{len}
+use Rattle.std.proofs.Common.{◌≡◌, map}
 use Rattle.limits.specs.Charges.{IsCharged}
 use Rattle.limits.proofs.Charges.{account_is}
 use Rattle.limits.proofs.charging.charge_all.Given as goal

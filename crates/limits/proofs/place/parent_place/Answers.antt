@@ -1,4 +1,4 @@
-use Rattle.std.proofs.Common.{sym, ap, subst, ◌≡◌, None, Some, get_or, [], ◌∙◌}
+use Rattle.std.proofs.Common.{sym, ap, subst, ◌≡◌, None, get_or, [], ◌∙◌}
 use Rattle.std.specs.Prelude.{IfNone}
 use Rattle.std.specs.FinMap.{keys}
 use Rattle.std.specs.Option.{option_copied}

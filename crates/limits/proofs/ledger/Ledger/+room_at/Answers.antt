@@ -1,8 +1,6 @@
-use Rattle.std.proofs.Common.{◌≡◌, ◌+◌, ◌-◌, ◌≤◌, ◌*◌, ◌^◌, Some, None, sym, ap, ◌∙◌, arith}
+use Rattle.std.proofs.Common.{◌+◌, ◌-◌, sym, ap, ◌∙◌, arith}
 use Rattle.std.specs.Option.{option_copied}
-use Rattle.name.specs.Names.{parent_of as parent_name}
-use Rattle.model.specs.Sums.{within_quota, room_of}
-use Rattle.accounts.specs.Levels.{slashes}
+use Rattle.model.specs.Sums.{within_quota}
 use Rattle.accounts.proofs.Names.{level_up}
 use Rattle.limits.specs.Lines.{used_in}
 use Rattle.limits.proofs.Rooms.{parent_stands, few_slashes, line_found, root_room, child_room}
@@ -27,25 +25,25 @@ returns-clause-value t c = λ s same of.
     let f = line_found c.args.table.now c.args.name.now c.line-line.result.now c.requires.there c.line-line.ensures.value in
     elim c.match-parent_of.branch [
       | in-Some w ↦
-        let e = sym c.parent_of.ensures ∙ ap (λ x. option_copied x) w.in-Some.is in
-        c.within_quota.ensures.value
-        ∙ ap (within_quota c.line-line.result.now.account.limits.quota (used_in c.line-line.result.now)) (w.room-is ∙ ap (λ n. w.room_at.result + n) w.unspent.ensures.value)
-        ∙ sym (child_room c.args.table.now c.len-count.ensures.good.hierarchy c.args.name.now f.0 f.1 c.line-line.result.now f.2 s same
-        w.in-Some.parent.now e w.room_at.result (w.room_at.ensures.value s same of))
+          let e = sym c.parent_of.ensures ∙ ap (λ x. option_copied x) w.in-Some.is in
+          c.within_quota.ensures.value
+          ∙ ap (within_quota c.line-line.result.now.account.limits.quota (used_in c.line-line.result.now)) (w.room-is ∙ ap (λ n. w.room_at.result + n) w.unspent.ensures.value)
+          ∙ sym (child_room c.args.table.now c.len-count.ensures.good.hierarchy c.args.name.now f.0 f.1 c.line-line.result.now f.2 s same
+          w.in-Some.parent.now e w.room_at.result (w.room_at.ensures.value s same of))
       | in-None w ↦
-        let e = sym c.parent_of.ensures ∙ ap (λ x. option_copied x) w.in-None.is in
-        c.within_quota.ensures.value
-        ∙ ap (within_quota c.line-line.result.now.account.limits.quota (used_in c.line-line.result.now)) (w.room-is ∙ w.left-room.ensures.value
-        ∙ ap (λ n. c.args.space.now.size - n - c.args.space.now.freeing - c.args.space.now.waiting) w.used.ensures)
-        ∙ sym (root_room c.args.table.now c.len-count.ensures.good.hierarchy c.args.name.now f.0 f.1 c.line-line.result.now f.2 s same c.args.space.now of e)
+          let e = sym c.parent_of.ensures ∙ ap (λ x. option_copied x) w.in-None.is in
+          c.within_quota.ensures.value
+          ∙ ap (within_quota c.line-line.result.now.account.limits.quota (used_in c.line-line.result.now)) (w.room-is ∙ w.left-room.ensures.value
+          ∙ ap (λ n. c.args.space.now.size - n - c.args.space.now.freeing - c.args.space.now.waiting) w.used.ensures)
+          ∙ sym (root_room c.args.table.now c.len-count.ensures.good.hierarchy c.args.name.now f.0 f.1 c.line-line.result.now f.2 s same c.args.space.now of e)
     ]
 
 pub returns-clause-most : goal.returns-clause-most
 returns-clause-most t c =
     elim c.match-parent_of.branch [
       | in-Some w ↦
-        let e = sym c.parent_of.ensures ∙ ap (λ x. option_copied x) w.in-Some.is in
-        let u = level_up c.args.name.now w.in-Some.parent.now e in
-        omega (arith, u, c.within_quota.ensures.most, w.room-is, w.room_at.ensures.most, w.unspent.ensures.most)
+          let e = sym c.parent_of.ensures ∙ ap (λ x. option_copied x) w.in-Some.is in
+          let u = level_up c.args.name.now w.in-Some.parent.now e in
+          omega (arith, u, c.within_quota.ensures.most, w.room-is, w.room_at.ensures.most, w.unspent.ensures.most)
       | in-None w ↦ omega (arith, c.within_quota.ensures.most, w.room-is, w.left-room.ensures.most)
     ]

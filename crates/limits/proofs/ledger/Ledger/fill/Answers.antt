@@ -1,32 +1,20 @@
-use Rattle.std.proofs.Common.{◌≡◌, List, map, length, sym, ap, subst, ◌∙◌, arith}
+use Rattle.std.proofs.Common.{length, drop, map, refl, sym, ap, subst, ◌∙◌, arith}
 use Rattle.std.specs.Arc.{arc_value}
-use Rattle.std.specs.FinMap.{entries, keys}
-use Rattle.std.proofs.lemmas.List.{length-map}
+use Rattle.std.specs.FinMap.{entries, len-entries}
+use Rattle.std.proofs.lemmas.List.{length-map, take_at}
 use Rattle.file_systems.specs.Clones.{row_in}
 use Rattle.world.specs.Tables.{world_of}
 use Rattle.limits.specs.Charges.{fresh, IsCharged}
-use Rattle.limits.specs.Ledgers.{accounts_in, ledger_of}
 use Rattle.limits.specs.Rows.{account_at}
-use Rattle.limits.specs.declared.line.Line.{Line}
-use Rattle.limits.proofs.Charges.{none_charged, charged_is, charged_small}
-use Rattle.limits.proofs.Order.{keys_long, keys_count}
+use Rattle.limits.proofs.Charges.{account_is, none_charged, fresh_accounts, charged_is}
+use Rattle.limits.proofs.Order.{keys_count}
 use Rattle.limits.proofs.Rows.{accounts_are, all_own}
 use Rattle.limits.proofs.ledger.Ledger.fill.Goals as goal
-use Rattle.limits.proofs.ledger.Ledger.fill.Goals.{After-refill}
-
--- as many lines as file systems, of which there is room for all
-rows_long : (c : After-refill) → length c.file_systems.result.now ≡ length (keys c.args.table.now.file_systems)
-rows_long c =
-    let a = length-map c.file_systems.result.now arc_value in
-    let b = ap length c.file_systems.ensures in
-    let d = length-map (entries c.args.table.now.file_systems) (row_in c.args.table.now.file_systems) in
-    let e = keys_long c.args.table.now.file_systems in
-    omega (arith, a, b, d, e)
 
 pub refill-requires-clause-few : goal.refill-requires-clause-few
 refill-requires-clause-few c =
     let e = all_own c.args.table.now c.len-count.ensures.good (map arc_value c.file_systems.result.now) c.file_systems.ensures in
-    omega (arith, e, c.requires)
+    omega (arith, e, c.requires.few)
 
 pub refill-requires-clause-room : goal.refill-requires-clause-room
 refill-requires-clause-room c =
@@ -38,5 +26,37 @@ refill-requires-clause-room c =
     let r = c.self.invariant.1 in
     omega (arith, a, b, d, e, f, r)
 
-lines_long : (c : goal.goal-of charge_all-requires-clause-long) → length c.deref_mut.result.now ≡ length c.file_systems.result.now
-lines_long c = refl
+pub charge_all-requires-clause-long : goal.charge_all-requires-clause-long
+charge_all-requires-clause-long c =
+    let i = ap length (c.deref_mut.ensures.value ∙ c.refill.ensures.ok) in
+    let m = length-map (map account_at (map arc_value c.file_systems.result.now)) fresh in
+    let n = length-map (map arc_value c.file_systems.result.now) account_at in
+    let a = length-map c.file_systems.result.now arc_value in
+    let b = ap length c.file_systems.ensures in
+    let d = length-map (entries c.args.table.now.file_systems) (row_in c.args.table.now.file_systems) in
+    let e = len-entries c.args.table.now.file_systems in
+    omega (arith, i, m, n, a, b, d, e)
+
+pub charge_all-requires-clause-none : goal.charge_all-requires-clause-none
+charge_all-requires-clause-none c =
+    let items = c.deref_mut.ensures.value ∙ c.refill.ensures.ok in
+    let bs = map account_at (map arc_value c.file_systems.result.now) in
+    let m = length-map bs fresh in
+    let n = length-map (map arc_value c.file_systems.result.now) account_at in
+    let a = length-map c.file_systems.result.now arc_value in
+    let b = ap length c.file_systems.ensures in
+    let d = length-map (entries c.args.table.now.file_systems) (row_in c.args.table.now.file_systems) in
+    let e = len-entries c.args.table.now.file_systems in
+    let k = keys_count c.args.table.now.file_systems in
+    let f = c.len-count.ensures.good.hierarchy.few in
+    subst (λ ls. IsCharged c.args.table.now.file_systems (length ls) ls) (sym items)
+    (none_charged c.args.table.now.file_systems bs (length (map fresh bs)) m (omega (arith, m, n, a, b, d, e, k)) (omega (arith, m, n, a, b, d, e, f)) c.refill.ensures.small)
+
+pub returns : goal.returns
+returns c =
+    let bs = map account_at (map arc_value c.file_systems.result.now) in
+    take_at c.charge_all.new.lines (drop (length c.charge_all.new.lines) c.refill.new.lines.items) c.refill.new.lines.len
+    (let l = c.charge_all.auto.lines in omega (arith, l, c.deref_mut.ensures.len))
+    ∙ charged_is c.args.table.now.file_systems c.charge_all.new.lines c.charge_all.ensures.charged (world_of c.args.table.now) c.len-count.ensures.good.hierarchy refl
+    (sym (accounts_are c.args.table.now c.len-count.ensures.good (map arc_value c.file_systems.result.now) c.file_systems.ensures)
+    ∙ sym (fresh_accounts bs) ∙ ap (map account_is) (sym (c.deref_mut.ensures.value ∙ c.refill.ensures.ok)) ∙ sym c.charge_all.ensures.accounts)

@@ -1,11 +1,10 @@
-use Rattle.std.proofs.Common.{◌≡◌, ◌<◌, zero, length, take, true, false, None, Some, sym, ap, ◌∙◌, arith}
+use Rattle.std.proofs.Common.{zero, true, false, sym, ap, ◌∙◌}
 use Rattle.std.specs.Prelude.{slice_get}
 use Rattle.std.specs.List.{list_all}
 use Rattle.std.specs.Option.{option_copied}
 use Rattle.std.proofs.lemmas.List.{take_all}
 use Rattle.std.proofs.lemmas.List.Folds.{list_all_at}
-use Rattle.limits.specs.declared.line.Line.{Line}
-use Rattle.limits.specs.Lines.{charge_in, is_in_quota, is_in_refquota}
+use Rattle.limits.specs.Lines.{is_in_quota, is_in_refquota}
 use Rattle.limits.proofs.LimitRow.{over_quota, over_refquota, told_by_room, has_root}
 use Rattle.limits.proofs.ledger.Ledger.first_over.Goals as goal
 

@@ -1,4 +1,4 @@
-use Rattle.std.proofs.Common.{length, get_or, sym, ap, ◌∙◌, arith}
+use Rattle.std.proofs.Common.{length, get_or, ap, ◌∙◌, arith}
 use Rattle.world.specs.Tables.{world_of}
 use Rattle.limits.specs.Lines.{used_in}
 use Rattle.limits.proofs.Rooms.{line_within, line_at}
@@ -20,5 +20,5 @@ returns-clause-small c =
     let w = line_within (world_of c.args.table.now) c.args.self.now c.requires.own c.args.name.now c.in-Some.place c.in-Some.ensures.some in
     let l = ap length c.self.view_is in
     let u = ap used_in c.index.ensures in
-    let s = c.self.invariant c.in-Some.place c.index.result.now (omega (arith, w, l)) in
+    let s = c.self.invariant.0 c.in-Some.place c.index.result.now (omega (arith, w, l)) in
     omega (arith, u, s)
