@@ -26,11 +26,12 @@ use crate::pool::{Plan, Pool};
 use base::limit::Blocks;
 use base::refusal::Refusal;
 use datasets::Table;
-use limits::{Ledger, Space, outlook_of};
+use limits::{Ledger, Space};
 use model::limits::Limit;
 use model::reply::Reply;
 use model::request::Property;
 use name::{DsName, Target};
+use outlook::outlook_of;
 use std::alloc::Global;
 use std::slice::from_ref;
 use tree::Update;
@@ -62,7 +63,7 @@ impl Limiting {
         // It tells of the file systems what a table keeps.
         let _count = to.len();
         self.asked.fill(to);
-        self.asked.first_over(to, space)
+        self.asked.first_over(space)
     }
 }
 
@@ -114,7 +115,7 @@ impl Pool {
 
     // Asks the limits of the state that this update of the live tree of a file system leads to, before anything is changed. The first that
     // it would break; NoDataset where there is no such file system; else NoMemory where there is none to look ahead. It costs the nodes
-    // on the way to the changes, and the number of file systems times its logarithm; where no file system has a limit, nothing.
+    // on the way to the changes, and for each level of the name the logarithm of the number of file systems; where no file system has a limit, nothing.
     pub(crate) fn ask_change(&mut self, alloc: Global, name: &DsName, update: &Update) -> Result<(), Refusal>
         requires { IsBatch (update.now ∷ []) }
         ensures same { self.new ≡ self.old }
@@ -122,7 +123,7 @@ impl Pool {
         ensures err { IfErr result (IsNoChange self.old.state name.now (changes_of (update.now ∷ []))) }
     {
         let mut space = self.space(self.freeing.len());
-        let Some(limiting) = &mut self.limiting else {
+        let Some(limiting) = &self.limiting else {
             return Ok(());
         };
         let Some(file_system) = self.present.find(name) else {
@@ -131,10 +132,16 @@ impl Pool {
         let forecast = file_system
             .live()
             .forecast(alloc, from_ref(update), &mut self.meter)?;
-        let outlook = outlook_of(file_system, &forecast, self.last.group());
+        let outlook = outlook_of(file_system, &forecast, self.last.group())?;
         space.waiting += outlook.waiting;
-        limiting.asked.fill_with(&self.present, name, outlook.account);
-        match limiting.asked.first_over(&self.present, space) {
+        let over = limiting.ledger.over_after(
+            &self.present,
+            name,
+            outlook.here,
+            outlook.referenced,
+            space,
+        );
+        match over {
             Some(refusal) => Err(refusal),
             None => Ok(()),
         }
@@ -143,7 +150,7 @@ impl Pool {
     // What is available to the file system of this name, where that is asked for, in blocks; else 0.
     pub(crate) fn room_asked(&self, target: &Target, property: Property) -> u64
         ensures small { result < 2 ^ 54 }
-        ensures { (name : List ℕ) → target.now ≡ Target.FileSystem name → property ≡ Property.Available → IsSome (get self.now.state.now.file_systems name) → result ≡ room_of self.now.state name }
+        ensures room { (name : List ℕ) → target.now ≡ Target.FileSystem name → property ≡ Property.Available → IsSome (get self.now.state.now.file_systems name) → result ≡ room_of self.now.state name }
     {
         let (Target::FileSystem(name), Property::Available) = (target, property) else {
             return 0;
