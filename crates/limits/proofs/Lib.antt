@@ -4,3 +4,5 @@ pub mod Charges
 pub mod LimitRow
 pub mod Alike
 pub mod Rooms
+pub mod Bounds
+pub mod Changes

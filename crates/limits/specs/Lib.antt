@@ -2,3 +2,5 @@
 pub mod Lines
 pub mod Ledgers
 pub mod Charges
+pub mod Places
+pub mod Changes
