@@ -165,12 +165,19 @@ module _ (old new : World) (good : IsHierarchy old.file_systems) (name : List �
     new_used : (d : Line) → used_in (get_or (ledger_of new) i d) ≡ used_of new (key i)
     new_used d = used_at new i lt_new d ∙ ap (used_of new) named
 
-    new_charge : (d : Line) → charge_in (get_or (ledger_of new) i d) ≡ charge_of new (key i)
+    pub new_charge : (d : Line) → charge_in (get_or (ledger_of new) i d) ≡ charge_of new (key i)
     new_charge d = charge_at new i lt_new d ∙ ap (charge_of new) named
 
     -- the line of another whose children use the same
     same_at : (d : Line) → ¬ (key i ≡ name) → used_by_children new (key i) ≡ used_by_children old (key i) → get_or (ledger_of new) i d ≡ get_or (ledger_of old) i d
     same_at d ne e = new_line d ∙ other_line (key i) before after there_old there_new ne (used_by_children old (key i)) e ∙ sym (line_at old i lt d)
+
+    -- the account of another
+    pub same_account : (d : Line) → ¬ (key i ≡ name) → (get_or (ledger_of new) i d).account ≡ (get_or (ledger_of old) i d).account
+    same_account d ne =
+        ap (λ (l : Line). l.account)
+        (new_line d ∙ other_line (key i) before after there_old there_new ne (used_by_children new (key i)) refl
+        ∙ ap (λ (l : Line). record l { children = used_by_children new (key i) }) (sym (line_at old i lt d)))
 
     -- where it isn't above the one that changes
     pub away_at : (d : Line) → ¬ (IsUnder (key i) name) → get_or (ledger_of new) i d ≡ get_or (ledger_of old) i d

@@ -6,3 +6,4 @@ pub mod Alike
 pub mod Rooms
 pub mod Bounds
 pub mod Changes
+pub mod Ways
