@@ -4,7 +4,7 @@ use Rattle.std.specs.Prelude.{max, unwrap_or}
 use Rattle.std.specs.List.{All, filter}
 use Rattle.std.specs.FinMap.{get, entries, keys}
 use Rattle.std.proofs.lemmas.Bool.{cases_eq}
-use Rattle.std.proofs.lemmas.List.{length-map, length-set, get_or-map, get_or-set_same, get_or-set_other, map-set, set-get_or, drop_more, drop_all, same_lists}
+use Rattle.std.proofs.lemmas.List.{length-map, length-set, get_or-map, get_or_default, get_or-set_same, get_or-set_other, map-set, set-get_or, drop_more, drop_all, same_lists}
 use Rattle.std.proofs.lemmas.List.Elements.{All-set, All-map}
 use Rattle.name.specs.Names.{parent_of}
 use Rattle.model.specs.World.{World, FileSystem, no_limits}
@@ -20,6 +20,7 @@ use Rattle.limits.specs.declared.line.Line.{Line}
 use Rattle.limits.specs.Lines.{used_in, reserved_in, charge_in, IsSmall}
 use Rattle.limits.specs.Ledgers.{account_in, accounts_in, line_in, ledger_of}
 use Rattle.limits.specs.Charges.{fresh, children_from, HasCharges, IsCharged}
+use Rattle.limits.specs.Places.{IsParentAt}
 use Rattle.limits.proofs.Order.{no_entry, keys_long, key_is, one_place, child_later, children_behind, entry_at}
 
 -- ---- sums over the first of a list
@@ -222,6 +223,33 @@ module _ (m : FileSystems) (k : ℕ) (ls : List Line) (as_long : length ls ≡ l
           (let h = was.here p old within in let a = ap (λ (l : Line). l.account.here) old_at in let b = ap (λ (a : Account). a.here) same in omega (arith, h, a, b)) was.here;
       few = let f = was.few in omega (arith, f, long_set);
     }
+
+  -- as it is written
+  module _ (p : ℕ) (at : IsParentAt (keys m) k p) where
+    pub parent_within : p < length ls
+    parent_within = let w = at.within in omega (arith, w, as_long)
+
+    module _ (d old : Line) (old_at : old ≡ get_or ls p old) (charge : ℕ) (charged : charge ≡ charge_in (get_or ls k d)) (low : charge ≤ used_in (get_or ls k d) + 2 ^ 40) where
+      abbrev written : Line
+      written = record { account = (get_or ls p old).account; children = (get_or ls p old).children + charge }
+
+      same_account : (get_or ls p old).account ≡ old.account
+      same_account = sym (ap account_is old_at)
+
+      pub sum_low : (get_or ls p old).children + charge < 2 ^ 64
+      sum_low =
+          let a = was.most p old parent_within in
+          let b = was.most k d lt in
+          let c = was.here k d lt in
+          omega (arith, a, b, c, low)
+
+      pub written_charged : IsCharged m k (set ls p (record { account = (get_or ls p old).account; children = (get_or ls p old).children + charge }))
+      written_charged = charged_up p at.within at.named (get_or ls k d) old written (get_or_default ls k d (get_or ls k d) lt) old_at charge charged low same_account
+          (ap (λ (l : Line). l.children + charge) (sym old_at))
+
+      pub written_accounts : map account_is (set ls p (record { account = (get_or ls p old).account; children = (get_or ls p old).children + charge })) ≡ map account_is ls
+      written_accounts = accounts_same p at.within at.named (get_or ls k d) old written (get_or_default ls k d (get_or ls k d) lt) old_at charge charged low same_account
+          (ap (λ (l : Line). l.children + charge) (sym old_at))
 
 -- ---- at first
 

@@ -1,9 +1,10 @@
-pub mod Sorted
+pub mod Bounds
+pub mod Changes
+pub mod Ways
 pub mod Order
 pub mod Charges
 pub mod LimitRow
 pub mod Alike
 pub mod Rooms
-pub mod Bounds
-pub mod Changes
-pub mod Ways
+pub mod Rows
+pub mod Places

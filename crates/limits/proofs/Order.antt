@@ -7,7 +7,7 @@ use Rattle.std.specs.declared.cmp.Ordering.{Ordering}
 use Rattle.std.specs.declared.cmp.Ordering.TheVariants.{Less, Equal, Greater}
 use Rattle.std.specs.Cmp.{tied_itself, nat_cmp_total}
 use Rattle.std.specs.Cmp.Lexicographic.{nat_list_cmp_total}
-use Rattle.std.specs.FinMap.{get, entries, keys, entries_sorted, get-entries, find}
+use Rattle.std.specs.FinMap.{get, entries, keys, len, entries_sorted, get-entries, len-entries}
 use Rattle.std.proofs.lemmas.Bool.{cases_lt}
 use Rattle.std.proofs.lemmas.List.{length-map, get_or-map}
 use Rattle.base.specs.Surveys.{IsIn}
@@ -18,7 +18,7 @@ use Rattle.world.proofs.Maps.{same_value, no_value}
 use Rattle.world.proofs.Put.{parent_there}
 use Rattle.accounts.proofs.Names.{is_child, child_is, in_keys}
 use Rattle.limits.specs.Charges.{children_from}
-use Rattle.limits.proofs.Sorted.{sorted_at, find_at}
+use Rattle.file_systems.proofs.Sorted.{sorted_at, find_at}
 
 -- ---- a parent is below its children
 
@@ -65,6 +65,9 @@ no_entry = ([], empty_file_system)
 module _ (m : FileSystems) where
   pub keys_long : length (keys m) ≡ length (entries m)
   keys_long = length-map (entries m) (λ (e : List ℕ × FileSystem). e.0)
+
+  pub keys_count : len m ≡ length (keys m)
+  keys_count = len-entries m ∙ sym keys_long
 
   pub key_is : (i : ℕ) → i < length (keys m) → get_or (keys m) i [] ≡ (get_or (entries m) i no_entry).0
   key_is i lt = let l = keys_long in get_or-map (λ (e : List ℕ × FileSystem). e.0) (entries m) i no_entry [] (omega (arith, l, lt))

@@ -1,17 +1,29 @@
 //! The ledger of a pool's file systems.
-ghost use Rattle.std.specs.Prelude.{◌≡◌, ◌<◌, ◌+◌, ◌^◌, ◌∷◌, [], not, nat_le, slice_get};
-ghost use Rattle.std.specs.Option.{option_map_or};
+ghost use Rattle.std.specs.Prelude.{◌≡◌, ◌<◌, ◌≤◌, ◌+◌, ◌*◌, ◌^◌, IsSome, IfSome, IfOk, IfErr};
+ghost use Rattle.std.specs.FinMap.{get, keys};
+ghost use Rattle.std.specs.List.{All};
 ghost use Rattle.base.specs.declared.refusal.Refusal.{Refusal};
 ghost use Rattle.model.specs.Hierarchy.{IsHierarchy};
 ghost use Rattle.model.specs.Rule.{first_of};
 ghost use Rattle.model.specs.State.{State};
+ghost use Rattle.model.specs.Sums.{used_of, used_by_children, room_of};
+ghost use Rattle.model.specs.World.{World};
 ghost use Rattle.model.specs.requests.Change.{limit_row};
-ghost use Rattle.limits.specs.Lines.{charge_in};
-ghost use Rattle.limits.specs.Ledgers.{ledger_of, IsSpaceOf};
+ghost use Rattle.world.specs.Tables.{world_of};
+ghost use Rattle.accounts.specs.Levels.{slashes};
+ghost use Rattle.limits.specs.Lines.{IsSmall};
+ghost use Rattle.limits.specs.Ledgers.{accounts_in, line_in, ledger_of, IsSpaceOf};
 
+use crate::account::Account;
+use crate::charging::{charge_all, lines_of};
 use crate::line::Line;
+use crate::parent::parent_of;
+use crate::place::place_of;
 use crate::pool_space::Space;
 use base::refusal::Refusal;
+use datasets::Table;
+use name::DsName;
+use std::alloc::Global;
 use std::marker::Model;
 
 /// A line for each file system of a pool, in byte order of the names: its account, and what its children use. Contracts see the lines.
@@ -34,6 +46,23 @@ impl Model for Ledger {
 }
 
 impl Ledger {
+    /// The ledger of every world with the file systems of this table and these accounts of them, as a world that a change is asked of, whose
+    /// numbers are known before it is made. NoMemory where there is none for it. It costs the number of file systems times its logarithm, and
+    /// the length of their names.
+    pub fn of(alloc: Global, table: &Table, accounts: &[Account]) -> Result<Ledger, Refusal>
+        requires small { All (λ a. a.here < 2 ^ 42) accounts.now }
+        ensures ok { IfOk result (λ l. (w : World) → IsHierarchy w.file_systems → keys w.file_systems ≡ keys table.now.file_systems → accounts_in w ≡ accounts.now → l ≡ ledger_of w) }
+        ensures err { IfErr result (λ e. e ≡ Refusal.NoMemory) }
+    {
+        let mut lines = lines_of(alloc, accounts)?;
+
+        // Any other number of accounts is that of no world.
+        if lines.len() == table.len() {
+            charge_all(table, &mut lines);
+        }
+        Ok(Ledger { lines })
+    }
+
     /// The limit that is broken, where the pool has this beside its file systems: Quota, else RefQuota, else NoSpace where the pool has no
     /// room for what is used, reserved, freeing and waiting; or none (zfsprops(7): quota, refquota, reservation; the order is profile). It
     /// costs the number of file systems.
@@ -56,5 +85,65 @@ impl Ledger {
         } else {
             Some(Refusal::NoSpace)
         }
+    }
+
+    /// What the file system of this name, which is there, uses with all below it, where this is the ledger of its table (zfsprops(7): used). It
+    /// costs the logarithm of the number of file systems.
+    pub fn used(&self, table: &Table, name: &DsName) -> u64
+        requires there { IsSome (get table.now.file_systems name.now) }
+        requires own { self.now ≡ ledger_of (world_of table.now) }
+        ensures { result ≡ used_of (world_of table.now) name.now }
+    {
+        self.line(table, name.as_bytes()).used()
+    }
+
+    /// What of that its children use (zfsprops(7): usedbychildren). It costs the logarithm of the number of file systems.
+    pub fn used_by_children(&self, table: &Table, name: &DsName) -> u64
+        requires there { IsSome (get table.now.file_systems name.now) }
+        requires own { self.now ≡ ledger_of (world_of table.now) }
+        ensures { result ≡ used_by_children (world_of table.now) name.now }
+    {
+        self.line(table, name.as_bytes()).children
+    }
+
+    /// What is available to the file system of this name, which is there, where this is the ledger of its table and the pool has that beside
+    /// its file systems (zfsprops(7): available). It costs for each level of the name the logarithm of the number of file systems, and the
+    /// length of the name.
+    pub fn room(&self, table: &Table, name: &DsName, space: Space) -> u64
+        requires there { IsSome (get table.now.file_systems name.now) }
+        requires own { self.now ≡ ledger_of (world_of table.now) }
+        ensures { (s : State) → s.now.file_systems ≡ table.now.file_systems → IsSpaceOf s space → result ≡ room_of s name.now }
+    {
+        self.room_at(table, name.as_bytes(), &space)
+    }
+
+    // The same, from the root down the levels of the name.
+    fn room_at(&self, table: &Table, name: &[u8], space: &Space) -> u64
+        requires there { IsSome (get table.now.file_systems name.now) }
+        requires own { self.now ≡ ledger_of (world_of table.now) }
+        ensures value { (s : State) → s.now.file_systems ≡ table.now.file_systems → IsSpaceOf s space.now → result ≡ room_of s name.now }
+        ensures most { result ≤ 2 ^ 32 + slashes name.now * 2 ^ 40 }
+    {
+        // It tells that each file system's parent is there, and that there are few.
+        let _count = table.len();
+        let line = self.line(table, name);
+        let room = match parent_of(name) {
+            Some(parent) => self.room_at(table, parent, space) + line.unspent(),
+            None => space.left(line.used()),
+        };
+        line.within_quota(room)
+    }
+
+    // The line of the file system of this name, which is there. It costs the logarithm of their number.
+    fn line(&self, table: &Table, name: &[u8]) -> &Line
+        requires there { IsSome (get table.now.file_systems name.now) }
+        requires own { self.now ≡ ledger_of (world_of table.now) }
+        ensures value { IfSome (get table.now.file_systems name.now) (λ f. result.now ≡ line_in (world_of table.now) (name.now, f)) }
+        ensures small { IsSmall result.now }
+    {
+        let Some(place) = place_of(table, name) else {
+            unreachable!()
+        };
+        &self.lines[place]
     }
 }

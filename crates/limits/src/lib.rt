@@ -8,9 +8,11 @@ mod account;
 mod charging;
 mod ledger;
 mod line;
+mod parent;
+mod place;
 mod pool_space;
 
-pub use crate::account::Account;
+pub use crate::account::{Account, account_of, accounts_of, used_by_refreservation};
 pub use crate::ledger::Ledger;
 pub use crate::line::Line;
 pub use crate::pool_space::Space;

@@ -65,7 +65,8 @@ impl Line {
     /// What of a room its quota leaves (zfsprops(7): available, quota). Constant time.
     pub fn within_quota(&self, room: u64) -> u64
         requires { IsSmall self.now }
-        ensures { result ≡ within_quota self.now.account.limits.quota (used_in self.now) room }
+        ensures value { result ≡ within_quota self.now.account.limits.quota (used_in self.now) room }
+        ensures most { result ≤ room }
     {
         match self.account.limits.get(Limit::Quota) {
             Some(quota) => room.min(quota.get().saturating_sub(self.used())),

@@ -1,0 +1,78 @@
+-- A binary search among the rows of a table finds the place of a name.
+use Rattle.std.proofs.Common.{◌≡◌, ℕ, ◌+◌, ◌<◌, T, List, [], ◌∷◌, Option, Some, None, is_some, length, get_or, map, refl, sym, ap, subst, ◌∙◌, arith}
+use Rattle.std.specs.Prelude.{Result, Ok, Err, IfOk, IfErr, IfSome, IfNone, IsTrue}
+use Rattle.std.specs.Result.{result_ok}
+use Rattle.std.specs.Arc.{arc_value}
+use Rattle.std.specs.declared.sync.Arc.{Arc}
+use Rattle.std.specs.declared.alloc.Global.{Global}
+use Rattle.std.specs.Cmp.Lexicographic.{nat_list_cmp_total}
+use Rattle.std.specs.FinMap.{get, entries, keys, len, is_sorted, entries_sorted, get-entries, len-entries}
+use Rattle.std.specs.List.Sorted.{IsSearchInRange, IsBinarySearchResult}
+use Rattle.std.proofs.lemmas.List.{length-map, get_or-map}
+use Rattle.name.specs.Names.{name_cmp, parent_of}
+use Rattle.model.specs.Hierarchy.{FileSystems, IsHierarchy}
+use Rattle.world.proofs.Maps.{no_value}
+use Rattle.file_system.specs.Rows.{Row, Entry, entry_of, entry_in}
+use Rattle.file_systems.specs.Clones.{row_in}
+use Rattle.file_systems.specs.Places.{IsAt, IsGapFor}
+use Rattle.file_systems.proofs.Rows.{searched, row_of, true_from}
+use Rattle.file_systems.proofs.Sorted.{find_gap}
+use Rattle.accounts.proofs.Names.{in_keys, from_keys, parent_in}
+use Rattle.limits.specs.Places.{IsParentAt}
+use Rattle.limits.proofs.Order.{no_entry, keys_long, key_is, entry_at}
+
+shared : (rows : List (Arc Row Global)) → map entry_in rows ≡ map entry_of (map arc_value rows)
+shared [] = refl
+shared (r ∷ rows) = ap (λ l. entry_in r ∷ l) (shared rows)
+
+back : (m : FileSystems) (es : List Entry) → map entry_of (map (row_in m) es) ≡ es
+back m [] = refl
+back m (e ∷ es) = ap (λ l. e ∷ l) (back m es)
+
+module _ (m : FileSystems) (rows : List (Arc Row Global)) (all : map arc_value rows ≡ map (row_in m) (entries m)) where
+  pub entries_are : map entry_in rows ≡ entries m
+  entries_are = shared rows ∙ ap (map entry_of) all ∙ back m (entries m)
+
+  in_order : IsTrue (is_sorted name_cmp (map entry_in rows))
+  in_order = true_from _ (subst (λ es. T (is_sorted name_cmp es)) (sym entries_are) (entries_sorted m))
+
+  pub placed : (name : List ℕ) (r : Result ℕ ℕ) → IsSearchInRange r (length rows) → IsBinarySearchResult (λ (a : Arc Row Global). name_cmp (entry_in a).0 name) rows r
+      → (o : Option ℕ) → o ≡ result_ok r → IfSome o (IsAt (entries m) name) × IfNone o (get m name ≡ None)
+  placed name r range by_name o is = subst (λ x. IfSome x (IsAt (entries m) name) × IfNone x (get m name ≡ None)) (sym is) (at r (searched entry_in rows in_order name r range by_name))
+    where
+      at : (r : Result ℕ ℕ) → IfOk r (IsAt (map entry_in rows) name) × IfErr r (IsGapFor (map entry_in rows) name)
+          → IfSome (result_ok r) (IsAt (entries m) name) × IfNone (result_ok r) (get m name ≡ None)
+      at (Ok i) h = (subst (λ es. IsAt es name i) entries_are h.0, tt)
+      at (Err i) h = (tt,
+        (let g = subst (λ es. IsGapFor es name i) entries_are h.1 in get-entries m name ∙ find_gap nat_list_cmp_total (entries m) name i g.below g.above))
+
+  rows_long : length rows ≡ length (entries m)
+  rows_long = sym (length-map rows entry_in) ∙ ap length entries_are
+
+  pub row_within : (i : ℕ) → i < len m → i < length rows
+  row_within i lt = let l = rows_long in let e = len-entries m in omega (arith, l, e, lt)
+
+  -- the name of the row at a place is the key there
+  pub name_at : (i : ℕ) (r : Arc Row Global) → i < len m → r ≡ get_or rows i r → (arc_value r).name ≡ get_or (keys m) i []
+  name_at i r lt is =
+      let e = len-entries m in
+      ap (λ (x : Entry). x.0) (row_of entry_in rows i r is ∙ ap (λ es. get_or es i (entry_in r)) entries_are)
+      ∙ sym (get_or-map (λ (x : Entry). x.0) (entries m) i (entry_in r) [] (omega (arith, e, lt)))
+
+-- the place of a name that is the parent of the key at a place
+module _ (m : FileSystems) (good : IsHierarchy m) (i : ℕ) (lt : i < len m) (parent : List ℕ) (is : parent_of (get_or (keys m) i []) ≡ Some parent) where
+  here : i < length (keys m)
+  here = let l = keys_long m in let e = len-entries m in omega (arith, l, e, lt)
+
+  there : (get m parent ≡ None) → ⊥
+  there none =
+      let k = from_keys m parent (parent_in m good (get_or (keys m) i []) parent (in_keys m (get_or (keys m) i []) (ap is_some (entry_at m i here))) is) in
+      no_value k.0 (sym none ∙ k.1)
+
+  pub parent_found : (o : Option ℕ) → IfSome o (IsAt (entries m) parent) → IfNone o (get m parent ≡ None)
+      → IfSome o (IsParentAt (keys m) i) × IfNone o (parent_of (get_or (keys m) i []) ≡ None)
+  parent_found None some none = (tt, absurd (there none))
+  parent_found (Some j) at none =
+      let l = keys_long m in
+      let w : j < length (keys m) = (let a = at.within in omega (arith, a, l)) in
+      (record { within = w; named = is ∙ ap Some (sym (key_is m j w ∙ at.named no_entry)) }, tt)
