@@ -277,3 +277,42 @@ module _ (old : World) (good : IsHierarchy old.file_systems) (modest : All IsMod
     refquota_broken place line way e =
         refquotas_are new
         ∙ list_all_at is_in_refquota (ledger_of new) place line (let l = long_new in let lt = way.within in omega (arith, l, lt)) (ap is_in_refquota (on_way place line way place line refl) ∙ e)
+
+-- ---- one step
+
+module _ (names : List (List ℕ)) (lines : List Line) (long : length lines ≡ length names) (place p : ℕ) (line at above : Line) (within : place < length lines)
+    (is_at : at ≡ get_or lines place at) (parent : IsParentAt names place p) (is_above : above ≡ get_or lines p above)
+    (counted : (q : ℕ) → IsParentAt names place q → charge_in (get_or lines place line) ≤ (get_or lines q line).children) (before : ℕ) (was : before ≡ charge_in at) where
+  parent_in : p < length lines
+  parent_in = let w = parent.within in omega (arith, long, w)
+
+  at_is : (d : Line) → get_or lines place d ≡ at
+  at_is d = get_or_default lines place d at within ∙ sym is_at
+
+  above_is_at : (d : Line) → get_or lines p d ≡ above
+  above_is_at d = get_or_default lines p d above parent_in ∙ sym is_above
+
+  -- what was charged is among what the parent's children use
+  pub step_low : before ≤ above.children
+  step_low =
+      let c = counted p parent in
+      let a = ap charge_in (at_is line) in
+      let b = ap (λ (l : Line). l.children) (above_is_at line) in
+      omega (arith, c, a, b, was)
+
+  module _ (after : ℕ) (now : after ≡ charge_in line) where
+    -- so the sum can be told
+    pub step_fits : All (λ l. used_in l ≤ 2 ^ 54) lines → IsNear (get_or lines place line) line → after ≤ used_in line + 2 ^ 40 → above.children - before + after < 2 ^ 60
+    step_fits little near most =
+        let a = little place line within in
+        let b = little p above parent_in in
+        let c = ap used_in (above_is_at above) in
+        let n = near.used in
+        omega (arith, a, b, c, n, most)
+
+    -- and the parent's line is the next
+    pub step_next : IsNext names lines place line (p, record { account = above.account; children = above.children - before + after })
+    step_next = record {
+      parent = parent;
+      is = λ i. recharged (sym (above_is_at (record { account = above.account; children = above.children - before + after })) i) ((was ∙ ap charge_in (sym (at_is line))) i) (now i);
+    }
