@@ -1,6 +1,8 @@
 pub mod Bounds
 pub mod Changes
 pub mod Ways
+pub mod Asking
+pub mod Starts
 pub mod Order
 pub mod Charges
 pub mod LimitRow
