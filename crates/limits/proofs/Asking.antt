@@ -1,17 +1,21 @@
 -- What the limits say of a world with a changed account, by the lines on the way up.
 use Rattle.std.proofs.Common.{◌≡◌, ℕ, zero, suc, ◌+◌, ◌≤◌, ◌<◌, ◌^◌, ◌≢◌, Bool, true, false, true≢false, List, [], ◌∷◌, length, get_or, is_some, refl, sym, ap, subst, ◌∙◌, inl, inr, ◌⊎◌, ⊎_elim, arith}
-use Rattle.std.specs.Prelude.{nat_le}
+use Rattle.std.specs.Prelude.{nat_le, not, Some}
 use Rattle.std.specs.Option.{option_map_or}
 use Rattle.std.specs.List.{All, list_all}
 use Rattle.std.specs.FinMap.{keys}
 use Rattle.std.proofs.lemmas.Bool.{cases_eq, and_from}
 use Rattle.std.proofs.lemmas.List.{get_or_default}
 use Rattle.std.proofs.lemmas.List.Folds.{list_all_at}
-use Rattle.base.specs.declared.refusal.Refusal.TheVariants.{Quota, RefQuota}
+use Rattle.base.specs.declared.refusal.Refusal.{Refusal}
+use Rattle.base.specs.declared.refusal.Refusal.TheVariants.{Quota, RefQuota, NoSpace}
 use Rattle.name.specs.Names.{root_name}
 use Rattle.model.specs.World.{World}
 use Rattle.model.specs.Hierarchy.{IsHierarchy}
-use Rattle.model.specs.Fits.{quotas_hold, refquotas_hold}
+use Rattle.model.specs.Fits.{quotas_hold, refquotas_hold, pool_holds}
+use Rattle.model.specs.Rule.{first_of}
+use Rattle.model.specs.State.{State}
+use Rattle.model.specs.requests.Change.{limit_row}
 use Rattle.accounts.specs.Levels.{slashes, IsUnder, charge_of}
 use Rattle.accounts.specs.Limits.{AreQuotasMet}
 use Rattle.accounts.proofs.Names.{under_or_not}
@@ -19,7 +23,8 @@ use Rattle.accounts.proofs.Limits.{met_quotas, met_refquotas}
 use Rattle.limits.specs.declared.account.Account.{Account}
 use Rattle.limits.specs.declared.line.Line.{Line}
 use Rattle.limits.specs.Lines.{used_in, charge_in, is_in_quota, is_in_refquota}
-use Rattle.limits.specs.Ledgers.{ledger_of}
+use Rattle.limits.specs.declared.pool_space.Space.{Space}
+use Rattle.limits.specs.Ledgers.{ledger_of, IsSpaceOf}
 use Rattle.limits.specs.Places.{IsParentAt}
 use Rattle.limits.specs.Changes.{IsChanged, IsModest, IsNear, IsNext, IsTop, IsOnWay, IsWithinQuotas, IsOverQuota, amended}
 use Rattle.limits.proofs.Order.{entry_at, one_place, root_first, not_empty}
@@ -195,3 +200,23 @@ module _ (old : World) (good : IsHierarchy old.file_systems) (lines : List Line)
 
     pub over_quota : (place : ℕ) (line : Line) → IsOnWay old name here referenced place line → is_in_quota line ≡ false → IsOverQuota new Quota
     over_quota place line way e = inl (refl, quota_broken place line way e)
+
+-- ---- the row of limits
+
+module _ (s : State) where
+  -- a broken quota or refquota is the answer
+  pub told_over : (e : Refusal) → IsOverQuota s.now e → first_of (limit_row s) ≡ Some e
+  told_over e (inl (is, q)) = ap (λ b. first_of ((not b, Quota) ∷ (not (refquotas_hold s.now), RefQuota) ∷ (not (pool_holds s), NoSpace) ∷ [])) q ∙ ap Some (sym is)
+  told_over e (inr (is, q, r)) =
+      ap (λ b. first_of ((not b, Quota) ∷ (not (refquotas_hold s.now), RefQuota) ∷ (not (pool_holds s), NoSpace) ∷ [])) q
+      ∙ ap (λ b. first_of ((not b, RefQuota) ∷ (not (pool_holds s), NoSpace) ∷ [])) r ∙ ap Some (sym is)
+
+  -- else the pool's room is
+  pub told_room : (space : Space) → IsSpaceOf s space → (charge : ℕ) → IsWithinQuotas s.now charge → (b : Bool) → b ≡ nat_le (charge + space.freeing + space.waiting) space.size
+      → first_of (limit_row s) ≡ first_of ((not b, NoSpace) ∷ [])
+  unfolding pool_holds
+  told_room space of charge in' b e =
+      ap (λ x. first_of ((not x, Quota) ∷ (not (refquotas_hold s.now), RefQuota) ∷ (not (pool_holds s), NoSpace) ∷ [])) in'.quotas
+      ∙ ap (λ x. first_of ((not x, RefQuota) ∷ (not (pool_holds s), NoSpace) ∷ [])) in'.refquotas
+      ∙ (λ i. first_of ((not (nat_le (sym in'.root i + sym of.freeing i + sym of.waiting i) (sym of.size i)), NoSpace) ∷ []))
+      ∙ ap (λ x. first_of ((not x, NoSpace) ∷ [])) (sym e)
