@@ -39,6 +39,9 @@ pub under_parent : (name c parent : List ℕ) → parent_of c ≡ Some parent �
 under_parent name c parent e (zero, h) = inl (sym (same_value c name h))
 under_parent name c parent e (suc k, h) = inr (k, sym (above_parent k c parent e) ∙ h)
 
+pub under_above : (name c parent : List ℕ) → parent_of c ≡ Some parent → IsUnder name parent → IsUnder name c
+under_above name c parent e u = (suc u.0, above_parent u.0 c parent e ∙ u.1)
+
 pub under_alone : (name c : List ℕ) → parent_of c ≡ None → IsUnder name c → name ≡ c
 under_alone name c e (zero, h) = sym (same_value c name h)
 under_alone name c e (suc k, h) = absurd (no_value name (sym (above_none k c e) ∙ h))

@@ -42,10 +42,10 @@ near_amended l here referenced small = record { limits = refl; used = omega (ari
 near_recharged : (l line above : Line) → IsNear l line → charge_in l ≤ above.children → IsNear above (recharged above (charge_in l) (charge_in line))
 near_recharged l line above n counted = let c = near_charge l line n in record { limits = refl; used = omega (arith, c, counted) }
 
-modest_amended : (l : Line) (here referenced : ℕ) → here < 2 ^ 42 → IsModest l → IsModest (amended l here referenced)
+pub modest_amended : (l : Line) (here referenced : ℕ) → here < 2 ^ 42 → IsModest l → IsModest (amended l here referenced)
 modest_amended l here referenced small m = record { here = small; reserved = m.reserved }
 
-modest_recharged : (l : Line) (before after : ℕ) → IsModest l → IsModest (recharged l before after)
+pub modest_recharged : (l : Line) (before after : ℕ) → IsModest l → IsModest (recharged l before after)
 modest_recharged l before after m = record { here = m.here; reserved = m.reserved }
 
 module _ (w : World) (good : IsHierarchy w.file_systems) where
