@@ -1,3 +1,9 @@
+pub mod Bounds
+pub mod Changes
+pub mod Ways
+pub mod Asking
+pub mod Settling
+pub mod Starts
 pub mod Order
 pub mod Charges
 pub mod LimitRow

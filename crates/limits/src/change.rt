@@ -1,0 +1,186 @@
+//! What becomes of a ledger where the account of a single file system changes: its line changes, and of those above it the `children`, up to
+//! the first level that is charged what it was.
+ghost use Rattle.std.specs.Prelude.{◌≡◌, ◌<◌, ◌≤◌, ◌^◌, ℕ, Some, IsSome, IfSome, IfNone, IfOk, IfErr, length, slice_index_or};
+ghost use Rattle.std.specs.FinMap.{get, keys, len};
+ghost use Rattle.std.specs.List.{All};
+ghost use Rattle.base.specs.declared.refusal.Refusal.{Refusal};
+ghost use Rattle.model.specs.Rule.{first_of};
+ghost use Rattle.model.specs.State.{State};
+ghost use Rattle.model.specs.World.{World};
+ghost use Rattle.model.specs.requests.Change.{limit_row};
+ghost use Rattle.world.specs.Tables.{world_of};
+ghost use Rattle.accounts.specs.Limits.{AreQuotasMet};
+ghost use Rattle.limits.specs.Lines.{used_in, charge_in, IsSmall};
+ghost use Rattle.limits.specs.Ledgers.{ledger_of, IsSpaceOf};
+ghost use Rattle.limits.specs.Places.{IsParentAt};
+ghost use Rattle.limits.specs.Changes.{IsChanged, IsModest, IsNear, IsNext, IsTop, IsWithinQuotas, IsOverQuota, amended};
+
+use crate::account::Account;
+use crate::ledger::Ledger;
+use crate::line::Line;
+use crate::place::{parent_place, place_of};
+use crate::pool_space::Space;
+use base::refusal::Refusal;
+use datasets::Table;
+use name::DsName;
+
+impl Ledger {
+    /// The limit that would be broken where the file system of this name, which is there, has and keeps so much of its own (`here`) and its
+    /// live map has so much (`referenced`), where this is the ledger of its table, whose quotas and refquotas are met, and the pool has that
+    /// beside its file systems: Quota, else RefQuota, else NoSpace; or none (zfsprops(7): quota, refquota, reservation; the order is profile).
+    /// Nothing changes. It costs for each level of the name at most the logarithm of the number of file systems, and the length of the name.
+    pub fn over_after(
+        &self,
+        table: &Table,
+        name: &DsName,
+        here: u64,
+        referenced: u64,
+        space: Space,
+    ) -> Option<Refusal>
+        requires there { IsSome (get table.now.file_systems name.now) }
+        requires own { self.now ≡ ledger_of (world_of table.now) }
+        requires small { here < 2 ^ 42 }
+        ensures { (s : State) → IsChanged (world_of table.now) s.now name.now here referenced → AreQuotasMet (world_of table.now) → IsSpaceOf s space → result ≡ first_of (limit_row s) }
+    {
+        match charge_after(table, &self.lines, name, here, referenced) {
+            Ok(charge) if space.has_room(charge) => None,
+            Ok(_) => Some(Refusal::NoSpace),
+            Err(refusal) => Some(refusal),
+        }
+    }
+
+    /// The file system of this name, which is there, has and keeps so much of its own (`here`) from now on, and its live map has so much
+    /// (`referenced`), where this is the ledger of its table: it becomes that of every world that differs from the table's in this alone. It
+    /// costs for each level of the name at most the logarithm of the number of file systems, and the length of the name.
+    pub fn settle(&mut self, table: &Table, name: &DsName, here: u64, referenced: u64)
+        requires there { IsSome (get table.now.file_systems name.now) }
+        requires own { self.old ≡ ledger_of (world_of table.now) }
+        requires small { here < 2 ^ 42 }
+        ensures { (new : World) → IsChanged (world_of table.now) new name.now here referenced → self.new ≡ ledger_of new }
+    {
+        settle_lines(table, &mut self.lines, name, here, referenced);
+    }
+}
+
+// The line of a file system that has and keeps so much of its own and refers to so much. Constant time.
+fn amended(line: &Line, here: u64, referenced: u64) -> Line
+    ensures { result ≡ amended line.now here referenced }
+{
+    Line {
+        account: Account {
+            here,
+            referenced,
+            limits: line.account.limits,
+        },
+        children: line.children,
+    }
+}
+
+// Where the line at a place becomes this one, the next line that changes: the place of its parent's, and what that becomes; none where what is
+// charged stays the same, or there is no parent. It costs the logarithm of the number of file systems, and the length of the name.
+fn next_change(table: &Table, lines: &[Line], place: usize, line: &Line) -> Option<(usize, Line)>
+    requires long { length lines.now ≡ len table.now.file_systems }
+    requires within { place < length lines.now }
+    requires little { All (λ l. used_in l ≤ 2 ^ 54) lines.now }
+    requires near { IsNear (slice_index_or lines.now place line.now) line.now }
+    requires counted { (parent : ℕ) → IsParentAt (keys table.now.file_systems) place parent → charge_in (slice_index_or lines.now place line.now) ≤ (slice_index_or lines.now parent line.now).children }
+    ensures some { IfSome result (IsNext (keys table.now.file_systems) lines.now place line.now) }
+    ensures none { IfNone result (IsTop (keys table.now.file_systems) lines.now place line.now) }
+{
+    let before = lines[place].charge();
+    let after = line.charge();
+    if before == after {
+        return None;
+    }
+    let parent = parent_place(table, place)?;
+    let above = lines[parent];
+    Some((
+        parent,
+        Line {
+            account: above.account,
+            children: above.children - before + after,
+        },
+    ))
+}
+
+// What the root is charged, where a line at a place becomes this one and no other changes above it. Constant time.
+fn root_charge(lines: &[Line], place: usize, line: &Line) -> u64
+    requires there { 0 < length lines.now }
+    requires little { All (λ l. used_in l ≤ 2 ^ 54) lines.now }
+    requires small { IsSmall line.now }
+    ensures own { place ≡ 0 → result ≡ charge_in line.now }
+    ensures other { ¬ (place ≡ 0) → result ≡ charge_in (slice_index_or lines.now 0 line.now) }
+{
+    if place == 0 {
+        line.charge()
+    } else {
+        lines[0].charge()
+    }
+}
+
+// What the root is charged after a change of an account, where these are the lines of the table's ledger. Quota where a quota would be broken,
+// else RefQuota where a refquota would.
+fn charge_after(
+    table: &Table,
+    lines: &[Line],
+    name: &DsName,
+    here: u64,
+    referenced: u64,
+) -> Result<u64, Refusal>
+    requires there { IsSome (get table.now.file_systems name.now) }
+    requires own { lines.now ≡ ledger_of (world_of table.now) }
+    requires modest { All IsModest lines.now }
+    requires small { here < 2 ^ 42 }
+    ensures ok { IfOk result (λ charge. (new : World) → IsChanged (world_of table.now) new name.now here referenced → AreQuotasMet (world_of table.now) → IsWithinQuotas new charge) }
+    ensures err { IfErr result (λ e. (new : World) → IsChanged (world_of table.now) new name.now here referenced → AreQuotasMet (world_of table.now) → IsOverQuota new e) }
+{
+    // It tells what holds of the file systems.
+    let _count = table.len();
+    let Some(start) = place_of(table, name.as_bytes()) else {
+        unreachable!()
+    };
+    let own = amended(&lines[start], here, referenced);
+    let mut place = start;
+    let mut line = own;
+    loop {
+        if !line.is_in_quota() {
+            return Err(Refusal::Quota);
+        }
+        let Some((parent, above)) = next_change(table, lines, place, &line) else {
+            if own.is_in_refquota() {
+                return Ok(root_charge(lines, place, &line));
+            }
+            return Err(Refusal::RefQuota);
+        };
+        place = parent;
+        line = above;
+    }
+}
+
+// The lines of the table's ledger become those of the world that differs in this account.
+fn settle_lines(table: &Table, lines: &mut [Line], name: &DsName, here: u64, referenced: u64)
+    requires there { IsSome (get table.now.file_systems name.now) }
+    requires own { lines.old ≡ ledger_of (world_of table.now) }
+    requires modest { All IsModest lines.old }
+    requires small { here < 2 ^ 42 }
+    ensures own { (new : World) → IsChanged (world_of table.now) new name.now here referenced → lines.new ≡ ledger_of new }
+    ensures modest { All IsModest lines.new }
+    ensures little { All (λ l. used_in l ≤ 2 ^ 54) lines.new }
+{
+    // It tells what holds of the file systems.
+    let _count = table.len();
+    let Some(start) = place_of(table, name.as_bytes()) else {
+        unreachable!()
+    };
+    let mut place = start;
+    let mut line = amended(&lines[start], here, referenced);
+    loop {
+        let next = next_change(table, lines, place, &line);
+        lines[place] = line;
+        let Some((parent, above)) = next else {
+            return;
+        };
+        place = parent;
+        line = above;
+    }
+}
