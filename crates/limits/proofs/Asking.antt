@@ -181,7 +181,6 @@ module _ (old : World) (good : IsHierarchy old.file_systems) (lines : List Line)
         refquotas_are new
         ∙ list_all_at is_in_refquota (ledger_of new) place line (let l = long_new in let lt = way.within in omega (arith, l, lt)) (ap is_in_refquota (on_way place line way place line refl) ∙ e)
 
-
     -- so the answer is that of the world
     module _ (met : AreQuotasMet old) (start : ℕ) (lt : start < length (keys old.file_systems)) (is : key start ≡ name) (first : Line) (way : IsOnWay old name here referenced start first)
         (place : ℕ) (line : Line) (on : IsOnWay old name here referenced place line)

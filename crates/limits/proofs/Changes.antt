@@ -1,24 +1,22 @@
 -- Where one file system's account changes, its line and those above it change, up to the first level that is charged the same.
-use Rattle.std.proofs.Common.{◌≡◌, ℕ, zero, suc, ◌+◌, ◌-◌, ◌≤◌, ◌<◌, ◌^◌, List, [], ◌∷◌, length, get_or, map, Option, Some, None, is_some, refl, sym, ap, subst, ◌∙◌, inl, inr, ◌⊎◌, ⊎_elim, arith}
-use Rattle.std.specs.Prelude.{IsSome, max, unwrap_or}
+use Rattle.std.proofs.Common.{◌≡◌, ℕ, zero, suc, ◌+◌, ◌-◌, ◌≤◌, ◌<◌, List, [], ◌∷◌, length, get_or, Some, None, is_some, refl, sym, ap, subst, ◌∙◌, inl, inr, ◌⊎◌, ⊎_elim, arith}
+use Rattle.std.specs.Prelude.{IsSome, max}
 use Rattle.std.specs.Option.{option_and_then}
 use Rattle.std.specs.FinMap.{get, entries, keys}
-use Rattle.std.proofs.lemmas.List.{length-map, get_or-map}
-use Rattle.base.specs.Surveys.{IsIn}
+use Rattle.std.proofs.lemmas.List.{get_or-map}
 use Rattle.name.specs.Names.{root_name, parent_of}
-use Rattle.model.specs.World.{World, FileSystem, Limits, Live}
+use Rattle.model.specs.World.{World, FileSystem, Live}
 use Rattle.model.specs.Hierarchy.{IsHierarchy}
-use Rattle.model.specs.Sums.{used_of, used_here, used_by_children, referenced_of, reservation_of}
-use Rattle.world.specs.Shapes.{name_order}
-use Rattle.world.proofs.Maps.{key_cases, no_value, same_value}
+use Rattle.model.specs.Sums.{used_of, used_here, used_by_children, referenced_of}
+use Rattle.world.proofs.Maps.{no_value, same_value}
 use Rattle.world.proofs.Put.{parent_there}
 use Rattle.accounts.specs.Levels.{slashes, above, IsUnder, charge_of}
-use Rattle.accounts.proofs.Names.{level_up, above_is, under_itself, under_or_not}
+use Rattle.accounts.proofs.Names.{level_up, above_is}
 use Rattle.accounts.proofs.Levels.{reserved_is, used-split}
 use Rattle.accounts.proofs.Depth.{used_away, own_children, children_walk, change_stops}
 use Rattle.limits.specs.declared.line.Line.{Line}
-use Rattle.limits.specs.Lines.{used_in, reserved_in, charge_in}
-use Rattle.limits.specs.Ledgers.{account_in, line_in, ledger_of}
+use Rattle.limits.specs.Lines.{used_in, charge_in}
+use Rattle.limits.specs.Ledgers.{line_in, ledger_of}
 use Rattle.limits.specs.Changes.{IsChanged, amended, recharged}
 use Rattle.limits.proofs.Bounds.{charge_low}
 use Rattle.limits.proofs.Order.{no_entry, keys_long, key_is, entry_at}

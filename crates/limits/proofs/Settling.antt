@@ -1,5 +1,5 @@
 -- Each line on the way up is written, and then the lines are those of the world with the changed account.
-use Rattle.std.proofs.Common.{◌≡◌, ℕ, zero, suc, ◌+◌, ◌≤◌, ◌<◌, ◌^◌, ◌≢◌, List, [], length, get_or, set, refl, sym, ap, subst, ◌∙◌, inl, inr, ◌⊎◌, ⊎_elim, arith}
+use Rattle.std.proofs.Common.{◌≡◌, ℕ, ◌≤◌, ◌<◌, ◌^◌, ◌≢◌, List, [], length, get_or, set, sym, ap, subst, ◌∙◌, inl, inr, ◌⊎◌, ⊎_elim, arith}
 use Rattle.std.specs.List.{All}
 use Rattle.std.specs.FinMap.{keys}
 use Rattle.std.proofs.lemmas.Bool.{cases_eq}
@@ -12,8 +12,7 @@ use Rattle.accounts.proofs.Names.{level_up, above_is, under_or_not}
 use Rattle.limits.specs.declared.line.Line.{Line}
 use Rattle.limits.specs.Lines.{used_in, charge_in}
 use Rattle.limits.specs.Ledgers.{ledger_of}
-use Rattle.limits.specs.Places.{IsParentAt}
-use Rattle.limits.specs.Changes.{IsChanged, IsModest, IsNext, IsTop, IsOnWay, recharged}
+use Rattle.limits.specs.Changes.{IsChanged, IsModest, IsNext, IsTop, IsOnWay}
 use Rattle.limits.proofs.Order.{one_place}
 use Rattle.limits.proofs.Changes.{under_above, away_at}
 use Rattle.limits.proofs.Ways.{ledger_long, little, modest_recharged, way_rest, way_ends}

@@ -1,34 +1,25 @@
 -- The way up from the line of the file system whose account changes.
-use Rattle.std.proofs.Common.{◌≡◌, ℕ, zero, suc, ◌+◌, ◌-◌, ◌≤◌, ◌<◌, ◌^◌, ◌≢◌, Bool, true, false, true≢false, List, [], ◌∷◌, length, get_or, set, Option, Some, None, is_some, refl, sym, ap, subst, ◌∙◌, inl, inr, ◌⊎◌, ⊎_elim, arith}
-use Rattle.std.specs.Prelude.{IsSome, nat_le, unwrap_or, max}
-use Rattle.std.specs.Option.{option_map_or}
-use Rattle.std.specs.List.{All, list_all}
-use Rattle.std.specs.FinMap.{get, entries, keys, len, len-entries}
-use Rattle.std.proofs.lemmas.Bool.{cases_eq, and_from}
-use Rattle.std.proofs.lemmas.List.Folds.{list_all_at}
-use Rattle.std.proofs.lemmas.List.{length-map, length-set, get_or-set_same, get_or-set_other, get_or_default, same_lists}
+use Rattle.std.proofs.Common.{◌≡◌, ℕ, zero, suc, ◌+◌, ◌-◌, ◌≤◌, ◌<◌, ◌^◌, List, [], ◌∷◌, length, get_or, Some, is_some, refl, sym, ap, subst, ◌∙◌, inl, inr, ◌⊎◌, ⊎_elim, arith}
+use Rattle.std.specs.Prelude.{unwrap_or}
+use Rattle.std.specs.List.{All}
+use Rattle.std.specs.FinMap.{entries, keys, len-entries}
+use Rattle.std.proofs.lemmas.List.{length-map, get_or_default}
 use Rattle.base.specs.Surveys.{IsIn}
-use Rattle.name.specs.Names.{root_name, parent_of}
-use Rattle.model.specs.World.{World, FileSystem, Limits}
+use Rattle.model.specs.World.{World, Limits}
 use Rattle.model.specs.Hierarchy.{IsHierarchy}
-use Rattle.model.specs.Sums.{used_of, used_here, used_by_children, reservation_of}
-use Rattle.accounts.specs.Levels.{slashes, above, IsUnder, charge_of}
-use Rattle.accounts.specs.Limits.{AreQuotasMet}
-use Rattle.accounts.proofs.Names.{level_up, above_is, under_itself, under_child, under_or_not}
+use Rattle.model.specs.Sums.{used_here, reservation_of}
+use Rattle.accounts.specs.Levels.{above, IsUnder, charge_of}
+use Rattle.accounts.proofs.Names.{under_itself, under_child}
 use Rattle.accounts.proofs.Levels.{reserved_is}
-use Rattle.accounts.proofs.Limits.{met_quotas, met_refquotas}
-use Rattle.model.specs.Fits.{quotas_hold, refquotas_hold}
-use Rattle.limits.specs.declared.account.Account.{Account}
 use Rattle.limits.specs.declared.line.Line.{Line}
-use Rattle.limits.specs.Lines.{used_in, reserved_in, charge_in, is_in_quota, is_in_refquota}
+use Rattle.limits.specs.Lines.{used_in, charge_in}
 use Rattle.limits.specs.Ledgers.{line_in, ledger_of}
 use Rattle.limits.specs.Places.{IsParentAt}
 use Rattle.limits.specs.Changes.{IsChanged, IsModest, IsNear, IsNext, IsTop, IsOnWay, amended, recharged}
 use Rattle.world.proofs.Maps.{same_value}
-use Rattle.limits.proofs.Order.{no_entry, keys_long, entry_at, one_place, child_later, root_first, not_empty}
-use Rattle.limits.proofs.LimitRow.{quotas_are, refquotas_are}
+use Rattle.limits.proofs.Order.{no_entry, keys_long, entry_at, one_place, child_later}
 use Rattle.limits.proofs.Bounds.{charge_low, little_used}
-use Rattle.limits.proofs.Changes.{under_parent, under_alone, root_above, line_at, used_at, charge_at, away_at, start_at, same_account, stopped_at, next_at, new_charge}
+use Rattle.limits.proofs.Changes.{under_parent, under_alone, line_at, used_at, charge_at, start_at, stopped_at, next_at, new_charge}
 
 -- ---- how much lines use
 

@@ -29,4 +29,4 @@ is_in_refquota l = option_map_or (nat_le l.account.referenced) l.account.limits.
 
 -- it uses so little that sums of such lines can be told (profile)
 abbrev pub IsSmall : Line → Type 0
-IsSmall l = used_in l < 2 ^ 54
+IsSmall l = used_in l < 2 ^ 55

@@ -1,4 +1,5 @@
 //! What of a file system its limits are asked of.
+ghost use Rattle.std.specs.Option.{unwrap_or};
 ghost use Rattle.std.specs.Prelude.{◌≡◌, ◌≤◌, ◌<◌, ◌^◌, IfOk, IfErr, map};
 ghost use Rattle.model.specs.Sums.{used_by_refreservation as by_refreservation};
 ghost use Rattle.world.specs.Tables.{Datasets, world_of};
@@ -38,11 +39,19 @@ pub fn account_of(file_system: &FileSystem) -> Account
     ensures row { result ≡ account_at file_system.now }
     ensures value { (t : Datasets) → AreFileSystems t.file_systems t.group → IsRowOf t file_system.now → result ≡ account_in (world_of t) file_system.now.name file_system.now.system }
     ensures small { result.here < 2 ^ 42 }
+    ensures modest { unwrap_or result.limits.reservation 0 ≤ 2 ^ 40 }
 {
+    let limits = file_system.limits();
+
+    // It tells how little can be reserved.
+    let _reserved = match limits.get(Limit::Reservation) {
+        Some(amount) => amount.get(),
+        None => 0,
+    };
     let own = u64::from(file_system.used_by_dataset()) + file_system.used_by_snapshots();
     Account {
         here: own + used_by_refreservation(file_system),
         referenced: u64::from(file_system.live().node_count()),
-        limits: file_system.limits(),
+        limits,
     }
 }

@@ -3,6 +3,7 @@ ghost use Rattle.std.specs.Prelude.{◌≡◌, ◌<◌, ◌≤◌, ◌+◌, ◌^
 ghost use Rattle.std.specs.Arc.{arc_value};
 ghost use Rattle.std.specs.FinMap.{len};
 ghost use Rattle.std.specs.List.{All};
+ghost use Rattle.std.specs.Option.{unwrap_or};
 ghost use Rattle.world.specs.Trees.{total};
 ghost use Rattle.limits.specs.Rows.{own_in, account_at};
 ghost use Rattle.limits.specs.Charges.{fresh, IsCharged};
@@ -20,6 +21,7 @@ pub fn refill(lines: &mut Vec<Line>, file_systems: &[Arc<FileSystem>])
     requires few { total own_in (map arc_value file_systems.now) < 2 ^ 32 }
     ensures ok { lines.new.items ≡ map fresh (map account_at (map arc_value file_systems.now)) }
     ensures small { All (λ a. a.here < 2 ^ 42) (map account_at (map arc_value file_systems.now)) }
+    ensures modest { All (λ a. unwrap_or a.limits.reservation 0 ≤ 2 ^ 40) (map account_at (map arc_value file_systems.now)) }
     ensures kept { lines.new.cap ≡ lines.old.cap }
 {
     lines.clear();

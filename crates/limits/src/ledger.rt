@@ -28,20 +28,21 @@ use std::marker::Model;
 /// A line for each file system of a pool, in byte order of the names: its account, and what its children use. Contracts see the lines.
 #[derive(Drop)]
 pub struct Ledger {
-    lines: Vec<Line>,
+    pub(crate) lines: Vec<Line>,
 }
 
 impl Model for Ledger {
     ghost use Rattle.std.specs.Prelude.{List, ◌≤◌};
     ghost use Rattle.std.specs.List.{All};
     ghost use Rattle.limits.specs.declared.line.Line.{Line};
+    ghost use Rattle.limits.specs.Changes.{IsModest};
     ghost use Rattle.limits.specs.Lines.{IsSmall};
 
     ghost Value = { List Line };
 
     ghost view = { λ l. l.lines.items };
 
-    ghost invariant = { λ l. All IsSmall l.lines.items × (1024 ≤ l.lines.cap) };
+    ghost invariant = { λ l. All IsSmall l.lines.items × All IsModest l.lines.items × (1024 ≤ l.lines.cap) };
 }
 
 impl Ledger {
@@ -96,7 +97,7 @@ impl Ledger {
         requires there { IsSome (get table.now.file_systems name.now) }
         requires own { self.now ≡ ledger_of (world_of table.now) }
         ensures value { result ≡ used_of (world_of table.now) name.now }
-        ensures small { result < 2 ^ 54 }
+        ensures small { result < 2 ^ 55 }
     {
         self.line(table, name.as_bytes()).used()
     }
@@ -106,7 +107,7 @@ impl Ledger {
         requires there { IsSome (get table.now.file_systems name.now) }
         requires own { self.now ≡ ledger_of (world_of table.now) }
         ensures value { result ≡ used_by_children (world_of table.now) name.now }
-        ensures small { result < 2 ^ 54 }
+        ensures small { result < 2 ^ 55 }
     {
         self.line(table, name.as_bytes()).children
     }
@@ -118,7 +119,7 @@ impl Ledger {
         requires there { IsSome (get table.now.file_systems name.now) }
         requires own { self.now ≡ ledger_of (world_of table.now) }
         ensures value { (s : State) → s.now.file_systems ≡ table.now.file_systems → IsSpaceOf s space → result ≡ room_of s name.now }
-        ensures small { result < 2 ^ 54 }
+        ensures small { result < 2 ^ 55 }
     {
         // It tells that there are few file systems.
         let _count = table.len();

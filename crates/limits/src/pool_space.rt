@@ -7,7 +7,7 @@ ghost use Rattle.std.specs.Prelude.{◌≡◌, ◌<◌, ◌^◌, ◌+◌, ◌-�
 pub struct Space {
     pub size: u32,
     pub freeing: u64,
-    pub waiting: u32,
+    pub waiting: u64,
 }
 
 impl Space {
@@ -18,7 +18,7 @@ impl Space {
         let size = u64::from(self.size);
         blocks <= size
             && self.freeing <= size - blocks
-            && u64::from(self.waiting) <= size - blocks - self.freeing
+            && self.waiting <= size - blocks - self.freeing
     }
 
     /// What the pool has left beside so many blocks and those (zfsprops(7): available). Constant time.
@@ -29,6 +29,6 @@ impl Space {
         u64::from(self.size)
             .saturating_sub(blocks)
             .saturating_sub(self.freeing)
-            .saturating_sub(u64::from(self.waiting))
+            .saturating_sub(self.waiting)
     }
 }

@@ -1,5 +1,4 @@
-use Rattle.std.proofs.Common.{◌≡◌, ◌<◌, length, get_or, [], sym, ◌∙◌, arith}
-use Rattle.std.specs.FinMap.{keys}
+use Rattle.std.proofs.Common.{sym, ◌∙◌, arith}
 use Rattle.world.specs.Tables.{world_of}
 use Rattle.limits.proofs.Order.{keys_count}
 use Rattle.limits.proofs.Starts.{start_within, start_named}

@@ -1,4 +1,4 @@
-use Rattle.std.proofs.Common.{◌≡◌, ◌<◌, true, length, slice_index_or, List, [], ℕ, ◌⊎◌}
+use Rattle.std.proofs.Common.{◌≡◌, ◌<◌, true, length, slice_index_or, [], ℕ, ◌⊎◌}
 use Rattle.std.specs.FinMap.{keys}
 use Rattle.model.specs.World.{World}
 use Rattle.world.specs.Tables.{world_of}
