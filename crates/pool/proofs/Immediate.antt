@@ -42,6 +42,7 @@ use Rattle.accounts.specs.Limits.{IsUnlimited}
 use Rattle.steps.specs.Asked.{asked_by_snapshot}
 use Rattle.pool.specs.Limiting.{IsNoChange, MayChange}
 use Rattle.pool.proofs.Limited.{bare_here}
+use Rattle.base.specs.Rewrite.{Changes}
 
 -- a change that the table refuses
 abbrev table_error : Refusal → Result Changed Refusal
@@ -72,7 +73,7 @@ module _ (s : State) (numbers : List BlockState) (sound : IsSound s numbers) (ol
         let refusal = here (Err why) applied in
         let is = rule s numbers sound q name u asks in
         let in_range = within s numbers sound q name u asks in
-        let tells = (λ e. refusal.no_dataset.0 (ap Err e), λ none. told (refusal.no_dataset.1 none)) in
+        let tells : (why ≡ NoDataset) ↔ (get s.now.file_systems name ≡ None) = (λ e. refusal.no_dataset.0 (ap Err e), λ none. told (refusal.no_dataset.1 none)) in
         ⊎_elim
         (λ bare. write_refused s sound.steady bare numbers sound.states name q (OfFileSystem name) refl (changes_of (u ∷ [])) asks.in_range is in_range why tells
         (λ e. refusal.no_space (ap Err e)) refusal.only)

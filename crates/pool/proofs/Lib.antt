@@ -15,3 +15,4 @@ pub mod Cloned
 pub mod Marked
 pub mod Joined
 pub mod Limited
+pub mod Foretold

@@ -9,8 +9,8 @@ use Rattle.model.specs.Hierarchy.{FileSystems}
 use Rattle.model.specs.Numbers.{HasStates}
 use Rattle.model.specs.Rule.{first_of}
 use Rattle.model.specs.requests.Change.{limit_row}
-use Rattle.model.specs.Sums.{used_by_children, referenced_of, written_of, allocated_of}
-use Rattle.model.specs.World.{World, union_of, reach_of, previous_of}
+use Rattle.model.specs.Sums.{allocated_of}
+use Rattle.model.specs.World.{World, union_of, reach_of}
 use Rattle.world.specs.Sets.{Has}
 use Rattle.world.specs.Blocks.{block_order as o}
 use Rattle.world.proofs.Kept.{reach_is, union-fields}
@@ -27,6 +27,7 @@ use Rattle.pool.specs.Pools.{IsSound}
 use Rattle.pool.specs.Shown.{Shown, shown}
 use Rattle.pool.specs.declared.limiting.Limiting.{Limiting}
 use Rattle.pool.proofs.Fitting as fitting
+use Rattle.pool.proofs.Foretold.{ledger_alike}
 
 module _ (seen : Shown) (s : State) (numbers : List BlockState) (view : shown s numbers ≡ seen) (bare : IsUnlimited seen.state.now.file_systems) where
   pub bare_here : IsUnlimited s.now.file_systems
@@ -36,10 +37,6 @@ module _ (seen : Shown) (s : State) (numbers : List BlockState) (view : shown s 
   pub still_bare : (to : Datasets) → StaysUnlimited s to → IsUnlimited to.file_systems
   still_bare to stays = stays bare_here
 
-  -- and after one that was refused
-  pub same_bare : (to : Datasets) → to ≡ datasets_of s → IsUnlimited to.file_systems
-  same_bare to same = subst (λ (t : Datasets). IsUnlimited t.file_systems) (sym same) bare_here
-
 -- where nothing is kept, no file system has a limit
 pub nothing_kept : (t : Datasets) (l : Option Limiting) → IsAccounted t l → l ≡ None → IsUnlimited t.file_systems
 nothing_kept t l kept none = subst (IsAccounted t) none kept
@@ -48,24 +45,18 @@ nothing_kept t l kept none = subst (IsAccounted t) none kept
 pub few_sound : (s : State) (numbers : List BlockState) → IsSound s numbers → s.size < 2 ^ 32 → set.len (union_of (world_of (datasets_of s))) < 2 ^ 32
 few_sound s numbers sound = fitting.few s sound.steady numbers sound.states
 
+-- after a request that was refused
+pub same_accounted : (t to : Datasets) (l : Option Limiting) → to ≡ t → IsAccounted t l → IsAccounted to l
+same_accounted t to l same kept = subst (λ d. IsAccounted d l) (sym same) kept
+
 pub never_none : (l : Limiting) → Some l ≡ None → ⊥
 never_none l e = cc
 
--- the group is no matter to a ledger
-same_ledger : (t : Datasets) (group : ℕ) → ledger_of (world_of t) ≡ ledger_of (world_of (record t { group = group }))
-unfolding ledger_of used_by_children referenced_of written_of previous_of
-same_ledger t group = refl
-
 pub accounted_next : (t next : Datasets) (l : Option Limiting) → next ≡ record t { group = t.group + 1 } → IsAccounted t l → IsAccounted next l
 accounted_next t next None is kept = subst (λ (d : Datasets). IsUnlimited d.file_systems) (sym is) kept
-accounted_next t next (Some l) is kept = kept ∙ same_ledger t (t.group + 1) ∙ ap (λ (d : Datasets). ledger_of (world_of d)) (sym is)
+accounted_next t next (Some l) is kept = kept ∙ ledger_alike (world_of t) (world_of next) (ap (λ (d : Datasets). d.file_systems) (sym is))
 
 -- ---- what limits say of the state that a request leads to
-
--- a ledger hangs on the file systems alone
-pub ledger_alike : (v w : World) → v.file_systems ≡ w.file_systems → ledger_of v ≡ ledger_of w
-unfolding ledger_of used_by_children referenced_of written_of previous_of
-ledger_alike v w same = ap (λ (ss : FileSystems). ledger_of (record v { file_systems = ss })) same
 
 module _ (s new : State) (is : IsUnasked s new) where
   -- as many wait
@@ -75,7 +66,7 @@ module _ (s new : State) (is : IsUnasked s new) where
 
   module _ (to : Datasets) (systems : new.now.file_systems ≡ to.file_systems) (freeing : ℕ) (freed : set.len new.now.freeing ≡ freeing) where
     is_asked : IsAsked s to freeing new
-    is_asked = record { systems = systems; freeing = freed; waiting = waiting_same; size = is.size }
+    is_asked = record { systems = systems; freed = freed; waiting = waiting_same; size = is.size }
 
     -- what was found is what the row of its limits says
     pub over_is : (r : Option Refusal) → IsOver s to freeing r → (IsUnlimited s.now.file_systems → first_of (limit_row new) ≡ None) → first_of (limit_row new) ≡ r

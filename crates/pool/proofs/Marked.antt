@@ -68,7 +68,7 @@ module _ (seen : Shown) (s : State) (numbers : List BlockState) (view : shown s 
           (subst (λ t. CanPut s t 0) (sym is) (marking.bookmark_can s target mark sound.steady), subst (λ n. n ≤ guid_limit + 1) (plus_none s.next_guid) sound.guids)
 
       pub bookmark_stays : StaysUnlimited seen.state to
-      bookmark_stays = subst (λ (x : Shown). StaysUnlimited x.state to) view (subst (StaysUnlimited s) (sym is) (marking.bookmark_unlimited s target mark sound.steady none))
+      bookmark_stays = subst (λ (x : Shown). StaysUnlimited x.state to) view (subst (StaysUnlimited s) (sym is) (marking.bookmark_unlimited s target mark sound.steady))
 
       pub bookmark_done : Step seen.state (Bookmark target mark) Done (put seen.state to 0)
       bookmark_done = subst (λ (x : Shown). Step x.state (Bookmark target mark) Done (put x.state to 0)) view

@@ -1,6 +1,6 @@
 -- Properties of what has a name, and questions on space: what is told of them is a step.
 use Rattle.std.proofs.Common.{◌≡◌, ◌<◌, ◌*◌, ◌^◌, ℕ, Bool, true, false, not, ◌||◌, List, [], ◌∷◌, Option, Some, None, refl, sym, ap, subst, ◌∙◌}
-use Rattle.std.specs.Prelude.{count_by, is_some}
+use Rattle.std.specs.Prelude.{count_by, is_some, IsSome}
 use Rattle.std.specs.List.{list_any}
 use Rattle.std.specs.Option.{option_map, option_map_or, option_and_then}
 use Rattle.std.specs.FinMap.{get}
@@ -20,7 +20,7 @@ use Rattle.model.specs.declared.reply.Reply.TheVariants.{Done, Refused, Value as
 use Rattle.model.specs.declared.reply.Value.{Value}
 use Rattle.model.specs.declared.reply.Value.TheVariants.{Size}
 use Rattle.model.specs.World.{FileSystem, Snap, SnapId, Dataset, Live, Snapped, id_of, same_id, snap_named, older_of, union_of}
-use Rattle.model.specs.Sums.{written_since, would_free}
+use Rattle.model.specs.Sums.{written_since, would_free, room_of}
 use Rattle.model.specs.State.{State}
 use Rattle.model.specs.Targets.{has_dataset, dataset_of}
 use Rattle.model.specs.Rule.{Row, first_of}
@@ -43,6 +43,7 @@ use Rattle.pool.specs.Pools.{IsSound}
 use Rattle.pool.specs.Shown.{Shown, shown}
 use Rattle.pool.proofs.Fitting as fitting
 use Rattle.pool.proofs.Values.{nothing_named, value_told}
+use Rattle.model.specs.declared.request.Property.TheVariants.{Available}
 
 -- ---- what was written since a snapshot, by the datasets
 

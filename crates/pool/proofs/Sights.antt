@@ -129,7 +129,7 @@ module _ (seen : Shown) (s : State) (numbers : List BlockState) (view : shown s 
               (subst (CanLose (closed s number)) (sym to_is) (views.close_can s number sound.steady), joined_losses (closed s number) e.to e.freeing lost_is.joined)
 
           pub sweep_stays : StaysUnlimited seen.state e.to
-          sweep_stays = subst (λ (x : Shown). StaysUnlimited x.state e.to) view (subst (StaysUnlimited s) (sym to_is) (views.close_unlimited s number))
+          sweep_stays = subst (λ (x : Shown). StaysUnlimited x.state e.to) view (subst (StaysUnlimited s) (sym to_is) (views.close_unlimited s number sound.steady))
 
           pub sweep_done : Step seen.state (CloseView number) Done (lose (closed seen.state number) e.to)
           sweep_done = subst (λ (y : Shown). Step y.state (CloseView number) Done (lose (closed y.state number) e.to)) view

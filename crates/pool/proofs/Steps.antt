@@ -28,7 +28,7 @@ use Rattle.model.specs.Step.{Step}
 use Rattle.model.specs.Sums.{IsBalanced}
 use Rattle.model.specs.Numbers.{IsNumbered, HasStates}
 use Rattle.world.specs.Worlds.{IsPoolState}
-use Rattle.accounts.specs.Limits.{AreQuotasMet}
+use Rattle.accounts.specs.Limits.{AreQuotasMet, IsUnlimited}
 use Rattle.model.specs.requests.Create.{create_refusal}
 use Rattle.model.specs.requests.Snapshot.{snapshot_names, taking_row, guid_by}
 use Rattle.model.specs.State.{State}

@@ -1,8 +1,8 @@
 -- The values of properties that it tells, of what a name stands for.
-use Rattle.std.proofs.Common.{◌≡◌, ℕ, ◌*◌, List, Option, Some, None, true, refl, sym, ap, subst, ◌∙◌}
+use Rattle.std.proofs.Common.{◌≡◌, ℕ, ◌*◌, List, Option, Some, None, true, refl, sym, ap, subst, ◌∙◌, ◌-◌}
 use Rattle.std.specs.List.{find, join_with_byte}
-use Rattle.std.specs.Prelude.{length, is_some, count_by}
-use Rattle.std.specs.Option.{option_map_or, option_and_then}
+use Rattle.std.specs.Prelude.{length, is_some, count_by, IsSome}
+use Rattle.std.specs.Option.{option_map_or, option_and_then, unwrap_or}
 use Rattle.std.specs.FinMap.{get}
 use Rattle.std.specs.FinMap.{len as map_len}
 use Rattle.base.specs.Map.{blocks}
@@ -21,7 +21,7 @@ use Rattle.model.specs.declared.reply.Value.TheVariants.{Size, Number, Truth, No
 use Rattle.model.specs.World.{FileSystem, Snap, SnapId, Bookmark, id_of, clones_of}
 use Rattle.model.specs.Numbers.{HasStates}
 use Rattle.model.specs.Properties.{text_of_snap, property_value, file_system_value, snap_value, bookmark_value}
-use Rattle.model.specs.Sums.{size_without, used_of, used_by_children, used_by_snap}
+use Rattle.model.specs.Sums.{size_without, used_of, used_by_children, used_by_snap, room_of}
 use Rattle.model.specs.State.{State}
 use Rattle.model.specs.Step.{Step}
 use Rattle.world.proofs.Maps.{same_value, no_value}
@@ -37,11 +37,12 @@ use Rattle.steps.proofs.Questions.{get_done, get_referenced}
 use Rattle.steps.proofs.Identities.{get_live, get_snap}
 use Rattle.steps.proofs.WrittenBy.{get_written_live, get_written_snap, none_counted}
 use Rattle.steps.proofs.Texts.{get_origin, get_no_origin, get_clones}
-use Rattle.steps.proofs.Spaces.{get_used_of_live, get_available, get_used_by_dataset, get_used_by_snapshots, get_used_by_children, get_used_by_refreservation, get_limit, get_used_of_snap, get_no_space_of_snap}
+use Rattle.steps.proofs.Spaces.{get_used_of_live, get_available, get_used_by_dataset, get_used_by_snapshots, get_used_by_children, get_refreserved, get_used_of_snap, get_no_space_of_snap}
 use Rattle.steps.proofs.Alike.{used_alike, used_by_children_alike, used_by_snap_alike}
-use Rattle.pool.specs.Named.{origin_value, live_value, kept_value, snapshot_value, value_in, value_named}
+use Rattle.pool.specs.Named.{origin_value, live_value, kept_value, snapshot_value, value_in, value_named, amount_value}
 use Rattle.pool.proofs.Fitting.{free_is_room}
 use Rattle.pool.proofs.Names.{mapped, unmapped}
+use Rattle.steps.proofs.Below.{written_of_live}
 
 -- nothing has the name where it has no value
 pub nothing_named : (t : Datasets) (free : ℕ) (target : Target) (property : Property) → None ≡ value_named t free target property → IsAbsent t.file_systems target

@@ -22,7 +22,7 @@ IsAccounted t (Some l) = l.ledger ≡ ledger_of (world_of t)
 -- a state with these datasets and with so many blocks to be freed, where as many wait as do in another state (zfsprops(7): reservation)
 pub record IsAsked (s : State) (t : Datasets) (freeing : ℕ) (asked : State) : Type 0 where
   pub systems : asked.now.file_systems ≡ t.file_systems
-  pub freeing : set.len asked.now.freeing ≡ freeing
+  pub freed : set.len asked.now.freeing ≡ freeing
   pub waiting : set.len (waiting_of asked) ≡ set.len (waiting_of s)
   pub size : asked.size ≡ s.size
 

@@ -47,10 +47,10 @@ impl Pool {
         ensures { Step self.old.state (Request.Clone target.now name.now) result self.new.state }
     {
         let _size = self.size;
-        self.limiting = None;
         if let Err(refusal) = clone_now(&mut self.present, target, name) {
             return Reply::Refused(refusal);
         }
+        self.limiting = None;
         Reply::Done
     }
 
@@ -60,11 +60,11 @@ impl Pool {
         ensures { Step self.old.state (Request.Promote name.now) result self.new.state }
     {
         let _size = self.size;
-        self.limiting = None;
         let done = promote_now(alloc, &mut self.present, name, &mut self.segments);
         if let Err(refusal) = done {
             return Reply::Refused(refusal);
         }
+        self.limiting = None;
         Reply::Done
     }
 }

@@ -55,7 +55,6 @@ impl Pool {
         ensures { Step self.old.state (Request.Destroy target.now recursive defer) result self.new.state }
     {
         let _size = self.size;
-        self.limiting = None;
         let done = destroy_now(
             alloc,
             &mut self.present,
@@ -71,6 +70,7 @@ impl Pool {
         if let Err(refusal) = done {
             return Reply::Refused(refusal);
         }
+        self.limiting = None;
         Reply::Done
     }
 }

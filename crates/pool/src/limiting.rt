@@ -1,5 +1,5 @@
 //! The limits of file systems: what is kept of them, and what they say of a request.
-ghost use Rattle.std.specs.Prelude.{◌≡◌, ◌⊎◌, ◌<◌, ◌^◌, [], ◌∷◌, false, None, IsSome, IfOk, IfErr, OnOk, OnErr};
+ghost use Rattle.std.specs.Prelude.{◌≡◌, ◌⊎◌, ◌<◌, ◌^◌, [], ◌∷◌, ℕ, List, false, None, IsSome, IfOk, IfErr, OnOk, OnErr};
 ghost use Rattle.std.specs.FinMap.{get};
 ghost use Rattle.std.specs.FinSet as set;
 ghost use Rattle.base.specs.declared.refusal.Refusal.{Refusal};
@@ -149,7 +149,7 @@ impl Pool {
 
     // What is available to the file system of this name, where that is asked for, in blocks; else 0.
     pub(crate) fn room_asked(&self, target: &Target, property: Property) -> u64
-        ensures small { result < 2 ^ 54 }
+        ensures small { result < 2 ^ 55 }
         ensures room { (name : List ℕ) → target.now ≡ Target.FileSystem name → property ≡ Property.Available → IsSome (get self.now.state.now.file_systems name) → result ≡ room_of self.now.state name }
     {
         let (Target::FileSystem(name), Property::Available) = (target, property) else {

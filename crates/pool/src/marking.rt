@@ -84,10 +84,10 @@ impl Pool {
         ensures { Step self.old.state (Request.Hold tag.now target.now) result self.new.state }
     {
         let _size = self.size;
-        self.limiting = None;
         if let Err(refusal) = hold_now(alloc, &mut self.present, target, tag) {
             return Reply::Refused(refusal);
         }
+        self.limiting = None;
         Reply::Done
     }
 
@@ -97,10 +97,10 @@ impl Pool {
         ensures { Step self.old.state (Request.Bookmark target.now mark.now) result self.new.state }
     {
         let _size = self.size;
-        self.limiting = None;
         if let Err(refusal) = bookmark_now(alloc, &mut self.present, target, mark) {
             return Reply::Refused(refusal);
         }
+        self.limiting = None;
         Reply::Done
     }
 
@@ -110,7 +110,6 @@ impl Pool {
         ensures { Step self.old.state (Request.Release tag.now target.now) result self.new.state }
     {
         let _size = self.size;
-        self.limiting = None;
         let done = release_now(
             alloc,
             &mut self.present,
@@ -123,6 +122,7 @@ impl Pool {
         if let Err(refusal) = done {
             return Reply::Refused(refusal);
         }
+        self.limiting = None;
         Reply::Done
     }
 }

@@ -210,7 +210,7 @@ fn used_in(table: &Table, limiting: &Option<Limiting>, name: &DsName) -> u64
     requires accounted { IsAccounted table.now limiting.now }
     requires few { len (union_of (world_of table.now)) < 2 ^ 32 }
     ensures is { result ≡ used_of (world_of table.now) name.now }
-    ensures small { result < 2 ^ 54 }
+    ensures small { result < 2 ^ 55 }
 {
     match limiting {
         Some(limiting) => limiting.ledger.used(table, name),
@@ -224,7 +224,7 @@ fn used_by_children_in(table: &Table, limiting: &Option<Limiting>, name: &DsName
     requires accounted { IsAccounted table.now limiting.now }
     requires few { len (union_of (world_of table.now)) < 2 ^ 32 }
     ensures is { result ≡ used_by_children (world_of table.now) name.now }
-    ensures small { result < 2 ^ 54 }
+    ensures small { result < 2 ^ 55 }
 {
     match limiting {
         Some(limiting) => limiting.ledger.used_by_children(table, name),
@@ -245,7 +245,7 @@ fn value_of_limit(limit: Option<Blocks>) -> Value
 // How much of a file system's refreservation isn't written. Constant time.
 fn unwritten(file_system: &FileSystem) -> u64
     ensures is { result ≡ unwrap_or file_system.now.system.limits.refreservation 0 - size_without (blocks file_system.now.system.live) (newest_blocks (blocks file_system.now.below) file_system.now.system.snaps) }
-    ensures small { result < 2 ^ 54 }
+    ensures small { result < 2 ^ 55 }
 {
     match file_system.limits().get(Limit::RefReservation) {
         Some(amount) => amount.get().saturating_sub(u64::from(file_system.written())),
@@ -267,7 +267,7 @@ fn value_of_live(
     requires there { get table.now.file_systems file_system.now.name ≡ Some file_system.now.system }
     requires accounted { IsAccounted table.now limiting.now }
     requires few { len (union_of (world_of table.now)) < 2 ^ 32 }
-    requires small { room < 2 ^ 54 }
+    requires small { room < 2 ^ 55 }
     ensures ok { IfOk result (λ value. value ≡ live_value table.now room file_system.now property) }
     ensures err { IfErr result (λ e. (needs_memory property ≡ true) × (e ≡ Refusal.NoMemory)) }
 {
@@ -382,7 +382,7 @@ pub(crate) fn value_named(
 ) -> Result<Option<Value>, Refusal>
     requires accounted { IsAccounted table.now limiting.now }
     requires few { len (union_of (world_of table.now)) < 2 ^ 32 }
-    requires small { room < 2 ^ 54 }
+    requires small { room < 2 ^ 55 }
     ensures ok { IfOk result (λ value. value ≡ value_named table.now room target.now property) }
     ensures err { IfErr result (λ e. (needs_memory property ≡ true) × (e ≡ Refusal.NoMemory)) }
 {
@@ -434,7 +434,7 @@ pub fn in_bytes(blocks: u32) -> Value
 
 // A number of blocks in bytes, which may be more than a pool has.
 fn many_bytes(blocks: u64) -> Value
-    requires { blocks < 2 ^ 54 }
+    requires { blocks < 2 ^ 55 }
     ensures { result ≡ Value.Size (512 * blocks) }
 {
     Value::Size(512 * blocks)

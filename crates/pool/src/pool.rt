@@ -623,13 +623,13 @@ impl Pool {
         ensures { Step self.old.state (Request.Create name.now) result self.new.state }
     {
         let _size = self.size;
-        self.limiting = None;
         if let Some(refusal) = self.present.create_refusal(name) {
             return Reply::Refused(refusal);
         }
         if let Err(refusal) = self.present.add(name) {
             return Reply::Refused(refusal);
         }
+        self.limiting = None;
         Reply::Done
     }
 
@@ -723,7 +723,6 @@ impl Pool {
         ensures { Step self.old.state (Request.Snapshot (name.now ∷ []) false) result self.new.state }
     {
         let _size = self.size;
-        self.limiting = None;
         let guids = Guids {
             pool: self.id,
             next: self.next_guid,
@@ -731,6 +730,7 @@ impl Pool {
         match snapshot_one(alloc, &mut self.present, name, guids) {
             Ok(()) => {
                 self.next_guid += 1;
+                self.limiting = None;
                 Reply::Done
             }
             Err(refusal) => Reply::Refused(refusal),

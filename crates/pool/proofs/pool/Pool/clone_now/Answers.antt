@@ -3,12 +3,12 @@ use Rattle.model.specs.declared.request.Request.TheVariants.{Clone}
 use Rattle.pool.specs.Pools.{state_of}
 use Rattle.pool.specs.Shown.{shown}
 use Rattle.pool.proofs.Cloned.{clone_refused, clone_can, clone_stays, clone_done, sound_now, same_now, step_now, refused_now}
-use Rattle.pool.proofs.Limited.{still_bare, same_bare}
+use Rattle.pool.proofs.Limited.{still_bare, same_accounted}
 use Rattle.pool.proofs.pool.Pool.clone_now.Goals as goal
 
 -- where it is refused, all is as it was
 pub invariant_of-self : goal.invariant_of-self
-invariant_of-self c = (same_now (state_of c.self.inside) c.self.inside.allocator c.clone_now.new.table c.self.invariant.0 c.in-Err.ensures.unchanged, same_bare c.args.self.now (state_of c.self.inside) c.self.inside.allocator c.self.view_is c.requires c.clone_now.new.table c.in-Err.ensures.unchanged)
+invariant_of-self c = (same_now (state_of c.self.inside) c.self.inside.allocator c.clone_now.new.table c.self.invariant.0 c.in-Err.ensures.unchanged, same_accounted c.self.inside.present c.clone_now.new.table c.self.inside.limiting c.in-Err.ensures.unchanged c.self.invariant.1)
 
 pub returns-in-Err : goal.returns-in-Err
 returns-in-Err c =

@@ -128,57 +128,13 @@ renew-requires-clause-few c =
     (subst (λ plan. CanDo c.ready.inside.from.value.state plan) c.in-Change.is c.ready.invariant) in
     few_sound (with_datasets (state_of c.self.inside) c.in-Change.to) _ (sound_changed (state_of c.self.inside) c.self.inside.allocator c.self.invariant.0 c.in-Change.to _ _ can.0) (omega (arith, c.self.ranges))
 
-pub renew-requires-clause-unlimited-in-Put : goal.renew-requires-clause-unlimited-in-Put
-renew-requires-clause-unlimited-in-Put c =
-    let same = ap (λ (l : Leap). l.from) c.ready.view_is ∙ c.requires ∙ sym c.self.view_is in
-    let can = subst (λ (x : Shown). CanDo x.state (Put c.in-Put.to c.in-Put.guids)) same
-    (subst (λ plan. CanDo c.ready.inside.from.value.state plan) c.in-Put.is c.ready.invariant) in
-    λ none. can.1 (nothing_kept c.self.inside.present c.self.inside.limiting c.self.invariant.1 none)
 
-pub renew-requires-clause-few-in-Put : goal.renew-requires-clause-few-in-Put
-renew-requires-clause-few-in-Put c =
-    let same = ap (λ (l : Leap). l.from) c.ready.view_is ∙ c.requires ∙ sym c.self.view_is in
-    let can = subst (λ (x : Shown). CanDo x.state (Put c.in-Put.to c.in-Put.guids)) same
-    (subst (λ plan. CanDo c.ready.inside.from.value.state plan) c.in-Put.is c.ready.invariant) in
-    few_sound (put (state_of c.self.inside) c.in-Put.to c.in-Put.guids) _ (sound_put (state_of c.self.inside) c.self.inside.allocator c.self.invariant.0 c.in-Put.to c.in-Put.guids can.0.0 can.0.1) (omega (arith, c.self.ranges))
 
-pub renew-requires-clause-unlimited-in-Lose : goal.renew-requires-clause-unlimited-in-Lose
-renew-requires-clause-unlimited-in-Lose c =
-    let same = ap (λ (l : Leap). l.from) c.ready.view_is ∙ c.requires ∙ sym c.self.view_is in
-    let can = subst (λ (x : Shown). CanDo x.state (Lose c.in-Lose.to c.in-Lose.freeing)) same
-    (subst (λ plan. CanDo c.ready.inside.from.value.state plan) c.in-Lose.is c.ready.invariant) in
-    λ none. can.1 (nothing_kept c.self.inside.present c.self.inside.limiting c.self.invariant.1 none)
 
-pub renew-requires-clause-few-in-Lose : goal.renew-requires-clause-few-in-Lose
-renew-requires-clause-few-in-Lose c =
-    let same = ap (λ (l : Leap). l.from) c.ready.view_is ∙ c.requires ∙ sym c.self.view_is in
-    let can = subst (λ (x : Shown). CanDo x.state (Lose c.in-Lose.to c.in-Lose.freeing)) same
-    (subst (λ plan. CanDo c.ready.inside.from.value.state plan) c.in-Lose.is c.ready.invariant) in
-    few_sound (lose (state_of c.self.inside) c.in-Lose.to) _ (sound_lost (state_of c.self.inside) c.self.inside.allocator c.self.invariant.0 c.in-Lose.to can.0.0) (omega (arith, c.self.ranges))
 
-pub renew-requires-clause-unlimited-in-Sweep : goal.renew-requires-clause-unlimited-in-Sweep
-renew-requires-clause-unlimited-in-Sweep c =
-    let same = ap (λ (l : Leap). l.from) c.ready.view_is ∙ c.requires ∙ sym c.self.view_is in
-    let can = subst (λ (x : Shown). CanDo x.state (Sweep c.in-Sweep.number c.in-Sweep.to c.in-Sweep.freeing)) same
-    (subst (λ plan. CanDo c.ready.inside.from.value.state plan) c.in-Sweep.is c.ready.invariant) in
-    λ none. can.1 (nothing_kept c.self.inside.present c.self.inside.limiting c.self.invariant.1 none)
 
-pub renew-requires-clause-few-in-Sweep : goal.renew-requires-clause-few-in-Sweep
-renew-requires-clause-few-in-Sweep c =
-    let same = ap (λ (l : Leap). l.from) c.ready.view_is ∙ c.requires ∙ sym c.self.view_is in
-    let can = subst (λ (x : Shown). CanDo x.state (Sweep c.in-Sweep.number c.in-Sweep.to c.in-Sweep.freeing)) same
-    (subst (λ plan. CanDo c.ready.inside.from.value.state plan) c.in-Sweep.is c.ready.invariant) in
-    few_sound (lose (closed (state_of c.self.inside) c.in-Sweep.number) c.in-Sweep.to) _ (sound_swept (state_of c.self.inside) c.self.inside.allocator c.self.invariant.0 c.in-Sweep.number c.in-Sweep.to can.0.0) (omega (arith, c.self.ranges))
 
-pub renew-requires-clause-unlimited-in-Limit : goal.renew-requires-clause-unlimited-in-Limit
-renew-requires-clause-unlimited-in-Limit c = λ none. absurd (never_none c.in-Limit.limiting none)
 
-pub renew-requires-clause-few-in-Limit : goal.renew-requires-clause-few-in-Limit
-renew-requires-clause-few-in-Limit c =
-    let same = ap (λ (l : Leap). l.from) c.ready.view_is ∙ c.requires ∙ sym c.self.view_is in
-    let can = subst (λ (x : Shown). CanDo x.state (Limit c.in-Limit.to c.in-Limit.limiting)) same
-    (subst (λ plan. CanDo c.ready.inside.from.value.state plan) c.in-Limit.is c.ready.invariant) in
-    few_sound (with_datasets (state_of c.self.inside) c.in-Limit.to) _ (sound_now (state_of c.self.inside) c.self.inside.allocator c.in-Limit.to c.self.invariant.0 (can, subst (λ n. n ≤ guid_limit + 1) (plus_none (state_of c.self.inside).next_guid) c.self.invariant.0.guids)) (omega (arith, c.self.ranges))
 
 pub invariant_of-self-in-Limit : goal.invariant_of-self-in-Limit
 invariant_of-self-in-Limit c =

@@ -4,7 +4,7 @@ use Rattle.pool.specs.Pools.{state_of}
 use Rattle.pool.specs.Shown.{shown}
 use Rattle.pool.proofs.Cloned.{sound_now, same_now, step_now, refused_now}
 use Rattle.pool.proofs.Steps.{create_refused, create_can, create_stays, create_done}
-use Rattle.pool.proofs.Limited.{still_bare, same_bare}
+use Rattle.pool.proofs.Limited.{still_bare, same_accounted}
 use Rattle.pool.proofs.pool.Pool.create_now.Goals as goal
 
 pub returns-in-Some : goal.returns-in-Some
@@ -13,7 +13,7 @@ returns-in-Some c =
 
 -- where memory is refused, all is as it was
 pub invariant_of-self : goal.invariant_of-self
-invariant_of-self c = (same_now (state_of c.self.inside) c.self.inside.allocator c.add.new.self c.self.invariant.0 c.in-Err.ensures.err, same_bare c.args.self.now (state_of c.self.inside) c.self.inside.allocator c.self.view_is c.requires c.add.new.self c.in-Err.ensures.err)
+invariant_of-self c = (same_now (state_of c.self.inside) c.self.inside.allocator c.add.new.self c.self.invariant.0 c.in-Err.ensures.err, same_accounted c.self.inside.present c.add.new.self c.self.inside.limiting c.in-Err.ensures.err c.self.invariant.1)
 
 pub returns-in-Err : goal.returns-in-Err
 returns-in-Err c =

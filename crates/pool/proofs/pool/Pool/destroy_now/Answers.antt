@@ -4,7 +4,7 @@ use Rattle.pool.specs.Pools.{state_of}
 use Rattle.pool.specs.Shown.{shown}
 use Rattle.pool.proofs.Removing.{apart, destroy_can, destroy_stays, destroy_done, destroy_refused, lost_now, lost_step, kept_now, kept_step}
 use Rattle.pool.proofs.Sights.{clean}
-use Rattle.pool.proofs.Limited.{still_bare, same_bare}
+use Rattle.pool.proofs.Limited.{still_bare, same_accounted}
 use Rattle.pool.proofs.pool.Pool.destroy_now.Goals as goal
 
 pub destroy_now-done-requires-clause-apart : goal.destroy_now-done-requires-clause-apart
@@ -17,7 +17,7 @@ destroy_now-done-requires-clause-swept c = clean c.args.self.now (state_of c.sel
 pub invariant_of-self : goal.invariant_of-self
 invariant_of-self c =
     let e = c.in-Err.ensures in
-    (kept_now (state_of c.self.inside) c.self.inside.allocator c.destroy_now-done.new.table c.destroy_now-done.new.freeing e.unchanged e.kept c.self.invariant.0, same_bare c.args.self.now (state_of c.self.inside) c.self.inside.allocator c.self.view_is c.requires c.destroy_now-done.new.table e.unchanged)
+    (kept_now (state_of c.self.inside) c.self.inside.allocator c.destroy_now-done.new.table c.destroy_now-done.new.freeing e.unchanged e.kept c.self.invariant.0, same_accounted c.self.inside.present c.destroy_now-done.new.table c.self.inside.limiting e.unchanged c.self.invariant.1)
 
 pub returns-in-Err : goal.returns-in-Err
 returns-in-Err c =

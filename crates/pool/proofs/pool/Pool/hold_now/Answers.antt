@@ -4,12 +4,12 @@ use Rattle.pool.specs.Pools.{state_of}
 use Rattle.pool.specs.Shown.{shown}
 use Rattle.pool.proofs.Cloned.{sound_now, same_now, step_now, refused_now}
 use Rattle.pool.proofs.Marked.{hold_refused, hold_can, hold_stays, hold_done}
-use Rattle.pool.proofs.Limited.{still_bare, same_bare}
+use Rattle.pool.proofs.Limited.{still_bare, same_accounted}
 use Rattle.pool.proofs.pool.Pool.hold_now.Goals as goal
 
 -- where it is refused, all is as it was
 pub invariant_of-self : goal.invariant_of-self
-invariant_of-self c = (same_now (state_of c.self.inside) c.self.inside.allocator c.hold_now.new.table c.self.invariant.0 c.in-Err.ensures.unchanged, same_bare c.args.self.now (state_of c.self.inside) c.self.inside.allocator c.self.view_is c.requires c.hold_now.new.table c.in-Err.ensures.unchanged)
+invariant_of-self c = (same_now (state_of c.self.inside) c.self.inside.allocator c.hold_now.new.table c.self.invariant.0 c.in-Err.ensures.unchanged, same_accounted c.self.inside.present c.hold_now.new.table c.self.inside.limiting c.in-Err.ensures.unchanged c.self.invariant.1)
 
 pub returns-in-Err : goal.returns-in-Err
 returns-in-Err c =

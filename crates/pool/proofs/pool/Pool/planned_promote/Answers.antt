@@ -2,13 +2,7 @@ use Rattle.pool.specs.Pools.{state_of}
 use Rattle.pool.proofs.Cloned.{promote_refused, promote_can, promote_done}
 use Rattle.pool.proofs.pool.Pool.planned_promote.Goals as goal
 
-pub returns-clause-can : goal.returns-clause-can
-returns-clause-can c =
-    promote_can c.args.self.now (state_of c.self.inside) c.self.inside.allocator c.self.view_is c.self.invariant.0 c.args.name.now c.in-Ok.ensures.can c.in-Ok.to c.in-Ok.ensures.ok
 
-pub returns-clause-step : goal.returns-clause-step
-returns-clause-step c =
-    promote_done c.args.self.now (state_of c.self.inside) c.self.inside.allocator c.self.view_is c.self.invariant.0 c.args.name.now c.in-Ok.ensures.can c.in-Ok.to c.in-Ok.ensures.ok
 
 pub returns-in-Err-clause-step : goal.returns-in-Err-clause-step
 returns-in-Err-clause-step c =

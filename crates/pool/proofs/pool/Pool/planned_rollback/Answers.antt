@@ -5,17 +5,7 @@ use Rattle.pool.proofs.pool.Pool.planned_rollback.Goals as goal
 pub rollback-edit-requires : goal.rollback-edit-requires
 rollback-edit-requires c = record { apart = apart c.args.self.now (state_of c.self.inside) c.self.inside.allocator c.self.view_is c.self.invariant.0 }
 
-pub returns-clause-can : goal.returns-clause-can
-returns-clause-can c =
-    let e = c.in-Ok.ensures in
-    rollback_can c.args.self.now (state_of c.self.inside) c.self.inside.allocator c.self.view_is c.self.invariant.0 c.args.target.now c.args.later
-    e.can c.in-Ok.edit.to e.ok c.in-Ok.edit.freeing e.lost
 
-pub returns-clause-step : goal.returns-clause-step
-returns-clause-step c =
-    let e = c.in-Ok.ensures in
-    rollback_done c.args.self.now (state_of c.self.inside) c.self.inside.allocator c.self.view_is c.self.invariant.0 c.args.target.now c.args.later
-    e.can c.in-Ok.edit.to e.ok
 
 pub returns-in-Err-clause-step : goal.returns-in-Err-clause-step
 returns-in-Err-clause-step c =

@@ -19,14 +19,3 @@ returns-then-count-eq0-clause-step c =
     subst (λ (ms : List Member). Step c.args.self.now.state (Snapshot ms c.args.recursive) Done c.args.self.now.state) c.as_slice.ensures
     (snapshot_nothing c.args.self.now (state_of c.self.inside) c.self.inside.allocator c.self.view_is c.self.invariant.0 c.as_slice.result.now c.args.recursive
     c.in-Ok.ensures.can c.in-Ok.taken.count c.in-Ok.ensures.count c.if-count-eq0.true)
-
-pub returns-clause-can : goal.returns-clause-can
-returns-clause-can c =
-    snapshot_can c.args.self.now (state_of c.self.inside) c.self.inside.allocator c.self.view_is c.self.invariant.0 c.as_slice.result.now c.args.recursive
-    c.in-Ok.ensures.can c.in-Ok.taken.count c.in-Ok.ensures.count (omega (arith, c.if-count-eq0.false)) c.in-Ok.taken.to c.in-Ok.ensures.ok
-
-pub returns-clause-step : goal.returns-clause-step
-returns-clause-step c =
-    subst (λ (ms : List Member). Step c.args.self.now.state (Snapshot ms c.args.recursive) Done (put c.args.self.now.state c.in-Ok.taken.to c.in-Ok.taken.count)) c.as_slice.ensures
-    (snapshot_done c.args.self.now (state_of c.self.inside) c.self.inside.allocator c.self.view_is c.self.invariant.0 c.as_slice.result.now c.args.recursive
-    c.in-Ok.ensures.can c.in-Ok.taken.count c.in-Ok.ensures.count (omega (arith, c.if-count-eq0.false)) c.in-Ok.taken.to c.in-Ok.ensures.ok)

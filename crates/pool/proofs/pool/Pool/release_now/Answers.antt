@@ -5,7 +5,7 @@ use Rattle.pool.specs.Shown.{shown}
 use Rattle.pool.proofs.Marked.{release_can, release_stays, release_done, release_refused}
 use Rattle.pool.proofs.Removing.{apart, lost_now, lost_step, kept_now, kept_step}
 use Rattle.pool.proofs.Sights.{clean}
-use Rattle.pool.proofs.Limited.{still_bare, same_bare}
+use Rattle.pool.proofs.Limited.{still_bare, same_accounted}
 use Rattle.pool.proofs.pool.Pool.release_now.Goals as goal
 
 pub release_now-done-requires-clause-apart : goal.release_now-done-requires-clause-apart
@@ -18,7 +18,7 @@ release_now-done-requires-clause-swept c = clean c.args.self.now (state_of c.sel
 pub invariant_of-self : goal.invariant_of-self
 invariant_of-self c =
     let e = c.in-Err.ensures in
-    (kept_now (state_of c.self.inside) c.self.inside.allocator c.release_now-done.new.table c.release_now-done.new.freeing e.unchanged e.kept c.self.invariant.0, same_bare c.args.self.now (state_of c.self.inside) c.self.inside.allocator c.self.view_is c.requires c.release_now-done.new.table e.unchanged)
+    (kept_now (state_of c.self.inside) c.self.inside.allocator c.release_now-done.new.table c.release_now-done.new.freeing e.unchanged e.kept c.self.invariant.0, same_accounted c.self.inside.present c.release_now-done.new.table c.self.inside.limiting e.unchanged c.self.invariant.1)
 
 pub returns-in-Err : goal.returns-in-Err
 returns-in-Err c =

@@ -18,14 +18,14 @@ release_all-requires c =
     rw (c.deref.ensures.value, c.group.ensures) (free_them s c.self.invariant.0.steady c.self.inside.allocator c.self.invariant.0.states c.in-Ok.slice.rest _ can)
 
 pub invariant_of-self : goal.invariant_of-self
-invariant_of-self c = c.self.invariant.0
+invariant_of-self c = c.self.invariant
 
 pub invariant_of-self-2 : goal.invariant_of-self-2
 invariant_of-self-2 c =
     let e = c.in-Ok.ensures in
     let s = state_of c.self.inside in
     let can = slice_can (shown s c.self.inside.allocator) s c.self.inside.allocator refl c.self.invariant.0 c.in-Ok.slice.rest c.in-Ok.slice.taken.items e.once e.within e.rest in
-    rw (c.release_all.ensures, c.deref.ensures.value, c.group.ensures) (sound_freed s c.self.inside.allocator c.self.invariant.0 c.in-Ok.slice.rest _ can)
+    (rw (c.release_all.ensures, c.deref.ensures.value, c.group.ensures) (sound_freed s c.self.inside.allocator c.self.invariant.0 c.in-Ok.slice.rest _ can), c.self.invariant.1)
 
 pub returns : goal.returns
 returns c =

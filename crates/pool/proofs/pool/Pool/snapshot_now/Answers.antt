@@ -7,17 +7,18 @@ use Rattle.steps.specs.Edits.{with_datasets, put}
 use Rattle.pool.specs.Pools.{state_of}
 use Rattle.pool.specs.Shown.{Shown, shown}
 use Rattle.pool.proofs.Steps.{snapshot_refused, snapshot_done}
-use Rattle.pool.proofs.Immediate.{sound_kept}
+use Rattle.pool.proofs.Immediate.{sound_kept, kept_bare, kept_done}
 use Rattle.pool.proofs.pool.Pool.snapshot_now.Goals as goal
 
 pub invariant_of-self : goal.invariant_of-self
-invariant_of-self c = sound_kept (state_of c.self.inside) c.self.inside.allocator c.self.invariant.0 c.args.name.now c.snapshot_one.new.table c.in-Ok.ensures.can c.in-Ok.ensures.ok
+invariant_of-self c = (
+  sound_kept c.args.self.now (state_of c.self.inside) c.self.inside.allocator c.self.view_is c.self.invariant.0 c.requires c.args.name.now c.snapshot_one.new.table c.in-Ok.ensures.can c.in-Ok.ensures.ok,
+  kept_bare c.args.self.now (state_of c.self.inside) c.self.inside.allocator c.self.view_is c.self.invariant.0 c.requires c.args.name.now c.snapshot_one.new.table c.in-Ok.ensures.can c.in-Ok.ensures.ok,
+)
 
 pub returns-in-Ok : goal.returns-in-Ok
 returns-in-Ok c =
-    subst (λ (x : Shown). Step x.state (Snapshot (c.args.name.now ∷ []) false) Done (put (state_of c.self.inside) c.snapshot_one.new.table 1)) c.self.view_is
-    (snapshot_done (shown (state_of c.self.inside) c.self.inside.allocator) (state_of c.self.inside) c.self.inside.allocator refl c.self.invariant.0 (c.args.name.now ∷ []) false
-    c.in-Ok.ensures.can 1 refl (omega arith) c.snapshot_one.new.table c.in-Ok.ensures.ok)
+    kept_done c.args.self.now (state_of c.self.inside) c.self.inside.allocator c.self.view_is c.self.invariant.0 c.requires c.args.name.now c.snapshot_one.new.table c.in-Ok.ensures.can c.in-Ok.ensures.ok
 
 pub returns-in-Err : goal.returns-in-Err
 returns-in-Err c =

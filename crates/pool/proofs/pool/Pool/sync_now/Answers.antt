@@ -11,6 +11,7 @@ use Rattle.pool.specs.Shown.{Shown}
 use Rattle.pool.proofs.Commits.{sound_synced, sound_copied, state_copied}
 use Rattle.pool.proofs.Steps.{sync_too_many, sync_can, sync_done}
 use Rattle.pool.proofs.pool.Pool.sync_now.Goals as goal
+use Rattle.pool.proofs.Limited.{accounted_next}
 
 pub returns-then-group-ge-LAST_GROUP : goal.returns-then-group-ge-LAST_GROUP
 returns-then-group-ge-LAST_GROUP c =
@@ -24,8 +25,9 @@ invariant_of-self c =
     let is = c.close_group.ensures ∙ ap (λ (t : Datasets). record t { group = t.group + 1 }) c.in-Ok-copy.ensures.ok in
     let low = subst (λ n. n < number_limit) c.group-group.ensures c.if-group-ge-LAST_GROUP.false in
     let can = subst (λ (x : Shown). CanSync x.state next) (sym c.self.view_is) (sync_can c.args.self.now s c.self.inside.allocator c.self.view_is c.self.invariant.0 next is low) in
-    sound_copied s next c.close_group-2.new.self c.in-Ok.freeing c.end_group.new.self c.in-Ok.ensures.ok (is ∙ sym c.close_group-2.ensures)
-    (subst (λ (st : List BlockState). IsSound (synced s next) st) (sym c.end_group.ensures) (sound_synced s c.self.inside.allocator c.self.invariant.0 next can))
+    (sound_copied s next c.close_group-2.new.self c.in-Ok.freeing c.end_group.new.self c.in-Ok.ensures.ok (is ∙ sym c.close_group-2.ensures)
+    (subst (λ (st : List BlockState). IsSound (synced s next) st) (sym c.end_group.ensures) (sound_synced s c.self.inside.allocator c.self.invariant.0 next can)),
+    accounted_next c.self.inside.present c.close_group-2.new.self c.self.inside.limiting c.close_group-2.ensures c.self.invariant.1)
 
 pub returns : goal.returns
 returns c =
