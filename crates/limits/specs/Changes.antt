@@ -54,6 +54,12 @@ abbrev pub IsTop : List (List ℕ) → List Line → ℕ → Line → Type 0
 IsTop names lines place line =
     (charge_in line ≡ charge_in (slice_index_or lines place line)) ⊎ (parent_of (slice_index_or names place []) ≡ None)
 
+-- lines are the ledger of a world whose file systems have these names (zfs(8))
+pub record IsLedgerOf (w : World) (names : List (List ℕ)) (lines : List Line) : Type 0 where
+  pub hierarchy : IsHierarchy w.file_systems
+  pub named : keys w.file_systems ≡ names
+  pub own : lines ≡ ledger_of w
+
 -- The line at a place on the way up from the file system whose account changes, as it is in every world with the change (zfsprops(7):
 -- usedbychildren)
 pub record IsOnWay (old : World) (name : List ℕ) (here referenced : ℕ) (place : ℕ) (line : Line) : Type 0 where

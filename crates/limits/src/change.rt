@@ -4,6 +4,7 @@ ghost use Rattle.std.specs.Prelude.{◌≡◌, ◌<◌, ◌≤◌, ◌^◌, ℕ,
 ghost use Rattle.std.specs.FinMap.{get, keys, len};
 ghost use Rattle.std.specs.List.{All};
 ghost use Rattle.base.specs.declared.refusal.Refusal.{Refusal};
+ghost use Rattle.model.specs.Hierarchy.{IsHierarchy};
 ghost use Rattle.model.specs.Rule.{first_of};
 ghost use Rattle.model.specs.State.{State};
 ghost use Rattle.model.specs.World.{World};
@@ -13,7 +14,7 @@ ghost use Rattle.accounts.specs.Limits.{AreQuotasMet};
 ghost use Rattle.limits.specs.Lines.{used_in, charge_in, IsSmall};
 ghost use Rattle.limits.specs.Ledgers.{ledger_of, IsSpaceOf};
 ghost use Rattle.limits.specs.Places.{IsParentAt};
-ghost use Rattle.limits.specs.Changes.{IsChanged, IsModest, IsNear, IsNext, IsTop, IsWithinQuotas, IsOverQuota, amended};
+ghost use Rattle.limits.specs.Changes.{IsChanged, IsModest, IsNear, IsNext, IsTop, IsWithinQuotas, IsOverQuota, IsLedgerOf, amended};
 
 use crate::account::Account;
 use crate::ledger::Ledger;
@@ -50,13 +51,14 @@ impl Ledger {
     }
 
     /// The file system of this name, which is there, has and keeps so much of its own (`here`) from now on, and its live map has so much
-    /// (`referenced`), where this is the ledger of its table: it becomes that of every world that differs from the table's in this alone. It
-    /// costs for each level of the name at most the logarithm of the number of file systems, and the length of the name.
+    /// (`referenced`), where this is the ledger of a world with the names of the table: it becomes that of every world that differs from that
+    /// one in this alone. Nothing but names is asked of the table, which may be the one from before the change or from after it. It costs for
+    /// each level of the name at most the logarithm of the number of file systems, and the length of the name.
     pub fn settle(&mut self, table: &Table, name: &DsName, here: u64, referenced: u64)
         requires there { IsSome (get table.now.file_systems name.now) }
-        requires own { self.old ≡ ledger_of (world_of table.now) }
+        requires own { (old : World) × IsLedgerOf old (keys table.now.file_systems) self.old }
         requires small { here < 2 ^ 42 }
-        ensures { (new : World) → IsChanged (world_of table.now) new name.now here referenced → self.new ≡ ledger_of new }
+        ensures { (old new : World) → IsHierarchy old.file_systems → keys old.file_systems ≡ keys table.now.file_systems → self.old ≡ ledger_of old → IsChanged old new name.now here referenced → self.new ≡ ledger_of new }
     {
         settle_lines(table, &mut self.lines, name, here, referenced);
     }
@@ -157,18 +159,16 @@ fn charge_after(
     }
 }
 
-// The lines of the table's ledger become those of the world that differs in this account.
+// The lines of the ledger of a world with the names of the table become those of the world that differs in this account.
 fn settle_lines(table: &Table, lines: &mut [Line], name: &DsName, here: u64, referenced: u64)
     requires there { IsSome (get table.now.file_systems name.now) }
-    requires own { lines.old ≡ ledger_of (world_of table.now) }
+    requires own { (old : World) × IsLedgerOf old (keys table.now.file_systems) lines.old }
     requires modest { All IsModest lines.old }
     requires small { here < 2 ^ 42 }
-    ensures own { (new : World) → IsChanged (world_of table.now) new name.now here referenced → lines.new ≡ ledger_of new }
+    ensures own { (old new : World) → IsLedgerOf old (keys table.now.file_systems) lines.old → IsChanged old new name.now here referenced → lines.new ≡ ledger_of new }
     ensures modest { All IsModest lines.new }
     ensures little { All (λ l. used_in l ≤ 2 ^ 54) lines.new }
 {
-    // It tells what holds of the file systems.
-    let _count = table.len();
     let Some(start) = place_of(table, name.as_bytes()) else {
         unreachable!()
     };
