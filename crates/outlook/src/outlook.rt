@@ -1,5 +1,5 @@
 //! The counts after a change.
-ghost use Rattle.std.specs.Prelude.{◌≡◌, ◌&&◌, IfOk, IfErr, count_by, nat_lt};
+ghost use Rattle.std.specs.Prelude.{◌≡◌, ◌<◌, ◌^◌, ◌&&◌, IfOk, IfErr, count_by, nat_lt};
 ghost use Rattle.base.specs.Rewrite.{Changes};
 ghost use Rattle.base.specs.declared.refusal.Refusal.{Refusal};
 ghost use Rattle.model.specs.State.{State};
@@ -49,6 +49,7 @@ pub fn outlook_of(
 ) -> Result<Outlook, Refusal>
     requires { (s : State) × (c : Changes) × IsAhead s c file_system.now forecast.now synced.0 }
     ensures ok { IfOk result (λ o. (s : State) (c : Changes) → IsAhead s c file_system.now forecast.now synced.0 → IsOutlookOf s c file_system.now o) }
+    ensures small { IfOk result (λ o. o.here < 2 ^ 42) }
     ensures err { IfErr result (λ e. e ≡ Refusal.NoMemory) }
 {
     let Ok(made) = u32::try_from(forecast.made) else {

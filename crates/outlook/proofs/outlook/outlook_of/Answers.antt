@@ -79,3 +79,13 @@ returns-clause-ok c = λ s ch k.
       referenced = omega (arith, n, r, c.from-3.ensures, c.len.ensures.value, c.from-made.ensures, c.in-Ok.ensures);
       waiting = omega (arith, w, t);
     }
+
+pub returns-clause-small : goal.returns-clause-small
+returns-clause-small c =
+    let k = c.requires.2 in
+    let l = few_snapshots _ _ _ _ _ k in
+    let e = c.used_by_snapshots.ensures ∙ snapshots_is _ _ _ _ _ k in
+    elim c.match-get.branch [
+      | in-Some w ↦ let m = w.get-kept.ensures.most in let z = w.kept-is in let q = c.saturating_sub.ensures in omega (arith, l, e, m, z, q, c.from.ensures, c.used_by_dataset.type_inv, c.from-made.ensures, c.in-Ok.made)
+      | in-None w ↦ let z = w.kept-is in let q = c.saturating_sub.ensures in omega (arith, l, e, z, q, c.from.ensures, c.used_by_dataset.type_inv, c.from-made.ensures)
+    ]
