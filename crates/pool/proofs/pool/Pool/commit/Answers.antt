@@ -15,7 +15,7 @@ use Rattle.pool.specs.Pools.{state_of, IsSound}
 use Rattle.pool.specs.Shown.{Shown, Leap}
 use Rattle.pool.proofs.Commits.{sound_changed, sound_put, sound_lost, sound_freed, sound_synced, sound_copied, sound_viewing, sound_closed, sound_swept}
 use Rattle.pool.proofs.Cloned.{plus_none, sound_now}
-use Rattle.pool.proofs.Limited.{nothing_kept, never_none, accounted_next, few_sound}
+use Rattle.pool.proofs.Limited.{nothing_kept, accounted_next, few_sound}
 use Rattle.pool.proofs.pool.Pool.commit.Goals as goal
 
 pub release_all-requires : goal.release_all-requires
@@ -128,13 +128,55 @@ renew-requires-clause-few c =
     (subst (λ plan. CanDo c.ready.inside.from.value.state plan) c.in-Change.is c.ready.invariant) in
     few_sound (with_datasets (state_of c.self.inside) c.in-Change.to) _ (sound_changed (state_of c.self.inside) c.self.inside.allocator c.self.invariant.0 c.in-Change.to _ _ can.0) (omega (arith, c.self.ranges))
 
+pub renew-requires-in-Put-clause-unlimited : goal.renew-requires-in-Put-clause-unlimited
+renew-requires-in-Put-clause-unlimited c =
+    let same = ap (λ (l : Leap). l.from) c.ready.view_is ∙ c.requires ∙ sym c.self.view_is in
+    let can = subst (λ (x : Shown). CanDo x.state (Put c.in-Put.to c.in-Put.guids)) same
+    (subst (λ plan. CanDo c.ready.inside.from.value.state plan) c.in-Put.is c.ready.invariant) in
+    λ none. can.1 (nothing_kept c.self.inside.present c.self.inside.limiting c.self.invariant.1 none)
+
+pub renew-requires-in-Put-clause-few : goal.renew-requires-in-Put-clause-few
+renew-requires-in-Put-clause-few c =
+    let same = ap (λ (l : Leap). l.from) c.ready.view_is ∙ c.requires ∙ sym c.self.view_is in
+    let can = subst (λ (x : Shown). CanDo x.state (Put c.in-Put.to c.in-Put.guids)) same
+    (subst (λ plan. CanDo c.ready.inside.from.value.state plan) c.in-Put.is c.ready.invariant) in
+    few_sound (put (state_of c.self.inside) c.in-Put.to c.in-Put.guids) _ (sound_put (state_of c.self.inside) c.self.inside.allocator c.self.invariant.0 c.in-Put.to c.in-Put.guids can.0.0 can.0.1) (omega (arith, c.self.ranges))
+
+pub renew-requires-in-Lose-clause-unlimited : goal.renew-requires-in-Lose-clause-unlimited
+renew-requires-in-Lose-clause-unlimited c =
+    let same = ap (λ (l : Leap). l.from) c.ready.view_is ∙ c.requires ∙ sym c.self.view_is in
+    let can = subst (λ (x : Shown). CanDo x.state (Lose c.in-Lose.to c.in-Lose.freeing)) same
+    (subst (λ plan. CanDo c.ready.inside.from.value.state plan) c.in-Lose.is c.ready.invariant) in
+    λ none. can.1 (nothing_kept c.self.inside.present c.self.inside.limiting c.self.invariant.1 none)
+
+pub renew-requires-in-Lose-clause-few : goal.renew-requires-in-Lose-clause-few
+renew-requires-in-Lose-clause-few c =
+    let same = ap (λ (l : Leap). l.from) c.ready.view_is ∙ c.requires ∙ sym c.self.view_is in
+    let can = subst (λ (x : Shown). CanDo x.state (Lose c.in-Lose.to c.in-Lose.freeing)) same
+    (subst (λ plan. CanDo c.ready.inside.from.value.state plan) c.in-Lose.is c.ready.invariant) in
+    few_sound (lose (state_of c.self.inside) c.in-Lose.to) _ (sound_lost (state_of c.self.inside) c.self.inside.allocator c.self.invariant.0 c.in-Lose.to can.0.0) (omega (arith, c.self.ranges))
+
+pub renew-requires-in-Sweep-clause-unlimited : goal.renew-requires-in-Sweep-clause-unlimited
+renew-requires-in-Sweep-clause-unlimited c =
+    let same = ap (λ (l : Leap). l.from) c.ready.view_is ∙ c.requires ∙ sym c.self.view_is in
+    let can = subst (λ (x : Shown). CanDo x.state (Sweep c.in-Sweep.number c.in-Sweep.to c.in-Sweep.freeing)) same
+    (subst (λ plan. CanDo c.ready.inside.from.value.state plan) c.in-Sweep.is c.ready.invariant) in
+    λ none. can.1 (nothing_kept c.self.inside.present c.self.inside.limiting c.self.invariant.1 none)
+
+pub renew-requires-in-Sweep-clause-few : goal.renew-requires-in-Sweep-clause-few
+renew-requires-in-Sweep-clause-few c =
+    let same = ap (λ (l : Leap). l.from) c.ready.view_is ∙ c.requires ∙ sym c.self.view_is in
+    let can = subst (λ (x : Shown). CanDo x.state (Sweep c.in-Sweep.number c.in-Sweep.to c.in-Sweep.freeing)) same
+    (subst (λ plan. CanDo c.ready.inside.from.value.state plan) c.in-Sweep.is c.ready.invariant) in
+    few_sound (lose (closed (state_of c.self.inside) c.in-Sweep.number) c.in-Sweep.to) _ (sound_swept (state_of c.self.inside) c.self.inside.allocator c.self.invariant.0 c.in-Sweep.number c.in-Sweep.to can.0.0) (omega (arith, c.self.ranges))
 
 
-
-
-
-
-
+pub renew-requires-in-Limit-clause-few : goal.renew-requires-in-Limit-clause-few
+renew-requires-in-Limit-clause-few c =
+    let same = ap (λ (l : Leap). l.from) c.ready.view_is ∙ c.requires ∙ sym c.self.view_is in
+    let can = subst (λ (x : Shown). CanDo x.state (Limit c.in-Limit.to c.in-Limit.limiting)) same
+    (subst (λ plan. CanDo c.ready.inside.from.value.state plan) c.in-Limit.is c.ready.invariant) in
+    few_sound (with_datasets (state_of c.self.inside) c.in-Limit.to) _ (sound_now (state_of c.self.inside) c.self.inside.allocator c.in-Limit.to c.self.invariant.0 (can, subst (λ n. n ≤ guid_limit + 1) (plus_none (state_of c.self.inside).next_guid) c.self.invariant.0.guids)) (omega (arith, c.self.ranges))
 
 pub invariant_of-self-in-Limit : goal.invariant_of-self-in-Limit
 invariant_of-self-in-Limit c =
