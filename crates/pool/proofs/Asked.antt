@@ -1,6 +1,6 @@
 -- What limits say of a change of one live map, and of a limit that is set.
-use Rattle.std.proofs.Common.{◌≡◌, ◌⊎◌, ◌<◌, ◌≤◌, ◌^◌, ◌+◌, ℕ, false, List, Option, Some, None, Result, Err, refl, sym, ap, subst, ◌∙◌, inr, arith}
-use Rattle.std.specs.Prelude.{count_by, is_some, is_none, IsSome, IfErr}
+use Rattle.std.proofs.Common.{◌≡◌, ◌⊎◌, ◌<◌, ◌≤◌, ◌^◌, ◌+◌, ℕ, true, List, Option, Some, None, Result, Ok, Err, refl, sym, ap, subst, ◌∙◌, inr, arith}
+use Rattle.std.specs.Prelude.{count_by, is_some, IsSome, IfErr, IsErrAnd}
 use Rattle.std.specs.Option.{option_map}
 use Rattle.std.specs.FinMap.{get}
 use Rattle.std.specs.FinSet as set
@@ -52,12 +52,13 @@ use Rattle.pool.proofs.Fitting.{free_is_room}
 use Rattle.pool.proofs.Foretold.{met_alike, foretold}
 use Rattle.pool.proofs.Limited.{few_sound, few_unasked}
 
--- an error of which something holds
-pub err_holds : {A E : Type 0} (r : Result A E) (e : E) (P : E → Type 0) → r ≡ Err e → P e → IfErr r P
-err_holds r e P is holds = subst (λ x. IfErr x P) (sym is) holds
+-- what holds of an error holds of the one that comes of it
+pub refused_by : {A E : Type 0} (r : Result A E) (e : E) (P : E → Type 0) → IsErrAnd r (λ x. x ≡ e) → P e → IfErr r P
+refused_by (Ok v) e P is holds = absurd is
+refused_by (Err x) e P is holds = subst P (sym is) holds
 
 -- what there is
-given : (x : Option ℕ) → is_none x ≡ false → (n : ℕ) × (x ≡ Some n)
+given : (x : Option ℕ) → is_some x ≡ true → (n : ℕ) × (x ≡ Some n)
 given None e = absurd cc
 given (Some n) e = (n, refl)
 
@@ -110,7 +111,7 @@ module _ (seen : Shown) (s : State) (numbers : List BlockState) (view : shown s 
       set_row = over (asked_by_set s name limit amount) (ap (λ (d : Datasets). d.file_systems) (sym is)) (set_space space size freeing waiting)
 
       -- a limit that would be broken
-      pub set_over : (get s.now.file_systems name ≡ None → ⊥) → is_none amount ≡ false → (why : Refusal) → r ≡ Some why → Step seen.state (Set name limit amount) (Refused why) seen.state
+      pub set_over : (get s.now.file_systems name ≡ None → ⊥) → is_some amount ≡ true → (why : Refusal) → r ≡ Some why → Step seen.state (Set name limit amount) (Refused why) seen.state
       set_over there some why broken =
           let n = given amount some in
           subst (λ (x : Shown). Step x.state (Set name limit amount) (Refused why) x.state) view (setting.set_refused_by_limit s name limit amount there n.0 n.1 why (sym set_row ∙ broken))
