@@ -16,3 +16,4 @@ pub mod Marked
 pub mod Joined
 pub mod Limited
 pub mod Foretold
+pub mod Asked
