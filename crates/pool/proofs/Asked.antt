@@ -7,7 +7,6 @@ use Rattle.std.specs.FinSet as set
 use Rattle.base.specs.Rewrite.{Changes}
 use Rattle.base.specs.declared.refusal.Refusal.{Refusal}
 use Rattle.base.specs.declared.refusal.Refusal.TheVariants.{NoDataset, NoMemory}
-use Rattle.base.specs.Surveys.{dead_block}
 use Rattle.batch.specs.Forecast.{IsForecast}
 use Rattle.batch.specs.declared.forecast.Forecast.{Forecast}
 use Rattle.zalloc.specs.declared.BlockState.{BlockState}
@@ -33,7 +32,7 @@ use Rattle.file_system.specs.Rows.{Row}
 use Rattle.file_systems.specs.Clones.{row_in}
 use Rattle.datasets.specs.Limits.{with_limit_of}
 use Rattle.steps.specs.Asked.{asked_by_change, asked_by_set}
-use Rattle.steps.specs.Edits.{datasets_of, with_datasets, put, CanPut}
+use Rattle.steps.specs.Edits.{datasets_of, with_datasets, CanPut}
 use Rattle.steps.proofs.Asking.{IsUnasked, unasked_waiting}
 use Rattle.steps.proofs.Counts as counts
 use Rattle.steps.proofs.Known.{states_of}

@@ -8,7 +8,6 @@ use Rattle.model.specs.State.{State}
 use Rattle.model.specs.Targets.{guid_limit}
 use Rattle.model.specs.World.{SnapId}
 use Rattle.world.specs.Tables.{Datasets, world_of}
-use Rattle.accounts.specs.Limits.{IsUnlimited}
 use Rattle.steps.specs.Settles.{releases}
 use Rattle.steps.specs.Steady.{IsSteady}
 use Rattle.steps.specs.Edits.{with_datasets, put, lose, with_freeing, synced, viewing, closed, CanPut, CanLose, CanFree, CanChange, CanSync}

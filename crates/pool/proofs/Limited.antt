@@ -5,12 +5,11 @@ use Rattle.std.specs.FinSet.{difference}
 use Rattle.base.specs.declared.refusal.Refusal.{Refusal}
 use Rattle.zalloc.specs.declared.BlockState.{BlockState}
 use Rattle.model.specs.State.{State, waiting_of}
-use Rattle.model.specs.Hierarchy.{FileSystems}
 use Rattle.model.specs.Numbers.{HasStates}
 use Rattle.model.specs.Rule.{first_of}
 use Rattle.model.specs.requests.Change.{limit_row}
 use Rattle.model.specs.Sums.{allocated_of}
-use Rattle.model.specs.World.{World, union_of, reach_of}
+use Rattle.model.specs.World.{union_of, reach_of}
 use Rattle.world.specs.Sets.{Has}
 use Rattle.world.specs.Blocks.{block_order as o}
 use Rattle.world.proofs.Kept.{reach_is, union-fields}
@@ -21,7 +20,6 @@ use Rattle.steps.proofs.Properties.{are_balanced}
 use Rattle.world.specs.Tables.{Datasets, world_of}
 use Rattle.accounts.specs.Limits.{IsUnlimited}
 use Rattle.steps.specs.Edits.{datasets_of, StaysUnlimited}
-use Rattle.limits.specs.Ledgers.{ledger_of}
 use Rattle.pool.specs.Limiting.{IsAccounted, IsAsked, IsOver}
 use Rattle.pool.specs.Pools.{IsSound}
 use Rattle.pool.specs.Shown.{Shown, shown}

@@ -1,7 +1,7 @@
 -- The values of properties that it tells, of what a name stands for.
-use Rattle.std.proofs.Common.{◌≡◌, ℕ, ◌*◌, List, Option, Some, None, true, refl, sym, ap, subst, ◌∙◌, ◌-◌}
+use Rattle.std.proofs.Common.{◌≡◌, ℕ, ◌*◌, List, Option, Some, None, true, refl, sym, ap, subst, ◌-◌}
 use Rattle.std.specs.List.{find, join_with_byte}
-use Rattle.std.specs.Prelude.{length, is_some, count_by, IsSome}
+use Rattle.std.specs.Prelude.{length, is_some, IsSome}
 use Rattle.std.specs.Option.{option_map_or, option_and_then, unwrap_or}
 use Rattle.std.specs.FinMap.{get}
 use Rattle.std.specs.FinMap.{len as map_len}
@@ -10,8 +10,6 @@ use Rattle.name.specs.Names.{same_name}
 use Rattle.name.specs.declared.member.Member.{Member}
 use Rattle.name.specs.declared.target.Target.{Target}
 use Rattle.name.specs.declared.target.Target.TheVariants.{FileSystem as OfFileSystem, Snapshot as OfSnapshot, Bookmark as OfBookmark}
-use Rattle.zalloc.specs.declared.BlockState.{BlockState}
-use Rattle.zalloc.specs.States.{is_free}
 use Rattle.model.specs.declared.request.Request.TheVariants.{Get}
 use Rattle.model.specs.declared.request.Property.{Property}
 use Rattle.model.specs.declared.request.Property.TheVariants.{Used, Available, Referenced, Written, UsedByDataset, UsedBySnapshots, UsedByChildren, UsedByRefReservation, Quota, RefQuota, Reservation, RefReservation, Guid, CreateTxg, Origin, Clones, UserRefs, DeferDestroy}
@@ -19,7 +17,6 @@ use Rattle.model.specs.declared.reply.Reply.TheVariants.{Value as ValueIs}
 use Rattle.model.specs.declared.reply.Value.{Value}
 use Rattle.model.specs.declared.reply.Value.TheVariants.{Size, Number, Truth, NotApplicable}
 use Rattle.model.specs.World.{FileSystem, Snap, SnapId, Bookmark, id_of, clones_of}
-use Rattle.model.specs.Numbers.{HasStates}
 use Rattle.model.specs.Properties.{text_of_snap, property_value, file_system_value, snap_value, bookmark_value}
 use Rattle.model.specs.Sums.{size_without, used_of, used_by_children, used_by_snap, room_of}
 use Rattle.model.specs.State.{State}
@@ -30,7 +27,6 @@ use Rattle.file_systems.specs.Clones.{row_in, below_in}
 use Rattle.file_system.specs.Dead.{newest_blocks}
 use Rattle.steps.specs.Edits.{datasets_of}
 use Rattle.steps.specs.Spaces.{is_of_live}
-use Rattle.accounts.specs.Limits.{IsUnlimited}
 use Rattle.steps.specs.Steady.{IsSteady, IsAbsent, snap_in, bookmark_in}
 use Rattle.steps.proofs.Named.{named_live, named_snap, snap_there, snap_absent, system_absent}
 use Rattle.steps.proofs.Questions.{get_done, get_referenced}
@@ -40,7 +36,6 @@ use Rattle.steps.proofs.Texts.{get_origin, get_no_origin, get_clones}
 use Rattle.steps.proofs.Spaces.{get_used_of_live, get_available, get_used_by_dataset, get_used_by_snapshots, get_used_by_children, get_refreserved, get_used_of_snap, get_no_space_of_snap}
 use Rattle.steps.proofs.Alike.{used_alike, used_by_children_alike, used_by_snap_alike}
 use Rattle.pool.specs.Named.{origin_value, live_value, kept_value, snapshot_value, value_in, value_named, amount_value}
-use Rattle.pool.proofs.Fitting.{free_is_room}
 use Rattle.pool.proofs.Names.{mapped, unmapped}
 use Rattle.steps.proofs.Below.{written_of_live}
 

@@ -116,7 +116,12 @@ impl Pool {
     // Asks the limits of the state that this update of the live tree of a file system leads to, before anything is changed. The first that
     // it would break; NoDataset where there is no such file system; else NoMemory where there is none to look ahead. It costs the nodes
     // on the way to the changes, and for each level of the name the logarithm of the number of file systems; where no file system has a limit, nothing.
-    pub(crate) fn ask_change(&mut self, alloc: Global, name: &DsName, update: &Update) -> Result<(), Refusal>
+    pub(crate) fn ask_change(
+        &mut self,
+        alloc: Global,
+        name: &DsName,
+        update: &Update,
+    ) -> Result<(), Refusal>
         requires { IsBatch (update.now ∷ []) }
         ensures same { self.new ≡ self.old }
         ensures ok { OnOk result (MayChange self.old.state name.now (changes_of (update.now ∷ []))) }

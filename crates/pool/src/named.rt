@@ -248,7 +248,9 @@ fn unwritten(file_system: &FileSystem) -> u64
     ensures small { result < 2 ^ 55 }
 {
     match file_system.limits().get(Limit::RefReservation) {
-        Some(amount) => amount.get().saturating_sub(u64::from(file_system.written())),
+        Some(amount) => amount
+            .get()
+            .saturating_sub(u64::from(file_system.written())),
         None => 0,
     }
 }
@@ -388,9 +390,7 @@ pub(crate) fn value_named(
 {
     match target {
         Target::FileSystem(name) => match table.find(name) {
-            Some(found) => Ok(Some(value_of_live(
-                alloc, table, limiting, found, property, room,
-            )?)),
+            Some(found) => Ok(Some(value_of_live(alloc, table, limiting, found, property, room)?)),
             None => Ok(None),
         },
         Target::Snapshot(name) => {

@@ -284,7 +284,12 @@ impl Pool {
         }
     }
 
-    fn planned_snapshot(&mut self, alloc: Global, names: &SnapNames, recursive: bool) -> (Reply, Plan)
+    fn planned_snapshot(
+        &mut self,
+        alloc: Global,
+        names: &SnapNames,
+        recursive: bool,
+    ) -> (Reply, Plan)
         ensures same { self.new ≡ self.old }
         ensures can { CanDo self.old.state result.1 }
         ensures step { Step self.old.state (Request.Snapshot names.now recursive) result.0 (state_after_plan self.old.state result.1) }

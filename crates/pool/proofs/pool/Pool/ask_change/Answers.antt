@@ -1,4 +1,4 @@
-use Rattle.std.proofs.Common.{◌∷◌, [], ◌+◌, None, Some, refl, subst, ◌∙◌, arith}
+use Rattle.std.proofs.Common.{◌∷◌, [], None, Some, refl, subst, ◌∙◌, arith}
 use Rattle.batch.specs.Forecast.{IsForecast}
 use Rattle.tree.specs.Updates.{changes_of}
 use Rattle.pool.specs.Pools.{state_of}
@@ -6,11 +6,13 @@ use Rattle.pool.proofs.Asked.{is_ahead, few_more, change_over, change_fits}
 use Rattle.pool.proofs.pool.Pool.ask_change.Goals as goal
 
 pub outlook_of-requires : goal.outlook_of-requires
-outlook_of-requires c =
-    (state_of c.self.inside, changes_of (c.args.update.now ∷ []),
-    is_ahead c.args.self.now (state_of c.self.inside) c.self.inside.allocator c.self.view_is c.self.invariant.0 (omega (arith, c.self.ranges)) c.args.name.now
-    c.in-Some-find.file_system.now c.in-Some-find.ensures c.live.result.now c.live.ensures (changes_of (c.args.update.now ∷ [])) c.in_ok-forecast.forecast
-    (subst (λ us. IsForecast c.live.result.now (changes_of us) c.in_ok-forecast.forecast) c.from_ref.ensures.value c.in_ok-forecast.ensures.ok) c.group.result.0 c.group.ensures)
+outlook_of-requires c = (
+  state_of c.self.inside,
+  changes_of (c.args.update.now ∷ []),
+  is_ahead c.args.self.now (state_of c.self.inside) c.self.inside.allocator c.self.view_is c.self.invariant.0 (omega (arith, c.self.ranges)) c.args.name.now
+      c.in-Some-find.file_system.now c.in-Some-find.ensures c.live.result.now c.live.ensures (changes_of (c.args.update.now ∷ [])) c.in_ok-forecast.forecast
+      (subst (λ us. IsForecast c.live.result.now (changes_of us) c.in_ok-forecast.forecast) c.from_ref.ensures.value c.in_ok-forecast.ensures.ok) c.group.result.0 c.group.ensures,
+)
 
 -- all that wait can be counted
 pub overflow_add-space : goal.overflow_add-space

@@ -53,9 +53,11 @@ invariant_of-self-2 c =
     let e = c.in-Ok-changed.ensures in
     let can = can_now (state_of c.self-2.inside) c.self-2.inside.allocator c.self-2.invariant.0 c.self-2.inside.present refl c.group.result.0 c.group.ensures c.in-Ok.name.now
     c.apply_live-changed.new.self c.in-Ok-update.update c.from_ref.result.now c.from_ref.ensures.value (may_here c.args.self.now (state_of c.self-2.inside) c.self-2.inside.allocator (c.self-2.view_is ∙ c.ask_change.ensures.same) c.in-Ok.name.now (changes_of (c.in-Ok-update.update ∷ [])) c.in_default.ensures.ok) c.in-Ok-changed.done
-    (record { ok = e.ok; room = e.room; no_dataset = e.no_dataset; no_space = e.no_space; only = e.only }) in
-    (rw (c.take_all.ensures, c.release_all.ensures, c.deref.ensures, c.deref-2.ensures, c.group-2.ensures)
-    (sound_changed (state_of c.self-2.inside) c.self-2.inside.allocator c.self-2.invariant.0 c.apply_live-changed.new.self _ _ can), c.renew.ensures)
+    (record { ok = e.ok; room = e.room; no_dataset = e.no_dataset; no_space = e.no_space; only = e.only }) in (
+      rw (c.take_all.ensures, c.release_all.ensures, c.deref.ensures, c.deref-2.ensures, c.group-2.ensures)
+          (sound_changed (state_of c.self-2.inside) c.self-2.inside.allocator c.self-2.invariant.0 c.apply_live-changed.new.self _ _ can),
+      c.renew.ensures,
+    )
 
 pub returns : goal.returns
 returns c q asks =

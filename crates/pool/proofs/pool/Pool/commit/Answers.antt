@@ -37,9 +37,11 @@ pub invariant_of-self : goal.invariant_of-self
 invariant_of-self c =
     let same = ap (λ (l : Leap). l.from) c.ready.view_is ∙ c.requires ∙ sym c.self.view_is in
     let can = subst (λ (x : Shown). CanDo x.state (Change c.in-Change.to c.in-Change.done)) same
-    (subst (λ plan. CanDo c.ready.inside.from.value.state plan) c.in-Change.is c.ready.invariant) in
-    (rw (c.take_all.ensures, c.release_all.ensures, c.deref.ensures, c.deref-in-Change.ensures, c.group.ensures)
-    (sound_changed (state_of c.self.inside) c.self.inside.allocator c.self.invariant.0 c.in-Change.to _ _ can.0), c.renew.ensures)
+    (subst (λ plan. CanDo c.ready.inside.from.value.state plan) c.in-Change.is c.ready.invariant) in (
+      rw (c.take_all.ensures, c.release_all.ensures, c.deref.ensures, c.deref-in-Change.ensures, c.group.ensures)
+          (sound_changed (state_of c.self.inside) c.self.inside.allocator c.self.invariant.0 c.in-Change.to _ _ can.0),
+      c.renew.ensures,
+    )
 
 pub invariant_of-self-in-Put : goal.invariant_of-self-in-Put
 invariant_of-self-in-Put c =
@@ -52,9 +54,11 @@ pub invariant_of-self-in-Lose : goal.invariant_of-self-in-Lose
 invariant_of-self-in-Lose c =
     let same = ap (λ (l : Leap). l.from) c.ready.view_is ∙ c.requires ∙ sym c.self.view_is in
     let can = subst (λ (x : Shown). CanDo x.state (Lose c.in-Lose.to c.in-Lose.freeing)) same
-    (subst (λ plan. CanDo c.ready.inside.from.value.state plan) c.in-Lose.is c.ready.invariant) in
-    (subst (λ (x : BlockSet). IsSound (with_now (state_of c.self.inside) (record (world_of c.in-Lose.to) { freeing = x })) c.self.inside.allocator) (sym can.0.1)
-    (sound_lost (state_of c.self.inside) c.self.inside.allocator c.self.invariant.0 c.in-Lose.to can.0.0), c.renew-in-Lose.ensures)
+    (subst (λ plan. CanDo c.ready.inside.from.value.state plan) c.in-Lose.is c.ready.invariant) in (
+      subst (λ (x : BlockSet). IsSound (with_now (state_of c.self.inside) (record (world_of c.in-Lose.to) { freeing = x })) c.self.inside.allocator) (sym can.0.1)
+          (sound_lost (state_of c.self.inside) c.self.inside.allocator c.self.invariant.0 c.in-Lose.to can.0.0),
+      c.renew-in-Lose.ensures,
+    )
 
 pub release_all-requires-in-Free : goal.release_all-requires-in-Free
 release_all-requires-in-Free c =
@@ -67,19 +71,22 @@ pub invariant_of-self-in-Free : goal.invariant_of-self-in-Free
 invariant_of-self-in-Free c =
     let same = ap (λ (l : Leap). l.from) c.ready.view_is ∙ c.requires ∙ sym c.self.view_is in
     let can = subst (λ (x : Shown). CanDo x.state (Free c.in-Free.rest c.in-Free.taken)) same
-    (subst (λ plan. CanDo c.ready.inside.from.value.state plan) c.in-Free.is c.ready.invariant) in
-    (rw (c.release_all-in-Free.ensures, c.deref-in-Free.ensures.value, c.group-in-Free.ensures)
-    (sound_freed (state_of c.self.inside) c.self.inside.allocator c.self.invariant.0 c.in-Free.rest _ can), c.self.invariant.1)
+    (subst (λ plan. CanDo c.ready.inside.from.value.state plan) c.in-Free.is c.ready.invariant) in (
+      rw (c.release_all-in-Free.ensures, c.deref-in-Free.ensures.value, c.group-in-Free.ensures)
+          (sound_freed (state_of c.self.inside) c.self.inside.allocator c.self.invariant.0 c.in-Free.rest _ can),
+      c.self.invariant.1,
+    )
 
 pub invariant_of-self-in-Sync : goal.invariant_of-self-in-Sync
 invariant_of-self-in-Sync c =
     let same = ap (λ (l : Leap). l.from) c.ready.view_is ∙ c.requires ∙ sym c.self.view_is in
     let s = state_of c.self.inside in
     let can = subst (λ (x : Shown). CanDo x.state (Sync c.in-Sync.last c.in-Sync.freeing)) same
-    (subst (λ plan. CanDo c.ready.inside.from.value.state plan) c.in-Sync.is c.ready.invariant) in
-    (sound_copied s c.in-Sync.last c.close_group.new.self c.in-Sync.freeing c.end_group.new.self can.1 (can.0.is ∙ sym c.close_group.ensures)
-    (subst (λ (st : List BlockState). IsSound (synced s c.in-Sync.last) st) (sym c.end_group.ensures) (sound_synced s c.self.inside.allocator c.self.invariant.0 c.in-Sync.last can.0)),
-    accounted_next c.self.inside.present c.close_group.new.self c.self.inside.limiting c.close_group.ensures c.self.invariant.1)
+    (subst (λ plan. CanDo c.ready.inside.from.value.state plan) c.in-Sync.is c.ready.invariant) in (
+      sound_copied s c.in-Sync.last c.close_group.new.self c.in-Sync.freeing c.end_group.new.self can.1 (can.0.is ∙ sym c.close_group.ensures)
+          (subst (λ (st : List BlockState). IsSound (synced s c.in-Sync.last) st) (sym c.end_group.ensures) (sound_synced s c.self.inside.allocator c.self.invariant.0 c.in-Sync.last can.0)),
+      accounted_next c.self.inside.present c.close_group.new.self c.self.inside.limiting c.close_group.ensures c.self.invariant.1,
+    )
 
 pub open-requires : goal.open-requires
 open-requires c =
@@ -91,28 +98,34 @@ invariant_of-self-in-Open c =
     let same = ap (λ (l : Leap). l.from) c.ready.view_is ∙ c.requires ∙ sym c.self.view_is in
     let s = state_of c.self.inside in
     let can = subst (λ (x : Shown). CanDo x.state (Open c.in-Open.snapshot)) same
-    (subst (λ plan. CanDo c.ready.inside.from.value.state plan) c.in-Open.is c.ready.invariant) in
-    (subst (λ (v : Viewing). IsSound (record s { views = v.opened; next_view = v.next }) c.self.inside.allocator) (sym c.open.ensures)
-    (sound_viewing s c.self.inside.allocator c.self.invariant.0 (snap_id c.in-Open.snapshot) can.steady), c.self.invariant.1)
+    (subst (λ plan. CanDo c.ready.inside.from.value.state plan) c.in-Open.is c.ready.invariant) in (
+      subst (λ (v : Viewing). IsSound (record s { views = v.opened; next_view = v.next }) c.self.inside.allocator) (sym c.open.ensures)
+          (sound_viewing s c.self.inside.allocator c.self.invariant.0 (snap_id c.in-Open.snapshot) can.steady),
+      c.self.invariant.1,
+    )
 
 pub invariant_of-self-in-Close : goal.invariant_of-self-in-Close
 invariant_of-self-in-Close c =
     let same = ap (λ (l : Leap). l.from) c.ready.view_is ∙ c.requires ∙ sym c.self.view_is in
     let s = state_of c.self.inside in
     let can = subst (λ (x : Shown). CanDo x.state (Close c.in-Close.number)) same
-    (subst (λ plan. CanDo c.ready.inside.from.value.state plan) c.in-Close.is c.ready.invariant) in
-    (subst (λ (v : Viewing). IsSound (record s { views = v.opened; next_view = v.next }) c.self.inside.allocator) (sym c.close.ensures)
-    (sound_closed s c.self.inside.allocator c.self.invariant.0 c.in-Close.number can), c.self.invariant.1)
+    (subst (λ plan. CanDo c.ready.inside.from.value.state plan) c.in-Close.is c.ready.invariant) in (
+      subst (λ (v : Viewing). IsSound (record s { views = v.opened; next_view = v.next }) c.self.inside.allocator) (sym c.close.ensures)
+          (sound_closed s c.self.inside.allocator c.self.invariant.0 c.in-Close.number can),
+      c.self.invariant.1,
+    )
 
 pub invariant_of-self-in-Sweep : goal.invariant_of-self-in-Sweep
 invariant_of-self-in-Sweep c =
     let same = ap (λ (l : Leap). l.from) c.ready.view_is ∙ c.requires ∙ sym c.self.view_is in
     let s = state_of c.self.inside in
     let can = subst (λ (x : Shown). CanDo x.state (Sweep c.in-Sweep.number c.in-Sweep.to c.in-Sweep.freeing)) same
-    (subst (λ plan. CanDo c.ready.inside.from.value.state plan) c.in-Sweep.is c.ready.invariant) in
-    (subst (λ (v : Viewing). IsSound (record s { now = record (world_of c.in-Sweep.to) { freeing = c.in-Sweep.freeing }; views = v.opened; next_view = v.next }) c.self.inside.allocator) (sym c.close-in-Sweep.ensures)
-    (subst (λ (x : BlockSet). IsSound (with_now (closed s c.in-Sweep.number) (record (world_of c.in-Sweep.to) { freeing = x })) c.self.inside.allocator) (sym can.0.1)
-    (sound_swept s c.self.inside.allocator c.self.invariant.0 c.in-Sweep.number c.in-Sweep.to can.0.0)), c.renew-in-Sweep.ensures)
+    (subst (λ plan. CanDo c.ready.inside.from.value.state plan) c.in-Sweep.is c.ready.invariant) in (
+      subst (λ (v : Viewing). IsSound (record s { now = record (world_of c.in-Sweep.to) { freeing = c.in-Sweep.freeing }; views = v.opened; next_view = v.next }) c.self.inside.allocator) (sym c.close-in-Sweep.ensures)
+          (subst (λ (x : BlockSet). IsSound (with_now (closed s c.in-Sweep.number) (record (world_of c.in-Sweep.to) { freeing = x })) c.self.inside.allocator) (sym can.0.1)
+          (sound_swept s c.self.inside.allocator c.self.invariant.0 c.in-Sweep.number c.in-Sweep.to can.0.0)),
+      c.renew-in-Sweep.ensures,
+    )
 
 pub renew-requires-clause-unlimited : goal.renew-requires-clause-unlimited
 renew-requires-clause-unlimited c =
@@ -169,7 +182,6 @@ renew-requires-in-Sweep-clause-few c =
     let can = subst (λ (x : Shown). CanDo x.state (Sweep c.in-Sweep.number c.in-Sweep.to c.in-Sweep.freeing)) same
     (subst (λ plan. CanDo c.ready.inside.from.value.state plan) c.in-Sweep.is c.ready.invariant) in
     few_sound (lose (closed (state_of c.self.inside) c.in-Sweep.number) c.in-Sweep.to) _ (sound_swept (state_of c.self.inside) c.self.inside.allocator c.self.invariant.0 c.in-Sweep.number c.in-Sweep.to can.0.0) (omega (arith, c.self.ranges))
-
 
 pub renew-requires-in-Limit-clause-few : goal.renew-requires-in-Limit-clause-few
 renew-requires-in-Limit-clause-few c =

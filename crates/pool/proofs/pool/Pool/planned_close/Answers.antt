@@ -28,10 +28,12 @@ returns-in_default-clause-step c =
     c.in-Ok.left c.in_default.is c.in-Ok.ensures.none
 
 pub returns-clause-can : goal.returns-clause-can
-returns-clause-can c =
-    (sweep_can c.args.self.now (state_of c.self.inside) c.self.inside.allocator c.self.view_is c.self.invariant.0 c.args.number c.find.result c.find.ensures c.if-is_none.ensures
-    c.in-Ok.left c.in-Some.field-0 c.in-Some.is c.in-Ok.ensures.some c.in-Ok.ensures.lost, sweep_stays c.args.self.now (state_of c.self.inside) c.self.inside.allocator c.self.view_is c.self.invariant.0 c.args.number c.find.result c.find.ensures c.if-is_none.ensures
-    c.in-Ok.left c.in-Some.field-0 c.in-Some.is c.in-Ok.ensures.some c.in-Ok.ensures.lost)
+returns-clause-can c = (
+  sweep_can c.args.self.now (state_of c.self.inside) c.self.inside.allocator c.self.view_is c.self.invariant.0 c.args.number c.find.result c.find.ensures c.if-is_none.ensures
+      c.in-Ok.left c.in-Some.field-0 c.in-Some.is c.in-Ok.ensures.some c.in-Ok.ensures.lost,
+  sweep_stays c.args.self.now (state_of c.self.inside) c.self.inside.allocator c.self.view_is c.self.invariant.0 c.args.number c.find.result c.find.ensures c.if-is_none.ensures
+      c.in-Ok.left c.in-Some.field-0 c.in-Some.is c.in-Ok.ensures.some c.in-Ok.ensures.lost,
+)
 
 pub returns-clause-step : goal.returns-clause-step
 returns-clause-step c =

@@ -11,10 +11,12 @@ destroy-edit-requires-clause-swept c = clean c.args.self.now (state_of c.self.in
 
 pub returns-clause-can : goal.returns-clause-can
 returns-clause-can c =
-    let e = c.in-Ok.ensures in
-    (destroy_can c.args.self.now (state_of c.self.inside) c.self.inside.allocator c.self.view_is c.self.invariant.0 c.args.target.now c.args.recursive c.args.defer
-    e.can c.in-Ok.edit.to e.ok c.len-count.ensures.good c.in-Ok.edit.freeing e.lost, destroy_stays c.args.self.now (state_of c.self.inside) c.self.inside.allocator c.self.view_is c.self.invariant.0 c.args.target.now c.args.recursive c.args.defer
-    e.can c.in-Ok.edit.to e.ok c.len-count.ensures.good)
+    let e = c.in-Ok.ensures in (
+      destroy_can c.args.self.now (state_of c.self.inside) c.self.inside.allocator c.self.view_is c.self.invariant.0 c.args.target.now c.args.recursive c.args.defer
+          e.can c.in-Ok.edit.to e.ok c.len-count.ensures.good c.in-Ok.edit.freeing e.lost,
+      destroy_stays c.args.self.now (state_of c.self.inside) c.self.inside.allocator c.self.view_is c.self.invariant.0 c.args.target.now c.args.recursive c.args.defer
+          e.can c.in-Ok.edit.to e.ok c.len-count.ensures.good,
+    )
 
 pub returns-clause-step : goal.returns-clause-step
 returns-clause-step c =

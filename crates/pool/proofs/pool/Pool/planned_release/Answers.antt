@@ -12,10 +12,12 @@ release-edit-requires-clause-swept c = clean c.args.self.now (state_of c.self.in
 
 pub returns-clause-can : goal.returns-clause-can
 returns-clause-can c =
-    let e = c.in-Ok.ensures in
-    (release_can c.args.self.now (state_of c.self.inside) c.self.inside.allocator c.self.view_is c.self.invariant.0 c.args.tag.now c.args.target.now
-    e.can c.in-Ok.edit.to e.ok c.in-Ok.edit.freeing e.lost, release_stays c.args.self.now (state_of c.self.inside) c.self.inside.allocator c.self.view_is c.self.invariant.0 c.args.tag.now c.args.target.now
-    e.can c.in-Ok.edit.to e.ok)
+    let e = c.in-Ok.ensures in (
+      release_can c.args.self.now (state_of c.self.inside) c.self.inside.allocator c.self.view_is c.self.invariant.0 c.args.tag.now c.args.target.now
+          e.can c.in-Ok.edit.to e.ok c.in-Ok.edit.freeing e.lost,
+      release_stays c.args.self.now (state_of c.self.inside) c.self.inside.allocator c.self.view_is c.self.invariant.0 c.args.tag.now c.args.target.now
+          e.can c.in-Ok.edit.to e.ok,
+    )
 
 pub returns-clause-step : goal.returns-clause-step
 returns-clause-step c =

@@ -41,12 +41,14 @@ returns-clause-can c = elim c.match-changed.branch [
   | in-Ok-changed w ↦
       let e = w.in-Ok-changed.ensures in
       subst (λ r. CanDo c.args.self.now.state r.1) (sym w.result-is)
-      (subst (λ (x : Shown). CanDo x.state (Change c.apply_live-changed.new.self w.in-Ok-changed.done)) (c.self-2.view_is ∙ c.ask_change.ensures.same)
-      (can_now (state_of c.self-2.inside) c.self-2.inside.allocator c.self-2.invariant.0 c.in-Ok-copy.to c.in-Ok-copy.ensures.ok c.group.result.0 c.group.ensures c.in-Ok.name.now
-      c.apply_live-changed.new.self c.in-Ok-update.update c.from_ref.result.now c.from_ref.ensures.value (may_here c.args.self.now (state_of c.self-2.inside) c.self-2.inside.allocator (c.self-2.view_is ∙ c.ask_change.ensures.same) c.in-Ok.name.now (changes_of (c.in-Ok-update.update ∷ [])) c.in_default.ensures.ok) w.in-Ok-changed.done
-      (record { ok = e.ok; room = e.room; no_dataset = e.no_dataset; no_space = e.no_space; only = e.only }), stays_now (state_of c.self-2.inside) c.self-2.inside.allocator c.self-2.invariant.0 c.in-Ok-copy.to c.in-Ok-copy.ensures.ok c.group.result.0 c.group.ensures c.in-Ok.name.now
-      c.apply_live-changed.new.self c.in-Ok-update.update c.from_ref.result.now c.from_ref.ensures.value (may_here c.args.self.now (state_of c.self-2.inside) c.self-2.inside.allocator (c.self-2.view_is ∙ c.ask_change.ensures.same) c.in-Ok.name.now (changes_of (c.in-Ok-update.update ∷ [])) c.in_default.ensures.ok) w.in-Ok-changed.done
-      (record { ok = e.ok; room = e.room; no_dataset = e.no_dataset; no_space = e.no_space; only = e.only })))
+      (subst (λ (x : Shown). CanDo x.state (Change c.apply_live-changed.new.self w.in-Ok-changed.done)) (c.self-2.view_is ∙ c.ask_change.ensures.same) (
+        can_now (state_of c.self-2.inside) c.self-2.inside.allocator c.self-2.invariant.0 c.in-Ok-copy.to c.in-Ok-copy.ensures.ok c.group.result.0 c.group.ensures c.in-Ok.name.now
+            c.apply_live-changed.new.self c.in-Ok-update.update c.from_ref.result.now c.from_ref.ensures.value (may_here c.args.self.now (state_of c.self-2.inside) c.self-2.inside.allocator (c.self-2.view_is ∙ c.ask_change.ensures.same) c.in-Ok.name.now (changes_of (c.in-Ok-update.update ∷ [])) c.in_default.ensures.ok) w.in-Ok-changed.done
+            (record { ok = e.ok; room = e.room; no_dataset = e.no_dataset; no_space = e.no_space; only = e.only }),
+        stays_now (state_of c.self-2.inside) c.self-2.inside.allocator c.self-2.invariant.0 c.in-Ok-copy.to c.in-Ok-copy.ensures.ok c.group.result.0 c.group.ensures c.in-Ok.name.now
+            c.apply_live-changed.new.self c.in-Ok-update.update c.from_ref.result.now c.from_ref.ensures.value (may_here c.args.self.now (state_of c.self-2.inside) c.self-2.inside.allocator (c.self-2.view_is ∙ c.ask_change.ensures.same) c.in-Ok.name.now (changes_of (c.in-Ok-update.update ∷ [])) c.in_default.ensures.ok) w.in-Ok-changed.done
+            (record { ok = e.ok; room = e.room; no_dataset = e.no_dataset; no_space = e.no_space; only = e.only }),
+      ))
   | in-Err-changed w ↦ subst (λ r. CanDo c.args.self.now.state r.1) (sym w.result-is) tt
 ]
 

@@ -1,12 +1,12 @@
-use Rattle.std.proofs.Common.{false, [], ◌∷◌, refl, sym, subst, arith}
+use Rattle.std.proofs.Common.{false, [], ◌∷◌, refl, sym, subst}
 use Rattle.model.specs.declared.request.Request.TheVariants.{Snapshot}
-use Rattle.model.specs.declared.reply.Reply.TheVariants.{Done, Refused}
+use Rattle.model.specs.declared.reply.Reply.TheVariants.{Refused}
 use Rattle.model.specs.Step.{Step}
 use Rattle.world.specs.Tables.{Datasets}
-use Rattle.steps.specs.Edits.{with_datasets, put}
+use Rattle.steps.specs.Edits.{with_datasets}
 use Rattle.pool.specs.Pools.{state_of}
 use Rattle.pool.specs.Shown.{Shown, shown}
-use Rattle.pool.proofs.Steps.{snapshot_refused, snapshot_done}
+use Rattle.pool.proofs.Steps.{snapshot_refused}
 use Rattle.pool.proofs.Immediate.{sound_kept, kept_bare, kept_done}
 use Rattle.pool.proofs.pool.Pool.snapshot_now.Goals as goal
 

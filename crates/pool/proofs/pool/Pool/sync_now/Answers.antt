@@ -24,10 +24,11 @@ invariant_of-self c =
     let next = c.close_group.new.self in
     let is = c.close_group.ensures ∙ ap (λ (t : Datasets). record t { group = t.group + 1 }) c.in-Ok-copy.ensures.ok in
     let low = subst (λ n. n < number_limit) c.group-group.ensures c.if-group-ge-LAST_GROUP.false in
-    let can = subst (λ (x : Shown). CanSync x.state next) (sym c.self.view_is) (sync_can c.args.self.now s c.self.inside.allocator c.self.view_is c.self.invariant.0 next is low) in
-    (sound_copied s next c.close_group-2.new.self c.in-Ok.freeing c.end_group.new.self c.in-Ok.ensures.ok (is ∙ sym c.close_group-2.ensures)
-    (subst (λ (st : List BlockState). IsSound (synced s next) st) (sym c.end_group.ensures) (sound_synced s c.self.inside.allocator c.self.invariant.0 next can)),
-    accounted_next c.self.inside.present c.close_group-2.new.self c.self.inside.limiting c.close_group-2.ensures c.self.invariant.1)
+    let can = subst (λ (x : Shown). CanSync x.state next) (sym c.self.view_is) (sync_can c.args.self.now s c.self.inside.allocator c.self.view_is c.self.invariant.0 next is low) in (
+      sound_copied s next c.close_group-2.new.self c.in-Ok.freeing c.end_group.new.self c.in-Ok.ensures.ok (is ∙ sym c.close_group-2.ensures)
+          (subst (λ (st : List BlockState). IsSound (synced s next) st) (sym c.end_group.ensures) (sound_synced s c.self.inside.allocator c.self.invariant.0 next can)),
+      accounted_next c.self.inside.present c.close_group-2.new.self c.self.inside.limiting c.close_group-2.ensures c.self.invariant.1,
+    )
 
 pub returns : goal.returns
 returns c =
