@@ -14,6 +14,7 @@ ghost use Rattle.stream.specs.Reading.{Passes, HasNoHeader, HasNoWrite, HasNoFre
 use crate::record::{LEAVES, Record, first_of, is_key};
 use crate::sending::{Stream, StreamFault, fault_of};
 use crate::writer::MAGIC;
+use base::data::Data;
 use base::failing::Failing;
 use base::number::Key;
 use byteorder::{BigEndian, ByteOrder};
@@ -99,7 +100,7 @@ fn read_records<R: Read>(
 {
     let mut records = Vec::new(alloc);
     let mut from = 0;
-    'records: while let Some(record) = next_record(reader, hasher, from)? {
+    'records: while let Some(record) = next_record(alloc, reader, hasher, from)? {
         from = record.end_leaf();
         if records.push(record).is_err() {
             return Err(Stop::Failed);
@@ -110,6 +111,7 @@ fn read_records<R: Read>(
 
 /// Reads the next record, which begins at the leaf `from` or past it. None at the end of the records.
 fn next_record<R: Read>(
+    alloc: Global,
     reader: &mut R,
     hasher: &mut Sha256,
     from: u32,
@@ -121,7 +123,7 @@ fn next_record<R: Read>(
     match kind {
         0 => Ok(None),
         1 => {
-            let (leaf, bytes) = next_write(reader, hasher, from)?;
+            let (leaf, bytes) = next_write(alloc, reader, hasher, from)?;
             Ok(Some(Record::Write { leaf, bytes }))
         }
         2 => Ok(Some(Record::Free(next_free(reader, hasher, from)?))),
@@ -131,10 +133,11 @@ fn next_record<R: Read>(
 
 /// Reads the leaf and the block of a write.
 fn next_write<R: Read>(
+    alloc: Global,
     reader: &mut R,
     hasher: &mut Sha256,
     from: u32,
-) -> Result<(u32, [u8; 512]), Stop>
+) -> Result<(u32, Data), Stop>
     ensures ok { IfOk result (λ w. IsRecord (Write w.0 w.1) × (from ≤ w.0) ×
         Passes (R.remaining reader.old) (R.remaining reader.new) hasher.old hasher.new (to_be_bytes w32 w.0 ++ w.1)) }
     ensures bad { IsErrOf result Stop.Bad → IfSome (R.remaining reader.old) (HasNoWrite from) }
@@ -145,7 +148,10 @@ fn next_write<R: Read>(
         return Err(Stop::Bad);
     }
     let bytes: [u8; 512] = take(reader, hasher)?;
-    Ok((leaf, bytes))
+    match Data::new(alloc, &bytes) {
+        Ok(bytes) => Ok((leaf, bytes)),
+        Err(_) => Err(Stop::Failed),
+    }
 }
 
 /// Reads the key of a free.

@@ -2,6 +2,7 @@
 ghost use Rattle.std.specs.Prelude.{◌≡◌, ◌≤◌, ◌<◌, ◌+◌, ◌*◌, ◌^◌, ◌↔◌, IsTrue};
 ghost use Rattle.base.specs.Key.{IsKey, first_leaf};
 
+use base::data::Data;
 use base::number::Key;
 
 /// How many leaves a dataset has: 256 objects of 4,096 blocks.
@@ -10,8 +11,8 @@ pub(crate) const LEAVES: u32 = 1_048_576;
 /// One record of a stream.
 #[derive(Drop)]
 pub enum Record {
-    /// The block of a leaf. Block `i` of object `o` is leaf `4096 * o + i`.
-    Write { leaf: u32, bytes: [u8; 512] },
+    /// The block of a leaf, its bytes in memory of their own. Block `i` of object `o` is leaf `4096 * o + i`.
+    Write { leaf: u32, bytes: Data },
     /// Nothing is left of the leaves that this key covers.
     Free(Key),
 }

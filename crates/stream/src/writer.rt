@@ -71,7 +71,7 @@ fn put_record<W: Write>(writer: &mut W, hasher: &mut Sha256, item: &Record) -> i
             let mut head = [1; 5];
             BigEndian::write_u32(&mut head[1..], *leaf);
             put(writer, hasher, &head)?;
-            put(writer, hasher, bytes)
+            put(writer, hasher, bytes.as_array())
         }
         Record::Free(key) => {
             let mut bytes = [2, key.level, 0, 0, 0, 0];

@@ -1,6 +1,8 @@
 //! Streams written and read, and bytes that are none.
+use base::data::Data;
 use base::failing::Counted;
 use base::number::{Guid, Key};
+use base::refusal::Refusal;
 use std::alloc::{AllocError, Global};
 use std::process::Abort;
 use stream::{Record, Stream, StreamFault, read_stream, spelling_laws, write_stream};
@@ -66,9 +68,10 @@ pub fn one_leaf(
     source: Option<Guid>,
     target: Guid,
     byte: u8,
-) -> Result<Stream, AllocError> {
+) -> Result<Stream, Refusal> {
     let mut bytes = [0; 512];
     bytes[0] = byte;
+    let bytes = Data::new(alloc, &bytes)?;
     let mut records = Vec::new(alloc);
     records.push(Record::Write { leaf: 0, bytes })?;
     for level in 0..5 {
@@ -105,7 +108,7 @@ fn same(a: &Record, b: &Record) -> bool {
                 leaf: b,
                 bytes: second,
             },
-        ) => a == b && first == second,
+        ) => a == b && first.same(second),
         _ => false,
     }
 }
@@ -181,35 +184,49 @@ fn damaged_bytes_are_bad(rt: HostRuntime) {
     assert!(rt; is_damage_refused(&rt, alloc, one_leaf.as_slice()));
 }
 
+/// A record to be made: a write of sevens at a leaf, or a free.
+#[derive(Clone, Copy)]
+enum Plan {
+    Write(u32),
+    Free(Key),
+}
+
+fn record_of(alloc: Global, plan: Plan) -> Result<Record, Refusal> {
+    match plan {
+        Plan::Write(leaf) => Ok(Record::Write {
+            leaf,
+            bytes: Data::new(alloc, &[7; 512])?,
+        }),
+        Plan::Free(key) => Ok(Record::Free(key)),
+    }
+}
+
 /// Whether a stream of these two records, or with these guids, is written and then refused.
 fn is_refused(
     alloc: Global,
     source: Option<Guid>,
     target: Guid,
-    first: Record,
-    second: Record,
-) -> Result<bool, AllocError> {
+    first: Plan,
+    second: Plan,
+) -> Result<bool, Refusal> {
     let mut records = Vec::new(alloc);
-    records.push(first)?;
-    records.push(second)?;
+    records.push(record_of(alloc, first)?)?;
+    records.push(record_of(alloc, second)?)?;
     let mut writer = Counted::new(Vec::new(alloc));
     let written = write_stream(&Stream::new(source, target, records), &mut writer).is_ok();
     Ok(written && is_bad(alloc, writer.inner.as_slice()))
 }
 
-fn write_at(leaf: u32) -> Record {
-    Record::Write {
-        leaf,
-        bytes: [7; 512],
-    }
+fn write_at(leaf: u32) -> Plan {
+    Plan::Write(leaf)
 }
 
-fn free_at(level: u8, index: u32) -> Record {
-    Record::Free(Key { level, index })
+fn free_at(level: u8, index: u32) -> Plan {
+    Plan::Free(Key { level, index })
 }
 
 /// Whether these two records are written, from guid 1 to 2, and no stream.
-fn are_refused(rt: &impl Abort, alloc: Global, first: Record, second: Record) -> bool {
+fn are_refused(rt: &impl Abort, alloc: Global, first: Plan, second: Plan) -> bool {
     is_refused(alloc, Some(Guid(1)), Guid(2), first, second).expect(rt, "memory")
 }
 

@@ -7,5 +7,6 @@ pub mod Drafted
 pub mod Staying
 pub mod Committed
 pub mod Branches
+pub mod BranchKeys
 pub mod BranchBlocks
 pub mod Putting

@@ -1,5 +1,5 @@
 -- What stands at and below one key of a map.
-use Rattle.std.specs.Prelude.{ℕ, ◌+◌, ◌*◌, ◌-◌, ◌&&◌, cond, nat_lt, is_some, Option, Some, None, List, []}
+use Rattle.std.specs.Prelude.{◌≡◌, ◌<◌, ◌⊎◌, ℕ, ◌+◌, ◌*◌, ◌-◌, ◌&&◌, cond, nat_lt, is_some, IsSome, Option, Some, None, List, []}
 use Rattle.std.specs.FinMap.{get, retain_keys}
 use Rattle.base.specs.declared.number.Key.{Key}
 use Rattle.base.specs.Key.{is_at_or_below}
@@ -31,3 +31,15 @@ branch_blocks b = blocks_of b.map
 abbrev pub place_blocks : Option Branch → List Block
 place_blocks None = []
 place_blocks (Some b) = branch_blocks b
+
+-- a key of what stands at a place directly below (On-Disk Specification, chapter 3)
+pub record IsKeyBelow (b : Branch) (k : Key) : Type 0 where
+  pub place : ℕ
+  pub small : place < 16
+  pub child : Branch
+  pub there : child_of b place ≡ Some child
+  pub has : IsSome (get child.map k)
+
+-- each key is the branch's own, or one of what stands directly below (On-Disk Specification, chapter 3)
+abbrev pub AreOwnOrBelow : Branch → Type 0
+AreOwnOrBelow b = (k : Key) → IsSome (get b.map k) → (k ≡ b.key) ⊎ IsKeyBelow b k

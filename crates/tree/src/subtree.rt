@@ -1,7 +1,7 @@
 //! Parts of a tree at and below one key.
 ghost use Rattle.std.specs.Prelude.{◌≡◌, ℕ, ◌+◌, ◌*◌, ◌-◌, ◌<◌, ◌≤◌, ◌∷◌, Option, Some, None, suc, IsSome, IfOk, IfErr, OnErr, IfSome, IfNone, slice_index_or, slice_set, length};
 ghost use Rattle.std.specs.List.{flat_map};
-ghost use Rattle.std.specs.Option.{option_map};
+ghost use Rattle.std.specs.Option.{option_map, option_copied};
 ghost use Rattle.std.specs.FinMap as finmap;
 ghost use Rattle.std.specs.FinMap.{get};
 ghost use Rattle.base.specs.Key.{IsKey};
@@ -10,7 +10,7 @@ ghost use Rattle.base.specs.Map.{block_of};
 ghost use Rattle.base.specs.Surveys.{dead_block};
 ghost use Rattle.base.specs.declared.number.Key.{Key};
 ghost use Rattle.base.specs.declared.refusal.Refusal.{Refusal};
-ghost use Rattle.tree.specs.Branch.{child_of, child_key, branch_blocks, place_blocks};
+ghost use Rattle.tree.specs.Branch.{child_of, child_key, branch_blocks, place_blocks, AreOwnOrBelow};
 ghost use Rattle.tree.specs.BranchParts.{branch_at, node_part, node_level, AreBelow, IsSoundBranch};
 ghost use Rattle.node.specs.Kid.{IsSound};
 ghost use Rattle.node.specs.Node.{leaf_part, inner_part, shared_part};
@@ -280,6 +280,7 @@ impl Subtree {
         ensures young { IfOk result (λ peeled. IfSome peeled (λ p. cut.0 < p.0.birth.0)) }
         ensures below { IfOk result (λ peeled. IfSome peeled (λ p. (i : ℕ) → i < 16 → slice_index_or p.1 i None ≡ child_of self i)) }
         ensures all { IfOk result (λ peeled. IfSome peeled (λ p. branch_blocks self ≡ dead_block p.0 ∷ flat_map place_blocks p.1)) }
+        ensures keys { IfOk result (λ peeled. IfSome peeled (λ p. AreOwnOrBelow self)) }
         ensures old { IfOk result (λ peeled. IfNone peeled ((k : Key) → IfSome (get self.map k) (λ c. c.birth ≤ cut.0))) }
         ensures metered { meter.new ≡ counted meter.old 1 }
         ensures no_memory { IfErr result (λ e. e.0 ≡ Refusal.NoMemory) }
@@ -294,6 +295,18 @@ impl Subtree {
         match node.below(key) {
             Ok(below) => Ok(Some((block, below))),
             Err(node) => Err((Refusal::NoMemory, Subtree { key, node })),
+        }
+    }
+    /// The bytes of its top, if that is a leaf. It costs one node.
+    pub fn bytes(&self, meter: &mut Meter) -> Option<&[u8; 512]>
+        ensures leaf { self.now.key.level ≡ 0 → option_copied result ≡ option_map (λ c. c.bytes) (get self.now.map self.now.key) }
+        ensures inner { 0 < self.now.key.level → result ≡ None }
+        ensures metered { meter.new ≡ counted meter.old 1 }
+    {
+        meter.add_one();
+        match &self.node {
+            Node::Leaf(leaf) => Some(&leaf.bytes),
+            _ => None,
         }
     }
 }

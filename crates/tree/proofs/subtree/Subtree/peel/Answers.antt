@@ -1,13 +1,14 @@
-use Rattle.std.proofs.Common.{Some, ◌∷◌, sym, ap, ◌∙◌, arith}
+use Rattle.std.proofs.Common.{Some, ◌∷◌, sym, ap, subst, ◌∙◌, arith}
 use Rattle.std.specs.List.{flat_map}
 use Rattle.std.specs.Option.{option_map}
 use Rattle.std.specs.FinMap.{get}
 use Rattle.base.specs.declared.number.Dead.{Dead}
 use Rattle.base.specs.Map.{block_of}
 use Rattle.base.specs.Surveys.{dead_block}
-use Rattle.tree.specs.Branch.{Branch, child_of, branch_blocks, place_blocks}
+use Rattle.tree.specs.Branch.{Branch, child_of, branch_blocks, place_blocks, AreOwnOrBelow}
 use Rattle.tree.specs.BranchParts.{node_part, node_level}
 use Rattle.tree.proofs.BranchBlocks.{top_blocks}
+use Rattle.tree.proofs.BranchKeys.{own_or_below}
 use Rattle.tree.proofs.Branches.{branch_birth, own-branch_at, children}
 use Rattle.node.proofs.Options.{for_some}
 use Rattle.tree.proofs.subtree.Subtree.peel.Goals as goal
@@ -47,3 +48,7 @@ returns-in-Ok-clause-all c =
     ap branch_blocks (sym c.self.view_is)
     ∙ top_blocks (node_level c.self.inside.node) c.self.inside.key (node_part c.self.inside.node) c.in-Ok.below c.self.invariant.level c.self.invariant.sound c.in-Ok.ensures.sixteen c.in-Ok.ensures.ok
     ∙ ap (λ d. dead_block d ∷ flat_map place_blocks c.in-Ok.below) (sym c.block-block.ensures)
+
+pub returns-in-Ok-clause-keys : goal.returns-in-Ok-clause-keys
+returns-in-Ok-clause-keys c =
+    subst AreOwnOrBelow c.self.view_is (own_or_below (node_level c.self.inside.node) c.self.inside.key (node_part c.self.inside.node) c.self.invariant.level c.self.invariant.sound)
