@@ -1,0 +1,2 @@
+-- What a receive makes of datasets.
+pub mod Updates
