@@ -1,1 +1,4 @@
 pub mod Sames
+pub mod Alike
+pub mod Newest
+pub mod Refusals

@@ -1,2 +1,3 @@
 -- What a receive makes of datasets.
 pub mod Updates
+pub mod Requests

@@ -4,6 +4,7 @@
 //! live map, which is then kept as a snapshot with the sender's guid (zfs-receive(8)).
 #![tactic(auto)]
 
+mod refused;
 mod updates;
 
 pub use crate::updates::updates_of;
