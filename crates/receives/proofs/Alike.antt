@@ -1,5 +1,5 @@
 -- Two maps are the same where neither has a block that the other lacks, by counts.
-use Rattle.std.proofs.Common.{◌≡◌, ℕ, ◌+◌, ◌≤◌, ◌<◌, ◌==◌, Bool, true, false, ◌&&◌, List, Option, Some, None, refl, sym, ap, subst, ◌∙◌, ⊎_elim, arith}
+use Rattle.std.proofs.Common.{◌≡◌, ◌==◌, ◌&&◌, Option, Some, None, refl, sym, ap, subst, ◌∙◌, ⊎_elim, arith}
 use Rattle.std.specs.Bool.{Decides}
 use Rattle.std.proofs.lemmas.Bool.Decides.{Decides-eqb, Decides-and, Decides-like}
 use Rattle.std.specs.Cmp.Lexicographic.{pointwise, pointwise_decides, bytes_decides}
@@ -16,7 +16,7 @@ use Rattle.world.specs.Shapes.{key_order}
 use Rattle.world.specs.Blocks.{block_order as o}
 use Rattle.world.specs.Sets.{Has, IsSubset}
 use Rattle.world.proofs.Cells.{in_blocks, from_blocks}
-use Rattle.world.proofs.Maps.{same_value, no_value}
+use Rattle.world.proofs.Maps.{no_value}
 use Rattle.world.proofs.SetCounts.{has_some, Has-cases, in_difference, from_difference, in_intersection, from_intersection, no-empty, same_members, len-difference}
 use Rattle.file_system.proofs.Accounts.{count_is}
 

@@ -1,21 +1,28 @@
 -- Why a receive is refused.
-use Rattle.std.proofs.Common.{◌≡◌, ℕ, ◌+◌, ◌≤◌, ◌<◌, Bool, true, false, not, cond, ◌||◌, Option, Some, None, refl, sym, ap, ◌∙◌, length, arith}
-use Rattle.std.specs.Prelude.{nat_lt, nat_le, nat_eq}
-use Rattle.std.specs.Bool.{Decides}
+use Rattle.std.proofs.Common.{◌≡◌, ℕ, ◌+◌, ◌≤◌, ◌<◌, Bool, true, false, not, cond, ◌||◌, Option, Some, None, refl, sym, ap, ◌∙◌, true≢false, arith}
+use Rattle.std.specs.Prelude.{nat_lt, nat_le, nat_eq, is_some, ◌==◌, if◌then◌else◌}
 use Rattle.std.proofs.lemmas.Bool.Decides.{nat_tests, Decides-eqb, Decides-like, same_from_decides}
 use Rattle.std.specs.FinMap as finmap
+use Rattle.std.specs.FinMap.{contains_key, len}
 use Rattle.base.specs.declared.number.Key.{Key}
 use Rattle.base.specs.declared.refusal.Refusal.{Refusal}
 use Rattle.base.specs.declared.refusal.Refusal.TheVariants.{Exists, NoParent, TooMany}
 use Rattle.base.specs.Map.{Map, Cell, blocks}
 use Rattle.node.specs.Unique.{IsUnique}
 use Rattle.model.specs.Sums.{size_without}
-use Rattle.model.specs.World.{World, snaps_of}
-use Rattle.model.specs.Targets.{has_no_next_group}
-use Rattle.model.specs.requests.Receive.{same_map, has_no_room}
+use Rattle.model.specs.World.{World}
+use Rattle.name.specs.declared.member.Member.{Member}
+use Rattle.base.specs.declared.number.Guid.{Guid}
+use Rattle.stream.specs.Spelling.{Sending, source_guid}
+use Rattle.model.specs.Hierarchy.{file_system_limit, has_parent}
+use Rattle.model.specs.Rule.{first_of}
+use Rattle.model.specs.requests.Create.{create_row, create_refusal}
+use Rattle.model.specs.requests.Receive.{same_map, has_no_room, full_row, incremental_row}
 use Rattle.file_system.specs.Rows.{snap_count}
-use Rattle.world.proofs.Maps.{same_value, no_value}
+use Rattle.world.specs.Tables.{Datasets, world_of}
+use Rattle.world.proofs.Maps.{no_value}
 use Rattle.snap.proofs.Rooms.{snaps_counted}
+use Rattle.receives.specs.Requests.{receive_refusal}
 use Rattle.receives.proofs.Alike.{decides_map, same_by_counts, counts_of_same}
 
 -- ---- room for one snapshot more
@@ -63,3 +70,24 @@ by_counts live kept n a b is none ul uk al bk one = same_from_decides (nat_eq a 
     (λ e. al ∙ (counts_of_same live kept e).1 ∙ sym bk)
     (Decides-eqb a b))
     (decides_map live kept)
+
+-- ---- what nothing refuses
+
+abbrev source_by : Bool → ℕ → Option Guid
+source_by b n = if b then None else Some (record { 0 = n })
+
+-- a full stream's file system can be made
+pub can_make : (t : Datasets) (m : Member) (s : Sending) (force : Bool) → receive_refusal t m s force ≡ None → is_some (source_guid s.source) ≡ false → create_refusal t.file_systems m.file_system ≡ None
+unfolding create_refusal
+can_make t m s force none full = by_source (s.source == 0) none full
+  where
+    by_tests : (there orphan many full : Bool) → full_by there orphan many full ≡ None → cond {A = Option Refusal} there (Some Exists) (cond orphan (Some NoParent) (cond many (Some TooMany) None)) ≡ None
+    by_tests true orphan many full k = absurd (no_value Exists (sym k))
+    by_tests false true many full k = absurd (no_value NoParent (sym k))
+    by_tests false false true full k = absurd (no_value TooMany (sym k))
+    by_tests false false false full k = refl
+
+    by_source : (b : Bool) → first_of (if b then full_row (world_of t) m else incremental_row (world_of t) m s.source force) ≡ None → is_some (source_by b s.source) ≡ false
+        → first_of (create_row t.file_systems m.file_system) ≡ None
+    by_source true e k = by_tests (contains_key t.file_systems m.file_system) (not (has_parent t.file_systems m.file_system)) (nat_le file_system_limit (len t.file_systems)) (has_no_room (world_of t)) e
+    by_source false e k = absurd (true≢false k)

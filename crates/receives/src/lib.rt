@@ -4,7 +4,11 @@
 //! live map, which is then kept as a snapshot with the sender's guid (zfs-receive(8)).
 #![tactic(auto)]
 
+mod after;
+mod before;
 mod refused;
 mod updates;
 
+pub use crate::after::finish;
+pub use crate::before::begin;
 pub use crate::updates::updates_of;

@@ -56,12 +56,7 @@ fn full_refusal(table: &Table, name: &Member) -> Option<Refusal>
 // it has a snapshot of this name, else WrongSource where its newest snapshot hasn't that guid, else Modified where its live map isn't that
 // snapshot's and not `force`, else TooMany as `has_no_room` says (zfs-receive(8), -F; the order and numbers are profile). It costs the
 // logarithms of the numbers of file systems and of the snapshots of this one; no block is visited.
-fn incremental_refusal(
-    table: &Table,
-    name: &Member,
-    source: Guid,
-    force: bool,
-) -> Option<Refusal>
+fn incremental_refusal(table: &Table, name: &Member, source: Guid, force: bool) -> Option<Refusal>
     ensures { result ≡ first_of (incremental_row (world_of table.now) name.now source.0 force) }
 {
     let Some(file_system) = table.find(&name.file_system) else {

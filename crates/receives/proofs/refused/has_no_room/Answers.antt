@@ -1,7 +1,5 @@
-use Rattle.std.proofs.Common.{◌≡◌, ◌||◌, true, sym, ap, ◌∙◌, arith}
-use Rattle.std.specs.Prelude.{nat_le}
+use Rattle.std.proofs.Common.{arith}
 use Rattle.std.proofs.lemmas.Bool.Decides.{nat_tests}
-use Rattle.file_system.specs.Rows.{snap_count}
 use Rattle.world.specs.Tables.{world_of}
 use Rattle.receives.proofs.Refusals.{room_is}
 use Rattle.receives.proofs.refused.has_no_room.Goals as goal

@@ -1,7 +1,7 @@
-use Rattle.std.proofs.Common.{◌≡◌, ℕ, not, sym, ap, subst, ◌∙◌}
+use Rattle.std.proofs.Common.{◌≡◌, not, ap, subst, ◌∙◌}
 use Rattle.std.proofs.lemmas.Bool.{lt-ltb}
 use Rattle.std.specs.FinMap as finmap
-use Rattle.base.specs.Map.{Map, blocks}
+use Rattle.base.specs.Map.{blocks}
 use Rattle.node.specs.Unique.{IsUnique}
 use Rattle.model.specs.Sums.{size_without}
 use Rattle.receives.proofs.Newest.{newest_has, newest_there, one_of_both}
