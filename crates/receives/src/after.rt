@@ -1,12 +1,14 @@
 //! What a receive ends with.
-ghost use Rattle.std.specs.Prelude.{◌≡◌, ◌≤◌, IfOk, IfErr, OnOk, Err};
+ghost use Rattle.std.specs.Prelude.{◌≡◌, ◌≤◌, ℕ, IfOk, IfErr, OnOk, Err};
+ghost use Rattle.base.specs.declared.number.Key.{Key};
 ghost use Rattle.base.specs.declared.refusal.Refusal.{Refusal};
 ghost use Rattle.tree.specs.Asking.{IsNoSpaceOrNoMemory};
 ghost use Rattle.tree.specs.Change.{HasRoom, LacksRoom, CountsDropped};
 ghost use Rattle.tree.specs.Updates.{changes_of};
 ghost use Rattle.file_system.specs.Rows.{live_of};
 ghost use Rattle.datasets.specs.Writes.{young_of, AllowsWrite};
-ghost use Rattle.receives.specs.Ends.{CanFinish, HasReceived};
+ghost use Rattle.world.specs.Tables.{world_of};
+ghost use Rattle.receives.specs.Ends.{CanFinish, HasReceived, finished};
 
 use base::meter::{Meter, SegMeter};
 use base::number::{Group, Guid};
@@ -37,6 +39,7 @@ pub fn finish(
     requires can { CanFinish table.old name.now }
     requires writes { AllowsWrite table.old updates.now synced.0 allocator.now }
     ensures ok { IfOk result (HasReceived table.old table.new name.now target.0 (changes_of updates.now) synced.0 allocator.now) }
+    ensures after { IfOk result (λ done. (number : Key → ℕ) × (world_of table.new ≡ finished table.old name.now target.0 (changes_of updates.now) number)) }
     ensures room { OnOk result (HasRoom (live_of table.old.file_systems name.now.file_system) (changes_of updates.now) (young_of table.old name.now.file_system synced.0) allocator.now) }
     ensures no_space { result ≡ Err Refusal.NoSpace → LacksRoom (live_of table.old.file_systems name.now.file_system) (changes_of updates.now) (young_of table.old name.now.file_system synced.0) allocator.now }
     ensures only { IfErr result IsNoSpaceOrNoMemory }
