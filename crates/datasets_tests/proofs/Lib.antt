@@ -1,3 +1,4 @@
 pub mod Apart
 pub mod Going
 pub mod Sweeping
+pub mod Blockless

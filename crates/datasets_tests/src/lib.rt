@@ -1,6 +1,8 @@
-//! Tests of `file_systems`, `datasets`, `snap`, `clones`, `removals` and `marks` from outside.
+//! Tests of `file_systems`, `datasets`, `snap`, `clones`, `removals`, `marks` and `receives` from outside.
 #![tactic(auto)]
 
+#[cfg(test)]
+mod bare;
 #[cfg(test)]
 mod cloned;
 #[cfg(test)]
@@ -21,6 +23,8 @@ mod lists;
 mod marked;
 #[cfg(test)]
 mod now;
+#[cfg(test)]
+mod received;
 #[cfg(test)]
 mod removing;
 #[cfg(test)]

@@ -41,7 +41,8 @@ decides_map m n = Decides-like (same_map m n) (same_entries_map m n) (ap entries
 
 -- ---- sets, by how many members one has that the other lacks
 
-within : (s t : BlockSet) → size_without s t ≡ 0 → IsSubset s t
+-- no member beside those of the other
+pub within : (s t : BlockSet) → size_without s t ≡ 0 → IsSubset s t
 within s t e q h = ⊎_elim (λ k. k) (λ no. let l = has_some o (difference s t) q (in_difference o s t q h no) in absurd (Prim.omega arith)) (Has-cases o t q)
 
 turned : (s t : BlockSet) → IsSubset (intersection s t) (intersection t s)
