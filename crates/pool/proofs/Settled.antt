@@ -31,7 +31,7 @@ use Rattle.steps.specs.Edits.{datasets_of, with_datasets}
 use Rattle.steps.specs.Steady.{IsSteady}
 use Rattle.steps.proofs.Planning.{leads_to}
 use Rattle.steps.proofs.Writing.{young_is}
-use Rattle.limits.specs.Changes.{IsChanged}
+use Rattle.limits.specs.Changes.{IsChanged, IsLedgerOf}
 use Rattle.outlook.specs.declared.outlook.Outlook.{Outlook}
 use Rattle.pool.specs.Limiting.{IsAccounted, Foretells, CanSettle}
 use Rattle.pool.specs.declared.limiting.Limiting.{Limiting}
@@ -136,3 +136,9 @@ module _ (s : State) (steady : IsSteady s) (numbers : List BlockState) (known : 
           → Foretells s name ch outlook → CanSettle (datasets_of s) to name limiting outlook
       by (Some f) at = can_settle_here f at
       by None none = absurd (some none)
+
+-- a ledger that can be settled is that of the datasets before the change
+pub ledger_before : (old new : Datasets) (name : Name) (limiting : Option Limiting) (outlook : Option Outlook) → CanSettle old new name limiting outlook
+    → (l : Limiting) → limiting ≡ Some l → (o : Outlook) → outlook ≡ Some o → IsLedgerOf (world_of old) (keys new.file_systems) l.ledger
+ledger_before old new name limiting outlook can l is o some =
+    record { hierarchy = can.hierarchy; named = sym (can.differs o some).1.names; own = subst (IsAccounted old) is can.kept }

@@ -1,5 +1,5 @@
 //! The limits of file systems: what is kept of them, and what they say of a request.
-ghost use Rattle.std.specs.Prelude.{◌≡◌, ◌⊎◌, ◌<◌, ◌^◌, [], ◌∷◌, ℕ, List, false, None, IsSome, IfOk, IfErr, OnOk, OnErr};
+ghost use Rattle.std.specs.Prelude.{◌≡◌, ◌⊎◌, ◌<◌, ◌^◌, [], ◌∷◌, ℕ, List, false, None, Some, IsSome, IfOk, IfErr, OnOk, OnErr};
 ghost use Rattle.std.specs.Option.{option_copied};
 ghost use Rattle.std.specs.FinMap.{get};
 ghost use Rattle.std.specs.FinSet as set;
@@ -19,7 +19,7 @@ ghost use Rattle.world.specs.Tables.{Datasets, world_of};
 ghost use Rattle.accounts.specs.Limits.{IsUnlimited};
 ghost use Rattle.datasets.specs.Limits.{with_limit_of};
 ghost use Rattle.steps.specs.Edits.{datasets_of, with_datasets};
-ghost use Rattle.limits.specs.Ledgers.{IsSpaceOf};
+ghost use Rattle.limits.specs.Ledgers.{IsSpaceOf, ledger_of};
 ghost use Rattle.pool.specs.Limiting.{IsAccounted, IsOver, IsNoChange, MayChange, Foretells, CanSettle, ledger_in};
 ghost use Rattle.pool.specs.Plans.{state_after_plan, CanDo};
 
@@ -66,6 +66,20 @@ impl Limiting {
         self.asked.fill(to);
         self.asked.first_over(space)
     }
+
+    // The ledger becomes that of these datasets, as the function `settle` says.
+    fn settle(&mut self, table: &Table, name: &DsName, outlook: Option<Outlook>)
+        requires before { (old : Datasets) × CanSettle old table.now name.now (Some self.old) outlook }
+        requires few { set.len (union_of (world_of table.now)) < 2 ^ 32 }
+        ensures { self.new.ledger ≡ ledger_of (world_of table.now) }
+    {
+        match outlook {
+            Some(outlook) => self
+                .ledger
+                .settle(table, name, outlook.here, outlook.referenced),
+            None => self.ledger.fill(table),
+        }
+    }
 }
 
 // The ledger, where one is kept. Constant time.
@@ -103,14 +117,8 @@ pub(crate) fn settle(
     requires few { set.len (union_of (world_of table.now)) < 2 ^ 32 }
     ensures { IsAccounted table.now limiting.new }
 {
-    let Some(limiting) = limiting else {
-        return;
-    };
-    match outlook {
-        Some(outlook) => limiting
-            .ledger
-            .settle(table, name, outlook.here, outlook.referenced),
-        None => limiting.ledger.fill(table),
+    if let Some(limiting) = limiting {
+        limiting.settle(table, name, outlook);
     }
 }
 

@@ -371,7 +371,7 @@ impl Pool {
         requires { IfOk update (λ u. IsBatch (u ∷ [])) }
         ensures same { self.new ≡ self.old }
         ensures can { CanDo self.old.state result.1 }
-        ensures step { (q : Request) → Asks q target.now update → Step self.old.state q result.0 (state_after_plan self.old.state result.1) }
+        ensures step { (q : Request) → Asks q target.now update.entry → Step self.old.state q result.0 (state_after_plan self.old.state result.1) }
     {
         let _size = self.size;
         let name = match self.live_name(target) {
@@ -689,7 +689,7 @@ impl Pool {
         update: Result<Update, Refusal>,
     ) -> Reply
         requires { IfOk update (λ u. IsBatch (u ∷ [])) }
-        ensures { (q : Request) → Asks q target.now update → Step self.old.state q result self.new.state }
+        ensures { (q : Request) → Asks q target.now update.entry → Step self.old.state q result self.new.state }
     {
         let _size = self.size;
         let name = match self.live_name(target) {
