@@ -1,5 +1,5 @@
 -- In a batch each update is heard at its first leaf.
-use Rattle.std.proofs.Common.{◌≡◌, ℕ, zero, suc, ◌+◌, ◌*◌, ◌≤◌, ◌/◌, ◌^◌, ◌<◌, Bool, true, false, cond, List, [], ◌∷◌, length, get_or, Some, refl, sym, ap, ◌∙◌, arith, inr, ⊎_elim, true≢false}
+use Rattle.std.proofs.Common.{◌≡◌, ℕ, zero, suc, ◌+◌, ◌*◌, ◌≤◌, ◌/◌, ◌^◌, ◌<◌, Bool, Bor, true, false, cond, List, [], ◌∷◌, length, get_or, Some, refl, sym, ap, ◌∙◌, arith, inr, ⊎_elim, true≢false}
 use Rattle.std.specs.Prelude.{◌==◌, ◌||◌, slice_get}
 use Rattle.std.specs.List.{list_any}
 use Rattle.std.proofs.Math.Nat.{mul-div_cancel, div-eq_of_lt-le}
@@ -15,15 +15,15 @@ use Rattle.batch.specs.Updates.{first_of, past_of}
 use Rattle.batch.specs.Said.{Said, silent, hole, full, said_by, said, first_said, is_write, AreInOrder, IsIdle, IsOneLeaf}
 use Rattle.batch.proofs.SaidLaws.{said_drop, said_is, silent_apart}
 
-written_there : (leaf : ℕ) (bytes : List ℕ) → said_by (Write leaf bytes) leaf ≡ full bytes
-written_there leaf bytes = ap (λ b. cond b (full bytes) silent) (eq-eqb leaf leaf refl)
+written_there : (leaf : ℕ) (bytes : Bor (List ℕ)) → said_by (Write leaf bytes) leaf ≡ full bytes.now
+written_there leaf bytes = ap (λ b. cond b (full bytes.now) silent) (eq-eqb leaf leaf refl)
 
 covers_first : (k : Key) → covers k (first_leaf k) ≡ true
 covers_first k = eq-eqb (first_leaf k / 16 ^ k.level) k.index (mul-div_cancel k.index (span_positive k.level))
 
 -- an update says something of its first leaf
 said_there : (u : Update) → said_by u (first_of u) ≡ silent → ⊥
-said_there (Write leaf bytes) e = let f : full bytes ≡ silent = sym (written_there leaf bytes) ∙ e in cc
+said_there (Write leaf bytes) e = let f : full bytes.now ≡ silent = sym (written_there leaf bytes) ∙ e in cc
 said_there (Punch key) e = let f : hole ≡ silent = sym (ap (λ b. cond b hole silent) (covers_first key)) ∙ e in cc
 
 first_past : (u : Update) → first_of u < past_of u
@@ -54,7 +54,7 @@ idle_present (u ∷ us) o h = ⊎_elim (λ s. absurd (not_silent (u ∷ us) 0 u 
 no_write : (us : List Update) (p : Bool) → AreInOrder us → IsIdle (said us) p → (i : ℕ) (u : Update) → slice_get us i ≡ Some u → is_write u ≡ false
 no_write us p o h i (Write leaf bytes) e =
     let t = heard us i (Write leaf bytes) o e ∙ written_there leaf bytes in
-    ⊎_elim (λ s. let f : full bytes ≡ silent = sym t ∙ s in cc) (λ s. let f : full bytes ≡ hole = sym t ∙ s.0 in cc) (h leaf)
+    ⊎_elim (λ s. let f : full bytes.now ≡ silent = sym t ∙ s in cc) (λ s. let f : full bytes.now ≡ hole = sym t ∙ s.0 in cc) (h leaf)
 no_write us p o h i (Punch key) e = refl
 
 none_any : (us : List Update) → ((i : ℕ) (u : Update) → slice_get us i ≡ Some u → is_write u ≡ false) → list_any is_write us ≡ false

@@ -1,5 +1,5 @@
 -- Where a batch speaks of one leaf, it touches keys over that leaf and no others.
-use Rattle.std.proofs.Common.{◌≡◌, ℕ, zero, suc, ◌+◌, ◌*◌, ◌/◌, ◌%◌, ◌^◌, ◌<◌, ◌≤◌, Bool, true, false, cond, List, [], ◌∷◌, ◌++◌, length, get_or, set, map, Option, Some, None, refl, sym, ap, subst, ◌∙◌, arith, append-nil, length-append, true≢false}
+use Rattle.std.proofs.Common.{◌≡◌, ℕ, zero, suc, ◌+◌, ◌*◌, ◌/◌, ◌%◌, ◌^◌, ◌<◌, ◌≤◌, Bool, Bor, true, false, cond, List, [], ◌∷◌, ◌++◌, length, get_or, set, map, Option, Some, None, refl, sym, ap, subst, ◌∙◌, arith, append-nil, length-append, true≢false}
 use Rattle.std.specs.Option.{option_map}
 use Rattle.std.specs.Prelude.{is_some, ◌||◌, ◌==◌}
 use Rattle.std.proofs.lemmas.Bool.{eq-eqb}
@@ -30,15 +30,15 @@ hole_silent : hole ≡ silent → ⊥
 hole_silent e = cc
 
 -- a batch that is one write
-pub write_said : (us : List Update) (d : Update) (leaf : ℕ) (bytes : List ℕ) → length us ≡ 1 → get_or us 0 d ≡ Write leaf bytes → IsOneLeaf (said us) leaf true
+pub write_said : (us : List Update) (d : Update) (leaf : ℕ) (bytes : Bor (List ℕ)) → length us ≡ 1 → get_or us 0 d ≡ Write leaf bytes → IsOneLeaf (said us) leaf true
 unfolding said
 write_said [] d leaf bytes n e = absurd (omega arith)
 write_said (u ∷ []) d leaf bytes n e =
-    let here : first_said (said_by u leaf) silent ≡ full bytes = ap (λ v. first_said (said_by v leaf) silent) e ∙ ap (λ b. first_said (cond b (full bytes) silent) silent) (eq-eqb leaf leaf refl) in
+    let here : first_said (said_by u leaf) silent ≡ full bytes.now = ap (λ v. first_said (said_by v leaf) silent) e ∙ ap (λ b. first_said (cond b (full bytes.now) silent) silent) (eq-eqb leaf leaf refl) in
     record {
-      spoken = λ s. full_silent bytes (sym here ∙ s);
-      others = λ k h. ap (λ v. first_said (said_by v k) silent) e ∙ ap (λ b. first_said (cond b (full bytes) silent) silent) (eq_not leaf k (λ x. h (sym x)));
-      written = λ t. (bytes, here);
+      spoken = λ s. full_silent bytes.now (sym here ∙ s);
+      others = λ k h. ap (λ v. first_said (said_by v k) silent) e ∙ ap (λ b. first_said (cond b (full bytes.now) silent) silent) (eq_not leaf k (λ x. h (sym x)));
+      written = λ t. (bytes.now, here);
       punched = λ t. absurd (t refl);
     }
 write_said (u ∷ v ∷ us) d leaf bytes n e = absurd (omega arith)

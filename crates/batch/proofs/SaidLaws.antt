@@ -1,5 +1,5 @@
 -- What a batch says of a leaf, and what its parts say.
-use Rattle.std.proofs.Common.{◌≡◌, ℕ, zero, suc, ◌+◌, ◌*◌, ◌/◌, ◌%◌, ◌-◌, ◌^◌, ◌<◌, ◌≤◌, Bool, true, false, cond, List, [], ◌∷◌, length, get_or, drop, take, Some, refl, sym, ap, subst, ◌∙◌, arith, inl, inr, ◌⊎◌, ⊎_elim, drop-cons, true≢false}
+use Rattle.std.proofs.Common.{◌≡◌, ℕ, zero, suc, ◌+◌, ◌*◌, ◌/◌, ◌%◌, ◌-◌, ◌^◌, ◌<◌, ◌≤◌, Bool, Bor, true, false, cond, List, [], ◌∷◌, length, get_or, drop, take, Some, refl, sym, ap, subst, ◌∙◌, arith, inl, inr, ◌⊎◌, ⊎_elim, drop-cons, true≢false}
 use Rattle.std.specs.Prelude.{◌==◌, slice_get, slice_index}
 use Rattle.std.specs.List.{list_any}
 use Rattle.std.proofs.Math.Nat.{div-add-mod, mod-lt}
@@ -167,8 +167,8 @@ said_sized [] n b h e = absurd (silent_full b e)
     silent_full b e = cc
 said_sized (u ∷ us) n b h e = first u (h zero u refl) e (said_sized us n b (λ i v f. h (suc i) v f))
   where
-    one : (leaf : ℕ) (bytes : List ℕ) (w : Said) (v : Bool) → IsSized (Write leaf bytes) → first_said (cond v (full bytes) silent) w ≡ full b → (w ≡ full b → (length b ≡ 512) × ((i : ℕ) → slice_index b i < 256)) → (length b ≡ 512) × ((i : ℕ) → slice_index b i < 256)
-    one leaf bytes w true k e ih = let same : bytes ≡ b = cc in subst (λ xs. (length xs ≡ 512) × ((i : ℕ) → slice_index xs i < 256)) same k
+    one : (leaf : ℕ) (bytes : Bor (List ℕ)) (w : Said) (v : Bool) → IsSized (Write leaf bytes) → first_said (cond v (full bytes.now) silent) w ≡ full b → (w ≡ full b → (length b ≡ 512) × ((i : ℕ) → slice_index b i < 256)) → (length b ≡ 512) × ((i : ℕ) → slice_index b i < 256)
+    one leaf bytes w true k e ih = let same : bytes.now ≡ b = cc in subst (λ xs. (length xs ≡ 512) × ((i : ℕ) → slice_index xs i < 256)) same k
     one leaf bytes w false k e ih = ih e
 
     two : (w : Said) (v : Bool) → first_said (cond v hole silent) w ≡ full b → (w ≡ full b → (length b ≡ 512) × ((i : ℕ) → slice_index b i < 256)) → (length b ≡ 512) × ((i : ℕ) → slice_index b i < 256)

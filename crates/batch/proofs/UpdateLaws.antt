@@ -1,5 +1,5 @@
 -- The changes of batches of one update.
-use Rattle.std.proofs.Common.{◌≡◌, ℕ, ◌/◌, Bool, true, false, List, [], ◌∷◌, refl, ap, ◌∙◌, arith}
+use Rattle.std.proofs.Common.{◌≡◌, ℕ, Bor, ◌/◌, Bool, true, false, List, [], ◌∷◌, refl, ap, ◌∙◌, arith}
 use Rattle.std.specs.Prelude.{◌==◌, ◌||◌}
 use Rattle.base.specs.Rewrite.{writes_leaf, punches_leaf, frees_object}
 use Rattle.std.specs.FinMap as finmap
@@ -11,7 +11,7 @@ or_false true = refl
 or_false false = refl
 
 -- one leaf written
-pub write_changes : (leaf : ℕ) (bytes : List ℕ) → changes_of (Write leaf bytes ∷ []) ≡ writes_leaf leaf bytes
+pub write_changes : (leaf : ℕ) (bytes : Bor (List ℕ)) → changes_of (Write leaf bytes ∷ []) ≡ writes_leaf leaf bytes.now
 unfolding changes_of
 write_changes leaf bytes = refl
 

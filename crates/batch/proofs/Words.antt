@@ -98,7 +98,7 @@ pub words : (low : ℕ) (us : List Update) (j : ℕ) → IsBatchFrom low us → 
 unfolding said
 words low [] j b = (refl, refl)
 words low (Write leaf bytes ∷ us) j b =
-    write_words us leaf j bytes (leaf == j) refl (words (leaf + 1) us j b.2) (λ t. let s : leaf ≡ j = eqb-true leaf j t in low_silent (leaf + 1) j us b.2 (omega arith))
+    write_words us leaf j bytes.now (leaf == j) refl (words (leaf + 1) us j b.2) (λ t. let s : leaf ≡ j = eqb-true leaf j t in low_silent (leaf + 1) j us b.2 (omega arith))
 words low (Punch key ∷ us) j b =
     punch_words us key j (covers key j) refl (words (first_leaf key + 16 ^ key.level) us j b.2)
     (λ t. let r = Rattle.batch.proofs.SaidLaws.covers_from key j t in low_silent (first_leaf key + 16 ^ key.level) j us b.2 r.1)

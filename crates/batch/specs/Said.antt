@@ -13,7 +13,7 @@ pub data Said : Type 0 where
 
 -- what one update says (profile)
 abbrev pub said_by : Update → ℕ → Said
-said_by (Write leaf bytes) n = cond (leaf == n) (full bytes) silent
+said_by (Write leaf bytes) n = cond (leaf == n) (full bytes.now) silent
 said_by (Punch key) n = cond (covers key n) hole silent
 
 -- (profile)
@@ -39,7 +39,7 @@ pub record AreInOrder (us : List Update) : Type 0 where
 
 -- 512 octets, where an update writes (profile)
 abbrev pub IsSized : Update → Type 0
-IsSized (Write leaf bytes) = (length bytes ≡ 512) × ((i : ℕ) → slice_index bytes i < 256)
+IsSized (Write leaf bytes) = (length bytes.now ≡ 512) × ((i : ℕ) → slice_index bytes.now i < 256)
 IsSized (Punch key) = Unit {0}
 
 -- (profile)

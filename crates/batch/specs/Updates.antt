@@ -14,7 +14,7 @@ punches (Punch key) n = covers key n
 
 -- what an update writes (On-Disk Specification, chapter 3)
 abbrev pub written : Update → Option (ℕ × List ℕ)
-written (Write leaf bytes) = Some (leaf, bytes)
+written (Write leaf bytes) = Some (leaf, bytes.now)
 written (Punch key) = None
 
 -- the change of a batch: what all its updates write and punch (profile)

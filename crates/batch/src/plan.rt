@@ -232,15 +232,14 @@ fn survey_kids<C: Survey>(
 {
     let mut touched = false;
     let mut stays = false;
-    let mut rest = updates;
+    let mut halves = (updates, updates);
     let span = span(u32::from(level));
     for back in 0..place_count(old) {
         let place = 15 - back;
         let index = first + place;
-        let (mine, earlier) = split_at_leaf(rest, index * span);
-        rest = earlier;
+        halves = split_at_leaf(halves.1, index * span);
         let kid = kid_at(old, place as usize);
-        let fate = C::survey(kid, level, index, mine, young, plan, meter)?;
+        let fate = C::survey(kid, level, index, halves.0, young, plan, meter)?;
         touched |= fate.touched;
         stays |= fate.stays;
     }

@@ -9,11 +9,12 @@ ghost use Rattle.batch.specs.Word.{word_said};
 use base::number::Key;
 use node::span;
 
-/// One entry of a batch (On-Disk Specification, chapter 3: blocks of an object are written and freed).
-#[derive(Clone, Copy, PartialEq, Eq, Debug)]
-pub enum Update {
+/// One entry of a batch (On-Disk Specification, chapter 3: blocks of an object are written and freed). It takes a few words, also where
+/// it writes: the bytes of the leaf are lent.
+#[derive(Clone, Copy)]
+pub enum Update<'a> {
     /// Writes a leaf.
-    Write { leaf: u32, bytes: [u8; 512] },
+    Write { leaf: u32, bytes: &'a [u8; 512] },
     /// Punches every leaf that the key covers.
     Punch(Key),
 }
@@ -37,7 +38,7 @@ fn is_over(key: Key, leaf: u32) -> bool
     leaf / span(u32::from(key.level)) == key.index
 }
 
-impl Update {
+impl Update<'_> {
     /// The first leaf that it covers.
     fn first(&self) -> u32
         requires { IsOfTree self.now }
@@ -94,7 +95,7 @@ pub fn write_count(updates: &[Update]) -> usize
     for update in updates {
         match update {
             Update::Write { bytes, .. } => {
-                let _octets = size_of(bytes);
+                let _octets = size_of(*bytes);
                 count += 1;
             }
             Update::Punch(_) => {}
@@ -154,7 +155,7 @@ pub fn way_of(updates: &[Update], level: u8, index: u32) -> Option<Way>
 }
 
 /// What the updates say of a leaf.
-pub fn word_of(updates: &[Update], leaf: u32) -> Word<'_>
+pub fn word_of<'a>(updates: &[Update<'a>], leaf: u32) -> Word<'a>
     requires { AreInOrder updates.now }
     ensures { word_said result ≡ said updates.now leaf }
 {
@@ -162,7 +163,7 @@ pub fn word_of(updates: &[Update], leaf: u32) -> Word<'_>
         match update {
             Update::Write { leaf: own, bytes } => {
                 if *own == leaf {
-                    return Word::Full(bytes);
+                    return Word::Full(*bytes);
                 }
             }
             Update::Punch(key) => {
@@ -211,7 +212,10 @@ fn count_before(updates: &[Update], leaf: u32) -> usize
 }
 
 /// The updates that reach past the beginning of a leaf, and those that begin before it. One that does both is in both.
-pub fn split_at_leaf(updates: &[Update], leaf: u32) -> (&[Update], &[Update])
+pub fn split_at_leaf<'s, 'a>(
+    updates: &'s [Update<'a>],
+    leaf: u32,
+) -> (&'s [Update<'a>], &'s [Update<'a>])
     requires { AreInOrder updates.now }
     ensures after { (n : ℕ) → leaf ≤ n → said result.0.now n ≡ said updates.now n }
     ensures before { (n : ℕ) → n < leaf → said result.1.now n ≡ said updates.now n }

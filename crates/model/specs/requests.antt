@@ -55,6 +55,8 @@ pub mod Bookmark
 pub mod Set
 pub mod WrittenSince
 pub mod WouldFree
+pub mod Send
+pub mod Receive
 
 -- what the bytes of a request say; no request has any yet (zfs-receive(8))
 abbrev pub IsReadingOf : Request → Option Sending → Type 0

@@ -12,25 +12,22 @@ use base::refusal::Refusal;
 use tree::Update;
 
 /// The update that writes one block of an object (On-Disk Specification, chapter 3). BadKey exactly where the object is above 255
-/// or the block above 4095. It takes no memory, and costs a copy of the bytes.
-pub fn write_of(object: u32, block: u32, bytes: &[u8; 512]) -> Result<Update, Refusal>
+/// or the block above 4095. The bytes are lent. It takes no memory. Constant time.
+pub fn write_of<'a>(object: u32, block: u32, bytes: &'a [u8; 512]) -> Result<Update<'a>, Refusal>
     ensures batch { IfOk result (λ update. IsBatch (update ∷ [])) }
     ensures changes { IfOk result (λ update. changes_of (update ∷ []) ≡ writes_leaf (leaf_index object block) bytes.now) }
     ensures bad_key { (result ≡ Err Refusal.BadKey) ↔ IsNoBlock object block }
     ensures only { IfErr result (λ e. e ≡ Refusal.BadKey) }
 {
     match leaf_of(object, block) {
-        Some(leaf) => Ok(Update::Write {
-            leaf,
-            bytes: *bytes,
-        }),
+        Some(leaf) => Ok(Update::Write { leaf, bytes }),
         None => Err(Refusal::BadKey),
     }
 }
 
 /// The update that makes a hole of one block of an object (On-Disk Specification, chapter 3). BadKey exactly where the object is
 /// above 255 or the block above 4095. It takes no memory. Constant time.
-pub fn punch_of(object: u32, block: u32) -> Result<Update, Refusal>
+pub fn punch_of(object: u32, block: u32) -> Result<Update<'static>, Refusal>
     ensures batch { IfOk result (λ update. IsBatch (update ∷ [])) }
     ensures changes { IfOk result (λ update. changes_of (update ∷ []) ≡ punches_leaf (leaf_index object block)) }
     ensures bad_key { (result ≡ Err Refusal.BadKey) ↔ IsNoBlock object block }
@@ -47,7 +44,7 @@ pub fn punch_of(object: u32, block: u32) -> Result<Update, Refusal>
 
 /// The update that makes holes of all blocks of an object (On-Disk Specification, chapter 3). BadKey exactly where the object is
 /// above 255. It takes no memory. Constant time.
-pub fn free_of(object: u32) -> Result<Update, Refusal>
+pub fn free_of(object: u32) -> Result<Update<'static>, Refusal>
     ensures batch { IfOk result (λ update. IsBatch (update ∷ [])) }
     ensures changes { IfOk result (λ update. changes_of (update ∷ []) ≡ frees_object object) }
     ensures bad_key { (result ≡ Err Refusal.BadKey) ↔ (OBJECT_LIMIT ≤ object) }

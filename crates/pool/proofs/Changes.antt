@@ -22,7 +22,7 @@ use Rattle.model.specs.requests.{rule_of}
 use Rattle.model.specs.requests.Change.{change_rule}
 use Rattle.steps.proofs.Changing.{change_no_memory, change_no_dataset, change_read_only, change_bad_key}
 use Rattle.pool.specs.Asked.{Asks}
-use Rattle.pool.specs.Named.{IsNoLive}
+use Rattle.lookups.specs.Named.{IsNoLive}
 use Rattle.pool.specs.Pools.{IsSound}
 use Rattle.pool.specs.Shown.{Shown, shown}
 use Rattle.pool.proofs.Names.{found, absent, is_snapshot}

@@ -15,16 +15,16 @@ ghost use Rattle.name.specs.declared.target.Target.{Target};
 ghost use Rattle.world.specs.Worlds.{IsPoolState};
 ghost use Rattle.accounts.specs.Limits.{AreQuotasMet, IsUnlimited};
 ghost use Rattle.pool.specs.Asked.{Asks};
-ghost use Rattle.pool.specs.Named.{IsNoLive};
+ghost use Rattle.lookups.specs.Named.{IsNoLive};
 ghost use Rattle.pool.specs.Plans.{state_after_plan, CanDo};
 
-use crate::limiting::{Limiting, renew};
-use crate::named::{in_bytes, names_of, tree_named};
+use crate::limiting::{Limiting, renew, settle};
 use base::meter::{Meter, SegMeter};
 use base::number::{Dead, Group};
 use base::refusal::Refusal;
 use datasets::Table;
 use destroyer::{Freeing, Slice};
+use lookups::{in_bytes, names_of, tree_named};
 use model::names::Names;
 use model::reply::{Reply, Value};
 use model::request::{PoolProperty, Request};
@@ -700,9 +700,10 @@ impl Pool {
             Ok(update) => update,
             Err(refusal) => return self.outside_the_limits(name, refusal),
         };
-        if let Err(refusal) = self.ask_change(alloc, name, &update) {
-            return Reply::Refused(refusal);
-        }
+        let outlook = match self.ask_change(alloc, name, &update) {
+            Ok(outlook) => outlook,
+            Err(refusal) => return Reply::Refused(refusal),
+        };
         let changed = self.present.apply_live(
             name,
             alloc,
@@ -718,7 +719,7 @@ impl Pool {
         };
         release_all(&mut self.allocator, &done.released, self.last.group());
         take_all(&mut self.allocator, &done.taken);
-        renew(&mut self.limiting, &self.present);
+        settle(&mut self.limiting, &self.present, name, outlook);
         Reply::Done
     }
 

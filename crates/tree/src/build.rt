@@ -175,15 +175,14 @@ fn build_kids<C: Build>(
     let mut any_touched = false;
     let mut any_stays = false;
     let mut at = next;
-    let mut rest = updates;
+    let mut halves = (updates, updates);
     let span = span(u32::from(level));
     for back in 0..owner_count(old) {
         let place = 15 - back;
         let index = first + place;
-        let (mine, earlier) = split_at_leaf(rest, index * span);
-        rest = earlier;
+        halves = split_at_leaf(halves.1, index * span);
         let kid = owner_at(old, place as usize);
-        let built = build_kid(alloc, kid, level, index, mine, group, made, at)?;
+        let built = build_kid(alloc, kid, level, index, halves.0, group, made, at)?;
         any_touched |= built.touched;
         any_stays |= built.stays;
         at = built.next;

@@ -1,5 +1,5 @@
 -- WouldFree (zfs-destroy(8): -nv of a range of snapshots).
-use Rattle.std.specs.Prelude.{ℕ, Bool, not, true, false, ◌&&◌, ◌||◌, List, [], ◌∷◌, map, nat_lt, nat_le}
+use Rattle.std.specs.Prelude.{ℕ, not, false, ◌&&◌, ◌||◌, List, [], ◌∷◌, map, nat_lt, nat_le}
 use Rattle.std.specs.List.{filter}
 use Rattle.std.specs.Option.{option_map_or}
 use Rattle.base.specs.declared.refusal.Refusal.TheVariants.{NoDataset, NotAncestor, HasClones}

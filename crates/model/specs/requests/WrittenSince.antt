@@ -1,5 +1,5 @@
 -- WrittenSince (zfsprops(7): written@snapshot).
-use Rattle.std.specs.Prelude.{Bool, not, true, false, ◌||◌, [], ◌∷◌}
+use Rattle.std.specs.Prelude.{Bool, not, false, ◌||◌, [], ◌∷◌}
 use Rattle.std.specs.List.{list_any}
 use Rattle.std.specs.Option.{option_map_or}
 use Rattle.base.specs.declared.refusal.Refusal.TheVariants.{NoDataset, NotAncestor}

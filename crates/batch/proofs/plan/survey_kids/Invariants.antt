@@ -13,8 +13,8 @@ invariant-loop-back g l =
     let os = places_of (part_of_node (inner_part g.C.Level.part) l.fn.old) in
     let s = said l.fn.updates in
     record {
-      order : AreInOrder l.rest;
-      same : (n : ℕ) → n < (l.fn.first + (16 - l.back)) * 16 ^ h → said l.rest n ≡ s n;
+      order : AreInOrder l.halves.1.now;
+      same : (n : ℕ) → n < (l.fn.first + (16 - l.back)) * 16 ^ h → said l.halves.1.now n ≡ s n;
       touched : (l.touched || any_kid (touched s h) l.fn.first (take (16 - l.back) os)) ≡ any_kid (touched s h) l.fn.first os;
       stays : (l.stays || any_kid (stays s h) l.fn.first (take (16 - l.back) os)) ≡ any_kid (stays s h) l.fn.first os;
       claims : l.plan.claims.items ++ later_first (claims s l.fn.young.0 h) l.fn.first (take (16 - l.back) os) ≡ l.fn.plan.claims.items ++ later_first (claims s l.fn.young.0 h) l.fn.first os;

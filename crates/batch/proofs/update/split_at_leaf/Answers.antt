@@ -1,8 +1,8 @@
-use Rattle.std.proofs.Common.{◌≡◌, ℕ, ◌+◌, ◌-◌, List, [], length, take, drop, sym, ap, subst, ◌∙◌, arith}
+use Rattle.std.proofs.Common.{◌≡◌, ℕ, ◌+◌, ◌-◌, ◌≤◌, List, length, take, drop, sym, ap, subst, ◌∙◌, arith}
 use Rattle.std.proofs.lemmas.List.{take_all, length-drop}
 use Rattle.std.proofs.lemmas.Option.{slice_get-get_or, slice_get_within}
 use Rattle.batch.specs.declared.update.Update.{Update}
-use Rattle.batch.specs.declared.update.Update.TheVariants.{Write}
+use Rattle.batch.specs.declared.update.Update.TheVariants.{Punch}
 use Rattle.batch.specs.Said.{said, AreInOrder}
 use Rattle.batch.proofs.SaidLaws.{said_after, said_before, order_drop, order_take, later_begin, begins_here}
 use Rattle.batch.proofs.update.split_at_leaf.Goals as goal
@@ -22,14 +22,14 @@ returns-clause-before c = λ n l. elim c.if-at-updates.branch [
   | then-at-updates+then-first-leaf w ↦
       ap (λ e. said (take e c.args.updates.now) n) w.end-is
       ∙ said_before (c.count_before-at.result + 1) c.args.leaf c.args.updates.now
-      (later_begin c.args.updates.now c.count_before-at.result c.args.leaf _ c.requires (slice_get-get_or c.args.updates.now c.count_before-at.result (Write 0 []) w.if-at-updates.true) (c.count_before-at.ensures.after c.count_before-at.result _ (omega arith) (slice_get-get_or c.args.updates.now c.count_before-at.result (Write 0 []) w.if-at-updates.true)))
+      (later_begin c.args.updates.now c.count_before-at.result c.args.leaf _ c.requires (slice_get-get_or c.args.updates.now c.count_before-at.result (Punch (record { level = 0; index = 0 })) w.if-at-updates.true) (c.count_before-at.ensures.after c.count_before-at.result _ (omega arith) (slice_get-get_or c.args.updates.now c.count_before-at.result (Punch (record { level = 0; index = 0 })) w.if-at-updates.true)))
       n l
   | else-at-updates w ↦
       ap (λ e. said (take e c.args.updates.now) n) w.end-is
       ∙ elim w.else-at-updates.branch [
         | else-at-updates-via-then-at-updates+else-first-leaf v ↦
             said_before c.count_before-at.result c.args.leaf c.args.updates.now
-            (begins_here c.args.updates.now c.count_before-at.result c.args.leaf (Write 0 []) c.requires (omega (arith, v.first.ensures, v.if-first-leaf.false)) c.count_before-at.ensures.after)
+            (begins_here c.args.updates.now c.count_before-at.result c.args.leaf _ c.requires (subst (λ n. c.args.leaf ≤ n) v.first.ensures v.if-first-leaf.false) c.count_before-at.ensures.after)
             n l
         | else-at-updates-via-else-at-updates v ↦
             said_before c.count_before-at.result c.args.leaf c.args.updates.now

@@ -1,9 +1,9 @@
-use Rattle.std.proofs.Common.{◌≡◌, true, false, [], Some, refl, sym, ap, ◌∙◌}
+use Rattle.std.proofs.Common.{◌≡◌, true, false, Some, refl, sym, ap, ◌∙◌}
 use Rattle.std.specs.Prelude.{◌==◌}
 use Rattle.std.proofs.lemmas.Option.{slice_get-get_or}
 use Rattle.std.proofs.lemmas.Bool.{eq-eqb}
 use Rattle.base.specs.Key.{covers}
-use Rattle.batch.specs.declared.update.Update.TheVariants.{Write, Punch}
+use Rattle.batch.specs.declared.update.Update.TheVariants.{Punch}
 use Rattle.batch.specs.Said.{silent, hole, full}
 use Rattle.batch.proofs.SaidLaws.{said_over, said_is}
 use Rattle.node.proofs.Digits.{eq_not}
@@ -16,10 +16,10 @@ loop-update-init c = refl
 pub returns-then-own-leaf : goal.returns-then-own-leaf
 returns-then-own-leaf c =
     let t : (c.in-Write.own == c.args.leaf) ≡ true = eq-eqb c.in-Write.own c.args.leaf c.if-own-leaf.true in
-    sym (sym c.loop-update.invariant ∙ said_is c.args.updates.now c.loop-update.update-index c.args.leaf _ _ (full c.in-Write.bytes) c.loop-update-test.true c.in-Write.is (rw t refl) ∙ refl)
+    sym (sym c.loop-update.invariant ∙ said_is c.args.updates.now c.loop-update.update-index c.args.leaf _ _ (full c.in-Write.bytes.now) c.loop-update-test.true c.in-Write.is (rw t refl) ∙ refl)
 
 pub is_over-requires : goal.is_over-requires
-is_over-requires c = c.requires.own c.loop-update.update-index (Punch c.in-Punch.key) (slice_get-get_or c.args.updates.now c.loop-update.update-index (Write 0 []) c.loop-update-test.true ∙ ap Some c.in-Punch.is)
+is_over-requires c = c.requires.own c.loop-update.update-index (Punch c.in-Punch.key) (slice_get-get_or c.args.updates.now c.loop-update.update-index _ c.loop-update-test.true ∙ ap Some c.in-Punch.is)
 
 pub returns-then-is_over : goal.returns-then-is_over
 returns-then-is_over c =

@@ -36,8 +36,8 @@ overflow_add-index g c =
     let w = c.requires.within in
     omega (arith, w, m)
 
-pub split_at_leaf-requires : goal.split_at_leaf-requires
-split_at_leaf-requires g c = c.loop-back.invariant.order
+pub split_at_leaf-halves-requires : goal.split_at_leaf-halves-requires
+split_at_leaf-halves-requires g c = c.loop-back.invariant.order
 
 pub build_kid-requires-clause-sound : goal.build_kid-requires-clause-sound
 build_kid-requires-clause-sound g c =
@@ -52,13 +52,13 @@ build_kid-requires-clause-keys g c =
     let back = c.loop-back.back in
     let first = c.args.first in
     let s = said c.args.updates.now in
-    let mine = said c.split_at_leaf.result.0.now in
+    let mine = said c.split_at_leaf-halves.result.0.now in
     let kid = part_of_owner g.C.Level.part c.owner_at-kid.result in
     let few : back < 16 = omega (arith, c.loop-back-test.true, c.owner_count-back-end.ensures.sixteen) in
     let at : kid ≡ get_or os (15 - back) None = c.owner_at-kid.ensures in
     let sound = kid_sound h (birth_of old) (15 - back) old kid c.requires.sound at in
     let span : c.span-span.result ≡ 16 ^ h = c.span-span.ensures ∙ ap (λ n. 16 ^ n) (c.from.ensures ∙ c.requires.level) in
-    let words = kid_words c.loop-back.rest.now c.split_at_leaf.result.0.now c.split_at_leaf.result.1.now c.args.updates.now first back c.span-span.result h few span c.split_at_leaf.ensures.after c.split_at_leaf.ensures.before c.loop-back.invariant.same in
+    let words = kid_words c.loop-back.halves.1.now c.split_at_leaf-halves.result.0.now c.split_at_leaf-halves.result.1.now c.args.updates.now first back c.span-span.result h few span c.split_at_leaf-halves.ensures.after c.split_at_leaf-halves.ensures.before c.loop-back.invariant.same in
     keys_here (made_keys s h) (made_keys mine h) first back os kid c.args.made.now c.loop-back.at few c.owner_count-back-end.ensures.all at c.loop-back.invariant.keys (made_same mine s h (first + (15 - back)) _ kid sound words.0)
 
 pub loop-back-preserved : goal.loop-back-preserved
@@ -71,20 +71,20 @@ loop-back-preserved g c =
     let s = said c.args.updates.now in
     let number = number_of c.args.made.now in
     let b = c.args.group.0 in
-    let mine = said c.split_at_leaf.result.0.now in
+    let mine = said c.split_at_leaf-halves.result.0.now in
     let kid = part_of_owner g.C.Level.part c.owner_at-kid.result in
     let few : back < 16 = omega (arith, c.loop-back-test.true, c.owner_count-back-end.ensures.sixteen) in
     let at : kid ≡ get_or os (15 - back) None = c.owner_at-kid.ensures in
     let sound = kid_sound h (birth_of old) (15 - back) old kid c.requires.sound at in
     let span : c.span-span.result ≡ 16 ^ h = c.span-span.ensures ∙ ap (λ n. 16 ^ n) (c.from.ensures ∙ c.requires.level) in
-    let words = kid_words c.loop-back.rest.now c.split_at_leaf.result.0.now c.split_at_leaf.result.1.now c.args.updates.now first back c.span-span.result h few span c.split_at_leaf.ensures.after c.split_at_leaf.ensures.before c.loop-back.invariant.same in
+    let words = kid_words c.loop-back.halves.1.now c.split_at_leaf-halves.result.0.now c.split_at_leaf-halves.result.1.now c.args.updates.now first back c.span-span.result h few span c.split_at_leaf-halves.ensures.after c.split_at_leaf-halves.ensures.before c.loop-back.invariant.same in
     let n = c.owner_count-back-end.ensures.all in
     let i = first + (15 - back) in
     let inv = c.loop-back.invariant in
     let given = c.in_ok-built.ensures in
     let made = made_same mine s h i _ kid sound words.0 in
     record {
-      order = c.split_at_leaf.ensures.before_order;
+      order = c.split_at_leaf-halves.ensures.before_order;
       same = words.1;
       touched = any_back (touched s h) (touched mine h) first back os kid _ _ _ few n at inv.touched given.touched (touched_same mine s h i _ kid sound words.0);
       stays = any_back (stays s h) (stays mine h) first back os kid _ _ _ few n at inv.stays given.stays (stays_same mine s h i _ kid sound words.0);

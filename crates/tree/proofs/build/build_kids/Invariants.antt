@@ -13,8 +13,8 @@ invariant-loop-back g l =
     let os = places_of (part_of_owner (inner_part g.C.Level.part) l.fn.old) in
     let s = said l.fn.updates in
     record {
-      order : AreInOrder l.rest;
-      same : (n : ℕ) → n < (l.fn.first + (16 - l.back)) * 16 ^ h → said l.rest n ≡ s n;
+      order : AreInOrder l.halves.1.now;
+      same : (n : ℕ) → n < (l.fn.first + (16 - l.back)) * 16 ^ h → said l.halves.1.now n ≡ s n;
       touched : (l.any_touched || any_kid (touched s h) l.fn.first (take (16 - l.back) os)) ≡ any_kid (touched s h) l.fn.first os;
       stays : (l.any_stays || any_kid (stays s h) l.fn.first (take (16 - l.back) os)) ≡ any_kid (stays s h) l.fn.first os;
       next : l.at + length (later_first (made_keys s h) l.fn.first (take (16 - l.back) os)) ≡ l.fn.next + length (later_first (made_keys s h) l.fn.first os);

@@ -2,8 +2,8 @@ use Rattle.std.proofs.Common.{ap, ◌∙◌, arith}
 use Rattle.bookmarks.specs.Marks.{Marks, alone}
 use Rattle.model.specs.Properties.{bookmarks_in_order}
 use Rattle.file_system.specs.Rows.{entry_of}
-use Rattle.pool.proofs.Yielded.{bookmarks_are}
-use Rattle.pool.proofs.named.push_bookmarks.Goals as goal
+use Rattle.lookups.proofs.Yielded.{bookmarks_are}
+use Rattle.lookups.proofs.names.push_bookmarks.Goals as goal
 
 -- those of all its bookmarks
 pub returns-clause-ok : goal.returns-clause-ok

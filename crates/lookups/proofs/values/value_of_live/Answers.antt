@@ -1,8 +1,8 @@
 use Rattle.std.proofs.Common.{[], ◌∷◌, arith}
 use Rattle.model.specs.World.{blocks_of_all}
 use Rattle.world.specs.Tables.{world_of}
-use Rattle.pool.proofs.Fitting.{snapshots_fit}
-use Rattle.pool.proofs.named.value_of_live.Goals as goal
+use Rattle.lookups.proofs.Fitting.{snapshots_fit}
+use Rattle.lookups.proofs.values.value_of_live.Goals as goal
 
 pub overflow_cast-used_by_snapshots : goal.overflow_cast-used_by_snapshots
 overflow_cast-used_by_snapshots c =

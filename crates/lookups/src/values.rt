@@ -1,35 +1,33 @@
-//! File systems by a name of any kind, and what is told of them.
-ghost use Rattle.std.specs.Prelude.{◌≡◌, ◌<◌, ◌*◌, ◌-◌, ◌^◌, ◌++◌, ◌∷◌, true, Some, IsSome, IfOk, IfErr, OnOk, map};
-ghost use Rattle.std.specs.Arc.{arc_value};
-ghost use Rattle.std.specs.Option.{option_copied, option_map, option_map_or, unwrap_or};
-ghost use Rattle.std.specs.List.{flat_map, join_with_byte};
+//! The values of properties of file systems, snapshots and bookmarks.
+ghost use Rattle.std.specs.Prelude.{◌≡◌, ◌<◌, ◌*◌, ◌-◌, ◌^◌, true, Some, IsSome, IfOk, IfErr, map};
+ghost use Rattle.std.specs.Option.{option_copied, unwrap_or};
+ghost use Rattle.std.specs.List.{join_with_byte};
 ghost use Rattle.std.specs.FinMap.{get};
 ghost use Rattle.std.specs.FinSet.{len};
 ghost use Rattle.base.specs.declared.refusal.Refusal.{Refusal};
+ghost use Rattle.base.specs.Map.{blocks};
+ghost use Rattle.bookmarks.specs.Marks.{bookmark_of};
+ghost use Rattle.file_system.specs.Dead.{newest_blocks};
 ghost use Rattle.file_systems.specs.CloneNames.{name_of};
-ghost use Rattle.file_system.specs.Rows.{entry_of, entry_in};
 ghost use Rattle.model.specs.Ids.{snap_id};
 ghost use Rattle.model.specs.Properties.{text_of_snap, bookmark_value};
-ghost use Rattle.model.specs.World.{clones_of, bookmark_named, union_of};
+ghost use Rattle.model.specs.Sums.{size_without, used_of, used_by_children};
+ghost use Rattle.model.specs.World.{clones_of, union_of};
 ghost use Rattle.model.specs.declared.request.Property.{Property};
 ghost use Rattle.model.specs.requests.Get.{needs_memory};
-ghost use Rattle.steps.specs.Steady.{snap_in};
-ghost use Rattle.steps.specs.Listed.{own_names};
-ghost use Rattle.bookmarks.specs.Marks.{bookmark_of};
 ghost use Rattle.world.specs.Tables.{world_of};
-ghost use Rattle.file_system.specs.Dead.{newest_blocks};
-ghost use Rattle.base.specs.Map.{blocks};
-ghost use Rattle.model.specs.Sums.{size_without, used_of, used_by_children};
-ghost use Rattle.pool.specs.Limiting.{IsAccounted};
-ghost use Rattle.pool.specs.Named.{amount_value, map_named, snapshot_names, bookmark_names, live_value, origin_value, snapshot_value, value_in, value_named};
+ghost use Rattle.lookups.specs.Accounted.{IsAccounted};
+ghost use Rattle.lookups.specs.Named.{amount_value, live_value, origin_value, snapshot_value, value_in, value_named};
 
-use crate::limiting::Limiting;
+use crate::names::member_text;
+use crate::trees::bookmark_named;
 use base::limit::Blocks;
 use base::meter::SegMeter;
 use base::refusal::Refusal;
 use base::text::Bytes;
 use datasets::Table;
-use file_systems::{CloneName, FileSystem, Snapshot};
+use file_systems::{CloneName, FileSystem};
+use limits::Ledger;
 use model::limits::Limit;
 use model::reply::Value;
 use model::request::Property;
@@ -37,116 +35,6 @@ use model::snapshot_id::SnapshotId;
 use name::{DsName, Member, Target};
 use space::{used, used_by_children, used_by_snapshot};
 use std::alloc::Global;
-use std::sync::Arc;
-use tree::Tree;
-
-/// The tree of the dataset that the name is of, a file system's live one or a snapshot's, or none. It costs the logarithm of the
-/// number of file systems, and for a snapshot that of the number of its file system's.
-pub fn tree_named<'a>(table: &'a Table, target: &Target) -> Option<&'a Tree>
-    ensures { option_copied result ≡ map_named table.now.file_systems target.now }
-{
-    match target {
-        Target::FileSystem(name) => table.find(name).map(FileSystem::live),
-        Target::Snapshot(name) => snapshot_named(table, name.member()).map(Snapshot::tree),
-        Target::Bookmark(_) => None,
-    }
-}
-
-// The snapshot of this name, or none.
-pub(crate) fn snapshot_named<'a>(table: &'a Table, member: &Member) -> Option<&'a Snapshot>
-    ensures { option_copied result ≡ snap_in table.now.file_systems member.now }
-{
-    table
-        .find(&member.file_system)?
-        .snapshot_named(member.component.as_bytes())
-}
-
-/// Copies of the names of file systems, each with those of its snapshots and then those of its bookmarks after it. NoMemory where there is
-/// none for them. It costs the names, and for the bookmarks of each what `Bookmarks::in_order` does.
-pub fn names_of(alloc: Global, file_systems: &[Arc<FileSystem>]) -> Result<Vec<Bytes>, Refusal>
-    ensures ok { IfOk result (λ names. names.items ≡ flat_map own_names (map entry_in file_systems.now)) }
-    ensures err { IfErr result (λ e. e ≡ Refusal.NoMemory) }
-{
-    let mut names = Vec::new(alloc);
-    for file_system in file_systems {
-        push_names(alloc, &mut names, file_system)?;
-    }
-    Ok(names)
-}
-
-// Adds the name of a file system, those of its snapshots, and those of its bookmarks.
-fn push_names(
-    alloc: Global,
-    names: &mut Vec<Bytes>,
-    file_system: &FileSystem,
-) -> Result<(), Refusal>
-    ensures ok { OnOk result (names.new.items ≡ names.old.items ++ own_names (entry_of file_system.now)) }
-    ensures err { IfErr result (λ e. e ≡ Refusal.NoMemory) }
-{
-    names.push(text_of(alloc, file_system.name().as_bytes())?)?;
-    push_snapshots(alloc, names, file_system)?;
-    push_bookmarks(alloc, names, file_system)?;
-    Ok(())
-}
-
-// Adds the names of a file system's snapshots.
-fn push_snapshots(
-    alloc: Global,
-    names: &mut Vec<Bytes>,
-    file_system: &FileSystem,
-) -> Result<(), Refusal>
-    ensures ok { OnOk result (names.new.items ≡ names.old.items ++ snapshot_names (entry_of file_system.now)) }
-    ensures err { IfErr result (λ e. e ≡ Refusal.NoMemory) }
-{
-    let name = file_system.name().as_bytes();
-    for kept in file_system.snapshots().iter() {
-        let component = kept.snapshot.name().as_bytes();
-        names.push(member_text(alloc, name, b'@', component)?)?;
-    }
-    Ok(())
-}
-
-// Adds the names of a file system's bookmarks.
-fn push_bookmarks(
-    alloc: Global,
-    names: &mut Vec<Bytes>,
-    file_system: &FileSystem,
-) -> Result<(), Refusal>
-    ensures ok { OnOk result (names.new.items ≡ names.old.items ++ bookmark_names (entry_of file_system.now)) }
-    ensures err { IfErr result (λ e. e ≡ Refusal.NoMemory) }
-{
-    let name = file_system.name().as_bytes();
-    let marks = file_system.bookmarks().in_order()?;
-    for mark in marks.as_slice() {
-        names.push(member_text(alloc, name, b'#', mark.name.as_bytes())?)?;
-    }
-    Ok(())
-}
-
-// A copy of a name.
-fn text_of(alloc: Global, name: &[u8]) -> Result<Bytes, Refusal>
-    ensures ok { IfOk result (λ text. text ≡ name.now) }
-    ensures err { IfErr result (λ e. e ≡ Refusal.NoMemory) }
-{
-    Ok(Bytes::from(name.to_vec(alloc)?))
-}
-
-// A name within a file system in print, as `p/a@s` or `p/a#b`, with this byte between (zfs(8)).
-fn member_text(
-    alloc: Global,
-    file_system: &[u8],
-    between: u8,
-    component: &[u8],
-) -> Result<Bytes, Refusal>
-    ensures ok { IfOk result (λ text. text ≡ file_system.now ++ between ∷ component.now) }
-    ensures err { IfErr result (λ e. e ≡ Refusal.NoMemory) }
-{
-    let mut text = Vec::with_capacity(alloc, file_system.len() + 1 + component.len())?;
-    text.extend_from_slice(file_system)?;
-    text.push(between)?;
-    text.extend_from_slice(component)?;
-    Ok(Bytes::from(text))
-}
 
 // The name in print of the snapshot of this identity; empty where there is none. NoMemory where there is none for it. It costs the number
 // of file systems times the logarithm of that of the snapshots of one.
@@ -205,29 +93,29 @@ fn value_of_origin(alloc: Global, table: &Table, file_system: &FileSystem) -> Re
 
 // How many blocks the file system of this name uses together with all its descendants. With a ledger it costs the logarithm of the number of
 // file systems, and else that number.
-fn used_in(table: &Table, limiting: &Option<Limiting>, name: &DsName) -> u64
+fn used_in(table: &Table, ledger: Option<&Ledger>, name: &DsName) -> u64
     requires there { IsSome (get table.now.file_systems name.now) }
-    requires accounted { IsAccounted table.now limiting.now }
+    requires accounted { IsAccounted table.now (option_copied ledger) }
     requires few { len (union_of (world_of table.now)) < 2 ^ 32 }
     ensures is { result ≡ used_of (world_of table.now) name.now }
     ensures small { result < 2 ^ 55 }
 {
-    match limiting {
-        Some(limiting) => limiting.ledger.used(table, name),
+    match ledger {
+        Some(ledger) => ledger.used(table, name),
         None => u64::from(used(table, name)),
     }
 }
 
 // How many of these its descendants use without it. It costs what `used_in` does.
-fn used_by_children_in(table: &Table, limiting: &Option<Limiting>, name: &DsName) -> u64
+fn used_by_children_in(table: &Table, ledger: Option<&Ledger>, name: &DsName) -> u64
     requires there { IsSome (get table.now.file_systems name.now) }
-    requires accounted { IsAccounted table.now limiting.now }
+    requires accounted { IsAccounted table.now (option_copied ledger) }
     requires few { len (union_of (world_of table.now)) < 2 ^ 32 }
     ensures is { result ≡ used_by_children (world_of table.now) name.now }
     ensures small { result < 2 ^ 55 }
 {
-    match limiting {
-        Some(limiting) => limiting.ledger.used_by_children(table, name),
+    match ledger {
+        Some(ledger) => ledger.used_by_children(table, name),
         None => u64::from(used_by_children(table, name)),
     }
 }
@@ -261,27 +149,27 @@ fn unwritten(file_system: &FileSystem) -> u64
 fn value_of_live(
     alloc: Global,
     table: &Table,
-    limiting: &Option<Limiting>,
+    ledger: Option<&Ledger>,
     file_system: &FileSystem,
     property: Property,
     room: u64,
 ) -> Result<Value, Refusal>
     requires there { get table.now.file_systems file_system.now.name ≡ Some file_system.now.system }
-    requires accounted { IsAccounted table.now limiting.now }
+    requires accounted { IsAccounted table.now (option_copied ledger) }
     requires few { len (union_of (world_of table.now)) < 2 ^ 32 }
     requires small { room < 2 ^ 55 }
     ensures ok { IfOk result (λ value. value ≡ live_value table.now room file_system.now property) }
     ensures err { IfErr result (λ e. (needs_memory property ≡ true) × (e ≡ Refusal.NoMemory)) }
 {
     match property {
-        Property::Used => Ok(many_bytes(used_in(table, limiting, file_system.name()))),
+        Property::Used => Ok(many_bytes(used_in(table, ledger, file_system.name()))),
         Property::Available => Ok(many_bytes(room)),
         Property::Referenced => Ok(in_bytes(file_system.live().node_count())),
         Property::Written => Ok(in_bytes(file_system.written())),
         Property::UsedByDataset => Ok(in_bytes(file_system.used_by_dataset())),
         Property::UsedBySnapshots => Ok(in_bytes(file_system.used_by_snapshots() as u32)),
         Property::UsedByChildren => {
-            let children = used_by_children_in(table, limiting, file_system.name());
+            let children = used_by_children_in(table, ledger, file_system.name());
             Ok(many_bytes(children))
         }
         Property::UsedByRefReservation => Ok(many_bytes(unwritten(file_system))),
@@ -373,16 +261,16 @@ fn value_of_snapshot(
 /// none for a text, or to find what a snapshot alone has. It costs the logarithm of the number of file systems, and for a snapshot that of
 /// the number of its file system's; an origin costs the number of file systems times the logarithm of that of the snapshots of one, clones
 /// their names, what a file system or its children use the number of file systems, and what a snapshot uses what `used_by_snapshot` does.
-pub(crate) fn value_named(
+pub fn value_named(
     alloc: Global,
     table: &Table,
-    limiting: &Option<Limiting>,
+    ledger: Option<&Ledger>,
     target: &Target,
     property: Property,
     room: u64,
     segments: &mut SegMeter,
 ) -> Result<Option<Value>, Refusal>
-    requires accounted { IsAccounted table.now limiting.now }
+    requires accounted { IsAccounted table.now (option_copied ledger) }
     requires few { len (union_of (world_of table.now)) < 2 ^ 32 }
     requires small { room < 2 ^ 55 }
     ensures ok { IfOk result (λ value. value ≡ value_named table.now room target.now property) }
@@ -390,7 +278,7 @@ pub(crate) fn value_named(
 {
     match target {
         Target::FileSystem(name) => match table.find(name) {
-            Some(found) => Ok(Some(value_of_live(alloc, table, limiting, found, property, room)?)),
+            Some(found) => Ok(Some(value_of_live(alloc, table, ledger, found, property, room)?)),
             None => Ok(None),
         },
         Target::Snapshot(name) => {
@@ -400,17 +288,6 @@ pub(crate) fn value_named(
             Ok(bookmark_named(table, name.member()).map(|mark| value_of_mark(mark, property)))
         }
     }
-}
-
-// What the bookmark of this name keeps of its snapshot, or none where there is no such bookmark. It costs the logarithms of the numbers of
-// file systems and of bookmarks of this one.
-fn bookmark_named(table: &Table, member: &Member) -> Option<SnapshotId>
-    ensures { option_map bookmark_of result ≡ bookmark_named (world_of table.now) member.now }
-{
-    table
-        .find(&member.file_system)?
-        .bookmarks()
-        .get(member.component.as_bytes())
 }
 
 // A property of a bookmark, which keeps its snapshot's guid and creation group (zfsprops(7), zfs-bookmark(8)). Constant time.

@@ -2,8 +2,8 @@ use Rattle.std.proofs.Common.{◌∙◌, sym, ap}
 use Rattle.shared_list.specs.Left.{left}
 use Rattle.file_system.specs.Dead.{snaps_in}
 use Rattle.file_system.specs.Rows.{entry_of}
-use Rattle.pool.proofs.Yielded.{yielded_all, snapshots_are}
-use Rattle.pool.proofs.named.push_snapshots.Goals as goal
+use Rattle.lookups.proofs.Yielded.{yielded_all, snapshots_are}
+use Rattle.lookups.proofs.names.push_snapshots.Goals as goal
 
 -- those of all its snapshots
 pub returns-clause-ok : goal.returns-clause-ok

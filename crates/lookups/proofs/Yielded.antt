@@ -11,7 +11,7 @@ use Rattle.model.specs.World.{FileSystem}
 use Rattle.snapshots.specs.declared.kept.Kept.{Kept}
 use Rattle.file_system.specs.Dead.{snaps_in}
 use Rattle.steps.specs.Listed.{own_names}
-use Rattle.pool.specs.Named.{snapshot_names, bookmark_names}
+use Rattle.lookups.specs.Named.{snapshot_names, bookmark_names}
 use Rattle.world.proofs.Finding.{append_none}
 use Rattle.std.specs.Iterator.{Yields, YieldsFirstRef}
 

@@ -2,7 +2,7 @@ use Rattle.std.proofs.Common.{◌≡◌, map, take}
 use Rattle.std.specs.List.{flat_map}
 use Rattle.file_system.specs.Rows.{entry_in}
 use Rattle.steps.specs.Listed.{own_names}
-use Rattle.pool.proofs.named.names_of.Given as goal
+use Rattle.lookups.proofs.names.names_of.Given as goal
 
 -- the names so far
 abbrev pub invariant-loop-file_system : goal.invariant-loop-file_system

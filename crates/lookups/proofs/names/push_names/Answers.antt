@@ -1,7 +1,7 @@
 use Rattle.std.proofs.Common.{◌∙◌}
 use Rattle.file_system.specs.Rows.{entry_of}
-use Rattle.pool.proofs.Yielded.{own_are}
-use Rattle.pool.proofs.named.push_names.Goals as goal
+use Rattle.lookups.proofs.Yielded.{own_are}
+use Rattle.lookups.proofs.names.push_names.Goals as goal
 
 -- the file system's name, and then those of its snapshots and of its bookmarks
 pub returns-clause-ok : goal.returns-clause-ok

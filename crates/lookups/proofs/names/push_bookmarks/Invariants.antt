@@ -1,7 +1,7 @@
 use Rattle.std.proofs.Common.{◌≡◌, ◌++◌, map, take}
 use Rattle.name.specs.Names.{mark_text}
 use Rattle.bookmarks.specs.Marks.{name_in}
-use Rattle.pool.proofs.named.push_bookmarks.Given as goal
+use Rattle.lookups.proofs.names.push_bookmarks.Given as goal
 
 -- the names of the bookmarks so far
 abbrev pub invariant-loop-mark : goal.invariant-loop-mark

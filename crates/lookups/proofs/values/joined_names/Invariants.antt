@@ -1,8 +1,8 @@
 use Rattle.std.proofs.Common.{◌≡◌, ◌++◌, map, drop}
 use Rattle.std.specs.List.{join_with_byte}
 use Rattle.file_systems.specs.CloneNames.{name_of}
-use Rattle.pool.proofs.Joined.{each_after}
-use Rattle.pool.proofs.named.joined_names.Given as goal
+use Rattle.lookups.proofs.Joined.{each_after}
+use Rattle.lookups.proofs.values.joined_names.Given as goal
 
 -- the names so far, and those that are left
 abbrev pub invariant-loop-clone : goal.invariant-loop-clone

@@ -3,8 +3,8 @@ use Rattle.std.specs.List.{join_with_byte}
 use Rattle.file_systems.specs.declared.clones.CloneName.{CloneName}
 use Rattle.file_systems.specs.CloneNames.{name_of}
 use Rattle.snap.proofs.Rests.{next_left, none_left}
-use Rattle.pool.proofs.Joined.{each_after, joined_first, joined_next}
-use Rattle.pool.proofs.named.joined_names.Goals as goal
+use Rattle.lookups.proofs.Joined.{each_after, joined_first, joined_next}
+use Rattle.lookups.proofs.values.joined_names.Goals as goal
 
 pub loop-clone-init : goal.loop-clone-init
 loop-clone-init c =

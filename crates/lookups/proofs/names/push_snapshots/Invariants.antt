@@ -1,6 +1,6 @@
 use Rattle.std.proofs.Common.{◌≡◌, ◌++◌, map}
 use Rattle.name.specs.Names.{snap_text}
-use Rattle.pool.proofs.named.push_snapshots.Given as goal
+use Rattle.lookups.proofs.names.push_snapshots.Given as goal
 
 -- the names of the snapshots so far
 abbrev pub invariant-loop-kept : goal.invariant-loop-kept
