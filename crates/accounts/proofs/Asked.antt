@@ -2,9 +2,10 @@
 -- those that are taken.
 use Rattle.std.proofs.Common.{◌≡◌, ◌+◌, ◌-◌, ◌<◌, [], Option, Some, None, map, refl, sym, ap, subst, ◌∙◌, arith}
 use Rattle.std.specs.Prelude.{unwrap_or}
-use Rattle.std.specs.Option.{option_map, option_or}
+use Rattle.std.specs.Option.{option_map, option_map_or, option_or}
 use Rattle.std.specs.List.{last_or}
 use Rattle.std.specs.FinMap.{get}
+use Rattle.std.specs.FinMap as finmap
 use Rattle.std.specs.FinSet.{len, difference, union, empty}
 use Rattle.base.specs.Map.{Map, Block, BlockSet, blocks}
 use Rattle.base.specs.Surveys.{IsIn}
@@ -131,6 +132,15 @@ module _ (v w : World) (good : AreFileSystems v.file_systems v.group) (good' : A
             reserved = no_reservation w good'.hierarchy name e ∙ sym (no_reservation v good.hierarchy name f);
           }
       by_w (Some t) e = let s = alike.each name t e in alike_here name s.0 t s.1 e s.2
+
+  -- and its live map is of one size
+  pub same_size : (name : Name) → referenced_of w (Live name) ≡ referenced_of v (Live name)
+  unfolding referenced_of map_of
+  same_size name = by_w (get w.file_systems name) refl
+    where
+      by_w : (x : Option FileSystem) → get w.file_systems name ≡ x → referenced_of w (Live name) ≡ referenced_of v (Live name)
+      by_w None e = ap (λ (x : Option FileSystem). len (blocks (option_map_or (λ (f : FileSystem). f.live) x finmap.empty))) (e ∙ sym (alike.none name e))
+      by_w (Some t) e = let s = alike.each name t e in sym (same_referenced name s.0 t s.1 e s.2)
 
   pub same_used : (name : Name) → used_of w name ≡ used_of v name
   same_used name = used_away v w good.hierarchy good'.hierarchy [] (λ q n. same_here q) name (λ m i. absurd i)

@@ -19,7 +19,7 @@ module _ (w : World) (name : Name) (s : FileSystem) (at : get w.file_systems nam
   pub live_there : (m : Map) (q : Name) → q ≡ name → get (with_live m).file_systems q ≡ Some (record s { live = m })
   live_there m q same = ap (get (with_live m).file_systems) same ∙ get-insert_same name_order w.file_systems name (record s { live = m })
 
-  others : (m : Map) (q : Name) → ¬ (q ≡ name) → get (with_live m).file_systems q ≡ get w.file_systems q
+  pub others : (m : Map) (q : Name) → ¬ (q ≡ name) → get (with_live m).file_systems q ≡ get w.file_systems q
   others m q apart = get-insert_other name_order w.file_systems name (record s { live = m }) q apart
 
   -- the world after a change

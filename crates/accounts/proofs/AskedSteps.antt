@@ -9,6 +9,7 @@ use Rattle.model.specs.World.{World, FileSystem, Live, union_of, reach_of}
 use Rattle.model.specs.State.{State}
 use Rattle.model.specs.Edits.{with_now, after_change}
 use Rattle.model.specs.Fits.{pool_holds}
+use Rattle.model.specs.Sums.{referenced_of}
 use Rattle.model.specs.Rule.{Choice}
 use Rattle.model.specs.Outcome.{state_after}
 use Rattle.model.specs.Refusals.{fresh_number, state_asked, refusal_of}
@@ -23,8 +24,10 @@ use Rattle.world.proofs.Cells.{in_blocks, from_blocks}
 use Rattle.world.proofs.Kept.{reach_is}
 use Rattle.world.proofs.Rewrites.{rewrite_is_change}
 use Rattle.world.proofs.TableWrites.{live_systems}
+use Rattle.accounts.specs.Levels.{IsSameHere}
 use Rattle.accounts.specs.Limits.{HasLimits}
 use Rattle.accounts.specs.Asked.{IsNumberedOnce, AreWorldsAlike}
+use Rattle.accounts.proofs.Asked.{same_here, same_size}
 use Rattle.accounts.proofs.Limits.{limits_met}
 use Rattle.accounts.proofs.Steps.{after_limits}
 use Rattle.accounts.proofs.AskedNumbers.{once_of_pair, fresh_rewrite_once}
@@ -73,6 +76,14 @@ module _ (s : State) (good : IsPoolState s) (name : Name) (x : FileSystem) (at :
       where
         tree : IsTree s.size x.live
         tree = subst (IsTree s.size) (map_of_live s.now name x at) (good.now.trees (Live name))
+
+    -- each file system has of its own what it has in the world that limits are asked of
+    pub change_same_here : (q : Name) → IsSameHere (after_change s.now name c (fresh_number s)) (after_change s.now name c choice.number) q
+    change_same_here = same_here (after_change s.now name c (fresh_number s)) (after_change s.now name c choice.number) asked_systems later.now.systems asked_alike
+
+    -- and a live map of that size
+    pub change_same_size : (q : Name) → referenced_of (after_change s.now name c choice.number) (Live q) ≡ referenced_of (after_change s.now name c (fresh_number s)) (Live q)
+    change_same_size = same_size (after_change s.now name c (fresh_number s)) (after_change s.now name c choice.number) asked_systems later.now.systems asked_alike
 
     module _ (in_range : Bool) (none : refusal_of s (change_rule (OfFileSystem name) c in_range) ≡ None) where
       -- the pool has room

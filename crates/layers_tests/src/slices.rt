@@ -77,7 +77,7 @@ fn is_written(
 ) -> Result<bool, Refusal> {
     let updates = [Update::Write {
         leaf,
-        bytes: [1; 512],
+        bytes: &[1; 512],
     }];
     are_put(alloc, tree, numbers, &updates, group)
 }

@@ -46,7 +46,7 @@ use Rattle.outlook.specs.Outlooks.{IsAhead, IsOutlookOf}
 use Rattle.outlook.specs.declared.outlook.Outlook.{Outlook}
 use Rattle.pool.specs.Pools.{IsSound}
 use Rattle.pool.specs.Shown.{Shown, shown}
-use Rattle.pool.specs.Limiting.{IsNoChange, MayChange}
+use Rattle.pool.specs.Limiting.{IsNoChange, MayChange, Foretells}
 use Rattle.pool.proofs.Fitting.{free_is_room}
 use Rattle.pool.proofs.Foretold.{met_alike, foretold}
 use Rattle.pool.proofs.Limited.{few_sound, few_unasked}
@@ -191,6 +191,10 @@ module _ (seen : Shown) (s : State) (numbers : List BlockState) (view : shown s 
       changed : IsChanged (world_of (datasets_of s)) (asked_by_change s name c).now name look.here look.referenced
       changed = subst (λ n. IsChanged (world_of (datasets_of s)) (asked_by_change s n c).now n look.here look.referenced) named
           (foretold s sound.steady.good r.name r.system is_ahead.there c _ _ is_ahead.forecast.survey look.here look.referenced is_outlook.here is_outlook.referenced)
+
+      -- what it comes to is what is told
+      pub change_foretold : look.here < 2 ^ 42 → Foretells seen.state name c (Some look)
+      change_foretold little = subst (λ (x : Shown). Foretells x.state name c (Some look)) view (little, changed)
 
       module _ (space : Space) (size : space.size ≡ seen.state.size) (freeing : space.freeing ≡ set.len s.now.freeing) (n : ℕ) (waiting : n ≡ set.len (waiting_of seen.state))
           (more : space.waiting ≡ n + look.waiting) (over : Option Refusal)

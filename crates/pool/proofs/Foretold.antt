@@ -72,10 +72,10 @@ module _ (v w : World) (is : v.file_systems ≡ w.file_systems) where
   abbrev with_other : FileSystems → World
   with_other m = record { file_systems = m; freeing = w.freeing; group = w.group }
 
-  here_alike : (name : List ℕ) → used_here v name ≡ used_here w name
+  pub here_alike : (name : List ℕ) → used_here v name ≡ used_here w name
   here_alike name = here_same v.file_systems v.freeing w.freeing v.group w.group name ∙ ap (λ (m : FileSystems). used_here (with_other m) name) is
 
-  referenced_alike : (name : List ℕ) → referenced_of v (Live name) ≡ referenced_of w (Live name)
+  pub referenced_alike : (name : List ℕ) → referenced_of v (Live name) ≡ referenced_of w (Live name)
   referenced_alike name = referenced_same v.file_systems v.freeing w.freeing v.group w.group name ∙ ap (λ (m : FileSystems). referenced_of (with_other m) (Live name)) is
 
   -- have one ledger

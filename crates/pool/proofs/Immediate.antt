@@ -1,6 +1,6 @@
 -- A change of a live map that is in force, and a snapshot of one name: what is asked for can be done, then the pool is sound again, and
 -- that is a step.
-use Rattle.std.proofs.Common.{◌≡◌, ◌⊎◌, ◌↔◌, ◌+◌, ◌≤◌, ℕ, List, Result, Ok, Err, None, false, refl, sym, ap, subst, ◌∙◌, [], ◌∷◌, map, ⊎_elim, arith}
+use Rattle.std.proofs.Common.{◌≡◌, ◌⊎◌, ◌↔◌, ◌+◌, ◌≤◌, ℕ, List, Option, Result, Ok, Err, None, false, refl, sym, ap, subst, ◌∙◌, [], ◌∷◌, map, ⊎_elim, arith}
 use Rattle.std.specs.Prelude.{IfOk, IfErr, OnOk, is_some, IsSome}
 use Rattle.std.specs.FinMap.{get}
 use Rattle.name.specs.declared.member.Member.{Member}
@@ -40,7 +40,10 @@ use Rattle.pool.proofs.Steps.{snapshot_can, snapshot_stays, snapshot_done}
 use Rattle.model.specs.requests.Change.{limit_row}
 use Rattle.accounts.specs.Limits.{IsUnlimited}
 use Rattle.steps.specs.Asked.{asked_by_snapshot}
-use Rattle.pool.specs.Limiting.{IsNoChange, MayChange}
+use Rattle.outlook.specs.declared.outlook.Outlook.{Outlook}
+use Rattle.pool.specs.declared.limiting.Limiting.{Limiting}
+use Rattle.pool.specs.Limiting.{IsAccounted, IsNoChange, MayChange, Foretells, CanSettle}
+use Rattle.pool.proofs.Settled.{can_settle}
 use Rattle.pool.proofs.Limited.{bare_here}
 use Rattle.base.specs.Rewrite.{Changes}
 
@@ -102,6 +105,11 @@ module _ (s : State) (numbers : List BlockState) (sound : IsSound s numbers) (ol
       pub stays_now : StaysUnlimited s new
       stays_now = written_unlimited s numbers name new (changes_of (u ∷ [])) done (here (Ok done) applied).ok
 
+      -- the ledger that is kept can be settled
+      pub settles_now : (limiting : Option Limiting) → IsAccounted (datasets_of s) limiting → (outlook : Option Outlook)
+          → Foretells s name (changes_of (u ∷ [])) outlook → CanSettle (datasets_of s) new name limiting outlook
+      settles_now = can_settle s sound.steady numbers sound.states name (changes_of (u ∷ [])) new done (here (Ok done) applied).ok can_now.steady there
+
       pub done_now : (q : Request) → Asks q (OfFileSystem name) (Ok u) → Step s q Done (with_datasets s new)
       done_now q asks =
           let is = rule s numbers sound q name u asks in
@@ -115,6 +123,11 @@ module _ (s : State) (numbers : List BlockState) (sound : IsSound s numbers) (ol
 -- limits may be asked of what contracts see
 pub may_here : (seen : Shown) (s : State) (numbers : List BlockState) → shown s numbers ≡ seen → (name : List ℕ) (c : Changes) → MayChange seen.state name c → MayChange s name c
 may_here seen s numbers view name c may = subst (λ (x : Shown). MayChange x.state name c) (sym view) may
+
+-- and what was foretold holds of it
+pub foretold_here : (seen : Shown) (s : State) (numbers : List BlockState) → shown s numbers ≡ seen → (name : List ℕ) (c : Changes) (o : Option Outlook)
+    → Foretells seen.state name c o → Foretells s name c o
+foretold_here seen s numbers view name c o told = subst (λ (x : Shown). Foretells x.state name c o) (sym view) told
 
 -- a change that isn't asked of the table, since a limit would be broken, the file system isn't there, or there is no memory to ask
 pub not_asked : (seen : Shown) (s : State) (numbers : List BlockState) → shown s numbers ≡ seen → IsSound s numbers → (name : List ℕ) (u : Update) (q : Request)

@@ -1,4 +1,3 @@
-pub mod Yielded
 pub mod Names
 pub mod Fitting
 pub mod Values
@@ -13,7 +12,7 @@ pub mod Immediate
 pub mod Sights
 pub mod Cloned
 pub mod Marked
-pub mod Joined
 pub mod Limited
 pub mod Foretold
 pub mod Asked
+pub mod Settled

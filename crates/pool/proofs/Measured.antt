@@ -37,7 +37,7 @@ use Rattle.steps.proofs.Alike.{older_alike, written_since_alike, would_free_alik
 use Rattle.steps.proofs.Questions as reads
 use Rattle.steps.proofs.Ruled.{refused_by, answered_by}
 use Rattle.steps.proofs.Texts.{get_no_memory}
-use Rattle.pool.specs.Named.{value_named}
+use Rattle.lookups.specs.Named.{value_named}
 use Rattle.pool.specs.Pools.{IsSound}
 use Rattle.pool.specs.Shown.{Shown, shown}
 use Rattle.pool.proofs.Fitting as fitting

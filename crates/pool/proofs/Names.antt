@@ -11,7 +11,7 @@ use Rattle.model.specs.State.{State}
 use Rattle.world.proofs.Maps.{same_value, no_value}
 use Rattle.steps.specs.Steady.{IsSteady, HasNoDataset, IsNamed, snap_in}
 use Rattle.steps.proofs.Named.{named_live, named_snap}
-use Rattle.pool.specs.Named.{map_named}
+use Rattle.lookups.specs.Named.{map_named}
 
 -- what a value that is told of is told of
 pub mapped : {A B : Type 0} (g : A → B) (o : Option A) (m : B) → Some m ≡ option_map g o → (x : A) × (o ≡ Some x) × (g x ≡ m)

@@ -46,10 +46,10 @@ use Rattle.steps.proofs.Questions as reads
 use Rattle.steps.proofs.Listing.{list_no_memory, list_done}
 use Rattle.steps.proofs.Properties as properties
 use Rattle.steps.proofs.Syncing as sync
-use Rattle.pool.specs.Named.{map_named}
+use Rattle.lookups.specs.Named.{map_named}
 use Rattle.pool.specs.Pools.{IsSound}
 use Rattle.pool.specs.Shown.{Shown, shown}
-use Rattle.pool.proofs.Changes.{not_false, block_tells}
+use Rattle.model.proofs.Blocks.{not_false, block_tells}
 use Rattle.pool.proofs.Names.{found, absent}
 use Rattle.model.specs.requests.Change.{limit_row}
 use Rattle.steps.specs.Asked.{asked_by_snapshot}

@@ -1,6 +1,5 @@
 pub mod Shown
 pub mod Pools
 pub mod Plans
-pub mod Named
 pub mod Asked
 pub mod Limiting

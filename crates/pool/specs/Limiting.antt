@@ -1,23 +1,32 @@
 -- What a pool keeps of limits, and the states that limits are asked of.
-use Rattle.std.specs.Prelude.{◌≡◌, ◌⊎◌, ℕ, List, Option, None, Some, IsSome}
+use Rattle.std.specs.Prelude.{◌≡◌, ◌⊎◌, ◌<◌, ◌^◌, ℕ, List, Option, None, Some, IsSome}
+use Rattle.std.specs.Option.{option_map}
 use Rattle.std.specs.FinMap.{get}
 use Rattle.std.specs.FinSet as set
 use Rattle.base.specs.Rewrite.{Changes}
 use Rattle.base.specs.declared.refusal.Refusal.{Refusal}
 use Rattle.base.specs.declared.refusal.Refusal.TheVariants.{NoDataset, NoMemory}
 use Rattle.model.specs.State.{State, waiting_of}
+use Rattle.model.specs.Hierarchy.{IsHierarchy}
 use Rattle.model.specs.Rule.{first_of}
 use Rattle.model.specs.requests.Change.{limit_row}
 use Rattle.world.specs.Tables.{Datasets, world_of}
 use Rattle.accounts.specs.Limits.{IsUnlimited}
 use Rattle.steps.specs.Asked.{asked_by_change}
-use Rattle.limits.specs.Ledgers.{ledger_of}
+use Rattle.steps.specs.Edits.{datasets_of}
+use Rattle.limits.specs.Changes.{IsChanged}
+use Rattle.limits.specs.declared.line.Line.{Line}
+use Rattle.lookups.specs.Accounted.{IsAccounted as IsLedgerKept}
+use Rattle.outlook.specs.declared.outlook.Outlook.{Outlook}
 use Rattle.pool.specs.declared.limiting.Limiting.{Limiting}
+
+-- the ledger that is kept with what limits say, where it is (profile)
+abbrev pub ledger_in : Option Limiting → Option (List Line)
+ledger_in = option_map (λ l. l.ledger)
 
 -- the ledger of these datasets is kept, or none, where no file system has a limit (profile)
 abbrev pub IsAccounted : Datasets → Option Limiting → Type 0
-IsAccounted t None = IsUnlimited t.file_systems
-IsAccounted t (Some l) = l.ledger ≡ ledger_of (world_of t)
+IsAccounted t limiting = IsLedgerKept t (ledger_in limiting)
 
 -- a state with these datasets and with so many blocks to be freed, where as many wait as do in another state (zfsprops(7): reservation)
 pub record IsAsked (s : State) (t : Datasets) (freeing : ℕ) (asked : State) : Type 0 where
@@ -39,3 +48,16 @@ IsNoChange s name c why =
 -- a change of a live map may be made: no file system has a limit, or the limits hold then (zfsprops(7): quota, refquota, reservation)
 abbrev pub MayChange : State → List ℕ → Changes → Type 0
 MayChange s name c = IsUnlimited s.now.file_systems ⊎ (first_of (limit_row (asked_by_change s name c)) ≡ None)
+
+-- what a file system comes to with a change of its live map, where that was looked at (zfsprops(7): used, referenced)
+abbrev pub Foretells : State → List ℕ → Changes → Option Outlook → Type 0
+Foretells s name c None = Unit {0}
+Foretells s name c (Some o) = (o.here < 2 ^ 42) × IsChanged (world_of (datasets_of s)) (asked_by_change s name c).now name o.here o.referenced
+
+-- a ledger that is kept is that of earlier datasets, and where the change of a live map was looked at, these differ from them in that alone
+-- (profile)
+pub record CanSettle (old new : Datasets) (name : List ℕ) (limiting : Option Limiting) (outlook : Option Outlook) : Type 0 where
+  pub kept : IsAccounted old limiting
+  pub hierarchy : IsHierarchy old.file_systems
+  pub there : IsSome (get new.file_systems name)
+  pub differs : (o : Outlook) → outlook ≡ Some o → (o.here < 2 ^ 42) × IsChanged (world_of old) (world_of new) name o.here o.referenced

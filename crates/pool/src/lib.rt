@@ -9,7 +9,6 @@ mod destroying;
 mod limiting;
 mod marking;
 mod measuring;
-mod named;
 mod pool;
 mod viewing;
 

@@ -1,5 +1,6 @@
 //! The limits of file systems: what is kept of them, and what they say of a request.
-ghost use Rattle.std.specs.Prelude.{◌≡◌, ◌⊎◌, ◌<◌, ◌^◌, [], ◌∷◌, ℕ, List, false, None, IsSome, IfOk, IfErr, OnOk, OnErr};
+ghost use Rattle.std.specs.Prelude.{◌≡◌, ◌⊎◌, ◌<◌, ◌^◌, [], ◌∷◌, ℕ, List, false, None, Some, IsSome, IfOk, IfErr, OnOk, OnErr};
+ghost use Rattle.std.specs.Option.{option_copied};
 ghost use Rattle.std.specs.FinMap.{get};
 ghost use Rattle.std.specs.FinSet as set;
 ghost use Rattle.base.specs.declared.refusal.Refusal.{Refusal};
@@ -14,12 +15,12 @@ ghost use Rattle.model.specs.Step.{Step};
 ghost use Rattle.model.specs.Sums.{room_of};
 ghost use Rattle.model.specs.World.{union_of};
 ghost use Rattle.model.specs.requests.Change.{limit_row};
-ghost use Rattle.world.specs.Tables.{world_of};
+ghost use Rattle.world.specs.Tables.{Datasets, world_of};
 ghost use Rattle.accounts.specs.Limits.{IsUnlimited};
 ghost use Rattle.datasets.specs.Limits.{with_limit_of};
 ghost use Rattle.steps.specs.Edits.{datasets_of, with_datasets};
-ghost use Rattle.limits.specs.Ledgers.{IsSpaceOf};
-ghost use Rattle.pool.specs.Limiting.{IsAccounted, IsOver, IsNoChange, MayChange};
+ghost use Rattle.limits.specs.Ledgers.{IsSpaceOf, ledger_of};
+ghost use Rattle.pool.specs.Limiting.{IsAccounted, IsOver, IsNoChange, MayChange, Foretells, CanSettle, ledger_in};
 ghost use Rattle.pool.specs.Plans.{state_after_plan, CanDo};
 
 use crate::pool::{Plan, Pool};
@@ -31,7 +32,7 @@ use model::limits::Limit;
 use model::reply::Reply;
 use model::request::Property;
 use name::{DsName, Target};
-use outlook::outlook_of;
+use outlook::{Outlook, outlook_of};
 use std::alloc::Global;
 use std::slice::from_ref;
 use tree::Update;
@@ -65,6 +66,30 @@ impl Limiting {
         self.asked.fill(to);
         self.asked.first_over(space)
     }
+
+    // The ledger becomes that of these datasets, as the function `settle` says.
+    fn settle(&mut self, table: &Table, name: &DsName, outlook: Option<Outlook>)
+        requires before { (old : Datasets) × CanSettle old table.now name.now (Some self.old) outlook }
+        requires few { set.len (union_of (world_of table.now)) < 2 ^ 32 }
+        ensures { self.new.ledger ≡ ledger_of (world_of table.now) }
+    {
+        match outlook {
+            Some(outlook) => self
+                .ledger
+                .settle(table, name, outlook.here, outlook.referenced),
+            None => self.ledger.fill(table),
+        }
+    }
+}
+
+// The ledger, where one is kept. Constant time.
+pub(crate) fn kept_ledger(limiting: &Option<Limiting>) -> Option<&Ledger>
+    ensures { option_copied result ≡ ledger_in limiting.now }
+{
+    match limiting {
+        Some(limiting) => Some(&limiting.ledger),
+        None => None,
+    }
 }
 
 // The ledger becomes that of these datasets, where one is kept. It costs the number of file systems times its logarithm.
@@ -75,6 +100,25 @@ pub(crate) fn renew(limiting: &mut Option<Limiting>, table: &Table)
 {
     if let Some(limiting) = limiting {
         limiting.ledger.fill(table);
+    }
+}
+
+// The ledger becomes that of these datasets, where one is kept, after a change of the live map of the file system of this name: by what the
+// change was to come to, where that was looked at, and else as `renew` does it. By that it costs for each level of the name at most the
+// logarithm of the number of file systems, up to the first level that is charged what it was.
+pub(crate) fn settle(
+    limiting: &mut Option<Limiting>,
+    table: &Table,
+    name: &DsName,
+    outlook: Option<Outlook>,
+)
+    requires before { (old : Datasets) × CanSettle old table.now name.now limiting.old outlook }
+    requires unlimited { limiting.old ≡ None → IsUnlimited table.now.file_systems }
+    requires few { set.len (union_of (world_of table.now)) < 2 ^ 32 }
+    ensures { IsAccounted table.now limiting.new }
+{
+    if let Some(limiting) = limiting {
+        limiting.settle(table, name, outlook);
     }
 }
 
@@ -113,23 +157,25 @@ impl Pool {
         limiting.over(to, space)
     }
 
-    // Asks the limits of the state that this update of the live tree of a file system leads to, before anything is changed. The first that
-    // it would break; NoDataset where there is no such file system; else NoMemory where there is none to look ahead. It costs the nodes
-    // on the way to the changes, and for each level of the name the logarithm of the number of file systems; where no file system has a limit, nothing.
+    // Asks the limits of the state that this update of the live tree of a file system leads to, before anything is changed: what the file
+    // system comes to with it, where limits are kept. The first limit that it would break; NoDataset where there is no such file system;
+    // else NoMemory where there is none to look ahead. It costs the nodes on the way to the changes, and for each level of the name the
+    // logarithm of the number of file systems; where no file system has a limit, nothing.
     pub(crate) fn ask_change(
         &mut self,
         alloc: Global,
         name: &DsName,
         update: &Update,
-    ) -> Result<(), Refusal>
+    ) -> Result<Option<Outlook>, Refusal>
         requires { IsBatch (update.now ∷ []) }
         ensures same { self.new ≡ self.old }
         ensures ok { OnOk result (MayChange self.old.state name.now (changes_of (update.now ∷ []))) }
+        ensures foretold { IfOk result (Foretells self.old.state name.now (changes_of (update.now ∷ []))) }
         ensures err { IfErr result (IsNoChange self.old.state name.now (changes_of (update.now ∷ []))) }
     {
         let mut space = self.space(self.freeing.len());
         let Some(limiting) = &self.limiting else {
-            return Ok(());
+            return Ok(None);
         };
         let Some(file_system) = self.present.find(name) else {
             return Err(Refusal::NoDataset);
@@ -148,7 +194,7 @@ impl Pool {
         );
         match over {
             Some(refusal) => Err(refusal),
-            None => Ok(()),
+            None => Ok(Some(outlook)),
         }
     }
 

@@ -3,9 +3,10 @@ ghost use Rattle.std.specs.Prelude.{◌≡◌};
 ghost use Rattle.model.specs.declared.request.Request.{Request};
 ghost use Rattle.model.specs.Step.{Step};
 
-use crate::named::{in_bytes, value_named};
+use crate::limiting::kept_ledger;
 use crate::pool::Pool;
 use base::refusal::Refusal;
+use lookups::{in_bytes, value_named};
 use model::reply::Reply;
 use model::request::Property;
 use name::{Component, DsName, SnapName, Target};
@@ -22,7 +23,7 @@ impl Pool {
         let value = value_named(
             alloc,
             &self.present,
-            &self.limiting,
+            kept_ledger(&self.limiting),
             target,
             property,
             room,

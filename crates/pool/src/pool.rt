@@ -15,16 +15,16 @@ ghost use Rattle.name.specs.declared.target.Target.{Target};
 ghost use Rattle.world.specs.Worlds.{IsPoolState};
 ghost use Rattle.accounts.specs.Limits.{AreQuotasMet, IsUnlimited};
 ghost use Rattle.pool.specs.Asked.{Asks};
-ghost use Rattle.pool.specs.Named.{IsNoLive};
+ghost use Rattle.lookups.specs.Named.{IsNoLive};
 ghost use Rattle.pool.specs.Plans.{state_after_plan, CanDo};
 
-use crate::limiting::{Limiting, renew};
-use crate::named::{in_bytes, names_of, tree_named};
+use crate::limiting::{Limiting, renew, settle};
 use base::meter::{Meter, SegMeter};
 use base::number::{Dead, Group};
 use base::refusal::Refusal;
 use datasets::Table;
 use destroyer::{Freeing, Slice};
+use lookups::{in_bytes, names_of, tree_named};
 use model::names::Names;
 use model::reply::{Reply, Value};
 use model::request::{PoolProperty, Request};
@@ -371,7 +371,7 @@ impl Pool {
         requires { IfOk update (λ u. IsBatch (u ∷ [])) }
         ensures same { self.new ≡ self.old }
         ensures can { CanDo self.old.state result.1 }
-        ensures step { (q : Request) → Asks q target.now update → Step self.old.state q result.0 (state_after_plan self.old.state result.1) }
+        ensures step { (q : Request) → Asks q target.now update.entry → Step self.old.state q result.0 (state_after_plan self.old.state result.1) }
     {
         let _size = self.size;
         let name = match self.live_name(target) {
@@ -689,7 +689,7 @@ impl Pool {
         update: Result<Update, Refusal>,
     ) -> Reply
         requires { IfOk update (λ u. IsBatch (u ∷ [])) }
-        ensures { (q : Request) → Asks q target.now update → Step self.old.state q result self.new.state }
+        ensures { (q : Request) → Asks q target.now update.entry → Step self.old.state q result self.new.state }
     {
         let _size = self.size;
         let name = match self.live_name(target) {
@@ -700,9 +700,10 @@ impl Pool {
             Ok(update) => update,
             Err(refusal) => return self.outside_the_limits(name, refusal),
         };
-        if let Err(refusal) = self.ask_change(alloc, name, &update) {
-            return Reply::Refused(refusal);
-        }
+        let outlook = match self.ask_change(alloc, name, &update) {
+            Ok(outlook) => outlook,
+            Err(refusal) => return Reply::Refused(refusal),
+        };
         let changed = self.present.apply_live(
             name,
             alloc,
@@ -718,7 +719,7 @@ impl Pool {
         };
         release_all(&mut self.allocator, &done.released, self.last.group());
         take_all(&mut self.allocator, &done.taken);
-        renew(&mut self.limiting, &self.present);
+        settle(&mut self.limiting, &self.present, name, outlook);
         Reply::Done
     }
 

@@ -7,9 +7,9 @@ ghost use Rattle.model.specs.Step.{Step};
 ghost use Rattle.steps.specs.Edits.{viewing};
 ghost use Rattle.pool.specs.Plans.{state_after_plan, CanDo, CanOpen};
 
-use crate::named::snapshot_named;
 use crate::pool::{Plan, Pool};
 use base::refusal::Refusal;
+use lookups::snapshot_named;
 use model::reply::Reply;
 use model::sight::Sight;
 use model::snapshot_id::SnapshotId;

@@ -1,7 +1,9 @@
-//! Tests of `stream` from outside.
+//! Tests of `stream` and `sends` from outside.
 #![tactic(auto)]
 
 #[cfg(test)]
 mod faults;
+#[cfg(test)]
+mod sent;
 #[cfg(test)]
 mod streams;

@@ -9,10 +9,10 @@ use stream::{Record, Stream, StreamFault, read_stream, spelling_laws, write_stre
 
 pub const FIRST: Guid = Guid(0x1_0000_0001);
 
-const SECOND: Guid = Guid(0x1_0000_0002);
+pub const SECOND: Guid = Guid(0x1_0000_0002);
 
 /// The stream of an empty snapshot. Its digest is Python's `hashlib.sha256`, as are those below.
-const EMPTY: [u8; 63] = [
+pub const EMPTY: [u8; 63] = [
     0x5a, 0x44, 0x53, 0x54, 0x52, 0x4d, 0x30, 0x31, 0, 0, 0, 0, 0, 0, 0, 0, 0, 0, 0, 1, 0, 0, 0, 1,
     2, 5, 0, 0, 0, 0, 0, 0x50, 0xfe, 0xd7, 0xb6, 0xee, 0xab, 0x85, 0x85, 0x61, 0x5f, 0x1a, 0x7b,
     0xbd, 0x48, 0x91, 0xf1, 0x8f, 0x38, 0x73, 0x21, 0xbe, 0x0d, 0x41, 0xa6, 0x6f, 0x69, 0x66, 0xa7,
@@ -60,6 +60,10 @@ fn bytes_between(alloc: Global, head: &[u8], digest: &[u8]) -> Result<Vec<u8>, A
 
 pub fn one_leaf_bytes(alloc: Global) -> Result<Vec<u8>, AllocError> {
     bytes_between(alloc, &ONE_LEAF_HEAD, &ONE_LEAF_DIGEST)
+}
+
+pub fn next_bytes(alloc: Global) -> Result<Vec<u8>, AllocError> {
+    bytes_between(alloc, &NEXT_HEAD, &NEXT_DIGEST)
 }
 
 /// What a stream with one leaf says.
@@ -144,7 +148,7 @@ fn is_one_leaf_spelled(rt: &impl Abort, alloc: Global) -> bool {
 
 fn is_next_spelled(rt: &impl Abort, alloc: Global) -> bool {
     let stream = one_leaf(alloc, Some(FIRST), SECOND, b'b').expect(rt, "memory");
-    let bytes = bytes_between(alloc, &NEXT_HEAD, &NEXT_DIGEST).expect(rt, "memory");
+    let bytes = next_bytes(alloc).expect(rt, "memory");
     bytes.len() == 1024 && is_spelled(alloc, &stream, bytes.as_slice())
 }
 

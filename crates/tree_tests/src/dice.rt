@@ -1,5 +1,5 @@
 //! Trees under many changes, beside plain lists.
-use crate::rig::{PLACES, Rig, WAYS, Way, add, leaf_of, punch_at, rig_of, write_at};
+use crate::rig::{FILLERS, PLACES, Rig, WAYS, Way, add, leaf_of, punch_at, rig_of, write_at};
 use base::number::Group;
 use std::alloc::Global;
 use std::process::Abort;
@@ -28,12 +28,17 @@ impl Dice {
 }
 
 /// A batch of about eight changes of the places, done on the plain list too.
-fn throw(rt: &impl Abort, alloc: Global, dice: &mut Dice, plain: &mut [u8; 128]) -> Vec<Update> {
+fn throw(
+    rt: &impl Abort,
+    alloc: Global,
+    dice: &mut Dice,
+    plain: &mut [u8; 128],
+) -> Vec<Update<'static>> {
     let mut updates = Vec::new(alloc);
     for place in 0..PLACES {
         let roll = dice.roll();
         if roll % 16 == 0 {
-            let byte = (roll / 16 % 256) as u8 * (roll / 4096 % 2) as u8;
+            let byte = (roll / 16 % u32::from(FILLERS)) as u8 * (roll / 4096 % 2) as u8;
             plain[place] = byte;
             add(rt, &mut updates, update_of(leaf_of(place), byte));
         }
@@ -41,7 +46,7 @@ fn throw(rt: &impl Abort, alloc: Global, dice: &mut Dice, plain: &mut [u8; 128])
     updates
 }
 
-fn update_of(leaf: u32, byte: u8) -> Update {
+fn update_of(leaf: u32, byte: u8) -> Update<'static> {
     if byte == 0 {
         punch_at(0, leaf)
     } else {

@@ -69,7 +69,7 @@ fn refusal_of(rt: &impl Abort, alloc: Global, numbers: u32, update: Update) -> O
     rig.try_put(rt, alloc, &[update], Group(1), Group(1))
 }
 
-fn last_write(rt: &impl Abort) -> Update {
+fn last_write(rt: &impl Abort) -> Update<'static> {
     write_of(255, 4095, &[7; 512]).expect(rt, "the last block")
 }
 

@@ -46,21 +46,30 @@ pub fn rig_of(rt: &impl Abort, alloc: Global, numbers: u32, way: Way) -> Rig
     }
 }
 
-/// A write of a leaf that is filled with a byte.
-pub fn write_at(leaf: u32, byte: u8) -> Update {
+/// The bytes that leaves are filled with are below this.
+pub const FILLERS: u8 = 16;
+
+/// For each of these bytes a leaf that is filled with it.
+static FILLED: [[u8; 512]; 16] = [
+    [0; 512], [1; 512], [2; 512], [3; 512], [4; 512], [5; 512], [6; 512], [7; 512], [8; 512],
+    [9; 512], [10; 512], [11; 512], [12; 512], [13; 512], [14; 512], [15; 512],
+];
+
+/// A write of a leaf that is filled with one of these bytes.
+pub fn write_at(leaf: u32, byte: u8) -> Update<'static> {
     Update::Write {
         leaf,
-        bytes: [byte; 512],
+        bytes: &FILLED[(byte % FILLERS) as usize],
     }
 }
 
 /// A punch of every leaf that a key covers.
-pub fn punch_at(level: u8, index: u32) -> Update {
+pub fn punch_at(level: u8, index: u32) -> Update<'static> {
     Update::Punch(Key { level, index })
 }
 
 /// Adds an update to a batch.
-pub fn add(rt: &impl Abort, updates: &mut Vec<Update>, update: Update) {
+pub fn add(rt: &impl Abort, updates: &mut Vec<Update<'static>>, update: Update<'static>) {
     updates.push(update).ok().expect(rt, "memory for a batch");
 }
 

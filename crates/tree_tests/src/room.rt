@@ -80,7 +80,7 @@ fn full_pools(rt: HostRuntime) {
 }
 
 /// Writes of so many leaves.
-fn writes(rt: &impl Abort, alloc: Global, leaves: u32) -> Vec<Update> {
+fn writes(rt: &impl Abort, alloc: Global, leaves: u32) -> Vec<Update<'static>> {
     let mut updates = Vec::new(alloc);
     for leaf in 0..leaves {
         add(rt, &mut updates, write_at(leaf, 7));

@@ -41,7 +41,7 @@ fn new_tree_reads_nothing(rt: HostRuntime) {
 /// A batch of group 1, what it does, the blocks after it, and reads after it.
 #[derive(Clone, Copy)]
 struct Row<'a> {
-    updates: &'a [Update],
+    updates: &'a [Update<'a>],
     counts: Counts,
     blocks: u32,
     reads: &'a [(u32, u8, u64)],

@@ -15,12 +15,12 @@ const WALKED_LEAVES: u32 = 1_048_576;
 const BATCH_NUMBERS: u32 = 131_072;
 
 /// Writes of the first leaves.
-fn writes(alloc: Global, leaves: u32) -> Result<Vec<Update>, Refusal> {
+fn writes(alloc: Global, leaves: u32) -> Result<Vec<Update<'static>>, Refusal> {
     let mut updates = Vec::with_capacity(alloc, leaves as usize)?;
     for leaf in 0..leaves {
         updates.push(Update::Write {
             leaf,
-            bytes: [7; 512],
+            bytes: &[7; 512],
         })?;
     }
     Ok(updates)

@@ -2,7 +2,7 @@ use Rattle.std.proofs.Common.{◌∷◌, [], None, Some, refl, subst, ◌∙◌,
 use Rattle.batch.specs.Forecast.{IsForecast}
 use Rattle.tree.specs.Updates.{changes_of}
 use Rattle.pool.specs.Pools.{state_of}
-use Rattle.pool.proofs.Asked.{is_ahead, few_more, change_over, change_fits}
+use Rattle.pool.proofs.Asked.{is_ahead, few_more, change_over, change_fits, change_foretold}
 use Rattle.pool.proofs.pool.Pool.ask_change.Goals as goal
 
 pub outlook_of-requires : goal.outlook_of-requires
@@ -38,3 +38,10 @@ returns-clause-ok c =
     (subst (λ us. IsForecast c.live.result.now (changes_of us) c.in_ok-forecast.forecast) c.from_ref.ensures.value c.in_ok-forecast.ensures.ok) c.group.result.0 c.group.ensures
     c.in_ok-outlook.outlook c.in_ok-outlook.ensures.ok _ c.space-space.ensures.size (c.space-space.ensures.freeing ∙ c.len.ensures) c.space-space.result.waiting c.space-space.ensures.waiting refl
     None c.in-None.ensures refl
+
+pub returns-clause-foretold : goal.returns-clause-foretold
+returns-clause-foretold c =
+    change_foretold c.args.self.now (state_of c.self.inside) c.self.inside.allocator c.self.view_is c.self.invariant.0 (omega (arith, c.self.ranges)) c.args.name.now
+    c.in-Some-find.file_system.now c.in-Some-find.ensures c.live.result.now c.live.ensures (changes_of (c.args.update.now ∷ [])) c.in_ok-forecast.forecast
+    (subst (λ us. IsForecast c.live.result.now (changes_of us) c.in_ok-forecast.forecast) c.from_ref.ensures.value c.in_ok-forecast.ensures.ok) c.group.result.0 c.group.ensures
+    c.in_ok-outlook.outlook c.in_ok-outlook.ensures.ok c.in_ok-outlook.ensures.small

@@ -1,5 +1,5 @@
 use Rattle.std.proofs.Common.{sym, subst, refl, inl, inr}
-use Rattle.pool.specs.Named.{IsNoLive}
+use Rattle.lookups.specs.Named.{IsNoLive}
 use Rattle.pool.specs.Shown.{Shown}
 use Rattle.pool.proofs.pool.Pool.live_name.Goals as goal
 use Rattle.pool.proofs.pool.Pool.live_name.Goals.{in-Some, in-None}

@@ -6,7 +6,7 @@ use Rattle.model.specs.World.{union_of}
 use Rattle.world.specs.Tables.{world_of}
 use Rattle.space.specs.Ranges.{range_ids}
 use Rattle.pool.specs.Pools.{state_of}
-use Rattle.pool.proofs.Fitting.{would_free_fits}
+use Rattle.lookups.proofs.Fitting.{would_free_fits}
 use Rattle.pool.proofs.Measured.{few, free_refused, free_told}
 use Rattle.pool.proofs.pool.Pool.would_free.Goals as goal
 use Rattle.pool.proofs.pool.Pool.would_free.Goals.{in-Ok, in-Err}

@@ -1,0 +1,3 @@
+mod Yielded
+mod Joined
+pub mod Fitting

@@ -1,0 +1,11 @@
+//! What a name stands for among the datasets of a pool, and what is told of it: its tree, its name in lists, and the values of its
+//! properties (zfs-list(8), zfs-get(8), zfsprops(7)).
+#![tactic(auto)]
+
+mod names;
+mod trees;
+mod values;
+
+pub use crate::names::{member_text, names_of};
+pub use crate::trees::{bookmark_named, snapshot_named, tree_named};
+pub use crate::values::{in_bytes, value_named};

@@ -1,0 +1,46 @@
+//! Datasets and bookmarks by a name of any kind.
+ghost use Rattle.std.specs.Prelude.{◌≡◌};
+ghost use Rattle.std.specs.Option.{option_copied, option_map};
+ghost use Rattle.bookmarks.specs.Marks.{bookmark_of};
+ghost use Rattle.model.specs.Hierarchy.{snap_in};
+ghost use Rattle.model.specs.World.{bookmark_named};
+ghost use Rattle.world.specs.Tables.{world_of};
+ghost use Rattle.lookups.specs.Named.{map_named};
+
+use datasets::Table;
+use file_systems::{FileSystem, Snapshot};
+use model::snapshot_id::SnapshotId;
+use name::{Member, Target};
+use tree::Tree;
+
+/// The tree of the dataset that the name is of, a file system's live one or a snapshot's, or none. It costs the logarithm of the
+/// number of file systems, and for a snapshot that of the number of its file system's.
+pub fn tree_named<'a>(table: &'a Table, target: &Target) -> Option<&'a Tree>
+    ensures { option_copied result ≡ map_named table.now.file_systems target.now }
+{
+    match target {
+        Target::FileSystem(name) => table.find(name).map(FileSystem::live),
+        Target::Snapshot(name) => snapshot_named(table, name.member()).map(Snapshot::tree),
+        Target::Bookmark(_) => None,
+    }
+}
+
+/// The snapshot of this name, or none. It costs the logarithms of the numbers of file systems and of the snapshots of one.
+pub fn snapshot_named<'a>(table: &'a Table, member: &Member) -> Option<&'a Snapshot>
+    ensures { option_copied result ≡ snap_in table.now.file_systems member.now }
+{
+    table
+        .find(&member.file_system)?
+        .snapshot_named(member.component.as_bytes())
+}
+
+/// What the bookmark of this name keeps of its snapshot, or none where there is no such bookmark. It costs the logarithms of the numbers of
+/// file systems and of bookmarks of this one.
+pub fn bookmark_named(table: &Table, member: &Member) -> Option<SnapshotId>
+    ensures { option_map bookmark_of result ≡ bookmark_named (world_of table.now) member.now }
+{
+    table
+        .find(&member.file_system)?
+        .bookmarks()
+        .get(member.component.as_bytes())
+}
