@@ -1,0 +1,2 @@
+-- Where sends may start in a table.
+pub mod Starts

@@ -1,0 +1,10 @@
+//! Where a send of a snapshot may start: at an older snapshot of its lineage, or at a bookmark of its file system (zfs-send(8), -i).
+//!
+//! Nothing here visits a block: names are looked up, and file systems are passed from a snapshot down its lineage.
+#![tactic(auto)]
+
+mod lineage;
+mod place;
+mod start;
+
+pub use crate::start::{Start, start_of};
