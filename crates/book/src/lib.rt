@@ -13,4 +13,5 @@ pub use book::{Book, CALL_LIMIT, Entered, SEAT_LIMIT, enter, enter_call};
 pub use call::Call;
 pub use closing::Closed;
 pub use opening::Opening;
+pub use pool::Pool;
 pub use seat::{Receipt, Seat};

@@ -6,11 +6,10 @@ use Rattle.std.specs.declared.sync.Arc.{Arc}
 use Rattle.bookmarks.specs.declared.mark.Mark.{Mark}
 use Rattle.bookmarks.specs.Marks.{name_in}
 use Rattle.name.specs.Names.{snap_text, mark_text}
-use Rattle.model.specs.Properties.{bookmarks_in_order}
+use Rattle.model.specs.Properties.{bookmarks_in_order, names_of as own_names}
 use Rattle.model.specs.World.{FileSystem}
 use Rattle.snapshots.specs.declared.kept.Kept.{Kept}
 use Rattle.file_system.specs.Dead.{snaps_in}
-use Rattle.steps.specs.Listed.{own_names}
 use Rattle.lookups.specs.Named.{snapshot_names, bookmark_names}
 use Rattle.world.proofs.Finding.{append_none}
 use Rattle.std.specs.Iterator.{Yields, YieldsFirstRef}

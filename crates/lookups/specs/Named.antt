@@ -10,7 +10,7 @@ use Rattle.name.specs.Names.{same_name, snap_text, mark_text}
 use Rattle.name.specs.declared.member.Member.{Member}
 use Rattle.name.specs.declared.target.Target.{Target}
 use Rattle.name.specs.declared.target.Target.TheVariants.{FileSystem as OfFileSystem, Snapshot as OfSnapshot, Bookmark as OfBookmark}
-use Rattle.model.specs.Hierarchy.{FileSystems}
+use Rattle.model.specs.Hierarchy.{FileSystems, snap_in}
 use Rattle.model.specs.World.{Snap, SnapId, id_of, clones_of, bookmark_named, blocks_of_all}
 use Rattle.model.specs.Properties.{text_of_snap, bookmark_value, bookmarks_in_order}
 use Rattle.model.specs.Sums.{size_without, used_of, used_by_children, used_by_snap}
@@ -22,7 +22,6 @@ use Rattle.world.specs.Tables.{Datasets, world_of}
 use Rattle.file_systems.specs.Clones.{row_in}
 use Rattle.file_system.specs.Dead.{newest_blocks, written_from}
 use Rattle.file_system.specs.Rows.{Row, Entry}
-use Rattle.steps.specs.Steady.{snap_in}
 
 -- the map of the dataset of a name: a file system's live map, or a snapshot's (zfs(8))
 abbrev pub map_named : FileSystems → Target → Option Map

@@ -3,7 +3,7 @@ ghost use Rattle.std.specs.Prelude.{◌≡◌, ◌++◌, ◌∷◌, IfOk, IfErr,
 ghost use Rattle.std.specs.List.{flat_map};
 ghost use Rattle.base.specs.declared.refusal.Refusal.{Refusal};
 ghost use Rattle.file_system.specs.Rows.{entry_of, entry_in};
-ghost use Rattle.steps.specs.Listed.{own_names};
+ghost use Rattle.model.specs.Properties.{names_of as own_names};
 ghost use Rattle.lookups.specs.Named.{snapshot_names, bookmark_names};
 
 use base::refusal::Refusal;

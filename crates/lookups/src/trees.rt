@@ -2,8 +2,8 @@
 ghost use Rattle.std.specs.Prelude.{◌≡◌};
 ghost use Rattle.std.specs.Option.{option_copied, option_map};
 ghost use Rattle.bookmarks.specs.Marks.{bookmark_of};
+ghost use Rattle.model.specs.Hierarchy.{snap_in};
 ghost use Rattle.model.specs.World.{bookmark_named};
-ghost use Rattle.steps.specs.Steady.{snap_in};
 ghost use Rattle.world.specs.Tables.{world_of};
 ghost use Rattle.lookups.specs.Named.{map_named};
 

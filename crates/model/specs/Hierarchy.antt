@@ -1,9 +1,11 @@
 -- File systems by name, and their hierarchy (zfs(8)).
-use Rattle.std.specs.Prelude.{◌≡◌, ◌⊎◌, ◌≤◌, ℕ, Bool, false, List, IsSome, IsTrue}
-use Rattle.std.specs.Option.{option_map_or}
+use Rattle.std.specs.Prelude.{◌≡◌, ◌⊎◌, ◌≤◌, ℕ, Bool, false, List, Option, IsSome, IsTrue}
+use Rattle.std.specs.List.{find}
+use Rattle.std.specs.Option.{option_map_or, option_and_then}
 use Rattle.std.specs.FinMap.{FinMap, get, contains_key, len}
-use Rattle.name.specs.Names.{name_cmp, parent_of, root_name}
-use Rattle.model.specs.World.{FileSystem}
+use Rattle.name.specs.Names.{name_cmp, same_name, parent_of, root_name}
+use Rattle.name.specs.declared.member.Member.{Member}
+use Rattle.model.specs.World.{FileSystem, Snap}
 
 -- a world's file systems, by their names (On-Disk Specification, chapter 4)
 abbrev pub FileSystems : Type 0
@@ -23,3 +25,7 @@ pub record IsHierarchy (m : FileSystems) : Type 0 where
   pub root : IsSome (get m root_name)
   pub parents : (name : List ℕ) → IsSome (get m name) → (name ≡ root_name) ⊎ IsTrue (has_parent m name)
   pub few : len m ≤ file_system_limit
+
+-- a snapshot by its name, among file systems (zfs(8))
+abbrev pub snap_in : FileSystems → Member → Option Snap
+snap_in ss m = option_and_then (λ f. find (λ t. same_name t.name m.component) f.snaps) (get ss m.file_system)

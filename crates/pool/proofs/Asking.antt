@@ -12,7 +12,7 @@ use Rattle.objset.specs.Blocks.{IsNoBlock}
 use Rattle.model.specs.declared.request.Request.TheVariants.{Write, Punch, FreeObject}
 use Rattle.model.specs.Targets.{is_object, is_block}
 use Rattle.pool.specs.Asked.{Asks}
-use Rattle.pool.proofs.Changes.{object_tells, block_tells}
+use Rattle.model.proofs.Blocks.{object_tells, block_tells}
 
 module _ (target : Target) (object : ℕ) (r : Result Update Refusal) (only : IfErr r (λ e. e ≡ BadKey)) where
   pub asks_write : (block : ℕ) (bytes : List ℕ) → IfOk r (λ u. changes_of (u ∷ []) ≡ writes_leaf (leaf_index object block) bytes)

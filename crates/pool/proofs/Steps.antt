@@ -49,7 +49,7 @@ use Rattle.steps.proofs.Syncing as sync
 use Rattle.lookups.specs.Named.{map_named}
 use Rattle.pool.specs.Pools.{IsSound}
 use Rattle.pool.specs.Shown.{Shown, shown}
-use Rattle.pool.proofs.Changes.{not_false, block_tells}
+use Rattle.model.proofs.Blocks.{not_false, block_tells}
 use Rattle.pool.proofs.Names.{found, absent}
 use Rattle.model.specs.requests.Change.{limit_row}
 use Rattle.steps.specs.Asked.{asked_by_snapshot}

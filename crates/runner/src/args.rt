@@ -3,8 +3,8 @@ ghost use Rattle.std.specs.Prelude.{◌≡◌, ◌+◌, ◌<◌, ◌^◌, length
 ghost use Rattle.std.specs.String.{string_bytes};
 ghost use Rattle.runner.specs.Args.{args_of, beside_of, operands_of, within, is_first};
 
-use pool::MOST_BLOCKS;
 use script::parse::number;
+use zalloc::MOST_BLOCKS;
 
 /// A command line that was read.
 #[derive(Drop)]

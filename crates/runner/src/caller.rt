@@ -1,9 +1,9 @@
 //! The pool as a caller.
 ghost use Rattle.runner.specs.Serving.{Serves};
 
+use book::Pool;
 use model::reply::Reply;
 use model::request::Request;
-use pool::Pool;
 use script::run::Caller;
 use std::alloc::Global;
 use std::marker::Model;

@@ -12,7 +12,7 @@ use crate::beside::run_beside;
 use crate::caller::Served;
 use base::failing::Failing;
 use base::refusal::Refusal;
-use pool::Pool;
+use book::Pool;
 use script::run::{Caller, ScriptFault, run_script};
 use std::alloc::Global;
 use std::io::{BufRead, Write};

@@ -10,6 +10,10 @@ mod view;
 mod view_calls;
 mod workers;
 
+pub use book::{
+    Book, CALL_LIMIT, Call, Closed, Entered, Opening, Pool, Receipt, SEAT_LIMIT, Seat, enter,
+    enter_call,
+};
 pub use gate::Gate;
 pub use shared::Session;
 pub use view::{ClosedView, OpenedView, View};

@@ -6,9 +6,8 @@ ghost use Rattle.book.specs.declared.book.TheConstants.{SEAT_LIMIT};
 ghost use Rattle.session.specs.ViewCalls.{is_of_views};
 
 use base::refusal::Refusal;
-use book::{Book, Call, Entered, Opening, Receipt, Seat, enter_call};
+use book::{Book, Call, Entered, Opening, Pool, Receipt, Seat, enter_call};
 use model::request::Request;
-use pool::Pool;
 use std::alloc::Global;
 use std::sync::{Mutex, Wait};
 

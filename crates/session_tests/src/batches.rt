@@ -6,10 +6,8 @@ use crate::rig::{
     write_of,
 };
 use base::refusal::Refusal;
-use book::{Opening, Receipt, Seat};
 use model::request::Request;
-use pool::Pool;
-use session::Session;
+use session::{Opening, Pool, Receipt, Seat, Session};
 use std::alloc::Global;
 use std::marker::Brand;
 use std::process::Abort;

@@ -3,9 +3,8 @@ ghost use Rattle.std.specs.Prelude.{◌≡◌};
 
 use crate::rig::{Wanted, closes_with, get_of, is_receipt, read_of, write_of};
 use base::refusal::Refusal;
-use book::{Book, Call, Entered, Opening, Seat, enter, enter_call};
 use model::request::Request;
-use pool::Pool;
+use session::{Book, Call, Entered, Opening, Pool, Seat, enter, enter_call};
 use std::alloc::Global;
 use std::marker::Brand;
 use std::process::Abort;

@@ -6,10 +6,8 @@ use crate::rig::{
     seat_of, write_of,
 };
 use base::refusal::Refusal;
-use book::{Book, Closed, Opening, Seat};
 use model::request::Request;
-use pool::Pool;
-use session::Session;
+use session::{Book, Closed, Opening, Pool, Seat, Session};
 use std::alloc::Global;
 use std::marker::Brand;
 use std::process::Abort;

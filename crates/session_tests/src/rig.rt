@@ -3,13 +3,11 @@ ghost use Rattle.std.specs.Prelude.{◌≡◌};
 
 use base::data::Data;
 use base::refusal::Refusal;
-use book::{Book, Opening, Receipt, Seat};
 use model::entry::KeptReply;
 use model::reply::Reply;
 use model::request::{Property, Request};
 use name::Target;
-use pool::Pool;
-use session::{Gate, Session};
+use session::{Book, Gate, Opening, Pool, Receipt, Seat, Session};
 use std::alloc::Global;
 use std::process::Abort;
 use std::sync::Wait;

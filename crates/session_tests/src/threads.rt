@@ -3,11 +3,9 @@ ghost use Rattle.std.specs.Prelude.{◌≡◌};
 
 use crate::rig::{Wanted, is_reply, opened, read_of, seat_of, write_of};
 use base::refusal::Refusal;
-use book::{Opening, Receipt, Seat};
 use model::entry::Entry;
 use model::request::Request;
-use pool::Pool;
-use session::Session;
+use session::{Opening, Pool, Receipt, Seat, Session};
 use std::alloc::Global;
 use std::marker::Brand;
 use std::process::Abort;

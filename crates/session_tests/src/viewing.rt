@@ -3,13 +3,13 @@ ghost use Rattle.std.specs.Prelude.{◌≡◌};
 
 use crate::rig::{Wanted, closes, finds_no_room, opened, read_of, runs, seat_of, write_of};
 use base::refusal::Refusal;
-use book::{Book, Closed, Opening, Receipt, Seat};
 use model::reply::Reply;
 use model::request::Request;
 use model::snap_names::SnapNames;
 use name::{SnapName, Target};
-use pool::Pool;
-use session::{ClosedView, Gate, OpenedView, Session, View};
+use session::{
+    Book, Closed, ClosedView, Gate, OpenedView, Opening, Pool, Receipt, Seat, Session, View,
+};
 use std::alloc::Global;
 use std::marker::Brand;
 use std::process::Abort;

@@ -3,9 +3,8 @@ ghost use Rattle.std.specs.Prelude.{◌≡◌};
 
 use crate::writes::write_of;
 use base::refusal::Refusal;
-use book::{Opening, Seat};
+use book::{Opening, Pool, Seat};
 use model::reply::Reply;
-use pool::Pool;
 use session::Session;
 use std::alloc::Global;
 use std::mem;

@@ -4,11 +4,10 @@ ghost use Rattle.book.specs.declared.book.TheConstants.{CALL_LIMIT};
 
 use crate::writes::{place_of, write_of};
 use base::refusal::Refusal;
-use book::{CALL_LIMIT, Opening, Seat};
+use book::{CALL_LIMIT, Opening, Pool, Seat};
 use model::request::Request;
 use model::snap_names::SnapNames;
 use name::{SnapName, Target};
-use pool::Pool;
 use session::{OpenedView, Session, View};
 use std::alloc::Global;
 use std::mem;

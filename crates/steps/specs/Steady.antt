@@ -11,6 +11,7 @@ use Rattle.name.specs.Names.{same_name}
 use Rattle.model.specs.World.{Snap, Bookmark, Dataset, map_of}
 use Rattle.model.specs.State.{State}
 use Rattle.model.specs.Targets.{dataset_of, has_dataset}
+pub use Rattle.model.specs.Hierarchy.{snap_in}
 use Rattle.model.specs.Hierarchy.{FileSystems}
 use Rattle.world.specs.Worlds.{IsPoolState, IsSwept}
 use Rattle.accounts.specs.Limits.{HasLimits}
@@ -21,10 +22,6 @@ pub record IsSteady (s : State) : Type 0 where
   pub good : IsPoolState s
   pub swept : IsSwept s
   pub limits : HasLimits s
-
--- a snapshot by its name, among file systems (zfs(8))
-abbrev pub snap_in : FileSystems → Member → Option Snap
-snap_in ss m = option_and_then (λ f. find (λ t. same_name t.name m.component) f.snaps) (get ss m.file_system)
 
 -- a bookmark by its name, among file systems (zfs-bookmark(8))
 abbrev pub bookmark_in : FileSystems → Member → Option Bookmark

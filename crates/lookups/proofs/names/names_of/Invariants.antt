@@ -1,7 +1,7 @@
 use Rattle.std.proofs.Common.{◌≡◌, map, take}
 use Rattle.std.specs.List.{flat_map}
 use Rattle.file_system.specs.Rows.{entry_in}
-use Rattle.steps.specs.Listed.{own_names}
+use Rattle.model.specs.Properties.{names_of as own_names}
 use Rattle.lookups.proofs.names.names_of.Given as goal
 
 -- the names so far

@@ -6,7 +6,7 @@ use Rattle.base.specs.Map.{contents}
 use Rattle.model.specs.declared.request.Request.TheVariants.{Read}
 use Rattle.model.specs.Step.{Step}
 use Rattle.model.specs.Targets.{is_block}
-use Rattle.pool.proofs.Changes.{block_tells, not_false}
+use Rattle.model.proofs.Blocks.{block_tells, not_false}
 use Rattle.session.specs.Views.{reply_of}
 use Rattle.session.proofs.Reading.{reads_refused, reads_done}
 use Rattle.session.proofs.view.View.read.Goals as goal
