@@ -1,2 +1,4 @@
 pub mod Listed
 pub mod Lineages
+pub mod Starts
+pub mod Rows

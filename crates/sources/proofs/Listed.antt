@@ -5,7 +5,7 @@ use Rattle.std.specs.List.{cons_option, filter_map}
 use Rattle.std.specs.Cmp.{tied_itself}
 use Rattle.std.specs.declared.cmp.Ordering.{Ordering}
 use Rattle.std.specs.Ordering.{is_eq, eq_by_cmp}
-use Rattle.std.specs.FinMap.{FinMap, find, get, keys, entries, from_entries, get-from_entries}
+use Rattle.std.specs.FinMap.{find, keys, entries, from_entries, get-from_entries}
 use Rattle.base.specs.Surveys.{IsIn}
 use Rattle.world.specs.Sets.{IsExactOrder}
 use Rattle.world.specs.Usage.{IsEntry}

@@ -72,62 +72,77 @@ fn start_from(
     ensures { result ≡ start_of (sources_of (world_of table.now) (id_of snapshot.now)) (option_copied from.entry) }
 {
     match from {
+        Some(source) => start_from_source(table, file_system, snapshot, source),
         None => Some(Start {
             guid: Guid(0),
             group: Group(0),
         }),
-        Some(Target::FileSystem(_)) => None,
-        Some(Target::Snapshot(name)) => {
+    }
+}
+
+// The same where it names this source.
+fn start_from_source(
+    table: &Table,
+    file_system: &FileSystem,
+    snapshot: &Snapshot,
+    source: &Target,
+) -> Option<Start>
+    requires { IsPlace table.now file_system.now (Some snapshot.now) }
+    ensures { result ≡ start_of (sources_of (world_of table.now) (id_of snapshot.now)) (Some source.now) }
+{
+    // It tells what holds of the file systems.
+    let _count = table.len();
+    match source {
+        Target::FileSystem(_) => None,
+        Target::Snapshot(name) => {
             start_from_snapshot(table, file_system, snapshot, name.member())
         }
-        Some(Target::Bookmark(name)) => {
+        Target::Bookmark(name) => {
             start_from_bookmark(table, file_system, snapshot, name.member())
         }
     }
 }
 
-// The same from the snapshot of this name.
+// The same where it is the snapshot of this name.
 fn start_from_snapshot(
     table: &Table,
     file_system: &FileSystem,
     snapshot: &Snapshot,
-    from: &Member,
+    source: &Member,
 ) -> Option<Start>
     requires { IsPlace table.now file_system.now (Some snapshot.now) }
-    ensures { result ≡ start_of (sources_of (world_of table.now) (id_of snapshot.now)) (Some (Target.Snapshot from.now)) }
+    ensures { result ≡ start_of (sources_of (world_of table.now) (id_of snapshot.now)) (Some (Target.Snapshot source.now)) }
 {
     // It tells what holds of the file systems.
     let _count = table.len();
-    let (owner, source) = snapshot_named(table, from)?;
-    let id = source.id();
+    let (owner, older) = snapshot_named(table, source)?;
+    let id = older.id();
     if !is_older(table, file_system, snapshot, owner.name(), id) {
         return None;
     }
     Some(start_at(id))
 }
 
-// The same from the bookmark of this name.
+// The same where it is the bookmark of this name.
 fn start_from_bookmark(
     table: &Table,
     file_system: &FileSystem,
     snapshot: &Snapshot,
-    from: &Member,
+    source: &Member,
 ) -> Option<Start>
     requires { IsPlace table.now file_system.now (Some snapshot.now) }
-    ensures { result ≡ start_of (sources_of (world_of table.now) (id_of snapshot.now)) (Some (Target.Bookmark from.now)) }
+    ensures { result ≡ start_of (sources_of (world_of table.now) (id_of snapshot.now)) (Some (Target.Bookmark source.now)) }
 {
     // It tells what holds of the file systems.
     let _count = table.len();
-    if !is_named(file_system, &from.file_system) {
+    if !is_named(file_system, &source.file_system) {
         return None;
     }
-    let source = file_system
-        .bookmarks()
-        .get(from.component.as_bytes())?;
-    if source.group.0 >= snapshot.group().0 {
+    let id = file_system.bookmarks().get(source.component.as_bytes())?;
+    if id.group.0 >= snapshot.group().0 {
         return None;
     }
-    Some(start_at(source))
+    Some(start_at(id))
 }
 
 // The start at a source of this identity.
