@@ -1,4 +1,5 @@
 pub mod Listed
+pub mod Places
 pub mod Lineages
 pub mod Starts
 pub mod Rows

@@ -13,7 +13,7 @@ use Rattle.file_system.specs.Gone.{Gone, gone_between}
 use Rattle.file_system.specs.Rows.{Row}
 use Rattle.datasets.specs.Table.{IsTable, AreSnapshotsClosed}
 use Rattle.accounts.proofs.Older.{older_has}
-use Rattle.space.specs.Places.{IsPlace, IsHome, IsHolder}
+use Rattle.space.specs.Places.{IsPlace, IsHome}
 use Rattle.space.specs.Since.{is_before, HasGone}
 use Rattle.space.proofs.Lineages as walk
 use Rattle.space.proofs.Lineages.{IsAt, top}
@@ -60,10 +60,11 @@ module _ (t : Datasets) (sound : IsTable t) (from : Dataset) (id : SnapId) (owne
       origin_found = walk.origin_found t sound from id owner home r (Some until) on.0 on.1 other o origin rest refl
 
       -- the walk goes on from the origin, which is newer
-      pub goes_on : id.group < o.group → (next : Row) → IsHolder t next o → IsOn t from id next o.group
-      goes_on high next holder = (
+      pub goes_on : id.group < o.group → (next : Row) (u : Snap) → IsPlace t next (Some u) → id_of u ≡ o → IsOn t from id next o.group
+      goes_on high next u there is = (
         min (on.0 + rest) top,
-        walk.goes_on t sound from id owner home r (Some until) on.0 on.1 other o origin rest refl high next holder (min (on.0 + rest) top) refl,
+        walk.goes_on t sound from id owner home r (Some until) on.0 on.1 other o origin rest refl high next
+        (record { row = there.row; at = there.at; snap = u; there = there.snap; is = is }) (min (on.0 + rest) top) refl,
       )
 
       pub falls : AreSnapshotsClosed t → o.group < until

@@ -40,13 +40,6 @@ module _ (t : Datasets) (m : Member) (from : Option Target) where
       → first_of (send_row (world_of t) (OfSnapshot m) from) ≡ cond {A = Option Refusal} (not (is_some x)) (Some NoDataset) (cond (not (is_some y)) (Some NotAncestor) None)
   row_by x e y h = λ i. cond {A = Option Refusal} (not (is_some (e i))) (Some NoDataset) (cond (not (is_some (h i))) (Some NotAncestor) None)
 
-  pub missing : snapshot_place t m ≡ None → first_of (send_row (world_of t) (OfSnapshot m) from) ≡ Some NoDataset
-  missing none = row_by None (at (get t.file_systems m.file_system)) (start_named (world_of t) (OfSnapshot m) from) refl
-    where
-      at : (x : Option FileSystem) → option_and_then {T = FileSystem} {U = FileSystem × Snap} (λ f. option_map (λ (u : Snap). (f, u)) (snap_named (world_of t) m)) x ≡ None
-      at None = refl
-      at (Some f) = ap (option_map {T = Snap} {U = FileSystem × Snap} (λ u. (f, u))) (none_named t m none)
-
   module _ (r : Row) (u : Snap) (found : IsSnapshot t m r u) where
     stands : placed (world_of t) (OfSnapshot m) ≡ Some (r.system, u)
     stands =
@@ -68,6 +61,3 @@ module _ (t : Datasets) (m : Member) (from : Option Target) where
 pub none_stands : {A : Type 0} (row : Option Refusal) (r : Result A Refusal) → row ≡ None → IfSome row (λ e. r ≡ Err e)
 none_stands None r h = tt
 none_stands (Some e) r h = absurd (no_value e (sym h))
-
-pub one_stands : {A : Type 0} (row : Option Refusal) (r : Result A Refusal) (e : Refusal) → row ≡ Some e → r ≡ Err e → IfSome row (λ x. r ≡ Err x)
-one_stands row r e h is = subst (λ y. IfSome y (λ x. r ≡ Err x)) (sym h) is

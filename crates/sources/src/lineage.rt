@@ -5,7 +5,7 @@ ghost use Rattle.model.specs.World.{Snapped, id_of, same_id};
 ghost use Rattle.space.specs.Places.{IsPlace, IsHome};
 ghost use Rattle.space.specs.Since.{is_before};
 
-use crate::place::{holder, is_named};
+use crate::place::{is_named, snapshot_of};
 use datasets::Table;
 use file_systems::{FileSystem, Snapshot};
 use model::snapshot_id::SnapshotId;
@@ -35,7 +35,7 @@ pub fn is_older(
         if origin.group.0 <= older.group.0 {
             return is_same(origin, older);
         }
-        let Some(next) = holder(table, origin) else {
+        let Some((next, _)) = snapshot_of(table, origin) else {
             unreachable!()
         };
         passed = next;

@@ -1,10 +1,10 @@
 //! Where snapshots stand in a table.
-ghost use Rattle.std.specs.Prelude.{◌≡◌, None, IfSome, IfNone};
+ghost use Rattle.std.specs.Prelude.{◌≡◌, Some, None, IfSome, IfNone};
 ghost use Rattle.std.specs.Option.{option_map};
 ghost use Rattle.name.specs.Names.{same_name};
 ghost use Rattle.model.specs.Ids.{snap_id};
-ghost use Rattle.model.specs.World.{snap_at};
-ghost use Rattle.space.specs.Places.{snapshot_place, IsHolder};
+ghost use Rattle.model.specs.World.{id_of, snap_at};
+ghost use Rattle.space.specs.Places.{snapshot_place, IsPlace};
 ghost use Rattle.world.specs.Tables.{world_of};
 
 use datasets::Table;
@@ -21,15 +21,16 @@ pub fn snapshot_named<'a>(table: &'a Table, name: &Member) -> Option<(&'a FileSy
     Some((file_system, snapshot))
 }
 
-/// The file system that has the snapshot of this identity, or none. It costs what `Table::snapshot_of` does.
-pub fn holder(table: &Table, id: SnapshotId) -> Option<&FileSystem>
-    ensures some { IfSome result (λ f. IsHolder table.now f.now (snap_id id)) }
+/// The snapshot of this identity with its file system, or none. It costs what `Table::snapshot_of` does.
+pub fn snapshot_of(table: &Table, id: SnapshotId) -> Option<(&FileSystem, &Snapshot)>
+    ensures some { IfSome result (λ p. IsPlace table.now p.0.now (Some p.1.now) × (id_of p.1.now ≡ snap_id id)) }
     ensures none { IfNone result (snap_at (world_of table.now) (snap_id id) ≡ None) }
 {
     // It tells what holds of the file systems.
     let _count = table.len();
-    let (file_system, _) = table.snapshot_of(id)?;
-    table.find(file_system.name())
+    let (owner, snapshot) = table.snapshot_of(id)?;
+    let file_system = table.find(owner.name())?;
+    Some((file_system, snapshot))
 }
 
 /// Whether that is the file system's name. It costs the shorter of both.

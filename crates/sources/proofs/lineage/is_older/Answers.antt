@@ -28,7 +28,7 @@ pub unreachable-requires : goal.unreachable-requires
 unreachable-requires c =
     let sound : IsTable c.args.table.now = record { systems = c.len-count.ensures.good; numbers = c.len-count.ensures.numbers } in
     origin_found c.args.table.now sound (Snapped (id_of c.args.snapshot.now)) (snap_id c.args.older) c.args.owner.now c.requires.home c.lineage.passed.now c.lineage.until.0 c.lineage.invariant
-    (sym c.is_named.ensures ∙ c.lineage-test.true) (snap_id c.in-Some.origin) (sym c.origin.ensures ∙ ap (option_map snap_id) c.in-Some.is) c.in_default-holder.ensures.none
+    (sym c.is_named.ensures ∙ c.lineage-test.true) (snap_id c.in-Some.origin) (sym c.origin.ensures ∙ ap (option_map snap_id) c.in-Some.is) c.in_default-snapshot_of.ensures.none
 
 pub lineage-smaller : goal.lineage-smaller
 lineage-smaller c =
@@ -41,7 +41,7 @@ lineage-preserved c =
     let sound : IsTable c.args.table.now = record { systems = c.len-count.ensures.good; numbers = c.len-count.ensures.numbers } in
     goes_on c.args.table.now sound (Snapped (id_of c.args.snapshot.now)) (snap_id c.args.older) c.args.owner.now c.requires.home c.lineage.passed.now c.lineage.until.0 c.lineage.invariant
     (sym c.is_named.ensures ∙ c.lineage-test.true) (snap_id c.in-Some.origin) (sym c.origin.ensures ∙ ap (option_map snap_id) c.in-Some.is)
-    c.if-origin-older.false c.in-Some-holder.next.now c.in-Some-holder.ensures.some
+    c.if-origin-older.false c.in-Some-snapshot_of.next.now c.in-Some-snapshot_of.field-0-1.now c.in-Some-snapshot_of.ensures.some.0 c.in-Some-snapshot_of.ensures.some.1
 
 pub returns : goal.returns
 returns c =
