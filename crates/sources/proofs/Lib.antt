@@ -3,3 +3,4 @@ pub mod Places
 pub mod Lineages
 pub mod Starts
 pub mod Rows
+pub mod Sources

@@ -42,8 +42,12 @@ same_itself m = rw (name_itself m.file_system, name_itself m.component) refl
 
 -- ---- the bookmarks of a file system in their order
 
-group_order : IsExactOrder bookmark_cmp
+pub group_order : IsExactOrder bookmark_cmp
 group_order = record { total = by_group.total; exact = by_group.exact }
+
+pub in_entries : {K X : Type 0} (es : List (K × X)) (k : K) (v : X) → IsEntry es k v → IsIn es (k, v)
+in_entries [] k v h = absurd h
+in_entries (e ∷ es) k v h = ⊎_elim (λ is. inl (λ i. (is.0 i, is.1 i))) (λ r. inr (in_entries es k v r)) h
 
 in_order : (f : FileSystem) (component : Name) (b : Bookmark) → get f.bookmarks component ≡ Some b → IsIn (bookmarks_in_order f) component
 in_order f component b at =
@@ -52,10 +56,6 @@ in_order f component b at =
     (key_of group_order rows (b.group, component) component
     (map_in {B = (ℕ × Name) × Name} (λ (e : Name × Bookmark). ((e.1.group, e.0), e.0)) (entries f.bookmarks) (component, b)
     (in_entries (entries f.bookmarks) component b (entry_of name_order f.bookmarks component b at))))
-  where
-    in_entries : (es : List (Name × Bookmark)) (k : Name) (v : Bookmark) → IsEntry es k v → IsIn es (k, v)
-    in_entries [] k v h = absurd h
-    in_entries (e ∷ es) k v h = ⊎_elim (λ is. inl (λ i. (is.0 i, is.1 i))) (λ r. inr (in_entries es k v r)) h
 
 -- ---- what a snapshot's sources are
 
@@ -67,7 +67,7 @@ module _ (t : Datasets) (sound : IsTable t) (r : Row) (u : Snap) (place : IsPlac
   abbrev older : List SnapId
   older = older_of (world_of t) (Snapped (id_of u))
 
-  parted : sources_of (world_of t) (id_of u) ≡ filter_map (snapshot_source (world_of t)) older ++ bookmark_sources r.name r.system u.group
+  pub parted : sources_of (world_of t) (id_of u) ≡ filter_map (snapshot_source (world_of t)) older ++ bookmark_sources r.name r.system u.group
   unfolding sources_of
   parted =
       ap (λ x. filter_map (snapshot_source (world_of t)) older ++ option_map_or (λ (p : Name × Snap). option_map_or (λ (f : FileSystem). bookmark_sources p.0 f u.group) (file_system_at (world_of t) p.0) []) x [])

@@ -4,7 +4,11 @@
 #![tactic(auto)]
 
 mod lineage;
+mod list;
 mod place;
+mod source;
 mod start;
 
+pub use crate::list::sources_of;
+pub use crate::source::{Kind, Source};
 pub use crate::start::{Start, start_of};
