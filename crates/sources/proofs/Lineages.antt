@@ -64,7 +64,7 @@ module _ (t : Datasets) (sound : IsTable t) (from : Dataset) (id : SnapId) (owne
       goes_on high next u there is = (
         min (on.0 + rest) top,
         walk.goes_on t sound from id owner home r (Some until) on.0 on.1 other o origin rest refl high next
-        (record { row = there.row; at = there.at; snap = u; there = there.snap; is = is }) (min (on.0 + rest) top) refl,
+            (record { row = there.row; at = there.at; snap = u; there = there.snap; is = is }) (min (on.0 + rest) top) refl,
       )
 
       pub falls : AreSnapshotsClosed t → o.group < until

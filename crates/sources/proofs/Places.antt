@@ -18,8 +18,7 @@ module _ (t : Datasets) (id : SnapId) (n : Name) (u : Snap) (told : Some (n, u) 
   found r e =
       let p = found_place t n r e in
       let k = from_snap_at (world_of t) id (n, u) (sym told) in
-      let name_is : r.name ≡ n = ap (λ (x : Row). x.name) p.1 in
-      (
+      let name_is : r.name ≡ n = ap (λ (x : Row). x.name) p.1 in (
         record {
           row = p.1 ∙ ap (λ n. row_in t.file_systems (n, r.system)) (sym name_is);
           at = ap (get t.file_systems) name_is ∙ p.0;

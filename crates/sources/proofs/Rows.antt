@@ -1,5 +1,5 @@
 -- Why a send doesn't start where it was told to.
-use Rattle.std.proofs.Common.{◌≡◌, cond, Option, None, Some, refl, sym, ap, subst, ◌∙◌}
+use Rattle.std.proofs.Common.{◌≡◌, cond, Option, None, Some, refl, sym, ap, ◌∙◌}
 use Rattle.std.specs.Prelude.{IfSome, Result, Err, not}
 use Rattle.std.specs.List.{find}
 use Rattle.std.specs.Option.{option_map, option_and_then, is_some}

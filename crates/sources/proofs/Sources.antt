@@ -1,5 +1,5 @@
 -- The list of a snapshot's sources.
-use Rattle.std.proofs.Common.{◌≡◌, ℕ, ◌+◌, ◌<◌, ◌≤◌, Bool, true, false, cond, List, [], ◌∷◌, ◌++◌, Option, None, Some, map, take, length, get_or, refl, sym, ap, subst, ◌∙◌, inl, inr, ⊎_elim, append_assoc, arith}
+use Rattle.std.proofs.Common.{◌≡◌, ℕ, ◌+◌, ◌<◌, ◌≤◌, true, false, cond, List, [], ◌∷◌, ◌++◌, Option, None, Some, map, take, length, get_or, refl, sym, ap, subst, ◌∙◌, inl, inr, ⊎_elim, append_assoc, arith}
 use Rattle.std.specs.Prelude.{reverse, nat_lt}
 use Rattle.std.proofs.lemmas.Bool.{lt-ltb, le-ltb, ltb-true}
 use Rattle.std.proofs.lemmas.List.{map-append, reverse-append, take_more}
@@ -9,19 +9,19 @@ use Rattle.std.specs.Option.{option_map}
 use Rattle.std.specs.Arc.{arc_value}
 use Rattle.std.specs.declared.alloc.Global.{Global}
 use Rattle.std.specs.declared.sync.Arc.{Arc}
-use Rattle.std.specs.FinMap.{FinMap, get, entries, values, from_entries, get-from_entries}
+use Rattle.std.specs.FinMap.{get, entries, from_entries, get-from_entries}
 use Rattle.base.specs.Surveys.{IsIn}
 use Rattle.bookmarks.specs.declared.mark.Mark.{Mark}
 use Rattle.bookmarks.specs.Marks.{Entry, Marks, entry_in, name_in, keyed, marks_in_order, alone}
 use Rattle.model.specs.Properties.{bookmark_cmp, bookmarks_in_order}
-use Rattle.model.specs.World.{World, FileSystem, Snap, SnapId, Bookmark, Dataset, Snapped, id_of, snap_at, older_of}
+use Rattle.model.specs.World.{FileSystem, Snap, SnapId, Bookmark, Snapped, id_of, snap_at, older_of}
 use Rattle.model.specs.requests.Send.{Source, snapshot_source, bookmark_source, bookmark_sources}
 use Rattle.world.specs.Dead.{IsThere, next_in}
 use Rattle.world.specs.Shapes.{Name, name_order}
 use Rattle.world.specs.Tables.{Datasets, world_of}
 use Rattle.world.specs.Usage.{IsEntry}
 use Rattle.world.specs.Worlds.{AreRising}
-use Rattle.world.proofs.Bridge.{in_middle, rising_above, rising_below, rising_after, snap_is_at}
+use Rattle.world.proofs.Bridge.{rising_above, rising_below, rising_after, snap_is_at}
 use Rattle.world.proofs.Finding.{filter_front, filter_join, append_none, in_left, in_either}
 use Rattle.world.proofs.Listed.{in_map, map_in}
 use Rattle.world.proofs.Maps.{no_value, entry_from_find, at_entry}

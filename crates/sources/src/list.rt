@@ -20,11 +20,7 @@ use std::alloc::Global;
 /// first, and then the bookmarks of its own file system of groups below its own, by group and then by name (the order is profile). NoMemory
 /// where there is none for them. It costs the logarithms of the numbers of file systems and of the snapshots of one; for each file system
 /// that the lineage passes the number of its snapshots and that of looking its origin up; the names; and what `Bookmarks::in_order` does.
-pub fn sources_of(
-    alloc: Global,
-    table: &Table,
-    snapshot: &SnapName,
-) -> Result<Vec<Source>, Refusal>
+pub fn sources_of(alloc: Global, table: &Table, snapshot: &SnapName) -> Result<Vec<Source>, Refusal>
     requires { IsSome (snap_named (world_of table.now) snapshot.now) }
     ensures ok { IfSome (snap_named (world_of table.now) snapshot.now) (λ u. IfOk result (λ sources. sources.items ≡ sources_of (world_of table.now) (id_of u))) }
     ensures err { IfErr result (λ e. e ≡ Refusal.NoMemory) }

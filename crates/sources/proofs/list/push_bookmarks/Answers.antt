@@ -1,4 +1,4 @@
-use Rattle.std.proofs.Common.{◌≡◌, ◌++◌, sym, ap, ◌∙◌, append-nil, arith}
+use Rattle.std.proofs.Common.{◌++◌, sym, ap, ◌∙◌, append-nil}
 use Rattle.std.proofs.lemmas.List.{take_all}
 use Rattle.bookmarks.specs.Marks.{entry_of}
 use Rattle.sources.specs.Sources.{bookmark_in}
@@ -12,14 +12,14 @@ loop-mark-init c = sym (append-nil c.args.sources.now.items)
 pub loop-mark-preserved : goal.loop-mark-preserved
 loop-mark-preserved c =
     elim c.if-deref-group.branch [
-      then-deref-group+in_ok-of_bookmark+in_ok-push w ↦
-        mark_one c.args.file_system.now.name c.args.group.0 c.as_slice-mark-items.result.now c.loop-mark.mark-index c.mark-item.result c.args.sources.now.items c.loop-mark.sources.items
-        c.loop-mark-test.true c.mark-item.is c.loop-mark.invariant c.deref.result.now c.deref.ensures w.if-deref-group.true w.in_ok-of_bookmark.field-0 c.if-deref-group.sources.items
-        (w.in_ok-of_bookmark.ensures.ok ∙ ap (λ m. bookmark_in c.args.file_system.now.name (entry_of m)) w.deref-then-deref-group.ensures)
-        (ap (λ s. s.items) w.sources-is ∙ w.in_ok-push.ensures.items)
+      | then-deref-group+in_ok-of_bookmark+in_ok-push w ↦
+          mark_one c.args.file_system.now.name c.args.group.0 c.as_slice-mark-items.result.now c.loop-mark.mark-index c.mark-item.result c.args.sources.now.items c.loop-mark.sources.items
+          c.loop-mark-test.true c.mark-item.is c.loop-mark.invariant c.deref.result.now c.deref.ensures w.if-deref-group.true w.in_ok-of_bookmark.field-0 c.if-deref-group.sources.items
+          (w.in_ok-of_bookmark.ensures.ok ∙ ap (λ m. bookmark_in c.args.file_system.now.name (entry_of m)) w.deref-then-deref-group.ensures)
+          (ap (λ s. s.items) w.sources-is ∙ w.in_ok-push.ensures.items)
       | else-deref-group w ↦
-        mark_none c.args.file_system.now.name c.args.group.0 c.as_slice-mark-items.result.now c.loop-mark.mark-index c.mark-item.result c.args.sources.now.items c.loop-mark.sources.items
-        c.loop-mark-test.true c.mark-item.is c.loop-mark.invariant c.deref.result.now c.deref.ensures w.if-deref-group.false c.if-deref-group.sources.items (ap (λ s. s.items) w.sources-is)
+          mark_none c.args.file_system.now.name c.args.group.0 c.as_slice-mark-items.result.now c.loop-mark.mark-index c.mark-item.result c.args.sources.now.items c.loop-mark.sources.items
+          c.loop-mark-test.true c.mark-item.is c.loop-mark.invariant c.deref.result.now c.deref.ensures w.if-deref-group.false c.if-deref-group.sources.items (ap (λ s. s.items) w.sources-is)
     ]
 
 pub returns-clause-ok : goal.returns-clause-ok

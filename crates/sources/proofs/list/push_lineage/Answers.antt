@@ -1,4 +1,4 @@
-use Rattle.std.proofs.Common.{◌≡◌, ◌++◌, ◌∷◌, [], refl, sym, ap, ◌∙◌, append_assoc}
+use Rattle.std.proofs.Common.{◌++◌, ◌∷◌, [], refl, sym, ap, ◌∙◌, append_assoc}
 use Rattle.std.specs.Option.{option_map}
 use Rattle.model.specs.Ids.{snap_id}
 use Rattle.model.specs.World.{id_of}
@@ -34,16 +34,15 @@ lineage-preserved c =
     let sound : IsTable c.args.table.now = record { systems = c.len-count.ensures.good; numbers = c.len-count.ensures.numbers } in
     let older = older_sources c.lineage.passed.now.name c.lineage.at.now.group c.lineage.passed.now.system.snaps in
     let source = snapshot_in c.in-Some-snapshot_of.owner.now.name c.in-Some-snapshot_of.next.now in
-    let rest = lineage_sources c.args.table.now (id_of c.in-Some-snapshot_of.next.now) in
-    (
+    let rest = lineage_sources c.args.table.now (id_of c.in-Some-snapshot_of.next.now) in (
       c.in-Some-snapshot_of.ensures.some.0,
       c.lineage.invariant.1
-      ∙ ap (λ l. c.lineage.sources.items ++ l)
-      (goes_down c.args.table.now sound c.lineage.passed.now c.lineage.at.now c.lineage.invariant.0 (snap_id c.in-Some.origin) (sym c.origin.ensures ∙ ap (option_map snap_id) c.in-Some.is)
-      c.in-Some-snapshot_of.owner.now c.in-Some-snapshot_of.next.now c.in-Some-snapshot_of.ensures.some.0 c.in-Some-snapshot_of.ensures.some.1)
-      ∙ sym (append_assoc c.lineage.sources.items (older ++ source ∷ []) rest)
-      ∙ ap (λ l. l ++ rest) (sym (append_assoc c.lineage.sources.items older (source ∷ []))
-      ∙ ap (λ l. l ++ source ∷ []) (sym (c.in_ok-push_older.ensures.ok ∙ ap (λ n. c.lineage.sources.items ++ older_sources c.lineage.passed.now.name n c.lineage.passed.now.system.snaps) c.group.ensures))
-      ∙ ap (λ x. c.push_older.new.sources.items ++ x ∷ []) (sym c.in_ok-of_snapshot.ensures.ok)
-      ∙ sym c.in_ok-push.ensures.items),
+          ∙ ap (λ l. c.lineage.sources.items ++ l)
+          (goes_down c.args.table.now sound c.lineage.passed.now c.lineage.at.now c.lineage.invariant.0 (snap_id c.in-Some.origin) (sym c.origin.ensures ∙ ap (option_map snap_id) c.in-Some.is)
+          c.in-Some-snapshot_of.owner.now c.in-Some-snapshot_of.next.now c.in-Some-snapshot_of.ensures.some.0 c.in-Some-snapshot_of.ensures.some.1)
+          ∙ sym (append_assoc c.lineage.sources.items (older ++ source ∷ []) rest)
+          ∙ ap (λ l. l ++ rest) (sym (append_assoc c.lineage.sources.items older (source ∷ []))
+          ∙ ap (λ l. l ++ source ∷ []) (sym (c.in_ok-push_older.ensures.ok ∙ ap (λ n. c.lineage.sources.items ++ older_sources c.lineage.passed.now.name n c.lineage.passed.now.system.snaps) c.group.ensures))
+          ∙ ap (λ x. c.push_older.new.sources.items ++ x ∷ []) (sym c.in_ok-of_snapshot.ensures.ok)
+          ∙ sym c.in_ok-push.ensures.items),
     )
