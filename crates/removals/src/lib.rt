@@ -18,6 +18,7 @@ mod now;
 mod sweep;
 
 pub use back::rollback;
+pub use bookmark::lose_newer_bookmarks;
 pub use close::close_view;
 pub use edit::Edit;
 pub use family::destroy;

@@ -1,0 +1,63 @@
+//! What a receive ends with.
+ghost use Rattle.std.specs.Prelude.{◌≡◌, ◌≤◌, ℕ, IfOk, IfErr, OnOk, Err};
+ghost use Rattle.base.specs.declared.number.Key.{Key};
+ghost use Rattle.base.specs.declared.refusal.Refusal.{Refusal};
+ghost use Rattle.tree.specs.Asking.{IsNoSpaceOrNoMemory};
+ghost use Rattle.tree.specs.Change.{HasRoom, LacksRoom, CountsDropped};
+ghost use Rattle.tree.specs.Updates.{changes_of};
+ghost use Rattle.file_system.specs.Rows.{live_of};
+ghost use Rattle.datasets.specs.Writes.{young_of, AllowsWrite};
+ghost use Rattle.world.specs.Tables.{world_of};
+ghost use Rattle.receives.specs.Ends.{CanFinish, HasReceived, finished};
+
+use base::meter::{Meter, SegMeter};
+use base::number::{Group, Guid};
+use base::refusal::Refusal;
+use datasets::Table;
+use name::SnapName;
+use std::alloc::Global;
+use tree::{Changed, Update};
+use zalloc::Allocator;
+
+/// Puts the batch of a stream in force in the live tree of the file system that a receive began with, where the last sync left group `synced`
+/// open, and keeps the live map as the snapshot of this name with the sender's guid, which closes the open group (zfs-receive(8); that the guid
+/// is the sender's, and groups, are profile). The answer names the numbers that the new blocks have, and takes none; of the blocks that the
+/// tree drops it names those that no snapshot has. NoSpace where the Free numbers and those of the dropped young blocks are too few, else
+/// NoMemory where there is none for it, or the snapshots would have more blocks than a u64 counts; then the table is of no use. It costs the
+/// logarithm of the number of file systems, and the change; and where another table shares the snapshots of this one, a 32nd of their number.
+pub fn finish(
+    alloc: Global,
+    table: &mut Table,
+    name: &SnapName,
+    target: Guid,
+    updates: &[Update],
+    synced: Group,
+    allocator: &Allocator,
+    meter: &mut Meter,
+    segments: &mut SegMeter,
+) -> Result<Changed, Refusal>
+    requires can { CanFinish table.old name.now }
+    requires writes { AllowsWrite table.old updates.now synced.0 allocator.now }
+    ensures ok { IfOk result (HasReceived table.old table.new name.now target.0 (changes_of updates.now) synced.0 allocator.now) }
+    ensures after { IfOk result (λ done. (number : Key → ℕ) × (world_of table.new ≡ finished table.old name.now target.0 (changes_of updates.now) number)) }
+    ensures room { OnOk result (HasRoom (live_of table.old.file_systems name.now.file_system) (changes_of updates.now) (young_of table.old name.now.file_system synced.0) allocator.now) }
+    ensures no_space { result ≡ Err Refusal.NoSpace → LacksRoom (live_of table.old.file_systems name.now.file_system) (changes_of updates.now) (young_of table.old name.now.file_system synced.0) allocator.now }
+    ensures only { IfErr result IsNoSpaceOrNoMemory }
+    ensures metered { OnOk result (CountsDropped (live_of table.old.file_systems name.now.file_system) (changes_of updates.now) meter.old meter.new) }
+    ensures never_lower { meter.old ≤ meter.new }
+{
+    let name = name.member();
+    let changed = table.apply_live(
+        &name.file_system,
+        alloc,
+        updates,
+        synced,
+        allocator,
+        meter,
+        segments,
+    )?;
+    // It tells of the file systems what a snapshot needs.
+    let _count = table.len();
+    table.keep_live(alloc, &name.file_system, &name.component, target)?;
+    Ok(changed)
+}
