@@ -1,4 +1,4 @@
-//! Tests of `file_systems`, `datasets`, `snap`, `clones`, `removals` and `marks` from outside.
+//! Tests of `file_systems`, `datasets`, `snap`, `clones`, `removals`, `marks` and `sources` from outside.
 #![tactic(auto)]
 
 #[cfg(test)]
@@ -23,6 +23,8 @@ mod marked;
 mod now;
 #[cfg(test)]
 mod removing;
+#[cfg(test)]
+mod sources;
 #[cfg(test)]
 mod swept;
 #[cfg(test)]
