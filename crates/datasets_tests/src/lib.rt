@@ -1,4 +1,4 @@
-//! Tests of `file_systems`, `datasets`, `snap`, `clones`, `removals`, `marks` and `receives` from outside.
+//! Tests of `file_systems`, `datasets`, `snap`, `clones`, `removals`, `marks`, `receives` and `sources` from outside.
 #![tactic(auto)]
 
 #[cfg(test)]
@@ -27,6 +27,8 @@ mod now;
 mod received;
 #[cfg(test)]
 mod removing;
+#[cfg(test)]
+mod starts;
 #[cfg(test)]
 mod swept;
 #[cfg(test)]

@@ -1,0 +1,6 @@
+pub mod Listed
+pub mod Places
+pub mod Lineages
+pub mod Starts
+pub mod Rows
+pub mod Sources

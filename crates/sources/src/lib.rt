@@ -1,0 +1,14 @@
+//! Where a send of a snapshot may start: at an older snapshot of its lineage, or at a bookmark of its file system (zfs-send(8), -i).
+//!
+//! Nothing here visits a block: names are looked up, and file systems are passed from a snapshot down its lineage.
+#![tactic(auto)]
+
+mod lineage;
+mod list;
+mod place;
+mod source;
+mod start;
+
+pub use crate::list::sources_of;
+pub use crate::source::{Kind, Source};
+pub use crate::start::{Start, start_of};
