@@ -54,14 +54,12 @@ fn at(number: u64) -> Result<(Guid, Group), Refusal> {
 
 /// Whether each send of these rows starts there: the target, the source, and the number.
 fn all_start(alloc: Global, table: &Table, rows: &[(&[u8], &[u8], u64)]) -> bool {
-    rows.iter()
-        .all(|(target, from, number)| started(alloc, table, target, from) == at(*number))
+    rows.iter().all(|(target, from, number)| started(alloc, table, target, from) == at(*number))
 }
 
 /// Whether each send of these rows is refused so: the target, the source, and why.
 fn all_refused(alloc: Global, table: &Table, rows: &[(&[u8], &[u8], Refusal)]) -> bool {
-    rows.iter()
-        .all(|(target, from, why)| started(alloc, table, target, from) == Err(*why))
+    rows.iter().all(|(target, from, why)| started(alloc, table, target, from) == Err(*why))
 }
 
 #[test]
