@@ -1,5 +1,5 @@
 -- One step of the pool: a request applied to a state (the zfs-SUBCOMMAND(8) page of each request).
-use Rattle.std.specs.Prelude.{◌≡◌, Option, None, Some, IsTrue}
+use Rattle.std.specs.Prelude.{◌≡◌, ◌⊎◌, Option, None, Some, IsTrue}
 use Rattle.base.specs.declared.refusal.Refusal.{Refusal}
 use Rattle.base.specs.declared.refusal.Refusal.TheVariants.{NoMemory}
 use Rattle.stream.specs.Spelling.{Sending}
@@ -41,8 +41,8 @@ pub data Follows (old : State) (rule : Rule) (reply : Reply) (new : State) : Typ
   refused : IsRefused old rule reply new → Follows old rule reply new
   out_of_memory : IsOutOfMemory old rule reply new → Follows old rule reply new
 
--- one request applied, by the rule of what its bytes say (profile)
+-- one request applied, by the rule of what its bytes say, which stay unread where memory is wanting (profile)
 pub record Step (old : State) (request : Request) (reply : Reply) (new : State) : Type 0 where
   pub reading : Option Sending
-  pub read : IsReadingOf request reading
+  pub read : IsReadingOf request reading ⊎ (reply ≡ Refused NoMemory)
   pub follows : Follows old (rule_of request reading) reply new

@@ -1,8 +1,9 @@
 -- Each request by its rule.
-use Rattle.std.specs.Prelude.{◌≡◌, Option, None}
-use Rattle.stream.specs.Spelling.{Sending}
+use Rattle.std.specs.Prelude.{◌≡◌, ℕ, Option, None, Some}
+use Rattle.std.specs.Prelude.{List as ListOf}
+use Rattle.stream.specs.Spelling.{Sending, IsStream, IsNoStream}
 use Rattle.model.specs.declared.request.Request.{Request}
-use Rattle.model.specs.declared.request.Request.TheVariants.{Create as ToCreate, Write as ToWrite, Punch as ToPunch, FreeObject as ToFreeObject, Snapshot as ToSnapshot, Read as ToRead, Get as ToGet, PoolGet as ToPoolGet, List as ToList, Rollback as ToRollback, Destroy as ToDestroy, Slice as ToSlice, Sync as ToSync, OpenView as ToOpenView, CloseView as ToCloseView, Clone as ToClone, Promote as ToPromote, Hold as ToHold, Release as ToRelease, Holds as ToHolds, Bookmark as ToBookmark, WrittenSince as ToWrittenSince, WouldFree as ToWouldFree, Set as ToSet}
+use Rattle.model.specs.declared.request.Request.TheVariants.{Create as ToCreate, Write as ToWrite, Punch as ToPunch, FreeObject as ToFreeObject, Snapshot as ToSnapshot, Read as ToRead, Get as ToGet, PoolGet as ToPoolGet, List as ToList, Rollback as ToRollback, Destroy as ToDestroy, Slice as ToSlice, Sync as ToSync, OpenView as ToOpenView, CloseView as ToCloseView, Clone as ToClone, Promote as ToPromote, Hold as ToHold, Release as ToRelease, Holds as ToHolds, Bookmark as ToBookmark, WrittenSince as ToWrittenSince, WouldFree as ToWouldFree, Set as ToSet, Send as ToSend, Receive as ToReceive}
 use Rattle.model.specs.declared.reply.Reply.TheVariants.{Done}
 use Rattle.model.specs.State.{State}
 use Rattle.model.specs.Rule.{Rule}
@@ -30,6 +31,8 @@ use Rattle.model.specs.requests.Bookmark.{bookmark_rule}
 use Rattle.model.specs.requests.WrittenSince.{written_since_rule}
 use Rattle.model.specs.requests.Set.{set_rule}
 use Rattle.model.specs.requests.WouldFree.{would_free_rule}
+use Rattle.model.specs.requests.Send.{send_rule}
+use Rattle.model.specs.requests.Receive.{receive_rule}
 pub mod Create
 pub mod Change
 pub mod Write
@@ -58,8 +61,14 @@ pub mod WouldFree
 pub mod Send
 pub mod Receive
 
--- what the bytes of a request say; no request has any yet (zfs-receive(8))
+-- these bytes are a stream that says this, or no stream (zfs-receive(8))
+abbrev pub IsReadingOfBytes : ListOf ℕ → Option Sending → Type 0
+IsReadingOfBytes bytes (Some sent) = IsStream bytes sent
+IsReadingOfBytes bytes None = IsNoStream bytes
+
+-- what the bytes of a request say; only a receive has any (zfs-receive(8))
 abbrev pub IsReadingOf : Request → Option Sending → Type 0
+IsReadingOf (ToReceive snapshot bytes force) reading = IsReadingOfBytes bytes reading
 IsReadingOf request reading = reading ≡ None
 
 -- the rule of a request whose bytes say this (the page of each subcommand)
@@ -88,6 +97,8 @@ rule_of (ToBookmark target mark) reading = bookmark_rule target mark
 rule_of (ToWrittenSince target since) reading = written_since_rule target since
 rule_of (ToWouldFree name first last) reading = would_free_rule name first last
 rule_of (ToSet name limit amount) reading = set_rule name limit amount
+rule_of (ToSend target from) reading = send_rule target from
+rule_of (ToReceive snapshot bytes force) reading = receive_rule snapshot reading force
 
 -- where it isn't refused, the reply is Done (profile)
 abbrev pub AnswersDone : Request → Type 0

@@ -9,3 +9,4 @@ pub mod request;
 pub mod sight;
 pub mod snap_names;
 pub mod snapshot_id;
+pub mod source;

@@ -56,6 +56,8 @@ pub enum Reply {
     Count(u64),
     /// The number of the view that was opened, and what it shows.
     Opened(u64, Sight),
+    /// The bytes of a send.
+    Stream(Bytes),
 }
 
 impl Reply {
@@ -72,6 +74,7 @@ impl Reply {
             (Reply::Names(a), Reply::Names(b)) => a.same(b),
             (Reply::Count(a), Reply::Count(b)) => *a == *b,
             (Reply::Opened(n, a), Reply::Opened(m, b)) => *n == *m && a.same(b),
+            (Reply::Stream(a), Reply::Stream(b)) => a.same(b),
             _ => false,
         }
     }

@@ -5,6 +5,7 @@ use crate::limits::Limit;
 use crate::snap_names::SnapNames;
 use base::data::Data;
 use base::limit::Blocks;
+use base::text::Bytes;
 use name::{Component, DsName, MarkName, SnapName, Tag, Target};
 
 /// What `Get` may ask of a dataset or bookmark (zfsprops(7)).
@@ -230,6 +231,26 @@ pub enum Request {
         limit: Limit,
         amount: Option<Blocks>,
     },
+    /// The stream of a snapshot: all of it, or where a source is named what is younger than that (zfs-send(8), -i), by which a file system
+    /// that has the source as its newest snapshot comes to have this one. A source is an older snapshot of the snapshot's lineage, or a
+    /// bookmark of its file system of a lower group. The reply is Stream. It is refused NotSnapshot where the target is no snapshot's name,
+    /// NoDataset where no snapshot has it, NotAncestor where the source is none of these: the first of these, or NoMemory.
+    Send {
+        target: Target,
+        from: Option<Target>,
+    },
+    /// Receives a stream as a snapshot of this name, with the sender's guid (zfs-receive(8)): a full one into a new file system, and one from
+    /// a source into the file system whose newest snapshot that is; with `force` (-F) it goes back to that snapshot first. The reply is Done.
+    /// It is refused BadStream where the bytes are no stream; for a full one Exists where the file system is there, NoParent where the one
+    /// above it isn't; for another NoDataset where the file system isn't there, Exists where the snapshot is, WrongSource where the newest
+    /// snapshot isn't the source, Modified where the live map isn't that snapshot's and not `force`; then TooMany where there are 1,024 file
+    /// systems and one is new, 65,536 snapshots, or the open group is the last one, and then Quota, RefQuota or NoSpace as a write is: the
+    /// first of these, or NoMemory.
+    Receive {
+        snapshot: SnapName,
+        bytes: Bytes,
+        force: bool,
+    },
 }
 
 impl Request {
@@ -382,7 +403,40 @@ impl Request {
                     amount: b,
                 },
             ) => n.same(m) && *l == *k && *a == *b,
+            (
+                Request::Send {
+                    target: t,
+                    from: a,
+                },
+                Request::Send {
+                    target: u,
+                    from: b,
+                },
+            ) => t.same(u) && is_same_source(a, b),
+            (
+                Request::Receive {
+                    snapshot: n,
+                    bytes: a,
+                    force: f,
+                },
+                Request::Receive {
+                    snapshot: m,
+                    bytes: b,
+                    force: g,
+                },
+            ) => n.same(m) && a.same(b) && *f == *g,
             _ => false,
         }
+    }
+}
+
+// Whether both name the same source, or none.
+fn is_same_source(one: &Option<Target>, other: &Option<Target>) -> bool
+    ensures { IsTrue result ↔ (one.now ≡ other.now) }
+{
+    match (one, other) {
+        (Some(a), Some(b)) => a.same(b),
+        (None, None) => true,
+        _ => false,
     }
 }

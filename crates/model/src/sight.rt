@@ -2,36 +2,45 @@
 ghost use Rattle.std.specs.Prelude.{◌≡◌, ◌↔◌, IsTrue, IfOk, IfErr};
 ghost use Rattle.base.specs.declared.refusal.Refusal.{Refusal};
 
+use crate::source::Source;
 use base::number::{Group, Guid};
 use base::refusal::Refusal;
 use std::marker::Model;
+use std::sync::Arc;
 use tree::Tree;
 
-/// A snapshot as it was when a view of it was opened: its map, its guid and its creation group (profile). Other owners may have its
-/// tree too, which never changes.
+/// A snapshot as it was when a view of it was opened: its map, its guid and its creation group, and what a send of it may start from
+/// (zfs-send(8), -i; that a view has them is profile). Other owners may have its tree too, and the list of sources: neither ever changes.
 #[derive(Drop)]
 pub struct Sight {
     tree: Tree,
     guid: Guid,
     group: Group,
+    sources: Arc<Vec<Source>>,
 }
 
 impl Model for Sight {
+    ghost use Rattle.std.specs.Arc.{arc_value};
     ghost use Rattle.model.specs.Sights.{Seen, seen_code};
 
     ghost Value = { Seen };
 
     ghost coded = { seen_code };
 
-    ghost view = { λ s. record { map = s.tree; guid = s.guid.0; group = s.group.0 } };
+    ghost view = { λ s. record { map = s.tree; guid = s.guid.0; group = s.group.0; sources = (arc_value s.sources).items } };
 }
 
 impl Sight {
-    /// A sight of this map, guid and creation group. Constant time.
-    pub fn new(tree: Tree, guid: Guid, group: Group) -> Sight
-        ensures { result ≡ record { map = tree; guid = guid.0; group = group.0 } }
+    /// A sight of this map, guid, creation group and sources. Constant time.
+    pub fn new(tree: Tree, guid: Guid, group: Group, sources: Arc<Vec<Source>>) -> Sight
+        ensures { result ≡ record { map = tree; guid = guid.0; group = group.0; sources = sources.value.items } }
     {
-        Sight { tree, guid, group }
+        Sight {
+            tree,
+            guid,
+            group,
+            sources,
+        }
     }
 
     /// The tree of its blocks. Constant time.
@@ -55,7 +64,14 @@ impl Sight {
         self.group
     }
 
-    /// An equal sight, by one more owner of its tree. NoMemory where there is none for that. Constant time.
+    /// What a send of the snapshot may start from (zfs-send(8), -i). Constant time.
+    pub fn sources(&self) -> &[Source]
+        ensures { result.now ≡ self.now.sources }
+    {
+        self.sources.as_slice()
+    }
+
+    /// An equal sight, by one more owner of its tree and of its sources. NoMemory where there is none for that. Constant time.
     pub fn copy(&self) -> Result<Sight, Refusal>
         ensures ok { IfOk result (λ s. s ≡ self.now) }
         ensures err { IfErr result (λ e. e ≡ Refusal.NoMemory) }
@@ -64,13 +80,24 @@ impl Sight {
             tree: self.tree.copy()?,
             guid: self.guid,
             group: self.group,
+            sources: Arc::try_clone(&self.sources)?,
         })
     }
 
-    /// Whether the other is the same sight. It costs the nodes that both trees have up to the first difference.
+    /// Whether the other is the same sight. It costs the nodes that both trees have up to the first difference, and the sources.
     pub fn same(&self, other: &Sight) -> bool
         ensures { IsTrue result ↔ (self.now ≡ other.now) }
     {
-        self.guid == other.guid && self.group == other.group && self.tree.same(&other.tree)
+        self.guid == other.guid
+            && self.group == other.group
+            && are_same_sources(&self.sources, &other.sources)
+            && self.tree.same(&other.tree)
     }
+}
+
+// Whether both lists are the same.
+fn are_same_sources(one: &[Source], other: &[Source]) -> bool
+    ensures { IsTrue result ↔ (one.now ≡ other.now) }
+{
+    one == other
 }

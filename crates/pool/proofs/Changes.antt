@@ -15,7 +15,7 @@ use Rattle.model.specs.declared.reply.Reply.{Reply}
 use Rattle.model.specs.declared.reply.Reply.TheVariants.{Refused}
 use Rattle.model.specs.Step.{Step}
 use Rattle.model.specs.State.{State}
-use Rattle.model.specs.requests.{rule_of}
+use Rattle.steps.specs.Ruled.{HasRule}
 use Rattle.model.specs.requests.Change.{change_rule}
 use Rattle.model.proofs.Blocks.{not_false}
 use Rattle.steps.proofs.Changing.{change_no_memory, change_no_dataset, change_read_only, change_bad_key}
@@ -67,8 +67,8 @@ module _ (s : State) (numbers : List BlockState) (sound : IsSound s numbers) (q 
           no_error : Ok u ≡ update_error BadKey → ⊥
           no_error e = cc
 
-      pub rule : rule_of q None ≡ change_rule (OfFileSystem name) (changes_of (u ∷ [])) asks.in_range
-      rule = subst (λ x. rule_of q None ≡ change_rule (OfFileSystem name) x asks.in_range) (sym asks.is) asks.rule
+      pub rule : HasRule q (change_rule (OfFileSystem name) (changes_of (u ∷ [])) asks.in_range)
+      rule = subst (λ x. HasRule q (change_rule (OfFileSystem name) x asks.in_range)) (sym asks.is) asks.rule
 
       pub update_no_memory : Step s q (Refused NoMemory) s
       update_no_memory = change_no_memory s sound.steady q (OfFileSystem name) ch asks.in_range rule

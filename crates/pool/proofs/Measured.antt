@@ -122,23 +122,23 @@ module _ (seen : Shown) (s : State) (numbers : List BlockState) (view : shown s 
   module _ (target : Target) (since : Member) where
     pub since_refused : (why : Refusal) → since_refusal (datasets_of s) target since ≡ Some why → Step seen.state (WrittenSince target since) (Refused why) seen.state
     unfolding refusal_of
-    since_refused why e = at _ _ (refused_by (WrittenSince target since) (written_since_rule target since) refl s why (refusal_is s target since ∙ e))
+    since_refused why e = at _ _ (refused_by (WrittenSince target since) (written_since_rule target since) (None, refl, refl) s why (refusal_is s target since ∙ e))
 
     pub since_told : since_refusal (datasets_of s) target since ≡ None → (n : ℕ) → written_named (datasets_of s) target since ≡ Some n
         → (v : Value) → v ≡ Size (512 * n) → Step seen.state (WrittenSince target since) (ValueIs v) seen.state
     unfolding refusal_of
     since_told none n counted v is = at _ _
-        (answered_by (WrittenSince target since) (written_since_rule target since) refl s sound.steady (ValueIs v) refl refl (refusal_is s target since ∙ none)
+        (answered_by (WrittenSince target since) (written_since_rule target since) (None, refl, refl) s sound.steady (ValueIs v) refl refl (refusal_is s target since ∙ none)
         (ap ValueIs is ∙ reply_is s target since n counted))
 
   module _ (name first last : List ℕ) where
     pub free_refused : (why : Refusal) → range_refusal (datasets_of s) name first last ≡ Some why → Step seen.state (WouldFree name first last) (Refused why) seen.state
     unfolding refusal_of
-    free_refused why e = at _ _ (refused_by (WouldFree name first last) (would_free_rule name first last) refl s why e)
+    free_refused why e = at _ _ (refused_by (WouldFree name first last) (would_free_rule name first last) (None, refl, refl) s why e)
 
     pub free_told : range_refusal (datasets_of s) name first last ≡ None → (n : ℕ) → n ≡ would_free (world_of (datasets_of s)) (range_ids (datasets_of s) name first last)
         → (v : Value) → v ≡ Size (512 * n) → Step seen.state (WouldFree name first last) (ValueIs v) seen.state
     unfolding refusal_of
     free_told none n counted v is = at _ _
-        (answered_by (WouldFree name first last) (would_free_rule name first last) refl s sound.steady (ValueIs v) refl refl none
+        (answered_by (WouldFree name first last) (would_free_rule name first last) (None, refl, refl) s sound.steady (ValueIs v) refl refl none
         (ap ValueIs is ∙ ap (λ k. ValueIs (Size (512 * k))) (counted ∙ would_free_alike s (range_ids (datasets_of s) name first last))))

@@ -13,12 +13,12 @@ use Rattle.model.specs.World.{FileSystem}
 use Rattle.model.specs.State.{State}
 use Rattle.model.specs.Targets.{has_dataset, is_snapshot_name}
 use Rattle.model.specs.Rule.{Choice, Rule, first_of}
-use Rattle.model.specs.requests.{rule_of}
 use Rattle.model.specs.requests.Change.{limit_row, state_after_change, change_rule}
 use Rattle.model.specs.Refusals.{refusal_of, state_asked, fresh_number}
 use Rattle.model.specs.Step.{Step}
 use Rattle.world.specs.Shapes.{Name}
 use Rattle.world.specs.Tables.{Datasets}
+use Rattle.steps.specs.Ruled.{HasRule}
 use Rattle.steps.specs.Steady.{IsSteady, HasNoDataset}
 use Rattle.steps.specs.Asked.{asked_by_change}
 use Rattle.steps.specs.Edits.{with_datasets}
@@ -41,7 +41,7 @@ first-limits : (d r i : Bool) (rest : Option Refusal) → d ≡ true → r ≡ f
     → cond {A = Option Refusal} (not d) (Some NoDataset) (cond r (Some ReadOnly) (cond (not i) (Some BadKey) rest)) ≡ rest
 first-limits d r i rest a b e = rw (a, b, e) refl
 
-module _ (s : State) (steady : IsSteady s) (q : Request) (target : Target) (ch : Changes) (in_range : Bool) (is : rule_of q None ≡ change_rule target ch in_range) where
+module _ (s : State) (steady : IsSteady s) (q : Request) (target : Target) (ch : Changes) (in_range : Bool) (is : HasRule q (change_rule target ch in_range)) where
   abbrev rule : Rule
   rule = change_rule target ch in_range
 

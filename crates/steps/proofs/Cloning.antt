@@ -139,11 +139,11 @@ module _ (s : State) (target : Target) (name : List ℕ) where
   -- a clone that is refused, or has no memory
   pub clone_refused : (why : Refusal) → (clone_refusal (datasets_of s) target name ≡ Some why) ⊎ (why ≡ NoMemory) → Step s (Clone target name) (Refused why) s
   clone_refused why which = ⊎_elim
-      (λ e. refused_by (Clone target name) (clone_rule target name) refl s why (row_is ∙ e))
-      (λ e. subst (λ z. Step s (Clone target name) (Refused z) s) (sym e) (no_memory_by (Clone target name) (clone_rule target name) refl s refl))
+      (λ e. refused_by (Clone target name) (clone_rule target name) (None, refl, refl) s why (row_is ∙ e))
+      (λ e. subst (λ z. Step s (Clone target name) (Refused z) s) (sym e) (no_memory_by (Clone target name) (clone_rule target name) (None, refl, refl) s refl))
       which
 
   -- and one that nothing refuses
   pub clone_done : IsSteady s → clone_refusal (datasets_of s) target name ≡ None → Step s (Clone target name) Done (put s (cloned (datasets_of s) target name) 0)
-  clone_done steady none = done_by (Clone target name) (clone_rule target name) refl s no_choice (put s (cloned (datasets_of s) target name) 0) Done
+  clone_done steady none = done_by (Clone target name) (clone_rule target name) (None, refl, refl) s no_choice (put s (cloned (datasets_of s) target name) 0) Done
       refl refl (row_is ∙ none) refl (sym (cloned_state s target name)) (clone_can s steady target name none).steady

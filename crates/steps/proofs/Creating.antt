@@ -94,11 +94,11 @@ module _ (s : State) (name : List ℕ) where
   -- a creation that the table refused, or that had no memory
   pub create_refused : (why : Refusal) → (create_refusal s.now.file_systems name ≡ Some why) ⊎ (why ≡ NoMemory) → Step s (Create name) (Refused why) s
   create_refused why which = ⊎_elim
-      (λ e. refused_by (Create name) (create_rule name) refl s why (row_is ∙ e))
-      (λ e. subst (λ z. Step s (Create name) (Refused z) s) (sym e) (no_memory_by (Create name) (create_rule name) refl s refl))
+      (λ e. refused_by (Create name) (create_rule name) (None, refl, refl) s why (row_is ∙ e))
+      (λ e. subst (λ z. Step s (Create name) (Refused z) s) (sym e) (no_memory_by (Create name) (create_rule name) (None, refl, refl) s refl))
       which
 
   pub create_done : IsSteady s → create_refusal s.now.file_systems name ≡ None
       → Step s (Create name) Done (put s (with_system (datasets_of s) name empty_file_system) 0)
-  create_done steady may = done_by (Create name) (create_rule name) refl s no_choice (put s (with_system (datasets_of s) name empty_file_system) 0) Done
+  create_done steady may = done_by (Create name) (create_rule name) (None, refl, refl) s no_choice (put s (with_system (datasets_of s) name empty_file_system) 0) Done
       refl refl (row_is ∙ may) refl (put_none s (with_system (datasets_of s) name empty_file_system)) (create_steady s steady name may)

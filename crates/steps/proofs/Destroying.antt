@@ -201,16 +201,16 @@ module _ (s : State) (steady : IsSteady s) (target : Target) (recursive defer : 
   -- a destroy that is refused, or has no memory
   pub destroy_refused : (why : Refusal) → (destroy_refusal (datasets_of s) s.views target recursive defer ≡ Some why) ⊎ (why ≡ NoMemory) → Step s (Destroy target recursive defer) (Refused why) s
   destroy_refused why which = ⊎_elim
-      (λ e. refused_by (Destroy target recursive defer) (destroy_rule target recursive defer) refl s why (row_is ∙ e))
+      (λ e. refused_by (Destroy target recursive defer) (destroy_rule target recursive defer) (None, refl, refl) s why (row_is ∙ e))
       (λ e. subst (λ z. Step s (Destroy target recursive defer) (Refused z) s) (sym e)
-      (no_memory_by (Destroy target recursive defer) (destroy_rule target recursive defer) refl s refl))
+      (no_memory_by (Destroy target recursive defer) (destroy_rule target recursive defer) (None, refl, refl) s refl))
       which
 
   -- and one that nothing refuses, after which what nothing needs any more is swept
   pub destroy_done : destroy_refusal (datasets_of s) s.views target recursive defer ≡ None
       → CanLose s (swept (destroyed (datasets_of s) s.views target recursive defer) s.views)
       → Step s (Destroy target recursive defer) Done (lose s (swept (destroyed (datasets_of s) s.views target recursive defer) s.views))
-  destroy_done none can = swept_by (Destroy target recursive defer) (destroy_rule target recursive defer) refl s no_choice
+  destroy_done none can = swept_by (Destroy target recursive defer) (destroy_rule target recursive defer) (None, refl, refl) s no_choice
       (lose s (swept (destroyed (datasets_of s) s.views target recursive defer) s.views)) Done refl refl (row_is ∙ none) refl
       (swept_state s (destroyed (datasets_of s) s.views target recursive defer) (destroy_from s steady recursive defer target)
       ∙ ap state_after_sweep (sym (destroyed_state s target recursive defer)))

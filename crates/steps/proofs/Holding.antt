@@ -33,8 +33,8 @@ module _ (s : State) (tag : List ℕ) (target : Target) where
   -- a hold that is refused, or has no memory
   pub hold_refused : (why : Refusal) → (hold_refusal (datasets_of s) tag target ≡ Some why) ⊎ (why ≡ NoMemory) → Step s (Hold tag target) (Refused why) s
   hold_refused why which = ⊎_elim
-      (λ e. refused_by (Hold tag target) (hold_rule tag target) refl s why (row_is ∙ e))
-      (λ e. subst (λ z. Step s (Hold tag target) (Refused z) s) (sym e) (no_memory_by (Hold tag target) (hold_rule tag target) refl s refl))
+      (λ e. refused_by (Hold tag target) (hold_rule tag target) (None, refl, refl) s why (row_is ∙ e))
+      (λ e. subst (λ z. Step s (Hold tag target) (Refused z) s) (sym e) (no_memory_by (Hold tag target) (hold_rule tag target) (None, refl, refl) s refl))
       which
 
   module _ (steady : IsSteady s) (none : hold_refusal (datasets_of s) tag target ≡ None) where
@@ -52,5 +52,5 @@ module _ (s : State) (tag : List ℕ) (target : Target) where
 
     -- and a hold that nothing refuses puts them there
     pub hold_done : Step s (Hold tag target) Done (put s (held_in (datasets_of s) tag target) 0)
-    hold_done = done_by (Hold tag target) (hold_rule tag target) refl s no_choice (put s (held_in (datasets_of s) tag target) 0) Done
+    hold_done = done_by (Hold tag target) (hold_rule tag target) (None, refl, refl) s no_choice (put s (held_in (datasets_of s) tag target) 0) Done
         refl refl (row_is ∙ none) refl (put_none s (held_in (datasets_of s) tag target) ∙ sym (tagged_state s target longer)) hold_can.steady

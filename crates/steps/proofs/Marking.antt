@@ -100,11 +100,11 @@ module _ (s : State) (target : Target) (mark : Member) where
   -- a bookmark that is refused, or has no memory
   pub bookmark_refused : (why : Refusal) → (bookmark_refusal (datasets_of s) target mark ≡ Some why) ⊎ (why ≡ NoMemory) → Step s (ToBookmark target mark) (Refused why) s
   bookmark_refused why which = ⊎_elim
-      (λ e. refused_by (ToBookmark target mark) (bookmark_rule target mark) refl s why (row_is ∙ e))
-      (λ e. subst (λ z. Step s (ToBookmark target mark) (Refused z) s) (sym e) (no_memory_by (ToBookmark target mark) (bookmark_rule target mark) refl s refl))
+      (λ e. refused_by (ToBookmark target mark) (bookmark_rule target mark) (None, refl, refl) s why (row_is ∙ e))
+      (λ e. subst (λ z. Step s (ToBookmark target mark) (Refused z) s) (sym e) (no_memory_by (ToBookmark target mark) (bookmark_rule target mark) (None, refl, refl) s refl))
       which
 
   -- and one that nothing refuses
   pub bookmark_done : IsSteady s → bookmark_refusal (datasets_of s) target mark ≡ None → Step s (ToBookmark target mark) Done (put s (bookmarked_in (datasets_of s) target mark) 0)
-  bookmark_done steady none = done_by (ToBookmark target mark) (bookmark_rule target mark) refl s no_choice (put s (bookmarked_in (datasets_of s) target mark) 0) Done
+  bookmark_done steady none = done_by (ToBookmark target mark) (bookmark_rule target mark) (None, refl, refl) s no_choice (put s (bookmarked_in (datasets_of s) target mark) 0) Done
       refl refl (row_is ∙ none) refl (put_none s (bookmarked_in (datasets_of s) target mark) ∙ sym bookmarked_state) (bookmark_can steady).steady

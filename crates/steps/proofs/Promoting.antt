@@ -195,8 +195,8 @@ module _ (s : State) (name : List ℕ) where
   -- a promote that is refused, or has no memory
   pub promote_refused : (why : Refusal) → (promote_refusal (datasets_of s) name ≡ Some why) ⊎ (why ≡ NoMemory) → Step s (Promote name) (Refused why) s
   promote_refused why which = ⊎_elim
-      (λ e. refused_by (Promote name) (promote_rule name) refl s why (refused_row why e))
-      (λ e. subst (λ z. Step s (Promote name) (Refused z) s) (sym e) (no_memory_by (Promote name) (promote_rule name) refl s refl))
+      (λ e. refused_by (Promote name) (promote_rule name) (None, refl, refl) s why (refused_row why e))
+      (λ e. subst (λ z. Step s (Promote name) (Refused z) s) (sym e) (no_memory_by (Promote name) (promote_rule name) (None, refl, refl) s refl))
       which
 
   module _ (none : promote_refusal (datasets_of s) name ≡ None) where
@@ -209,11 +209,11 @@ module _ (s : State) (name : List ℕ) where
 
     -- a limit would be passed
     pub promote_refused_by_limit : (why : Refusal) → first_of (limit_row (asked_by_promote s name)) ≡ Some why → Step s (Promote name) (Refused why) s
-    promote_refused_by_limit why over = refused_by (Promote name) (promote_rule name) refl s why (row_is ∙ over)
+    promote_refused_by_limit why over = refused_by (Promote name) (promote_rule name) (None, refl, refl) s why (row_is ∙ over)
 
     -- and a promote that nothing refuses
     pub promote_done_within : IsSteady s → first_of (limit_row (asked_by_promote s name)) ≡ None → Step s (Promote name) Done (put s (promoted_datasets (datasets_of s) name) 0)
-    promote_done_within steady fits = done_by (Promote name) (promote_rule name) refl s no_choice (put s (promoted_datasets (datasets_of s) name) 0) Done
+    promote_done_within steady fits = done_by (Promote name) (promote_rule name) (None, refl, refl) s no_choice (put s (promoted_datasets (datasets_of s) name) 0) Done
         refl refl (row_is ∙ fits) refl (sym (turned_state s name)) (promote_can_within s steady name none fits).steady
 
   -- where no file system has a limit

@@ -1,5 +1,5 @@
 -- The pool's properties: how many numbers are in each state.
-use Rattle.std.proofs.Common.{◌≡◌, ℕ, zero, suc, ◌+◌, ◌*◌, Bool, cond, List, refl, sym, ap, ◌∙◌, arith}
+use Rattle.std.proofs.Common.{◌≡◌, ℕ, zero, suc, ◌+◌, ◌*◌, Bool, cond, List, None, refl, sym, ap, ◌∙◌, arith}
 use Rattle.std.specs.Prelude.{count_by}
 use Rattle.std.specs.List.{range_with_len}
 use Rattle.std.specs.FinSet.{len}
@@ -47,7 +47,7 @@ count-range p a (suc n) =
 module _ (s : State) (steady : IsSteady s) where
   value_done : (p : PoolProperty) (v : Value) → v ≡ pool_value s p → Step s (PoolGet p) (ValueIs v) s
   unfolding refusal_of
-  value_done p v e = answered_by (PoolGet p) (pool_get_rule p) refl s steady (ValueIs v) refl refl refl (ap ValueIs e)
+  value_done p v e = answered_by (PoolGet p) (pool_get_rule p) (None, refl, refl) s steady (ValueIs v) refl refl refl (ap ValueIs e)
 
   pub size_done : (n : ℕ) → n ≡ s.size → Step s (PoolGet Size) (ValueIs (SizeIs (512 * n))) s
   unfolding pool_value

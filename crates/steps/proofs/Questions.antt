@@ -57,14 +57,14 @@ module _ (s : State) (good : IsSteady s) where
         at false i = refl
 
     pub read_no_dataset : HasNoDataset s.now.file_systems target → Step s (Read target object block) (Refused NoDataset) s
-    read_no_dataset absent = refused_by (Read target object block) (read_rule target object block) refl s NoDataset (read_row false (no_dataset s target absent))
+    read_no_dataset absent = refused_by (Read target object block) (read_rule target object block) (None, refl, refl) s NoDataset (read_row false (no_dataset s target absent))
 
     module _ (m : Map) (named : IsNamed s target m) where
       read_row_there : (i : Bool) → is_block object block ≡ i → refusal_of s (read_rule target object block) ≡ cond i None (Some BadKey)
       read_row_there i e = read_row true named.there ∙ ap (λ x. cond x None (Some BadKey)) e
 
       pub read_bad_key : is_block object block ≡ false → Step s (Read target object block) (Refused BadKey) s
-      read_bad_key e = refused_by (Read target object block) (read_rule target object block) refl s BadKey (read_row_there false e)
+      read_bad_key e = refused_by (Read target object block) (read_rule target object block) (None, refl, refl) s BadKey (read_row_there false e)
 
       read_reply : (bytes : Option (List ℕ)) → bytes ≡ get (contents m) (leaf_index object block) → Data bytes ≡ (read_rule target object block).reply s
       read_reply bytes e =
@@ -73,7 +73,7 @@ module _ (s : State) (good : IsSteady s) where
 
       pub read_done : is_block object block ≡ true → (bytes : Option (List ℕ)) → bytes ≡ get (contents m) (leaf_index object block)
           → Step s (Read target object block) (Data bytes) s
-      read_done e bytes same = answered_by (Read target object block) (read_rule target object block) refl s good (Data bytes) refl refl
+      read_done e bytes same = answered_by (Read target object block) (read_rule target object block) (None, refl, refl) s good (Data bytes) refl refl
           (read_row_there true e) (read_reply bytes same)
 
   -- ---- a property
@@ -89,12 +89,12 @@ module _ (s : State) (good : IsSteady s) where
         at false = refl
 
     pub get_no_dataset : (property : Property) → IsAbsent s.now.file_systems target → Step s (Get target property) (Refused NoDataset) s
-    get_no_dataset property absent = refused_by (Get target property) (get_rule target property) refl s NoDataset (get_row property false (no_target s target absent))
+    get_no_dataset property absent = refused_by (Get target property) (get_rule target property) (None, refl, refl) s NoDataset (get_row property false (no_target s target absent))
 
     -- the value of any property, where something has the name
     pub get_done : (property : Property) (v : Value) → has_target s target ≡ true → property_value s target property ≡ v
         → Step s (Get target property) (ValueIs v) s
-    get_done property v there is = answered_by (Get target property) (get_rule target property) refl s good (ValueIs v) refl refl
+    get_done property v there is = answered_by (Get target property) (get_rule target property) (None, refl, refl) s good (ValueIs v) refl refl
         (get_row property true there) (ap ValueIs (sym is))
 
   -- what has a dataset's name is there

@@ -36,8 +36,8 @@ module _ (s : State) (tag : List ℕ) (target : Target) where
   -- a release that is refused, or has no memory
   pub release_refused : (why : Refusal) → (release_refusal (datasets_of s) tag target ≡ Some why) ⊎ (why ≡ NoMemory) → Step s (Release tag target) (Refused why) s
   release_refused why which = ⊎_elim
-      (λ e. refused_by (Release tag target) (release_rule tag target) refl s why (row_is ∙ e))
-      (λ e. subst (λ z. Step s (Release tag target) (Refused z) s) (sym e) (no_memory_by (Release tag target) (release_rule tag target) refl s refl))
+      (λ e. refused_by (Release tag target) (release_rule tag target) (None, refl, refl) s why (row_is ∙ e))
+      (λ e. subst (λ z. Step s (Release tag target) (Refused z) s) (sym e) (no_memory_by (Release tag target) (release_rule tag target) (None, refl, refl) s refl))
       which
 
   module _ (steady : IsSteady s) where
@@ -67,5 +67,5 @@ module _ (s : State) (tag : List ℕ) (target : Target) where
     -- and a release that nothing refuses puts them there
     pub release_done : release_refusal (datasets_of s) tag target ≡ None
         → Step s (Release tag target) Done (lose s (swept (released_in (datasets_of s) tag target) s.views))
-    release_done none = swept_by (Release tag target) (release_rule tag target) refl s no_choice (lose s (swept to s.views)) Done
+    release_done none = swept_by (Release tag target) (release_rule tag target) (None, refl, refl) s no_choice (lose s (swept to s.views)) Done
         refl refl (row_is ∙ none) refl (swept_state s to l.from ∙ ap state_after_sweep state_is) release_can.steady

@@ -213,8 +213,8 @@ module _ (s : State) (target : Target) (later : Bool) where
   -- a rollback that is refused whatever the limits, or has no memory
   pub rollback_refused_before : (why : Refusal) → (rollback_refusal (datasets_of s) s.views target later ≡ Some why) ⊎ (why ≡ NoMemory) → Step s (Rollback target later) (Refused why) s
   rollback_refused_before why which = ⊎_elim
-      (λ e. refused_by (Rollback target later) (rollback_rule target later) refl s why (refused_row why e))
-      (λ e. subst (λ z. Step s (Rollback target later) (Refused z) s) (sym e) (no_memory_by (Rollback target later) (rollback_rule target later) refl s refl))
+      (λ e. refused_by (Rollback target later) (rollback_rule target later) (None, refl, refl) s why (refused_row why e))
+      (λ e. subst (λ z. Step s (Rollback target later) (Refused z) s) (sym e) (no_memory_by (Rollback target later) (rollback_rule target later) (None, refl, refl) s refl))
       which
 
   module _ (none : rollback_refusal (datasets_of s) s.views target later ≡ None) where
@@ -227,12 +227,12 @@ module _ (s : State) (target : Target) (later : Bool) where
 
     -- a limit would be passed
     pub rollback_refused_by_limit : (why : Refusal) → first_of (limit_row (asked_by_rollback s target)) ≡ Some why → Step s (Rollback target later) (Refused why) s
-    rollback_refused_by_limit why over = refused_by (Rollback target later) (rollback_rule target later) refl s why (row_is ∙ over)
+    rollback_refused_by_limit why over = refused_by (Rollback target later) (rollback_rule target later) (None, refl, refl) s why (row_is ∙ over)
 
     -- and a rollback that nothing refuses
     pub rollback_done_within : IsSteady s → first_of (limit_row (asked_by_rollback s target)) ≡ None
         → Step s (Rollback target later) Done (lose s (rolled (datasets_of s) target))
-    rollback_done_within steady fits = done_by (Rollback target later) (rollback_rule target later) refl s no_choice
+    rollback_done_within steady fits = done_by (Rollback target later) (rollback_rule target later) (None, refl, refl) s no_choice
         (lose s (rolled (datasets_of s) target)) Done refl refl (row_is ∙ fits) refl
         (sym (rolled_state s target)) (rollback_can_within s steady target later none fits).steady
 

@@ -1,5 +1,5 @@
 -- Steps by a rule.
-use Rattle.std.proofs.Common.{◌≡◌, true, false, Some, None, refl, sym, subst, ◌∙◌}
+use Rattle.std.proofs.Common.{◌≡◌, true, false, Some, refl, sym, subst, ◌∙◌, inl}
 use Rattle.std.specs.Prelude.{IsTrue, if◌then◌else◌}
 use Rattle.std.specs.FinSet as set
 use Rattle.base.specs.declared.refusal.Refusal.{Refusal}
@@ -12,9 +12,9 @@ use Rattle.model.specs.Rule.{Choice, Rule}
 use Rattle.model.specs.Outcome.{state_after, state_after_sweep}
 use Rattle.model.specs.Refusals.{refusal_of}
 use Rattle.model.specs.Step.{Step, Follows, done, refused, out_of_memory}
-use Rattle.model.specs.requests.{rule_of}
 use Rattle.world.proofs.StateSteps.{swept_idle}
 use Rattle.world.proofs.States.{state_numbered}
+use Rattle.steps.specs.Ruled.{HasRule}
 use Rattle.steps.specs.Steady.{IsSteady}
 
 -- where a rule leaves nothing to the pool
@@ -22,10 +22,10 @@ abbrev pub no_choice : Choice
 no_choice = record { number = λ _. 0; taken = set.empty }
 
 -- the request that has the rule
-module _ (q : Request) (rule : Rule) (is : rule_of q None ≡ rule) (s : State) where
+module _ (q : Request) (rule : Rule) (is : HasRule q rule) (s : State) where
   -- it follows the rule
   pub by_rule : (t : State) (r : Reply) → Follows s rule r t → Step s q r t
-  by_rule t r f = record { reading = None; read = refl; follows = subst (λ x. Follows s x r t) (sym is) f }
+  by_rule t r f = record { reading = is.0; read = inl is.1; follows = subst (λ x. Follows s x r t) (sym is.2) f }
 
   pub refused_by : (why : Refusal) → refusal_of s rule ≡ Some why → Step s q (Refused why) s
   refused_by why row = by_rule s (Refused why) (refused (record { why = why; row = row; reply_is = refl; unchanged = refl }))

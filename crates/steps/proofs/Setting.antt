@@ -151,8 +151,8 @@ module _ (s : State) (name : List ℕ) (limit : Limit) (amount : Option ℕ) whe
   pub set_refused : (why : Refusal) → (why ≡ NoDataset → get s.now.file_systems name ≡ None) → (why ≡ NoDataset) ⊎ (why ≡ NoMemory) → Step s (Set name limit amount) (Refused why) s
   set_refused why tells which = ⊎_elim
       (λ e. subst (λ z. Step s (Set name limit amount) (Refused z) s) (sym e)
-      (refused_by (Set name limit amount) (set_rule name limit amount) refl s NoDataset (row_is false (ap is_some (tells e)))))
-      (λ e. subst (λ z. Step s (Set name limit amount) (Refused z) s) (sym e) (no_memory_by (Set name limit amount) (set_rule name limit amount) refl s refl))
+      (refused_by (Set name limit amount) (set_rule name limit amount) (None, refl, refl) s NoDataset (row_is false (ap is_some (tells e)))))
+      (λ e. subst (λ z. Step s (Set name limit amount) (Refused z) s) (sym e) (no_memory_by (Set name limit amount) (set_rule name limit amount) (None, refl, refl) s refl))
       which
 
   module _ (there : get s.now.file_systems name ≡ None → ⊥) where
@@ -167,13 +167,13 @@ module _ (s : State) (name : List ℕ) (limit : Limit) (amount : Option ℕ) whe
     -- an amount by which a limit would be passed
     pub set_refused_by_limit : (n : ℕ) → amount ≡ Some n → (why : Refusal) → first_of (limit_row (asked_by_set s name limit amount)) ≡ Some why
         → Step s (Set name limit amount) (Refused why) s
-    set_refused_by_limit n is why over = refused_by (Set name limit amount) (set_rule name limit amount) refl s why
+    set_refused_by_limit n is why over = refused_by (Set name limit amount) (set_rule name limit amount) (None, refl, refl) s why
         (row_there ∙ ap (λ x. first_of (asking (asked_by_set s name limit amount) x)) is ∙ over)
 
     -- and one by which none is, or a limit let go
     pub set_done : IsSteady s → ((n : ℕ) → amount ≡ Some n → first_of (limit_row (asked_by_set s name limit amount)) ≡ None)
         → Step s (Set name limit amount) Done (put s (with_limit_of (datasets_of s) name limit amount) 0)
-    set_done steady fits = done_by (Set name limit amount) (set_rule name limit amount) refl s no_choice (put s (with_limit_of (datasets_of s) name limit amount) 0) Done
+    set_done steady fits = done_by (Set name limit amount) (set_rule name limit amount) (None, refl, refl) s no_choice (put s (with_limit_of (datasets_of s) name limit amount) 0) Done
         refl refl (row_there ∙ by_amount amount refl) refl (sym (set_state s name limit amount)) (set_can s steady name limit amount fits).steady
       where
         by_amount : (x : Option ℕ) → amount ≡ x → first_of (asking (asked_by_set s name limit amount) amount) ≡ None

@@ -68,11 +68,11 @@ module _ (s : State) (count : ℕ) where
   row_is = refl
 
   pub slice_no_memory : Step s (Slice count) (Refused NoMemory) s
-  slice_no_memory = no_memory_by (Slice count) (slice_rule count) refl s refl
+  slice_no_memory = no_memory_by (Slice count) (slice_rule count) (None, refl, refl) s refl
 
   -- it takes any of what is to be freed, as many as it asks for or all
   pub slice_done : IsSteady s → (taken : BlockSet) → IsTrue (set.is_subset taken s.now.freeing) → set.len taken ≡ slice_size s count
       → Step s (Slice count) (Count (slice_size s count)) (with_freeing s (difference s.now.freeing taken))
-  slice_done steady taken within size_is = done_by (Slice count) (slice_rule count) refl s (record { number = λ _. 0; taken = taken })
+  slice_done steady taken within size_is = done_by (Slice count) (slice_rule count) (None, refl, refl) s (record { number = λ _. 0; taken = taken })
       (with_freeing s (difference s.now.freeing taken)) (Count (slice_size s count)) refl
       (rw within (eq-eqb (set.len taken) (slice_size s count) size_is)) row_is refl refl (freeing_steady s steady taken)

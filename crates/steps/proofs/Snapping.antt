@@ -18,7 +18,6 @@ use Rattle.model.specs.State.{State}
 use Rattle.model.specs.Edits.{with_now, with_next_group}
 use Rattle.model.specs.Numbers.{HasStates}
 use Rattle.model.specs.Rule.{Row, Rule, first_of}
-use Rattle.model.specs.requests.{rule_of}
 use Rattle.model.specs.requests.Change.{limit_row}
 use Rattle.model.specs.requests.Snapshot.{snap_of_live, snapshot_names, with_snapshots, guid_by, snapshots_taken, taking_row, snapshot_row, snapshot_rule}
 use Rattle.model.specs.Refusals.{refusal_of, state_asked}
@@ -31,6 +30,7 @@ use Rattle.world.proofs.StateSteps.{snapshots_before}
 use Rattle.world.proofs.Takings.{takable, snapshots_leave}
 use Rattle.datasets.specs.Snapshots.{taken_of}
 use Rattle.accounts.specs.Limits.{IsUnlimited}
+use Rattle.steps.specs.Ruled.{HasRule}
 use Rattle.steps.specs.Steady.{IsSteady}
 use Rattle.steps.specs.Edits.{datasets_of, with_datasets, put, StaysUnlimited, CanPut}
 use Rattle.steps.specs.Asked.{asked_by_snapshot}
@@ -190,7 +190,7 @@ snapshot_can s steady bare names recursive asked none =
 -- ---- steps
 
 -- the request that has the rule
-module _ (s : State) (q : Request) (names : List Member) (recursive : Bool) (is : rule_of q None ≡ snapshot_rule names recursive) where
+module _ (s : State) (q : Request) (names : List Member) (recursive : Bool) (is : HasRule q (snapshot_rule names recursive)) where
   abbrev named : List Member
   named = snapshot_names s.now names recursive
 

@@ -103,8 +103,8 @@ module _ (s : State) where
   row_is b e = ap (λ t. cond t (Some TooMany) None) e
 
   pub sync_too_many : number_limit ≤ s.now.group → Step s Sync (Refused TooMany) s
-  sync_too_many l = refused_by Sync sync_rule refl s TooMany (row_is true (lt-ltb number_limit (s.now.group + 1) (omega arith)))
+  sync_too_many l = refused_by Sync sync_rule (None, refl, refl) s TooMany (row_is true (lt-ltb number_limit (s.now.group + 1) (omega arith)))
 
 pub sync_done : (s : State) → IsSteady s → (t : Datasets) → CanSync s t → Step s Sync (GroupIs (s.now.group + 1)) (synced s t)
-sync_done s steady t can = done_by Sync sync_rule refl s no_choice (synced s t) (GroupIs (s.now.group + 1)) refl refl
+sync_done s steady t can = done_by Sync sync_rule (None, refl, refl) s no_choice (synced s t) (GroupIs (s.now.group + 1)) refl refl
     (row_is s false can.next) refl (ap (synced s) can.is) (sync_steady s steady t can)

@@ -27,19 +27,19 @@ module _ (s : State) (target : Target) where
 
   -- the text may want memory
   pub holds_no_memory : Step s (Holds target) (Refused NoMemory) s
-  holds_no_memory = no_memory_by (Holds target) (holds_rule target) refl s refl
+  holds_no_memory = no_memory_by (Holds target) (holds_rule target) (None, refl, refl) s refl
 
   -- a question that is refused, or has no memory
   pub holds_refused : (why : Refusal) → (holds_refusal (datasets_of s) target ≡ Some why) ⊎ (why ≡ NoMemory) → Step s (Holds target) (Refused why) s
   holds_refused why which = ⊎_elim
-      (λ e. refused_by (Holds target) (holds_rule target) refl s why (row_is ∙ e))
+      (λ e. refused_by (Holds target) (holds_rule target) (None, refl, refl) s why (row_is ∙ e))
       (λ e. subst (λ z. Step s (Holds target) (Refused z) s) (sym e) holds_no_memory)
       which
 
   -- and one that nothing refuses: the snapshot is there
   pub holds_answered : IsSteady s → holds_refusal (datasets_of s) target ≡ None → (names : List (List ℕ))
       → IfSome (placed (world_of (datasets_of s)) target) (λ p. names ≡ p.1.tags) → Step s (Holds target) (NamesAre names) s
-  holds_answered steady none names told = answered_by (Holds target) (holds_rule target) refl s steady (NamesAre names) refl refl (row_is ∙ none)
+  holds_answered steady none names told = answered_by (Holds target) (holds_rule target) (None, refl, refl) s steady (NamesAre names) refl refl (row_is ∙ none)
       (by_place (placed s.now target) (row_false (holds_row s.now target) none (not (is_some (placed s.now target)), NoDataset) (inr (inl refl))) told)
     where
       by_place : (x : Option (FileSystem × Snap)) → not (is_some x) ≡ false → IfSome x (λ p. names ≡ p.1.tags)

@@ -79,13 +79,13 @@ module _ (s : State) where
   row_is target = refl
 
   pub open_no_memory : (target : Target) → Step s (OpenView target) (Refused NoMemory) s
-  open_no_memory target = no_memory_by (OpenView target) (open_view_rule target) refl s refl
+  open_no_memory target = no_memory_by (OpenView target) (open_view_rule target) (None, refl, refl) s refl
 
   pub open_file_system : (name : Name) → Step s (OpenView (OfFileSystem name)) (Refused NotSnapshot) s
-  open_file_system name = refused_by (OpenView (OfFileSystem name)) (open_view_rule (OfFileSystem name)) refl s NotSnapshot (row_is (OfFileSystem name))
+  open_file_system name = refused_by (OpenView (OfFileSystem name)) (open_view_rule (OfFileSystem name)) (None, refl, refl) s NotSnapshot (row_is (OfFileSystem name))
 
   pub open_bookmark : (m : Member) → Step s (OpenView (OfBookmark m)) (Refused NotSnapshot) s
-  open_bookmark m = refused_by (OpenView (OfBookmark m)) (open_view_rule (OfBookmark m)) refl s NotSnapshot (row_is (OfBookmark m))
+  open_bookmark m = refused_by (OpenView (OfBookmark m)) (open_view_rule (OfBookmark m)) (None, refl, refl) s NotSnapshot (row_is (OfBookmark m))
 
   module _ (m : Member) where
     abbrev full : Bool
@@ -98,7 +98,7 @@ module _ (s : State) where
         ∙ ap (λ (y : Option (FileSystem × Snap)). cond {A = Option Refusal} (not (is_some y)) (Some NoDataset) (cond (option_map_or (λ (p : FileSystem × Snap). p.1.deferred) y false) (Some Deferred) (cond full (Some TooMany) None))) e
 
     pub open_missing : snap_in s.now.file_systems m ≡ None → Step s (OpenView (OfSnapshot m)) (Refused NoDataset) s
-    open_missing none = refused_by (OpenView (OfSnapshot m)) (open_view_rule (OfSnapshot m)) refl s NoDataset (row_by None (none_placed s.now m none))
+    open_missing none = refused_by (OpenView (OfSnapshot m)) (open_view_rule (OfSnapshot m)) (None, refl, refl) s NoDataset (row_by None (none_placed s.now m none))
 
     module _ (t : Snap) (found : snap_in s.now.file_systems m ≡ Some t) where
       at : (f : FileSystem) × (placed s.now (OfSnapshot m) ≡ Some (f, t)) × (get s.now.file_systems m.file_system ≡ Some f) × IsIn f.snaps t
@@ -108,11 +108,11 @@ module _ (s : State) where
       row_there = row_by (Some (at.0, t)) at.1
 
       pub open_deferred : t.deferred ≡ true → Step s (OpenView (OfSnapshot m)) (Refused Deferred) s
-      open_deferred d = refused_by (OpenView (OfSnapshot m)) (open_view_rule (OfSnapshot m)) refl s Deferred
+      open_deferred d = refused_by (OpenView (OfSnapshot m)) (open_view_rule (OfSnapshot m)) (None, refl, refl) s Deferred
           (row_there ∙ ap (λ b. cond {A = Option Refusal} b (Some Deferred) (cond full (Some TooMany) None)) d)
 
       pub open_full : t.deferred ≡ false → full ≡ true → Step s (OpenView (OfSnapshot m)) (Refused TooMany) s
-      open_full d f = refused_by (OpenView (OfSnapshot m)) (open_view_rule (OfSnapshot m)) refl s TooMany
+      open_full d f = refused_by (OpenView (OfSnapshot m)) (open_view_rule (OfSnapshot m)) (None, refl, refl) s TooMany
           (row_there ∙ (λ i. cond {A = Option Refusal} (d i) (Some Deferred) (cond (f i) (Some TooMany) None)))
 
       -- one more view, of a number that none has
@@ -135,7 +135,7 @@ module _ (s : State) where
       }
 
       pub open_done : t.deferred ≡ false → full ≡ false → IsSteady (viewing s (id_of t)) → Step s (OpenView (OfSnapshot m)) (Opened s.next_view (sight_of t)) (viewing s (id_of t))
-      open_done d f can = done_by (OpenView (OfSnapshot m)) (open_view_rule (OfSnapshot m)) refl s no_choice (viewing s (id_of t)) (Opened s.next_view (sight_of t)) refl refl
+      open_done d f can = done_by (OpenView (OfSnapshot m)) (open_view_rule (OfSnapshot m)) (None, refl, refl) s no_choice (viewing s (id_of t)) (Opened s.next_view (sight_of t)) refl refl
           (row_there ∙ (λ i. cond {A = Option Refusal} (d i) (Some Deferred) (cond (f i) (Some TooMany) None)))
           (sym (ap (λ (x : Option (FileSystem × Snap)). option_map_or (λ (p : FileSystem × Snap). Opened s.next_view (sight_of p.1)) x Done) at.1))
           (sym (ap (λ (x : Option (FileSystem × Snap)). option_map_or (λ (p : FileSystem × Snap). viewing s (id_of p.1)) x s) at.1))
@@ -145,14 +145,14 @@ module _ (s : State) where
 
 module _ (s : State) (number : ℕ) where
   pub close_no_memory : Step s (CloseView number) (Refused NoMemory) s
-  close_no_memory = no_memory_by (CloseView number) (close_view_rule number) refl s refl
+  close_no_memory = no_memory_by (CloseView number) (close_view_rule number) (None, refl, refl) s refl
 
   row_of : (b : Bool) → not (is_some (get s.views number)) ≡ b → refusal_of s (close_view_rule number) ≡ cond {A = Option Refusal} b (Some NoView) None
   unfolding refusal_of
   row_of b e = ap (λ x. cond {A = Option Refusal} x (Some NoView) None) e
 
   pub close_missing : get s.views number ≡ None → Step s (CloseView number) (Refused NoView) s
-  close_missing none = refused_by (CloseView number) (close_view_rule number) refl s NoView (row_of true (ap (λ x. not (is_some x)) none))
+  close_missing none = refused_by (CloseView number) (close_view_rule number) (None, refl, refl) s NoView (row_of true (ap (λ x. not (is_some x)) none))
 
   -- the views that are left
   was : (v : ℕ) (id : SnapId) → get (remove s.views number) v ≡ Some id → get s.views v ≡ Some id
@@ -193,7 +193,7 @@ module _ (s : State) (number : ℕ) where
     }
 
     pub close_done : (id : SnapId) → get s.views number ≡ Some id → Step s (CloseView number) Done (lose (closed s number) (swept (datasets_of s) (remove s.views number)))
-    close_done id e = swept_by (CloseView number) (close_view_rule number) refl s no_choice (lose (closed s number) (swept (datasets_of s) (remove s.views number))) Done refl refl
+    close_done id e = swept_by (CloseView number) (close_view_rule number) (None, refl, refl) s no_choice (lose (closed s number) (swept (datasets_of s) (remove s.views number))) Done refl refl
         (row_of false (ap (λ x. not (is_some x)) e)) refl after_is close_can.steady
 
     -- where nothing goes, the view alone is closed

@@ -32,7 +32,6 @@ use Rattle.model.specs.Fits.{pool_holds}
 use Rattle.model.specs.Edits.{with_now}
 use Rattle.model.specs.Numbers.{HasStates}
 use Rattle.model.specs.Rule.{Rule, first_of}
-use Rattle.model.specs.requests.{rule_of}
 use Rattle.model.specs.requests.Change.{limit_row, change_rule, state_after_change}
 use Rattle.model.specs.Refusals.{refusal_of}
 use Rattle.model.specs.Step.{Step}
@@ -47,6 +46,7 @@ use Rattle.world.proofs.Kept.{reach_is, union-fields}
 use Rattle.accounts.specs.Limits.{IsUnlimited}
 use Rattle.accounts.proofs.Limits.{limits_met}
 use Rattle.accounts.proofs.Rows.{limits_asked}
+use Rattle.steps.specs.Ruled.{HasRule}
 use Rattle.steps.specs.Steady.{IsSteady, HasNoDataset}
 use Rattle.steps.specs.Asked.{asked_by_change}
 use Rattle.steps.specs.Edits.{datasets_of, with_datasets, StaysUnlimited, CanChange}
@@ -207,7 +207,7 @@ module _ (s : State) (steady : IsSteady s) (numbers : List BlockState) (known : 
 -- ---- steps
 
 module _ (s : State) (steady : IsSteady s) (name : Name) (q : Request) (target : Target) (named : target ≡ OfFileSystem name) (ch : Changes) (in_range : Bool)
-    (is : rule_of q None ≡ change_rule target ch in_range) (within : in_range ≡ true) where
+    (is : HasRule q (change_rule target ch in_range)) (within : in_range ≡ true) where
   abbrev rule : Rule
   rule = change_rule target ch in_range
 
@@ -225,7 +225,7 @@ module _ (s : State) (steady : IsSteady s) (name : Name) (q : Request) (target :
       (there_or s name)
 
 module _ (s : State) (steady : IsSteady s) (numbers : List BlockState) (known : HasStates s numbers) (name : Name) (q : Request) (target : Target)
-    (named : target ≡ OfFileSystem name) (ch : Changes) (in_range : Bool) (is : rule_of q None ≡ change_rule target ch in_range) (within : in_range ≡ true) where
+    (named : target ≡ OfFileSystem name) (ch : Changes) (in_range : Bool) (is : HasRule q (change_rule target ch in_range)) (within : in_range ≡ true) where
   module _ (why : Refusal) (tells : (why ≡ NoDataset) ↔ (get s.now.file_systems name ≡ None))
       (lacks : why ≡ NoSpace → LacksRoom (live_of s.now.file_systems name) ch (young_of (datasets_of s) name s.last.group) numbers)
       (which : (why ≡ NoDataset) ⊎ ((why ≡ NoSpace) ⊎ (why ≡ NoMemory))) where
@@ -275,7 +275,7 @@ module _ (s : State) (steady : IsSteady s) (numbers : List BlockState) (known : 
 -- ---- where no file system has a limit
 
 module _ (s : State) (steady : IsSteady s) (bare : IsUnlimited s.now.file_systems) (numbers : List BlockState) (known : HasStates s numbers) (name : Name) (q : Request) (target : Target)
-    (named : target ≡ OfFileSystem name) (ch : Changes) (in_range : Bool) (is : rule_of q None ≡ change_rule target ch in_range) (within : in_range ≡ true) where
+    (named : target ≡ OfFileSystem name) (ch : Changes) (in_range : Bool) (is : HasRule q (change_rule target ch in_range)) (within : in_range ≡ true) where
   -- a write that the table refused
   pub write_refused : (why : Refusal) → (why ≡ NoDataset) ↔ (get s.now.file_systems name ≡ None)
       → (why ≡ NoSpace → LacksRoom (live_of s.now.file_systems name) ch (young_of (datasets_of s) name s.last.group) numbers)

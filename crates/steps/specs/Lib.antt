@@ -6,3 +6,4 @@ pub mod Edits
 pub mod Listed
 pub mod Spaces
 pub mod Asked
+pub mod Ruled

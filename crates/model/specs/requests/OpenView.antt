@@ -6,11 +6,11 @@ use Rattle.base.specs.declared.refusal.Refusal.TheVariants.{NoDataset, NotSnapsh
 use Rattle.name.specs.declared.target.Target.{Target}
 use Rattle.model.specs.declared.reply.Reply.TheVariants.{Done, Opened}
 use Rattle.model.specs.World.{Snap, id_of}
-use Rattle.model.specs.Sights.{sight_of}
 use Rattle.model.specs.State.{State}
 use Rattle.model.specs.Targets.{is_snapshot_name, number_limit}
 use Rattle.model.specs.Rule.{Row, Rule, any_choice}
 use Rattle.model.specs.requests.Rollback.{placed}
+use Rattle.model.specs.requests.Send.{sight_of}
 
 -- the most open views of a pool (profile)
 abbrev pub view_limit : ℕ
@@ -29,12 +29,12 @@ open_view_row s target =
     ∷ (nat_lt view_limit (len s.views + 1) || nat_lt number_limit s.next_view, TooMany)
     ∷ []
 
--- the next view stands at the snapshot, and the reply shows it as it is (profile)
+-- the next view stands at the snapshot, and the reply shows it as it is, with what a send of it may start from (profile)
 abbrev pub open_view_rule : Target → Rule
 open_view_rule target = record {
   row = λ s asked. open_view_row s target;
   after = λ s c. option_map_or (λ p. with_view s p.1) (placed s.now target) s;
-  reply = λ s. option_map_or (λ p. Opened s.next_view (sight_of p.1)) (placed s.now target) Done;
+  reply = λ s. option_map_or (λ p. Opened s.next_view (sight_of s.now (id_of p.1))) (placed s.now target) Done;
   may = any_choice;
   only_reads = false;
   takes_memory = true;

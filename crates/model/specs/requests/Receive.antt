@@ -1,20 +1,23 @@
--- Receive (zfs-receive(8)). No request asks for it yet.
-use Rattle.std.specs.Prelude.{ℕ, ◌+◌, Bool, true, false, not, ◌==◌, ◌&&◌, ◌||◌, List, [], ◌∷◌, Option, None, length, nat_lt, nat_le, is_some, if◌then◌else◌}
+-- Receive (zfs-receive(8)).
+use Rattle.std.specs.Prelude.{ℕ, ◌+◌, Bool, true, false, not, ◌==◌, ◌&&◌, ◌||◌, List, [], ◌∷◌, ◌++◌, Option, None, length, nat_lt, nat_le, is_some, if◌then◌else◌}
 use Rattle.std.specs.List.{last_or}
 use Rattle.std.specs.Option.{option_map_or, option_and_then}
 use Rattle.std.specs.FinMap.{contains_key, entries, len}
 use Rattle.std.specs.Cmp.Lexicographic.{pointwise}
 use Rattle.base.specs.declared.number.Key.{Key}
-use Rattle.base.specs.declared.refusal.Refusal.TheVariants.{NoDataset, Exists, NoParent, TooMany, WrongSource, Modified}
+use Rattle.base.specs.declared.refusal.Refusal.TheVariants.{NoDataset, Exists, NoParent, TooMany, BadStream, WrongSource, Modified}
 use Rattle.base.specs.Map.{Map, Cell}
 use Rattle.name.specs.declared.member.Member.{Member}
 use Rattle.stream.specs.Records.{changes_of}
 use Rattle.stream.specs.Spelling.{Sending}
+use Rattle.model.specs.declared.reply.Reply.TheVariants.{Done}
+use Rattle.model.specs.State.{State}
 use Rattle.model.specs.World.{World, Snap, file_system_at, snap_named, id_of, snaps_of}
 use Rattle.model.specs.Hierarchy.{file_system_limit, has_parent}
 use Rattle.model.specs.Targets.{snap_limit, has_no_next_group}
-use Rattle.model.specs.Edits.{with_losses, with_next_group, after_change}
-use Rattle.model.specs.Rule.{Row}
+use Rattle.model.specs.Edits.{with_now, with_losses, with_next_group, after_change}
+use Rattle.model.specs.Rule.{Row, Rule, any_choice}
+use Rattle.model.specs.requests.Change.{limit_row}
 use Rattle.model.specs.requests.Create.{with_new_file_system}
 use Rattle.model.specs.requests.Snapshot.{with_snapshot}
 use Rattle.model.specs.requests.Rollback.{after_rollback}
@@ -85,3 +88,25 @@ incremental_row w m source force =
 -- what refuses a stream, whatever the limits (zfs-receive(8))
 abbrev pub stream_row : World → Member → Sending → Bool → Row
 stream_row w m sent force = if sent.source == 0 then full_row w m else incremental_row w m sent.source force
+
+-- bytes that are no stream come first, and the limits last (zfs-receive(8); zfsprops(7): quota, refquota, reservation; the order is profile)
+abbrev pub receive_row : State → State → Member → Option Sending → Bool → Row
+receive_row s asked m reading force =
+    (not (is_some reading), BadStream) ∷ (option_map_or (λ sent. stream_row s.now m sent force) reading [] ++ limit_row asked)
+
+-- ---- its rule
+
+-- the present world after a receive of what the bytes say (zfs-receive(8))
+abbrev pub state_received : State → Member → Option Sending → Bool → (Key → ℕ) → State
+state_received s m reading force number = option_map_or (λ sent. with_now s (received s.now m sent force number)) reading s
+
+-- zfs-receive(8)
+abbrev pub receive_rule : Member → Option Sending → Bool → Rule
+receive_rule m reading force = record {
+  row = λ s asked. receive_row s asked m reading force;
+  after = λ s c. state_received s m reading force c.number;
+  reply = λ s. Done;
+  may = any_choice;
+  only_reads = false;
+  takes_memory = true;
+}

@@ -1,5 +1,5 @@
--- Send (zfs-send(8), of a snapshot, with -i from a source). No request asks for it yet.
-use Rattle.std.specs.Prelude.{ℕ, Bool, false, not, ◌&&◌, List, [], ◌∷◌, ◌++◌, Option, None, Some, is_some, nat_lt}
+-- Send (zfs-send(8), of a snapshot, with -i from a source).
+use Rattle.std.specs.Prelude.{ℕ, Bool, true, false, not, ◌&&◌, List, [], ◌∷◌, ◌++◌, Option, None, Some, is_some, nat_lt}
 use Rattle.std.specs.List.{filter, filter_map, find}
 use Rattle.std.specs.Option.{option_map, option_map_or, option_and_then}
 use Rattle.std.specs.FinMap.{get}
@@ -11,40 +11,35 @@ use Rattle.name.specs.declared.member.Member.{Member}
 use Rattle.name.specs.Names.{same_name}
 use Rattle.stream.specs.Records.{records_since}
 use Rattle.stream.specs.Spelling.{Sending, spell}
+use Rattle.model.specs.declared.source.Source.{Source}
+use Rattle.model.specs.declared.reply.Reply.{Reply}
+use Rattle.model.specs.declared.reply.Reply.TheVariants.{Done, Stream as StreamIs}
+use Rattle.model.specs.Sights.{Seen}
 use Rattle.model.specs.World.{World, FileSystem, SnapId, Snapped, id_of, snap_at, older_of, file_system_at, map_of}
 use Rattle.model.specs.Targets.{is_snapshot_name}
 use Rattle.model.specs.Properties.{bookmarks_in_order}
-use Rattle.model.specs.Rule.{Row}
+use Rattle.model.specs.Rule.{Row, Rule, question}
 use Rattle.model.specs.requests.Rollback.{placed}
 
 -- ---- the sources
 
--- a snapshot or a bookmark that a send may start from (zfs-send(8), -i)
-pub record Source : Type 0 where
-  pub name : Target
-  pub guid : ℕ
-  pub group : ℕ
-
--- a snapshot with what a send of it may start from (zfs-send(8), -i)
-pub record Seen : Type 0 where
-  pub map : Map
-  pub guid : ℕ
-  pub group : ℕ
-  pub sources : List Source
+-- a snapshot or a bookmark with this guid and group as a source (zfs-send(8), -i)
+abbrev pub source_at : Target → ℕ → ℕ → Source
+source_at name guid group = record { name = name; guid = record { 0 = guid }; group = record { 0 = group } }
 
 -- a snapshot as a source, by its identity (zfs-send(8), -i)
 abbrev pub snapshot_source : World → SnapId → Option Source
 snapshot_source w id =
-    option_map (λ p. record { name = OfSnapshot (record { file_system = p.0; component = p.1.name }); guid = id.guid; group = id.group }) (snap_at w id)
+    option_map (λ p. source_at (OfSnapshot (record { file_system = p.0; component = p.1.name })) id.guid id.group) (snap_at w id)
 
 -- a bookmark of a file system as a source, by what stands after the `#` (zfs-send(8), -i)
 abbrev pub bookmark_source : List ℕ → FileSystem → List ℕ → Option Source
 bookmark_source name f component =
-    option_map (λ b. record { name = OfBookmark (record { file_system = name; component = component }); guid = b.guid; group = b.group }) (get f.bookmarks component)
+    option_map (λ b. source_at (OfBookmark (record { file_system = name; component = component })) b.guid b.group) (get f.bookmarks component)
 
 -- the bookmarks of a file system of groups below this one, by group and then by name (zfs-send(8), -i; the order is profile)
 abbrev pub bookmark_sources : List ℕ → FileSystem → ℕ → List Source
-bookmark_sources name f group = filter (λ b. nat_lt b.group group) (filter_map (bookmark_source name f) (bookmarks_in_order f))
+bookmark_sources name f group = filter (λ b. nat_lt b.group.0 group) (filter_map (bookmark_source name f) (bookmarks_in_order f))
 
 -- What a send of a snapshot may start from: the older snapshots of its lineage, the newest first, and its own file system's bookmarks of
 -- groups below its own (zfs-send(8), -i; that other file systems' bookmarks don't serve is profile)
@@ -82,7 +77,7 @@ no_source = record { guid = 0; group = 0 }
 -- where a send starts that names a source, or none; none where it is no source (zfs-send(8), -i)
 unfoldable pub start_of : List Source → Option Target → Option Start
 start_of sources None = Some no_source
-start_of sources (Some name) = option_map (λ s. record { guid = s.guid; group = s.group }) (find (λ s. same_target s.name name) sources)
+start_of sources (Some name) = option_map (λ s. record { guid = s.guid.0; group = s.group.0 }) (find (λ s. same_target s.name name) sources)
 
 -- ---- the stream
 
@@ -111,3 +106,12 @@ send_row w target from =
     ∷ (not (is_some (placed w target)), NoDataset)
     ∷ (not (is_some (start_named w target from)), NotAncestor)
     ∷ []
+
+-- the stream of the snapshot from there (zfs-send(8))
+abbrev pub send_reply : World → Target → Option Target → Reply
+send_reply w target from =
+    option_map_or (λ seen. option_map_or (λ start. StreamIs (stream_of seen start)) (start_of seen.sources from) Done) (sight_named w target) Done
+
+-- zfs-send(8)
+abbrev pub send_rule : Target → Option Target → Rule
+send_rule target from = question (λ s. send_row s.now target from) (λ s. send_reply s.now target from) true
