@@ -53,7 +53,7 @@ not_true b wrong = not_from_false b (false_from_ne_true b wrong)
 -- ---- create
 
 -- one file system more, without snapshots
-added_safe : (views : Views) (w : World) (name : Name) (f : FileSystem) → f.snaps ≡ [] → AreOnce w → AreClosed w → get w.file_systems name ≡ None
+pub added_safe : (views : Views) (w : World) (name : Name) (f : FileSystem) → f.snaps ≡ [] → AreOnce w → AreClosed w → get w.file_systems name ≡ None
     → IsSafe views w (record w { file_systems = insert w.file_systems name f })
 added_safe views w name f bare once closed absent = safe_fewer views w (record w { file_systems = insert w.file_systems name f }) once closed (omega arith)
     (λ q t h. ⊎_elim
@@ -62,7 +62,7 @@ added_safe views w name f bare once closed absent = safe_fewer views w (record w
     (put_cases w.file_systems name f q h.0 h.1))
     (λ q t h seen. (h.0, put_other w.file_systems name f q (λ same. no_value h.0 (sym absent ∙ ap (get w.file_systems) (sym same) ∙ h.1)) ∙ h.1, h.2))
 
-not_some : (x : Option FileSystem) → is_some x ≡ false → x ≡ None
+pub not_some : (x : Option FileSystem) → is_some x ≡ false → x ≡ None
 not_some None e = refl
 not_some (Some x) e = absurd (true≢false e)
 

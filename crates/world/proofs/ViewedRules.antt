@@ -7,12 +7,14 @@ use Rattle.std.specs.FinSet.{difference}
 use Rattle.name.specs.declared.member.Member.{Member}
 use Rattle.name.specs.declared.target.Target.{Target}
 use Rattle.name.specs.declared.target.Target.TheVariants.{FileSystem as OfFileSystem, Snapshot as OfSnapshot, Bookmark as OfBookmark}
+use Rattle.base.specs.declared.number.Key.{Key}
 use Rattle.base.specs.Rewrite.{Changes, rewrite}
+use Rattle.stream.specs.Spelling.{Sending}
 use Rattle.model.specs.Limits.{limited}
 use Rattle.model.specs.declared.limits.Limit.{Limit}
 use Rattle.model.specs.declared.request.Request.{Request}
 use Rattle.model.specs.requests.Set.{after_set}
-use Rattle.model.specs.declared.request.Request.TheVariants.{Create as ToCreate, Write as ToWrite, Punch as ToPunch, FreeObject as ToFreeObject, Snapshot as ToSnapshot, Read as ToRead, Get as ToGet, PoolGet as ToPoolGet, List as ToList, Rollback as ToRollback, Destroy as ToDestroy, Slice as ToSlice, Sync as ToSync, OpenView as ToOpenView, CloseView as ToCloseView, Clone as ToClone, Promote as ToPromote, Hold as ToHold, Release as ToRelease, Holds as ToHolds, Bookmark as ToBookmark, WrittenSince as ToWrittenSince, WouldFree as ToWouldFree, Set as ToSet}
+use Rattle.model.specs.declared.request.Request.TheVariants.{Create as ToCreate, Write as ToWrite, Punch as ToPunch, FreeObject as ToFreeObject, Snapshot as ToSnapshot, Read as ToRead, Get as ToGet, PoolGet as ToPoolGet, List as ToList, Rollback as ToRollback, Destroy as ToDestroy, Slice as ToSlice, Sync as ToSync, OpenView as ToOpenView, CloseView as ToCloseView, Clone as ToClone, Promote as ToPromote, Hold as ToHold, Release as ToRelease, Holds as ToHolds, Bookmark as ToBookmark, WrittenSince as ToWrittenSince, WouldFree as ToWouldFree, Set as ToSet, Send as ToSend, Receive as ToReceive}
 use Rattle.model.specs.declared.reply.Reply.{Reply}
 use Rattle.model.specs.State.{State}
 use Rattle.model.specs.Rule.{Choice, Rule}
@@ -30,11 +32,13 @@ use Rattle.model.specs.requests.Clone.{with_clone, clone_rule}
 use Rattle.model.specs.requests.Promote.{Promotion, promotion_of, after_promotion}
 use Rattle.model.specs.requests.Destroy.{after_destroy}
 use Rattle.model.specs.requests.Release.{without_tag}
+use Rattle.model.specs.requests.Receive.{received, state_received, receive_rule}
 use Rattle.model.specs.requests.Bookmark.{bookmarked, bookmark_of_snap}
 use Rattle.world.specs.RunLaws.{IsViewing}
 use Rattle.world.proofs.Viewed.{IsSafe, one_changed, one_tagged}
 use Rattle.world.proofs.ViewedTakes.{taken_safe}
 use Rattle.world.proofs.ViewedRequests.{create_asked, clone_asked, rollback_asked, destroy_asked}
+use Rattle.world.proofs.ViewedReceives.{receive_asked}
 use Rattle.world.proofs.ViewedClones.{promoted_safe}
 use Rattle.world.proofs.ViewedSteps.{IsKeeping, keeping_swept, views_stay, state_stays, view_opened, view_closed}
 
@@ -101,6 +105,13 @@ set_one q r s name limit amount v =
     views_stay q r s (after_set s.now name limit amount) s.last s.next_guid v
     (one_changed s.views s.now name (λ f. limited f limit amount) v.once v.closed (λ f t e h. h) (λ f t e h seen. h))
 
+-- a receive
+got : (q : Request) (r : Reply) (s : State) (m : Member) (reading : Option Sending) (force : Bool) (number : Key → ℕ) → IsViewing s
+    → refusal_of s (receive_rule m reading force) ≡ None → IsKeeping q r s (state_received s m reading force number)
+got q r s m None force number v none = state_stays q r s v
+got q r s m (Some sent) force number v none =
+    views_stay q r s (received s.now m sent force number) s.last s.next_guid v (receive_asked s m sent force number v.once v.closed none)
+
 -- a rule that isn't refused
 followed : (q : Request) (r : Reply) (s new : State) (rule : Rule) → IsViewing s → ((c : Choice) → refusal_of s rule ≡ None → r ≡ rule.reply s → IsKeeping q r s (rule.after s c))
     → Follows s rule r new → IsKeeping q r s new
@@ -145,3 +156,5 @@ step_keeps q r s new v step = followed q r s new (rule_of q step.reading) v (by_
     by_request (ToWrittenSince target since) c none is = state_stays (ToWrittenSince target since) r s v
     by_request (ToWouldFree name first last) c none is = state_stays (ToWouldFree name first last) r s v
     by_request (ToSet name limit amount) c none is = set_one (ToSet name limit amount) r s name limit amount v
+    by_request (ToSend target from) c none is = state_stays (ToSend target from) r s v
+    by_request (ToReceive snapshot bytes force) c none is = got (ToReceive snapshot bytes force) r s snapshot step.reading force c.number v none

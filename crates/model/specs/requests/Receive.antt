@@ -1,8 +1,8 @@
 -- Receive (zfs-receive(8)).
 use Rattle.std.specs.Prelude.{ℕ, ◌+◌, Bool, true, false, not, ◌==◌, ◌&&◌, ◌||◌, List, [], ◌∷◌, ◌++◌, Option, None, length, nat_lt, nat_le, is_some, if◌then◌else◌}
-use Rattle.std.specs.List.{last_or}
+use Rattle.std.specs.List.{filter, last_or}
 use Rattle.std.specs.Option.{option_map_or, option_and_then}
-use Rattle.std.specs.FinMap.{contains_key, entries, len}
+use Rattle.std.specs.FinMap.{contains_key, entries, from_entries, len}
 use Rattle.std.specs.Cmp.Lexicographic.{pointwise}
 use Rattle.base.specs.declared.number.Key.{Key}
 use Rattle.base.specs.declared.refusal.Refusal.TheVariants.{NoDataset, Exists, NoParent, TooMany, BadStream, WrongSource, Modified}
@@ -12,15 +12,14 @@ use Rattle.stream.specs.Records.{changes_of}
 use Rattle.stream.specs.Spelling.{Sending}
 use Rattle.model.specs.declared.reply.Reply.TheVariants.{Done}
 use Rattle.model.specs.State.{State}
-use Rattle.model.specs.World.{World, Snap, file_system_at, snap_named, id_of, snaps_of}
+use Rattle.model.specs.World.{World, FileSystem, Snap, file_system_at, snap_named, snaps_of}
 use Rattle.model.specs.Hierarchy.{file_system_limit, has_parent}
 use Rattle.model.specs.Targets.{snap_limit, has_no_next_group}
-use Rattle.model.specs.Edits.{with_now, with_losses, with_next_group, after_change}
+use Rattle.model.specs.Edits.{with_now, with_file_system, with_losses, with_next_group, after_change}
 use Rattle.model.specs.Rule.{Row, Rule, any_choice}
 use Rattle.model.specs.requests.Change.{limit_row}
 use Rattle.model.specs.requests.Create.{with_new_file_system}
 use Rattle.model.specs.requests.Snapshot.{with_snapshot}
-use Rattle.model.specs.requests.Rollback.{after_rollback}
 
 -- the newest snapshot of the file system of this name, none where there is none (zfs-receive(8))
 abbrev pub newest_of : World → List ℕ → Option Snap
@@ -28,9 +27,13 @@ newest_of w name = option_and_then (λ f. last_or None f.snaps) (file_system_at 
 
 -- ---- the state after it
 
--- the file system back at its newest snapshot, what it loses to be freed (zfs-receive(8), -F; zfs-rollback(8))
+-- a file system back at its newest snapshot: newer bookmarks go (zfs-receive(8), -F; zfs-rollback(8))
+abbrev pub back_to_newest : Snap → FileSystem → FileSystem
+back_to_newest t f = record f { live = t.map; bookmarks = from_entries (filter (λ m. nat_le m.1.group t.group) (entries f.bookmarks)) }
+
+-- the world with that file system back there, what it loses to be freed (zfs-receive(8), -F; zfs-rollback(8))
 abbrev pub forced_back : World → List ℕ → World
-forced_back w name = option_map_or (λ t. with_losses w (after_rollback w (id_of t))) (newest_of w name) w
+forced_back w name = option_map_or (λ t. with_losses w (with_file_system w name (back_to_newest t))) (newest_of w name) w
 
 -- what a receive begins with: for a full stream a new file system, and else the one that is there, with `force` back at its newest snapshot
 -- (zfs-receive(8), -F)
