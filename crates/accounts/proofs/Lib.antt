@@ -34,3 +34,4 @@ pub mod AskedSteps
 pub mod Surveyed
 pub mod Replaced
 pub mod Forecasts
+pub mod Taken
