@@ -35,3 +35,4 @@ pub mod Surveyed
 pub mod Replaced
 pub mod Forecasts
 pub mod Taken
+pub mod TakenAlike
