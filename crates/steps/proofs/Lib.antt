@@ -46,3 +46,6 @@ pub mod Setting
 pub mod Tags
 pub mod Spaces
 pub mod Alike
+pub mod Batching
+pub mod Beginning
+pub mod Receiving

@@ -7,3 +7,4 @@ pub mod Listed
 pub mod Spaces
 pub mod Asked
 pub mod Ruled
+pub mod Received
