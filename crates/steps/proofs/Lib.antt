@@ -49,3 +49,4 @@ pub mod Alike
 pub mod Batching
 pub mod Beginning
 pub mod Receiving
+pub mod Foreseen

@@ -1,0 +1,2 @@
+-- What a receive makes of a pool.
+pub mod Intakes
