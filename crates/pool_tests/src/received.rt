@@ -140,14 +140,6 @@ fn a_receive_asks_the_limits(rt: HostRuntime) {
 #[test]
 fn a_receive_asks_the_reference_quota(rt: HostRuntime) {
     let rows = "
-        receive p/b@s {H} => error 2 NoDataset
-        receive p/b@s {E} => ok
-        set refquota=2560 p/b => ok
-        receive p/b@t {Y} => error 20 NoSpace
-        set reservation=5 p => error 28 BadLine
-    ";
-    assert_rows(&rt, rt.alloc(), 5, rows);
-    let rows = "
         receive p/b@s {E} => ok
         set refquota=2560 p/b => ok
         receive p/b@t {Y} => error 19 RefQuota
