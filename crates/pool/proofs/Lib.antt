@@ -13,6 +13,4 @@ pub mod Sights
 pub mod Cloned
 pub mod Marked
 pub mod Limited
-pub mod Foretold
 pub mod Asked
-pub mod Settled

@@ -3,9 +3,9 @@ ghost use Rattle.std.specs.Prelude.{◌≡◌};
 ghost use Rattle.model.specs.declared.request.Request.{Request};
 ghost use Rattle.model.specs.Step.{Step};
 
-use crate::limiting::kept_ledger;
 use crate::pool::Pool;
 use base::refusal::Refusal;
+use ledgers::kept_ledger;
 use lookups::{in_bytes, value_named};
 use model::reply::Reply;
 use model::request::Property;

@@ -18,12 +18,12 @@ ghost use Rattle.pool.specs.Asked.{Asks};
 ghost use Rattle.lookups.specs.Named.{IsNoLive};
 ghost use Rattle.pool.specs.Plans.{state_after_plan, CanDo};
 
-use crate::limiting::{Limiting, renew, settle};
 use base::meter::{Meter, SegMeter};
 use base::number::{Dead, Group};
 use base::refusal::Refusal;
 use datasets::Table;
 use destroyer::{Freeing, Slice};
+use ledgers::{Limiting, renew, settle};
 use lookups::{in_bytes, names_of, tree_named};
 use model::names::Names;
 use model::reply::{Reply, Value};
@@ -65,7 +65,7 @@ pub struct Pool {
 
 impl Model for Pool {
     ghost use Rattle.pool.specs.Shown.{Shown, shown, shown_code};
-    ghost use Rattle.pool.specs.Limiting.{IsAccounted};
+    ghost use Rattle.lookups.specs.Accounted.{IsAccounted};
     ghost use Rattle.pool.specs.Pools.{state_of, IsSound};
 
     ghost Value = { Shown };

@@ -5,34 +5,33 @@ use Rattle.model.specs.declared.reply.Reply.TheVariants.{Refused}
 use Rattle.model.specs.Step.{Step}
 use Rattle.world.specs.Tables.{Datasets}
 use Rattle.datasets.specs.Limits.{with_limit_of}
-use Rattle.pool.specs.Pools.{state_of}
-use Rattle.pool.proofs.Asked.{refused_by, set_few, set_not, set_over, set_fits}
-use Rattle.pool.proofs.pool.Pool.with_limit.Goals as goal
+use Rattle.ledgers.proofs.Asked.{refused_by, set_few, set_not, set_over, set_fits}
+use Rattle.ledgers.proofs.asking.with_limit.Goals as goal
 
 pub returns-in_err-set_limit-clause-err : goal.returns-in_err-set_limit-clause-err
-returns-in_err-set_limit-clause-err c =
-    refused_by c.from_residual-in_err-set_limit.result c.in_err-set_limit.field-0.0 (λ e. Step c.args.self.now.state (Set c.args.name.now c.args.limit c.args.amount) (Refused e) c.args.self.now.state)
+returns-in_err-set_limit-clause-err c s is =
+    refused_by c.from_residual-in_err-set_limit.result c.in_err-set_limit.field-0.0 (λ e. Step s (Set c.args.name.now c.args.limit c.args.amount) (Refused e) s)
     c.from_residual-in_err-set_limit.ensures.1
-    (set_not c.args.self.now (state_of c.self.inside) c.self.inside.allocator c.self.view_is c.self.invariant.0 c.args.name.now c.args.limit c.args.amount c.in_err-set_limit.field-0.0
+    (set_not s c.args.table.now c.args.space is c.args.name.now c.args.limit c.args.amount c.in_err-set_limit.field-0.0
     (λ e. ap (λ (t : Datasets). get t.file_systems c.args.name.now) (sym c.in_ok-to.ensures.ok) ∙ c.in_err-set_limit.ensures.no_dataset.0 (ap Err e)) c.in_err-set_limit.ensures.only)
 
 pub over-requires : goal.over-requires
 over-requires c = record {
   few =
-      set_few c.args.self.now (state_of c.self.inside) c.self.inside.allocator c.self.view_is c.self.invariant.0 c.args.name.now c.args.limit c.args.amount (omega arith) c.set_limit.new.self
+      set_few c.requires.0 c.args.table.now c.args.space c.requires.1 c.args.name.now c.args.limit c.args.amount (omega arith) c.set_limit.new.self
       (c.in_ok-set_limit.ensures.ok ∙ ap (λ (t : Datasets). with_limit_of t c.args.name.now c.args.limit c.args.amount) c.in_ok-to.ensures.ok);
 }
 
 pub returns-in-Some-clause-err : goal.returns-in-Some-clause-err
-returns-in-Some-clause-err c =
-    set_over c.args.self.now (state_of c.self.inside) c.self.inside.allocator c.self.view_is c.self.invariant.0 c.args.name.now c.args.limit c.args.amount c.set_limit.new.self
+returns-in-Some-clause-err c s is =
+    set_over s c.args.table.now c.args.space is c.args.name.now c.args.limit c.args.amount c.set_limit.new.self
     (c.in_ok-set_limit.ensures.ok ∙ ap (λ (t : Datasets). with_limit_of t c.args.name.now c.args.limit c.args.amount) c.in_ok-to.ensures.ok)
-    c.space-space.result c.space-space.ensures.size (c.space-space.ensures.freeing ∙ c.len.ensures) c.space-space.ensures.waiting (Some c.in-Some.refusal) c.in-Some.ensures.over
+    (Some c.in-Some.refusal) c.in-Some.ensures.over
     (λ none. let e = c.in_ok-set_limit.ensures.no_dataset.1 (ap (λ (t : Datasets). get t.file_systems c.args.name.now) c.in_ok-to.ensures.ok ∙ none) in cc)
     (c.is_none.ensures ∙ ap not c.if-is_none.false) c.in-Some.refusal refl
 
 pub returns-in-None-clause-fits : goal.returns-in-None-clause-fits
-returns-in-None-clause-fits c some =
-    set_fits c.args.self.now (state_of c.self.inside) c.self.inside.allocator c.self.view_is c.self.invariant.0 c.args.name.now c.args.limit c.args.amount c.set_limit.new.self
+returns-in-None-clause-fits c s is some =
+    set_fits s c.args.table.now c.args.space is c.args.name.now c.args.limit c.args.amount c.set_limit.new.self
     (c.in_ok-set_limit.ensures.ok ∙ ap (λ (t : Datasets). with_limit_of t c.args.name.now c.args.limit c.args.amount) c.in_ok-to.ensures.ok)
-    c.space-space.result c.space-space.ensures.size (c.space-space.ensures.freeing ∙ c.len.ensures) c.space-space.ensures.waiting None c.in-None.ensures.over refl
+    None c.in-None.ensures.over refl

@@ -1,6 +1,6 @@
 use Rattle.std.proofs.Common.{subst}
-use Rattle.pool.specs.Limiting.{CanSettle}
-use Rattle.pool.proofs.limiting.settle.Goals as goal
+use Rattle.ledgers.specs.Limiting.{CanSettle}
+use Rattle.ledgers.proofs.limiting.settle.Goals as goal
 
 pub settle-requires-clause-before : goal.settle-requires-clause-before
 settle-requires-clause-before c =

@@ -33,9 +33,10 @@ use Rattle.steps.proofs.Planning.{leads_to}
 use Rattle.steps.proofs.Writing.{young_is}
 use Rattle.limits.specs.Changes.{IsChanged, IsLedgerOf}
 use Rattle.outlook.specs.declared.outlook.Outlook.{Outlook}
-use Rattle.pool.specs.Limiting.{IsAccounted, Foretells, CanSettle}
-use Rattle.pool.specs.declared.limiting.Limiting.{Limiting}
-use Rattle.pool.proofs.Foretold.{here_alike, referenced_alike, changed_keys}
+use Rattle.lookups.specs.Accounted.{IsAccounted}
+use Rattle.ledgers.specs.Limiting.{Foretells, CanSettle}
+use Rattle.limits.specs.declared.line.Line.{Line}
+use Rattle.ledgers.proofs.Foretold.{here_alike, referenced_alike, changed_keys}
 
 module _ (s : State) (steady : IsSteady s) (numbers : List BlockState) (known : HasStates s numbers) (name : Name) (ch : Changes) (to : Datasets) (done : Changed)
     (w : HasWritten (datasets_of s) to name ch s.last.group numbers done) (after : IsSteady (with_datasets s to)) where
@@ -115,9 +116,9 @@ module _ (s : State) (steady : IsSteady s) (numbers : List BlockState) (known : 
     there_after : IsSome (get to.file_systems name)
     there_after = ap is_some (there name ∙ ap (λ (v : World). get v.file_systems name) (after_is s.now name f at ch choice.number) ∙ live_there s.now name f at next_f.live name refl)
 
-    can_settle_here : (limiting : Option Limiting) → IsAccounted (datasets_of s) limiting → (outlook : Option Outlook) → Foretells s name ch outlook
-        → CanSettle (datasets_of s) to name limiting outlook
-    can_settle_here limiting kept outlook told = record {
+    can_settle_here : (lines : Option (List Line)) → IsAccounted (datasets_of s) lines → (outlook : Option Outlook) → Foretells s name ch outlook
+        → CanSettle (datasets_of s) to name lines outlook
+    can_settle_here lines kept outlook told = record {
       kept = kept;
       hierarchy = steady.good.now.systems.hierarchy;
       there = there_after;
@@ -128,17 +129,16 @@ module _ (s : State) (steady : IsSteady s) (numbers : List BlockState) (known : 
         differs_by o foretold = (foretold.0, changed_after o.here o.referenced foretold.1)
 
   -- the ledger that is kept can be settled
-  pub can_settle : (get s.now.file_systems name ≡ None → ⊥) → (limiting : Option Limiting) → IsAccounted (datasets_of s) limiting → (outlook : Option Outlook)
-      → Foretells s name ch outlook → CanSettle (datasets_of s) to name limiting outlook
+  pub can_settle : (get s.now.file_systems name ≡ None → ⊥) → (lines : Option (List Line)) → IsAccounted (datasets_of s) lines → (outlook : Option Outlook)
+      → Foretells s name ch outlook → CanSettle (datasets_of s) to name lines outlook
   can_settle some = by (get s.now.file_systems name) refl
     where
-      by : (x : Option FileSystem) → get s.now.file_systems name ≡ x → (limiting : Option Limiting) → IsAccounted (datasets_of s) limiting → (outlook : Option Outlook)
-          → Foretells s name ch outlook → CanSettle (datasets_of s) to name limiting outlook
+      by : (x : Option FileSystem) → get s.now.file_systems name ≡ x → (lines : Option (List Line)) → IsAccounted (datasets_of s) lines → (outlook : Option Outlook)
+          → Foretells s name ch outlook → CanSettle (datasets_of s) to name lines outlook
       by (Some f) at = can_settle_here f at
       by None none = absurd (some none)
 
 -- a ledger that can be settled is that of the datasets before the change
-pub ledger_before : (old new : Datasets) (name : Name) (limiting : Option Limiting) (outlook : Option Outlook) → CanSettle old new name limiting outlook
-    → (l : Limiting) → limiting ≡ Some l → (o : Outlook) → outlook ≡ Some o → IsLedgerOf (world_of old) (keys new.file_systems) l.ledger
-ledger_before old new name limiting outlook can l is o some =
-    record { hierarchy = can.hierarchy; named = sym (can.differs o some).1.names; own = subst (IsAccounted old) is can.kept }
+pub ledger_before : (old new : Datasets) (name : Name) (lines : List Line) (outlook : Option Outlook) → CanSettle old new name (Some lines) outlook
+    → (o : Outlook) → outlook ≡ Some o → IsLedgerOf (world_of old) (keys new.file_systems) lines
+ledger_before old new name lines outlook can o some = record { hierarchy = can.hierarchy; named = sym (can.differs o some).1.names; own = can.kept }

@@ -1,6 +1,5 @@
 -- What a pool keeps of limits, and the states that limits are asked of.
 use Rattle.std.specs.Prelude.{◌≡◌, ◌⊎◌, ◌<◌, ◌^◌, ℕ, List, Option, None, Some, IsSome}
-use Rattle.std.specs.Option.{option_map}
 use Rattle.std.specs.FinMap.{get}
 use Rattle.std.specs.FinSet as set
 use Rattle.base.specs.Rewrite.{Changes}
@@ -9,24 +8,27 @@ use Rattle.base.specs.declared.refusal.Refusal.TheVariants.{NoDataset, NoMemory}
 use Rattle.model.specs.State.{State, waiting_of}
 use Rattle.model.specs.Hierarchy.{IsHierarchy}
 use Rattle.model.specs.Rule.{first_of}
+use Rattle.model.specs.Sums.{IsBalanced}
 use Rattle.model.specs.requests.Change.{limit_row}
 use Rattle.world.specs.Tables.{Datasets, world_of}
 use Rattle.accounts.specs.Limits.{IsUnlimited}
 use Rattle.steps.specs.Asked.{asked_by_change}
 use Rattle.steps.specs.Edits.{datasets_of}
+use Rattle.steps.specs.Steady.{IsSteady}
 use Rattle.limits.specs.Changes.{IsChanged}
+use Rattle.limits.specs.Ledgers.{IsSpaceOf}
 use Rattle.limits.specs.declared.line.Line.{Line}
-use Rattle.lookups.specs.Accounted.{IsAccounted as IsLedgerKept}
+use Rattle.limits.specs.declared.pool_space.Space.{Space}
+use Rattle.lookups.specs.Accounted.{IsAccounted}
 use Rattle.outlook.specs.declared.outlook.Outlook.{Outlook}
-use Rattle.pool.specs.declared.limiting.Limiting.{Limiting}
 
--- the ledger that is kept with what limits say, where it is (profile)
-abbrev pub ledger_in : Option Limiting → Option (List Line)
-ledger_in = option_map (λ l. l.ledger)
-
--- the ledger of these datasets is kept, or none, where no file system has a limit (profile)
-abbrev pub IsAccounted : Datasets → Option Limiting → Type 0
-IsAccounted t limiting = IsLedgerKept t (ledger_in limiting)
+-- a state with these datasets, whose pool has this beside its file systems: its facts hold, and each block is allocated, free or waiting
+-- (zpoolprops(7): size, allocated, free, freeing; waiting is profile)
+pub record IsStateWith (s : State) (t : Datasets) (space : Space) : Type 0 where
+  pub steady : IsSteady s
+  pub balanced : IsBalanced s
+  pub datasets : datasets_of s ≡ t
+  pub space : IsSpaceOf s space
 
 -- a state with these datasets and with so many blocks to be freed, where as many wait as do in another state (zfsprops(7): reservation)
 pub record IsAsked (s : State) (t : Datasets) (freeing : ℕ) (asked : State) : Type 0 where
@@ -56,8 +58,8 @@ Foretells s name c (Some o) = (o.here < 2 ^ 42) × IsChanged (world_of (datasets
 
 -- a ledger that is kept is that of earlier datasets, and where the change of a live map was looked at, these differ from them in that alone
 -- (profile)
-pub record CanSettle (old new : Datasets) (name : List ℕ) (limiting : Option Limiting) (outlook : Option Outlook) : Type 0 where
-  pub kept : IsAccounted old limiting
+pub record CanSettle (old new : Datasets) (name : List ℕ) (lines : Option (List Line)) (outlook : Option Outlook) : Type 0 where
+  pub kept : IsAccounted old lines
   pub hierarchy : IsHierarchy old.file_systems
   pub there : IsSome (get new.file_systems name)
   pub differs : (o : Outlook) → outlook ≡ Some o → (o.here < 2 ^ 42) × IsChanged (world_of old) (world_of new) name o.here o.referenced
