@@ -1,5 +1,5 @@
 -- What limits say of a change of one live map, of a limit that is set, and of what is available.
-use Rattle.std.proofs.Common.{◌≡◌, ◌⊎◌, ◌<◌, ◌≤◌, ◌^◌, ◌+◌, ℕ, true, List, Option, Some, None, Result, Ok, Err, refl, sym, ap, subst, ◌∙◌, inr, arith}
+use Rattle.std.proofs.Common.{◌≡◌, ◌⊎◌, ◌<◌, ◌^◌, ◌+◌, ℕ, true, List, Option, Some, None, Result, Ok, Err, refl, sym, ap, subst, ◌∙◌, inr, arith}
 use Rattle.std.specs.Prelude.{is_some, IsSome, IfErr, IsErrAnd}
 use Rattle.std.specs.Option.{option_map}
 use Rattle.std.specs.FinMap.{get}
@@ -15,10 +15,10 @@ use Rattle.model.specs.declared.reply.Reply.TheVariants.{Refused}
 use Rattle.model.specs.Refusals.{fresh_number}
 use Rattle.model.specs.Rule.{first_of}
 use Rattle.model.specs.requests.Change.{limit_row}
-use Rattle.model.specs.State.{State, waiting_of}
+use Rattle.model.specs.State.{State}
 use Rattle.model.specs.Step.{Step}
 use Rattle.model.specs.Sums.{free_of, room_of}
-use Rattle.model.specs.World.{World, FileSystem, union_of}
+use Rattle.model.specs.World.{FileSystem, union_of}
 use Rattle.world.specs.Tables.{Datasets, world_of}
 use Rattle.world.proofs.Kept.{union-fields}
 use Rattle.accounts.specs.Limits.{IsUnlimited, AreQuotasMet}

@@ -22,6 +22,13 @@ module _ (s : State) (balanced : IsBalanced s) where
       let a : allocated_of s ≡ set.len (reach_of s.now) = refl in
       omega (arith, a, b)
 
+  -- among them those that are to be freed
+  pub freeing_fits : set.len s.now.freeing ≤ s.size
+  freeing_fits =
+      let l = len-subset o s.now.freeing (reach_of s.now) (λ k h. subst (λ x. Has x k) (sym (reach_is s.now)) (in_union_right o (union_of s.now) s.now.freeing k h)) in
+      let r = reached_fits in
+      omega (arith, l, r)
+
   -- so all that datasets have can be counted by so many bits
   pub few : s.size < 2 ^ 32 → set.len (union_of (world_of (datasets_of s))) < 2 ^ 32
   few small =

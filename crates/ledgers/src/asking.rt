@@ -60,19 +60,16 @@ pub fn ask_change(
     let Some(file_system) = table.find(name) else {
         return Err(Refusal::NoDataset);
     };
-    let forecast = file_system
-        .live()
-        .forecast(alloc, from_ref(update), meter)?;
+    let forecast = file_system.live().forecast(alloc, from_ref(update), meter)?;
     let outlook = outlook_of(file_system, &forecast, synced)?;
     let asked = Space {
         size: space.size,
         freeing: space.freeing,
         waiting: space.waiting + outlook.waiting,
     };
-    let over =
-        limiting
-            .ledger
-            .over_after(table, name, outlook.here, outlook.referenced, asked);
+    let over = limiting
+        .ledger
+        .over_after(table, name, outlook.here, outlook.referenced, asked);
     match over {
         Some(refusal) => Err(refusal),
         None => Ok(Some(outlook)),

@@ -1,5 +1,5 @@
 -- A change of a live map, from the update that a request asks for to the step.
-use Rattle.std.proofs.Common.{◌≡◌, ◌≤◌, ◌⊎◌, ◌↔◌, ℕ, Bool, true, false, ◌&&◌, List, Result, Ok, Err, Some, None, refl, sym, ap, subst, [], ◌∷◌, inl, inr, ⊎_elim}
+use Rattle.std.proofs.Common.{◌≡◌, ◌⊎◌, ℕ, true, false, List, Result, Ok, Err, Some, None, refl, sym, ap, subst, [], ◌∷◌, ⊎_elim}
 use Rattle.std.specs.FinMap.{get}
 use Rattle.name.specs.declared.target.Target.{Target}
 use Rattle.name.specs.declared.target.Target.TheVariants.{FileSystem as OfFileSystem}
@@ -23,7 +23,7 @@ use Rattle.pool.specs.Asked.{Asks}
 use Rattle.lookups.specs.Named.{IsNoLive}
 use Rattle.pool.specs.Pools.{IsSound}
 use Rattle.pool.specs.Shown.{Shown, shown}
-use Rattle.pool.proofs.Names.{found, absent, is_snapshot}
+use Rattle.questions.proofs.Names.{found, absent, is_snapshot}
 
 -- no update
 abbrev update_error : Refusal → Result Update Refusal

@@ -1,5 +1,5 @@
 -- Where no file system has a limit, none has one after a request that sets none; and what limits say where some have.
-use Rattle.std.proofs.Common.{◌≡◌, ◌<◌, ◌^◌, ◌+◌, ℕ, List, Option, None, Some, refl, sym, ap, subst, ◌∙◌, ⊎_elim, arith}
+use Rattle.std.proofs.Common.{◌≡◌, ◌<◌, ◌^◌, ◌+◌, ℕ, List, Option, None, Some, sym, ap, subst, ◌∙◌, ⊎_elim}
 use Rattle.std.specs.FinSet as set
 use Rattle.std.specs.FinSet.{difference}
 use Rattle.base.specs.declared.refusal.Refusal.{Refusal}

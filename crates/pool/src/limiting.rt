@@ -1,15 +1,12 @@
 //! The limits of file systems: what they say of a request.
-ghost use Rattle.std.specs.Prelude.{◌≡◌, ◌<◌, ◌^◌, [], ◌∷◌, ℕ, List, false, IsSome, IfOk, IfErr, OnOk};
-ghost use Rattle.std.specs.FinMap.{get};
+ghost use Rattle.std.specs.Prelude.{◌≡◌, ◌<◌, ◌^◌, [], ◌∷◌, None, true, false, IfOk, IfErr, OnOk};
 ghost use Rattle.std.specs.FinSet as set;
 ghost use Rattle.tree.specs.Updates.{changes_of, IsBatch};
-ghost use Rattle.name.specs.declared.target.Target.{Target};
-ghost use Rattle.model.specs.declared.request.Property.{Property};
 ghost use Rattle.model.specs.declared.request.Request.{Request};
 ghost use Rattle.model.specs.State.{waiting_of};
 ghost use Rattle.model.specs.Step.{Step};
-ghost use Rattle.model.specs.Sums.{room_of};
 ghost use Rattle.model.specs.World.{union_of};
+ghost use Rattle.model.specs.requests.{rule_of};
 ghost use Rattle.world.specs.Tables.{world_of};
 ghost use Rattle.accounts.specs.Limits.{IsUnlimited};
 ghost use Rattle.ledgers.specs.Limiting.{IsOver, IsNoChange, MayChange, Foretells};
@@ -19,13 +16,14 @@ use crate::pool::{Plan, Pool};
 use base::limit::Blocks;
 use base::refusal::Refusal;
 use datasets::Table;
-use ledgers::{ask_change, over, room_asked, with_limit};
+use ledgers::{ask_change, over, with_limit};
 use limits::Space;
 use model::limits::Limit;
 use model::reply::Reply;
-use model::request::Property;
-use name::{DsName, Target};
+use model::request::Request;
+use name::DsName;
 use outlook::Outlook;
+use questions::answer;
 use std::alloc::Global;
 use tree::Update;
 
@@ -87,20 +85,22 @@ impl Pool {
         )
     }
 
-    // What is available to the file system of this name, where that is asked for, in blocks; else 0.
-    pub(crate) fn room_asked(&self, target: &Target, property: Property) -> u64
-        ensures small { result < 2 ^ 55 }
-        ensures room { (name : List ℕ) → target.now ≡ Target.FileSystem name → property ≡ Property.Available → IsSome (get self.now.state.now.file_systems name) → result ≡ room_of self.now.state name }
+    // The reply to a request that only reads.
+    pub(crate) fn asked(&mut self, alloc: Global, request: &Request) -> Reply
+        requires { (rule_of request.now None).only_reads ≡ true }
+        ensures same { self.new ≡ self.old }
+        ensures step { Step self.old.state request.now result self.old.state }
     {
         let space = self.space(self.freeing.len());
-        let free = self.allocator.counts().free;
-        room_asked(
+        answer(
+            alloc,
             &self.limiting,
             &self.present,
             space,
-            free,
-            target,
-            property,
+            self.allocator.counts(),
+            request,
+            &mut self.meter,
+            &mut self.segments,
         )
     }
 

@@ -1,4 +1,4 @@
-use Rattle.std.proofs.Common.{◌∷◌, [], None, Some, refl, subst, ◌∙◌, arith}
+use Rattle.std.proofs.Common.{◌∷◌, [], None, Some, refl, subst, arith}
 use Rattle.batch.specs.Forecast.{IsForecast}
 use Rattle.tree.specs.Updates.{changes_of}
 use Rattle.ledgers.proofs.Asked.{is_ahead, few_more, change_over, change_fits, change_foretold}

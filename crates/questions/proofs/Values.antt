@@ -36,7 +36,7 @@ use Rattle.steps.proofs.Texts.{get_origin, get_no_origin, get_clones}
 use Rattle.steps.proofs.Spaces.{get_used_of_live, get_available, get_used_by_dataset, get_used_by_snapshots, get_used_by_children, get_refreserved, get_used_of_snap, get_no_space_of_snap}
 use Rattle.steps.proofs.Alike.{used_alike, used_by_children_alike, used_by_snap_alike}
 use Rattle.lookups.specs.Named.{origin_value, live_value, kept_value, snapshot_value, value_in, value_named, amount_value}
-use Rattle.pool.proofs.Names.{mapped, unmapped}
+use Rattle.questions.proofs.Names.{mapped, unmapped}
 use Rattle.steps.proofs.Below.{written_of_live}
 
 -- nothing has the name where it has no value

@@ -1,24 +1,20 @@
 -- Properties of what has a name, and questions on space: what is told of them is a step.
-use Rattle.std.proofs.Common.{◌≡◌, ◌<◌, ◌*◌, ◌^◌, ℕ, Bool, true, false, not, ◌||◌, List, [], ◌∷◌, Option, Some, None, refl, sym, ap, subst, ◌∙◌}
+use Rattle.std.proofs.Common.{◌≡◌, ◌*◌, ℕ, Bool, true, false, not, ◌||◌, List, [], ◌∷◌, Option, Some, None, refl, sym, ap, subst, ◌∙◌}
 use Rattle.std.specs.Prelude.{is_some, IsSome}
 use Rattle.std.specs.List.{list_any}
 use Rattle.std.specs.Option.{option_map, option_map_or, option_and_then}
 use Rattle.std.specs.FinMap.{get}
-use Rattle.std.specs.FinSet as set
 use Rattle.base.specs.declared.refusal.Refusal.{Refusal}
 use Rattle.base.specs.declared.refusal.Refusal.TheVariants.{NoDataset, NotAncestor, NoMemory}
 use Rattle.name.specs.declared.member.Member.{Member}
 use Rattle.name.specs.declared.target.Target.{Target}
 use Rattle.name.specs.declared.target.Target.TheVariants.{FileSystem as OfFileSystem, Snapshot as OfSnapshot, Bookmark as OfBookmark}
-use Rattle.zalloc.specs.declared.BlockState.{BlockState}
-use Rattle.model.specs.declared.request.Request.{Request}
 use Rattle.model.specs.declared.request.Request.TheVariants.{Get, WrittenSince, WouldFree}
 use Rattle.model.specs.declared.request.Property.{Property}
-use Rattle.model.specs.declared.reply.Reply.{Reply}
 use Rattle.model.specs.declared.reply.Reply.TheVariants.{Done, Refused, Value as ValueIs}
 use Rattle.model.specs.declared.reply.Value.{Value}
 use Rattle.model.specs.declared.reply.Value.TheVariants.{Size}
-use Rattle.model.specs.World.{FileSystem, Snap, SnapId, Dataset, Live, Snapped, id_of, same_id, snap_named, older_of, union_of}
+use Rattle.model.specs.World.{FileSystem, Snap, SnapId, Dataset, Live, Snapped, id_of, same_id, snap_named, older_of}
 use Rattle.model.specs.Sums.{written_since, would_free, room_of}
 use Rattle.model.specs.State.{State}
 use Rattle.model.specs.Targets.{has_dataset, dataset_of}
@@ -28,20 +24,18 @@ use Rattle.model.specs.Step.{Step}
 use Rattle.model.specs.requests.Get.{needs_memory}
 use Rattle.model.specs.requests.WrittenSince.{written_since_row, written_since_reply, written_since_rule}
 use Rattle.model.specs.requests.WouldFree.{would_free_rule}
-use Rattle.world.specs.Tables.{world_of}
+use Rattle.world.specs.Tables.{Datasets, world_of}
 use Rattle.world.proofs.Maps.{same_value, no_value}
 use Rattle.space.specs.Ranges.{range_ids, range_refusal}
 use Rattle.space.specs.Since.{dataset_named, since_refusal, written_named}
 use Rattle.steps.specs.Edits.{datasets_of}
+use Rattle.steps.specs.Steady.{IsSteady}
 use Rattle.steps.proofs.Alike.{older_alike, written_since_alike, would_free_alike}
 use Rattle.steps.proofs.Questions as reads
 use Rattle.steps.proofs.Ruled.{refused_by, answered_by}
 use Rattle.steps.proofs.Texts.{get_no_memory}
 use Rattle.lookups.specs.Named.{value_named}
-use Rattle.pool.specs.Pools.{IsSound}
-use Rattle.pool.specs.Shown.{Shown, shown}
-use Rattle.pool.proofs.Fitting as fitting
-use Rattle.pool.proofs.Values.{nothing_named, value_told}
+use Rattle.questions.proofs.Values.{nothing_named, value_told}
 use Rattle.model.specs.declared.request.Property.TheVariants.{Available}
 
 -- ---- what was written since a snapshot, by the datasets
@@ -97,48 +91,49 @@ module _ (s : State) where
             ap (λ m. ValueIs (Size (512 * m))) (sym (same_value (written_since (world_of (datasets_of s)) d (id_of u)) n is) ∙ written_since_alike s d (id_of u))
             ∙ sym (λ i. option_map_or (λ (e : Dataset). option_map_or (λ (t : Snap). ValueIs (Size (512 * written_since s.now e (id_of t)))) (k i) Done) (named_is target d h i) Done)
 
--- ---- the steps
+-- ---- the steps, where these are the datasets
 
-module _ (seen : Shown) (s : State) (numbers : List BlockState) (view : shown s numbers ≡ seen) (sound : IsSound s numbers) where
-  at : (q : Request) (r : Reply) → Step s q r s → Step seen.state q r seen.state
-  at q r step = subst (λ (x : Shown). Step x.state q r x.state) view step
+module _ (s : State) (steady : IsSteady s) (t : Datasets) (is : datasets_of s ≡ t) where
+  here : (P : Datasets → Type 0) → P t → P (datasets_of s)
+  here P h = subst P (sym is) h
 
-  -- what datasets have can be counted by so many bits
-  pub few : s.size < 2 ^ 32 → set.len (union_of (world_of (datasets_of s))) < 2 ^ 32
-  few = fitting.few s sound.steady numbers sound.states
+  module _ (target : Target) (property : Property) where
+    pub get_absent : (free : ℕ) → None ≡ value_named t free target property → Step s (Get target property) (Refused NoDataset) s
+    get_absent free none = reads.get_no_dataset s steady target property (nothing_named (datasets_of s) free target property (here (λ d. None ≡ value_named d free target property) none))
 
-  module _ (t : Target) (property : Property) where
-    pub get_absent : (free : ℕ) → None ≡ value_named (datasets_of s) free t property → Step seen.state (Get t property) (Refused NoDataset) seen.state
-    get_absent free none = at _ _ (reads.get_no_dataset s sound.steady t property (nothing_named (datasets_of s) free t property none))
+    pub get_told : (room : ℕ) → ((name : List ℕ) → target ≡ OfFileSystem name → property ≡ Available → IsSome (get t.file_systems name) → room ≡ room_of s name)
+        → (v : Value) → Some v ≡ value_named t room target property → Step s (Get target property) (ValueIs v) s
+    get_told room told v found = value_told s steady room target property v
+        (here (λ d. (name : List ℕ) → target ≡ OfFileSystem name → property ≡ Available → IsSome (get d.file_systems name) → room ≡ room_of s name) told)
+        (here (λ d. Some v ≡ value_named d room target property) found)
 
-    pub get_told : (room : ℕ) → ((name : List ℕ) → t ≡ OfFileSystem name → property ≡ Available → IsSome (get seen.state.now.file_systems name) → room ≡ room_of seen.state name)
-        → (v : Value) → Some v ≡ value_named (datasets_of s) room t property → Step seen.state (Get t property) (ValueIs v) seen.state
-    get_told room told v is = at _ _ (value_told s sound.steady room t property v
-        (subst (λ (x : Shown). (name : List ℕ) → t ≡ OfFileSystem name → property ≡ Available → IsSome (get x.state.now.file_systems name) → room ≡ room_of x.state name) (sym view) told) is)
-
-    pub get_wanting : (why : Refusal) → (needs_memory property ≡ true) × (why ≡ NoMemory) → Step seen.state (Get t property) (Refused why) seen.state
-    get_wanting why is = at _ _ (subst (λ r. Step s (Get t property) (Refused r) s) (sym is.1) (get_no_memory s sound.steady t property is.0))
+    pub get_wanting : (why : Refusal) → (needs_memory property ≡ true) × (why ≡ NoMemory) → Step s (Get target property) (Refused why) s
+    get_wanting why wants = subst (λ r. Step s (Get target property) (Refused r) s) (sym wants.1) (get_no_memory s steady target property wants.0)
 
   module _ (target : Target) (since : Member) where
-    pub since_refused : (why : Refusal) → since_refusal (datasets_of s) target since ≡ Some why → Step seen.state (WrittenSince target since) (Refused why) seen.state
+    pub since_refused : (why : Refusal) → since_refusal t target since ≡ Some why → Step s (WrittenSince target since) (Refused why) s
     unfolding refusal_of
-    since_refused why e = at _ _ (refused_by (WrittenSince target since) (written_since_rule target since) refl s why (refusal_is s target since ∙ e))
+    since_refused why e = refused_by (WrittenSince target since) (written_since_rule target since) refl s why
+        (refusal_is s target since ∙ here (λ d. since_refusal d target since ≡ Some why) e)
 
-    pub since_told : since_refusal (datasets_of s) target since ≡ None → (n : ℕ) → written_named (datasets_of s) target since ≡ Some n
-        → (v : Value) → v ≡ Size (512 * n) → Step seen.state (WrittenSince target since) (ValueIs v) seen.state
+    pub since_told : since_refusal t target since ≡ None → (n : ℕ) → written_named t target since ≡ Some n
+        → (v : Value) → v ≡ Size (512 * n) → Step s (WrittenSince target since) (ValueIs v) s
     unfolding refusal_of
-    since_told none n counted v is = at _ _
-        (answered_by (WrittenSince target since) (written_since_rule target since) refl s sound.steady (ValueIs v) refl refl (refusal_is s target since ∙ none)
-        (ap ValueIs is ∙ reply_is s target since n counted))
+    since_told none n counted v same =
+        answered_by (WrittenSince target since) (written_since_rule target since) refl s steady (ValueIs v) refl refl
+        (refusal_is s target since ∙ here (λ d. since_refusal d target since ≡ None) none)
+        (ap ValueIs same ∙ reply_is s target since n (here (λ d. written_named d target since ≡ Some n) counted))
 
   module _ (name first last : List ℕ) where
-    pub free_refused : (why : Refusal) → range_refusal (datasets_of s) name first last ≡ Some why → Step seen.state (WouldFree name first last) (Refused why) seen.state
+    pub free_refused : (why : Refusal) → range_refusal t name first last ≡ Some why → Step s (WouldFree name first last) (Refused why) s
     unfolding refusal_of
-    free_refused why e = at _ _ (refused_by (WouldFree name first last) (would_free_rule name first last) refl s why e)
+    free_refused why e = refused_by (WouldFree name first last) (would_free_rule name first last) refl s why (here (λ d. range_refusal d name first last ≡ Some why) e)
 
-    pub free_told : range_refusal (datasets_of s) name first last ≡ None → (n : ℕ) → n ≡ would_free (world_of (datasets_of s)) (range_ids (datasets_of s) name first last)
-        → (v : Value) → v ≡ Size (512 * n) → Step seen.state (WouldFree name first last) (ValueIs v) seen.state
+    pub free_told : range_refusal t name first last ≡ None → (n : ℕ) → n ≡ would_free (world_of t) (range_ids t name first last)
+        → (v : Value) → v ≡ Size (512 * n) → Step s (WouldFree name first last) (ValueIs v) s
     unfolding refusal_of
-    free_told none n counted v is = at _ _
-        (answered_by (WouldFree name first last) (would_free_rule name first last) refl s sound.steady (ValueIs v) refl refl none
-        (ap ValueIs is ∙ ap (λ k. ValueIs (Size (512 * k))) (counted ∙ would_free_alike s (range_ids (datasets_of s) name first last))))
+    free_told none n counted v same =
+        answered_by (WouldFree name first last) (would_free_rule name first last) refl s steady (ValueIs v) refl refl
+        (here (λ d. range_refusal d name first last ≡ None) none)
+        (ap ValueIs same
+        ∙ ap (λ k. ValueIs (Size (512 * k))) (here (λ d. n ≡ would_free (world_of d) (range_ids d name first last)) counted ∙ would_free_alike s (range_ids (datasets_of s) name first last)))
