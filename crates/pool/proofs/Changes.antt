@@ -76,8 +76,3 @@ module _ (s : State) (numbers : List BlockState) (sound : IsSound s numbers) (q 
 -- an answer with the pool as it was, told of what contracts see
 pub told : (seen : Shown) (s : State) (numbers : List BlockState) → shown s numbers ≡ seen → (q : Request) (reply : Reply) → Step s q reply s → Step seen.state q reply seen.state
 told seen s numbers view q reply step = subst (λ (x : Shown). Step x.state q reply x.state) view step
-
--- why a name is no file system's, told of the state
-pub told_no_live : (seen : Shown) (s : State) (numbers : List BlockState) → shown s numbers ≡ seen → (target : Target) (why : Refusal) → IsNoLive seen.state.now.file_systems target why
-    → IsNoLive s.now.file_systems target why
-told_no_live seen s numbers view target why is = subst (λ (x : Shown). IsNoLive x.state.now.file_systems target why) (sym view) is

@@ -14,7 +14,6 @@ ghost use Rattle.name.specs.declared.target.Target.{Target};
 ghost use Rattle.world.specs.Worlds.{IsPoolState};
 ghost use Rattle.accounts.specs.Limits.{AreQuotasMet, IsUnlimited};
 ghost use Rattle.pool.specs.Asked.{Asks};
-ghost use Rattle.lookups.specs.Named.{IsNoLive};
 ghost use Rattle.pool.specs.Plans.{state_after_plan, CanDo};
 
 use base::meter::{Meter, SegMeter};
@@ -23,7 +22,7 @@ use base::refusal::Refusal;
 use datasets::Table;
 use destroyer::{Freeing, Slice};
 use ledgers::{Limiting, renew, settle};
-use lookups::tree_named;
+use lookups::live_name;
 use model::reply::Reply;
 use model::request::Request;
 use model::snap_names::SnapNames;
@@ -358,7 +357,7 @@ impl Pool {
         ensures step { (q : Request) → Asks q target.now update.entry → Step self.old.state q result.0 (state_after_plan self.old.state result.1) }
     {
         let _size = self.size;
-        let name = match self.live_name(target) {
+        let name = match live_name(&self.present, target) {
             Ok(name) => name,
             Err(refusal) => return (Reply::Refused(refusal), Plan::Nothing),
         };
@@ -627,7 +626,7 @@ impl Pool {
         ensures { (q : Request) → Asks q target.now update.entry → Step self.old.state q result self.new.state }
     {
         let _size = self.size;
-        let name = match self.live_name(target) {
+        let name = match live_name(&self.present, target) {
             Ok(name) => name,
             Err(refusal) => return Reply::Refused(refusal),
         };
@@ -675,21 +674,6 @@ impl Pool {
                 Reply::Done
             }
             Err(refusal) => Reply::Refused(refusal),
-        }
-    }
-
-    // The name of the file system that a change is asked of: ReadOnly where the target is a snapshot, and NoDataset where it is
-    // nothing that is there.
-    fn live_name<'a>(&self, target: &'a Target) -> Result<&'a DsName, Refusal>
-        ensures ok { IfOk result (λ name. target.now ≡ Target.FileSystem name.now) }
-        ensures err { IfErr result (λ why. IsNoLive self.now.state.now.file_systems target.now why) }
-    {
-        match target {
-            Target::FileSystem(name) => Ok(name),
-            _ => Err(match tree_named(&self.present, target) {
-                Some(_) => Refusal::ReadOnly,
-                None => Refusal::NoDataset,
-            }),
         }
     }
 
