@@ -59,7 +59,7 @@ nothing_kept t lines kept none = subst (IsAccounted t) none kept
 
 module _ (s : State) (t : Datasets) (space : Space) (is : IsStateWith s t space) where
   small_here : space.size < 2 ^ 32 → s.size < 2 ^ 32
-  small_here small = subst (λ n. n < 2 ^ 32) is.space.size small
+  small_here small = subst (λ n. n < 2 ^ 32) is.beside.size small
 
   -- no file system of the state has a limit, where none of its datasets has
   pub bare_in : IsUnlimited t.file_systems → IsUnlimited s.now.file_systems
@@ -97,9 +97,9 @@ module _ (s : State) (t : Datasets) (space : Space) (is : IsStateWith s t space)
     -- the pool has as much beside its file systems then
     set_space : IsSpaceOf (asked_by_set s name limit amount) space
     set_space = record {
-      size = is.space.size;
-      freeing = is.space.freeing;
-      waiting = is.space.waiting ∙ ap set.len (sym (unasked_waiting s (asked_by_set s name limit amount) unasked));
+      size = is.beside.size;
+      freeing = is.beside.freeing;
+      waiting = is.beside.waiting ∙ ap set.len (sym (unasked_waiting s (asked_by_set s name limit amount) unasked));
     }
 
     module _ (d : Datasets) (same : d ≡ to) (r : Option Refusal) (over : (asked : State) → asked.now.file_systems ≡ d.file_systems → IsSpaceOf asked space → r ≡ first_of (limit_row asked)) where
@@ -149,7 +149,7 @@ module _ (s : State) (t : Datasets) (space : Space) (is : IsStateWith s t space)
       -- so much can be counted
       pub few_more : space.waiting + look.waiting < 2 ^ 32
       few_more =
-          let e = is.space.waiting in
+          let e = is.beside.waiting in
           let w = is_outlook.waiting in
           let l = few_wait s is.balanced (asked_by_change s r.name c).now in
           let k = small_here small in
@@ -169,13 +169,13 @@ module _ (s : State) (t : Datasets) (space : Space) (is : IsStateWith s t space)
       pub change_foretold : look.here < 2 ^ 42 → Foretells s name c (Some look)
       change_foretold little = (little, changed_here)
 
-      module _ (beside : Space) (size : beside.size ≡ space.size) (freeing : beside.freeing ≡ space.freeing) (waiting : beside.waiting ≡ space.waiting + look.waiting) (over : Option Refusal)
-          (asked : (s' : State) → IsChanged (world_of t) s'.now name look.here look.referenced → AreQuotasMet (world_of t) → IsSpaceOf s' beside → over ≡ first_of (limit_row s')) where
+      module _ (more : Space) (size : more.size ≡ space.size) (freeing : more.freeing ≡ space.freeing) (waiting : more.waiting ≡ space.waiting + look.waiting) (over : Option Refusal)
+          (asked : (s' : State) → IsChanged (world_of t) s'.now name look.here look.referenced → AreQuotasMet (world_of t) → IsSpaceOf s' more → over ≡ first_of (limit_row s')) where
         change_row : over ≡ first_of (limit_row (asked_by_change s name c))
-        change_row = asked (asked_by_change s name c) changed met (subst (λ m. IsSpaceOf (asked_by_change s m c) beside) named (record {
-          size = size ∙ is.space.size;
-          freeing = freeing ∙ is.space.freeing ∙ ap set.len (sym (change_frees_none s.now r.name r.system is_ahead.there c (fresh_number s)));
-          waiting = waiting ∙ ap (λ k. k + look.waiting) is.space.waiting ∙ is_outlook.waiting;
+        change_row = asked (asked_by_change s name c) changed met (subst (λ m. IsSpaceOf (asked_by_change s m c) more) named (record {
+          size = size ∙ is.beside.size;
+          freeing = freeing ∙ is.beside.freeing ∙ ap set.len (sym (change_frees_none s.now r.name r.system is_ahead.there c (fresh_number s)));
+          waiting = waiting ∙ ap (λ k. k + look.waiting) is.beside.waiting ∙ is_outlook.waiting;
         }))
 
         -- a limit would be broken

@@ -28,7 +28,7 @@ pub record IsStateWith (s : State) (t : Datasets) (space : Space) : Type 0 where
   pub steady : IsSteady s
   pub balanced : IsBalanced s
   pub datasets : datasets_of s ≡ t
-  pub space : IsSpaceOf s space
+  pub beside : IsSpaceOf s space
 
 -- a state with these datasets and with so many blocks to be freed, where as many wait as do in another state (zfsprops(7): reservation)
 pub record IsAsked (s : State) (t : Datasets) (freeing : ℕ) (asked : State) : Type 0 where

@@ -49,7 +49,7 @@ module _ (seen : Shown) (s : State) (numbers : List BlockState) (view : shown s 
     steady = sound.steady;
     balanced = are_balanced s sound.steady numbers sound.states;
     datasets = refl;
-    space = record {
+    beside = record {
       size = size ∙ ap (λ (x : Shown). x.state.size) (sym view);
       freeing = freeing;
       waiting = waiting ∙ ap (λ (x : Shown). set.len (waiting_of x.state)) (sym view);

@@ -31,7 +31,7 @@ module _ (s : State) (t : Datasets) (space : Space) (is : IsStateWith s t space)
 
     pub pool_get_size : p ≡ SizeAsked → v ≡ Size (512 * space.size) → Step s (PoolGet p) (ValueIs v) s
     unfolding pool_value
-    pool_get_size same e = asked SizeAsked same (e ∙ ap (λ n. Size (512 * n)) is.space.size)
+    pool_get_size same e = asked SizeAsked same (e ∙ ap (λ n. Size (512 * n)) is.beside.size)
 
     pub pool_get_allocated : p ≡ Allocated → v ≡ Size (512 * counts.allocated) → Step s (PoolGet p) (ValueIs v) s
     unfolding pool_value
@@ -43,13 +43,13 @@ module _ (s : State) (t : Datasets) (space : Space) (is : IsStateWith s t space)
 
     pub pool_get_freeing : (n : ℕ) → p ≡ Freeing → v ≡ Size (512 * n) → (space.freeing ≤ space.size → n ≡ space.freeing) → Step s (PoolGet p) (ValueIs v) s
     unfolding pool_value freeing_of
-    pool_get_freeing n same e told = asked Freeing same (e ∙ ap (λ k. Size (512 * k)) (told fits ∙ is.space.freeing))
+    pool_get_freeing n same e told = asked Freeing same (e ∙ ap (λ k. Size (512 * k)) (told fits ∙ is.beside.freeing))
       where
         fits : space.freeing ≤ space.size
         fits =
             let f = freeing_fits s is.balanced in
-            let n = is.space.freeing in
-            let m = is.space.size in
+            let n = is.beside.freeing in
+            let m = is.beside.size in
             omega (arith, f, n, m)
 
     pub pool_get_waiting : p ≡ Waiting → v ≡ Size (512 * counts.waiting) → Step s (PoolGet p) (ValueIs v) s

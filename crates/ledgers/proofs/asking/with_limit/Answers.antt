@@ -18,7 +18,7 @@ returns-in_err-set_limit-clause-err c s is =
 pub over-requires : goal.over-requires
 over-requires c = record {
   few =
-      set_few c.requires.0 c.args.table.now c.args.space c.requires.1 c.args.name.now c.args.limit c.args.amount (omega arith) c.set_limit.new.self
+      set_few c.requires.state.0 c.args.table.now c.args.space c.requires.state.1 c.args.name.now c.args.limit c.args.amount (omega arith) c.set_limit.new.self
       (c.in_ok-set_limit.ensures.ok ∙ ap (λ (t : Datasets). with_limit_of t c.args.name.now c.args.limit c.args.amount) c.in_ok-to.ensures.ok);
 }
 
