@@ -1,0 +1,4 @@
+pub mod Foretold
+pub mod Balanced
+pub mod Asked
+pub mod Settled

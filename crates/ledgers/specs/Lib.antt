@@ -1,0 +1,2 @@
+-- What a pool keeps of limits, and what they say of a request.
+pub mod Limiting

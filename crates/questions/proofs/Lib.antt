@@ -1,0 +1,5 @@
+pub mod Names
+pub mod Values
+pub mod Measured
+pub mod Reading
+pub mod Counting

@@ -1,0 +1,2 @@
+-- What questions are asked of.
+pub mod Counted
