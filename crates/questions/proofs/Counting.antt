@@ -23,7 +23,7 @@ use Rattle.questions.specs.Counted.{IsCountOf}
 module _ (s : State) (t : Datasets) (space : Space) (is : IsStateWith s t space) (counts : Counts) (counted : IsCountOf s counts) where
   value_done : (p : PoolProperty) (v : Value) → v ≡ pool_value s p → Step s (PoolGet p) (ValueIs v) s
   unfolding refusal_of
-  value_done p v e = answered_by (PoolGet p) (pool_get_rule p) refl s is.steady (ValueIs v) refl refl refl (ap ValueIs e)
+  value_done p v e = answered_by (PoolGet p) (pool_get_rule p) (None, refl, refl) s is.steady (ValueIs v) refl refl refl (ap ValueIs e)
 
   module _ (p : PoolProperty) (v : Value) where
     asked : (q : PoolProperty) → p ≡ q → v ≡ pool_value s q → Step s (PoolGet p) (ValueIs v) s
