@@ -5,7 +5,7 @@ ghost use Rattle.name.specs.declared.target.Target.{Target};
 ghost use Rattle.model.specs.Ids.{snap_id};
 ghost use Rattle.model.specs.Rule.{first_of};
 ghost use Rattle.model.specs.World.{id_of};
-ghost use Rattle.model.specs.requests.Send.{sources_of, start_of, start_named, send_row};
+ghost use Rattle.model.specs.requests.Send.{sources_of, start_of, start_named, no_source, send_row};
 ghost use Rattle.space.specs.Places.{IsPlace};
 ghost use Rattle.world.specs.Tables.{world_of};
 ghost use Rattle.sources.specs.Starts.{start_at};
@@ -73,10 +73,7 @@ fn start_from(
 {
     match from {
         Some(source) => start_from_source(table, file_system, snapshot, source),
-        None => Some(Start {
-            guid: Guid(0),
-            group: Group(0),
-        }),
+        None => Some(full_start()),
     }
 }
 
@@ -143,6 +140,16 @@ fn start_from_bookmark(
         return None;
     }
     Some(start_at(id))
+}
+
+// The start of a full send.
+pub fn full_start() -> Start
+    ensures { result ≡ no_source }
+{
+    Start {
+        guid: Guid(0),
+        group: Group(0),
+    }
 }
 
 // The start at a source of this identity.
