@@ -257,7 +257,7 @@ impl Pool {
             } => self.planned_destroy(alloc, target, *recursive, *defer),
             Request::Slice { count } => self.planned_slice(*count),
             Request::Sync => self.planned_sync(),
-            Request::OpenView { target } => self.planned_open(target),
+            Request::OpenView { target } => self.planned_open(alloc, target),
             Request::CloseView { view } => self.planned_close(alloc, *view),
             Request::Clone { target, name } => self.planned_clone(target, name),
             Request::Promote { name } => self.planned_promote(alloc, name),

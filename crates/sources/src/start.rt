@@ -2,6 +2,7 @@
 ghost use Rattle.std.specs.Prelude.{◌≡◌, Some, None, IfSome, IfOk, IfErr, OnOk};
 ghost use Rattle.std.specs.Option.{option_copied};
 ghost use Rattle.name.specs.declared.target.Target.{Target};
+ghost use Rattle.stream.specs.Spelling.{guid_number};
 ghost use Rattle.model.specs.Ids.{snap_id};
 ghost use Rattle.model.specs.Rule.{first_of};
 ghost use Rattle.model.specs.World.{id_of};
@@ -35,6 +36,18 @@ impl Model for Start {
     ghost view = { λ s. record { guid = s.guid.0; group = s.group.0 } };
 
     ghost inverse = { λ s. record { guid = record { 0 = s.guid }; group = record { 0 = s.group } } };
+}
+
+impl Start {
+    /// The guid of the source, and none for a full send. Constant time.
+    pub fn source(&self) -> Option<Guid>
+        ensures { guid_number result ≡ self.now.guid }
+    {
+        if self.guid.0 == 0 {
+            return None;
+        }
+        Some(self.guid)
+    }
 }
 
 /// Where a send of the snapshot of this name starts that names this source, or none and then it is a full one (zfs-send(8), -i). NotSnapshot

@@ -30,6 +30,7 @@ pub mod Snapping
 pub mod Seeing
 pub mod Losing
 pub mod Viewing
+pub mod Sending
 pub mod Freeing
 pub mod Rolling
 pub mod Destroying
