@@ -16,3 +16,4 @@ pub mod Limited
 pub mod Foretold
 pub mod Asked
 pub mod Settled
+pub mod Sending

@@ -1,5 +1,5 @@
 -- A send: why it is refused, and its steps.
-use Rattle.std.proofs.Common.{◌≡◌, ℕ, List, [], ◌∷◌, ◌++◌, Option, Some, None, not, refl, sym, ap, subst, ◌∙◌}
+use Rattle.std.proofs.Common.{◌≡◌, ℕ, List, [], ◌∷◌, ◌++◌, Option, Some, None, not, refl, sym, ap, ◌∙◌}
 use Rattle.std.specs.Prelude.{is_some}
 use Rattle.std.specs.List.{filter_map}
 use Rattle.std.specs.Option.{option_map, option_map_or, option_and_then}
@@ -13,14 +13,14 @@ use Rattle.stream.specs.Spelling.{spell}
 use Rattle.model.specs.declared.request.Request.TheVariants.{Send}
 use Rattle.model.specs.declared.reply.Reply.TheVariants.{Done, Refused, Stream as StreamIs}
 use Rattle.model.specs.Sights.{Seen}
-use Rattle.model.specs.World.{World, FileSystem, Snap, SnapId, Snapped, id_of, snap_at, file_system_at}
+use Rattle.model.specs.World.{World, FileSystem, Snap, SnapId, Snapped, id_of, snap_at, file_system_at, map_of}
 use Rattle.model.specs.State.{State}
 use Rattle.model.specs.Refusals.{refusal_of}
 use Rattle.model.specs.Rule.{first_of}
 use Rattle.model.specs.Step.{Step}
 use Rattle.model.specs.Targets.{is_snapshot_name}
 use Rattle.model.specs.requests.Rollback.{placed}
-use Rattle.model.specs.requests.Send.{Start, snapshot_source, bookmark_sources, sources_of, sight_of, start_of, start_named, sending_from, stream_of, send_row, send_reply, send_rule}
+use Rattle.model.specs.requests.Send.{Start, snapshot_source, bookmark_sources, sources_of, sight_of, start_of, start_named, sending_from, stream_of, send_row, send_rule}
 use Rattle.world.specs.Shapes.{Name}
 use Rattle.world.specs.Tables.{world_of}
 use Rattle.world.proofs.Bridge.{map_of_kept}
@@ -42,7 +42,7 @@ module _ (s : State) where
 
   sight_alike : (id : SnapId) → sight_of (world_of (datasets_of s)) id ≡ sight_of s.now id
   unfolding sight_of map_of
-  sight_alike id = ap (λ l. record sight_of s.now id { sources = l }) (sources_alike id)
+  sight_alike id = ap (λ l. record { map = map_of s.now (Snapped id); guid = id.guid; group = id.group; sources = l }) (sources_alike id)
 
   start_alike : (target : Target) (from : Option Target) → start_named (world_of (datasets_of s)) target from ≡ start_named s.now target from
   start_alike target from = ap (λ f. option_and_then {T = Seen} {U = Start} (λ seen. start_of seen.sources from) (option_map {T = FileSystem × Snap} {U = Seen} f (placed s.now target)))
