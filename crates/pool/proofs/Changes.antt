@@ -23,7 +23,7 @@ use Rattle.pool.specs.Asked.{Asks}
 use Rattle.lookups.specs.Named.{IsNoLive}
 use Rattle.pool.specs.Pools.{IsSound}
 use Rattle.pool.specs.Shown.{Shown, shown}
-use Rattle.questions.proofs.Names.{found, absent, is_snapshot}
+use Rattle.steps.proofs.Names.{found, absent, is_snapshot}
 
 -- no update
 abbrev update_error : Refusal → Result Update Refusal

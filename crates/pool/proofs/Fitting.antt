@@ -16,7 +16,7 @@ use Rattle.steps.specs.Steady.{IsSteady}
 use Rattle.steps.proofs.Counts as counts
 use Rattle.steps.proofs.Known.{states_of}
 use Rattle.steps.proofs.Properties.{are_balanced}
-use Rattle.ledgers.proofs.Balanced as balanced
+use Rattle.steps.proofs.Balanced as balanced
 
 module _ (s : State) (steady : IsSteady s) (numbers : List BlockState) (known : HasStates s numbers) where
   -- all that datasets have can be counted by so many bits

@@ -43,8 +43,8 @@ use Rattle.steps.specs.Asked.{asked_by_snapshot}
 use Rattle.outlook.specs.declared.outlook.Outlook.{Outlook}
 use Rattle.limits.specs.declared.line.Line.{Line}
 use Rattle.lookups.specs.Accounted.{IsAccounted}
-use Rattle.ledgers.specs.Limiting.{IsNoChange, MayChange, Foretells, CanSettle}
-use Rattle.ledgers.proofs.Settled.{can_settle}
+use Rattle.steps.specs.Limiting.{IsNoChange, MayChange, Foretells, CanSettle}
+use Rattle.steps.proofs.Settled.{can_settle}
 use Rattle.pool.proofs.Limited.{bare_here}
 use Rattle.base.specs.Rewrite.{Changes}
 

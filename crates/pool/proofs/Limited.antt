@@ -16,9 +16,9 @@ use Rattle.world.specs.Tables.{Datasets, world_of}
 use Rattle.accounts.specs.Limits.{IsUnlimited}
 use Rattle.steps.specs.Edits.{datasets_of, StaysUnlimited}
 use Rattle.lookups.specs.Accounted.{IsAccounted}
-use Rattle.ledgers.specs.Limiting.{IsAsked, IsOver}
-use Rattle.ledgers.proofs.Balanced as balanced
-use Rattle.ledgers.proofs.Foretold.{ledger_alike}
+use Rattle.steps.specs.Limiting.{IsAsked, IsOver}
+use Rattle.steps.proofs.Balanced as balanced
+use Rattle.steps.proofs.Foretold.{ledger_alike}
 use Rattle.limits.specs.declared.line.Line.{Line}
 use Rattle.pool.specs.Pools.{IsSound}
 use Rattle.pool.specs.Shown.{Shown, shown}

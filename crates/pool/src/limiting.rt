@@ -9,22 +9,21 @@ ghost use Rattle.model.specs.World.{union_of};
 ghost use Rattle.model.specs.requests.{rule_of};
 ghost use Rattle.world.specs.Tables.{world_of};
 ghost use Rattle.accounts.specs.Limits.{IsUnlimited};
-ghost use Rattle.ledgers.specs.Limiting.{IsOver, IsNoChange, MayChange, Foretells};
+ghost use Rattle.steps.specs.Limiting.{IsOver, IsNoChange, MayChange, Foretells};
 ghost use Rattle.pool.specs.Plans.{state_after_plan, CanDo};
 
 use crate::pool::{Plan, Pool};
 use base::limit::Blocks;
 use base::refusal::Refusal;
 use datasets::Table;
-use ledgers::{ask_change, over, with_limit};
 use limits::Space;
 use model::limits::Limit;
 use model::reply::Reply;
 use model::request::Request;
 use name::DsName;
 use outlook::Outlook;
-use questions::answer;
 use std::alloc::Global;
+use steps::{answer, ask_change, over, with_limit};
 use tree::Update;
 
 impl Pool {
@@ -59,7 +58,7 @@ impl Pool {
         over(&mut self.limiting, to, space)
     }
 
-    // What `ledgers::ask_change` says of this update of the live tree of a file system.
+    // What `steps::ask_change` says of this update of the live tree of a file system.
     pub(crate) fn ask_change(
         &mut self,
         alloc: Global,

@@ -21,7 +21,7 @@ use base::number::{Dead, Group};
 use base::refusal::Refusal;
 use datasets::Table;
 use destroyer::{Freeing, Slice};
-use ledgers::{Limiting, renew, settle};
+use steps::{Limiting, renew, settle};
 use lookups::live_name;
 use model::reply::Reply;
 use model::request::Request;
@@ -184,7 +184,7 @@ impl Pool {
     /// costs its nodes, a snapshot costs its names and a 32nd of the snapshots of its file system, a clone costs its name, and a promote
     /// the logarithm of the number of each file system's snapshots, the snapshots of the two with the segments of their dead lists, and
     /// for each snapshot that changes sides the logarithm of those numbers, but no block. What only reads
-    /// costs what `questions::answer` says. To open a view costs what its name does; to close one costs the number of open views and of file
+    /// costs what `steps::answer` says. To open a view costs what its name does; to close one costs the number of open views and of file
     /// systems, and where its snapshot goes with it what to destroy that does. Nothing else grows.
     pub fn prepare(&mut self, alloc: Global, request: &Request) -> (Reply, Ready)
         ensures same { self.new ≡ self.old }
@@ -234,7 +234,7 @@ impl Pool {
             } => self.planned_destroy(alloc, target, *recursive, *defer),
             Request::Slice { count } => self.planned_slice(*count),
             Request::Sync => self.planned_sync(),
-            Request::OpenView { target } => self.planned_open(target),
+            Request::OpenView { target } => self.planned_open(alloc, target),
             Request::CloseView { view } => self.planned_close(alloc, *view),
             Request::Clone { target, name } => self.planned_clone(target, name),
             Request::Promote { name } => self.planned_promote(alloc, name),
@@ -252,7 +252,9 @@ impl Pool {
             | Request::WouldFree { .. }
             | Request::PoolGet { .. }
             | Request::List
-            | Request::Holds { .. } => (self.asked(alloc, request), Plan::Nothing),
+            | Request::Holds { .. }
+            | Request::Send { .. } => (self.asked(alloc, request), Plan::Nothing),
+            Request::Receive { .. } => (Reply::Refused(Refusal::NoMemory), Plan::Nothing),
         }
     }
 
@@ -508,7 +510,8 @@ impl Pool {
             | Request::WouldFree { .. }
             | Request::PoolGet { .. }
             | Request::List
-            | Request::Holds { .. } => self.asked(alloc, request),
+            | Request::Holds { .. }
+            | Request::Send { .. } => self.asked(alloc, request),
             Request::Slice { count } => self.slice_now(*count),
             Request::Sync => self.sync_now(),
             _ => self.edit(alloc, request),

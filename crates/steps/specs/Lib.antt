@@ -7,3 +7,5 @@ pub mod Listed
 pub mod Spaces
 pub mod Asked
 pub mod Ruled
+pub mod Limiting
+pub mod Counted

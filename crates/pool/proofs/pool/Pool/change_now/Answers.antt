@@ -9,7 +9,7 @@ use Rattle.pool.specs.Shown.{Shown}
 use Rattle.pool.proofs.Changes.{told, no_live}
 use Rattle.pool.proofs.Commits.{sound_changed}
 use Rattle.pool.proofs.Immediate.{allowed, asks_here, refused_now, can_now, done_now, stays_now, may_here, foretold_here, settles_now, not_asked}
-use Rattle.ledgers.proofs.Asked.{nothing_kept}
+use Rattle.steps.proofs.Asked.{nothing_kept}
 use Rattle.pool.proofs.Limited.{few_sound}
 use Rattle.tree.specs.Updates.{changes_of}
 use Rattle.pool.proofs.pool.Pool.change_now.Goals as goal

@@ -1,4 +1,0 @@
-pub mod Foretold
-pub mod Balanced
-pub mod Asked
-pub mod Settled

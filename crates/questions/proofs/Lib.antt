@@ -1,5 +1,0 @@
-pub mod Names
-pub mod Values
-pub mod Measured
-pub mod Reading
-pub mod Counting

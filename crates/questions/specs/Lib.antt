@@ -1,2 +1,0 @@
--- What questions are asked of.
-pub mod Counted
