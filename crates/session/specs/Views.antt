@@ -1,12 +1,12 @@
 -- What contracts see of views, and what is read through one.
-use Rattle.std.specs.Prelude.{◌≡◌, ℕ, List, Option, Some, Result, Ok, Err, true, refl}
+use Rattle.std.specs.Prelude.{◌≡◌, ℕ, List, [], Option, Some, Result, Ok, Err, true, refl}
 use Rattle.std.specs.Coded.{Coded, code_by, coded×, coded_ℕ}
 use Rattle.std.specs.FinMap as finmap
 use Rattle.base.specs.declared.refusal.Refusal.{Refusal}
 use Rattle.name.specs.declared.target.Target.{Target}
 use Rattle.model.specs.declared.request.Request.TheVariants.{Read}
 use Rattle.model.specs.declared.reply.Reply.{Reply}
-use Rattle.model.specs.declared.reply.Reply.TheVariants.{Done, Refused, Data, Value, Group, Names, Count, Opened}
+use Rattle.model.specs.declared.reply.Reply.TheVariants.{Done, Refused, Data, Value, Group, Names, Count, Opened, Stream}
 use Rattle.model.specs.Numbers.{IsNumbered}
 use Rattle.model.specs.Sights.{Seen, seen_code}
 use Rattle.model.specs.State.{State}
@@ -21,7 +21,7 @@ pub record Viewed : Type 0 where
 
 -- an empty map (profile)
 abbrev pub nothing_seen : Seen
-nothing_seen = record { map = finmap.empty; guid = 0; group = 0 }
+nothing_seen = record { map = finmap.empty; guid = 0; group = 0; sources = [] }
 
 -- what a reply shows of the snapshot that it opened a view of, and nothing where it opened none (profile)
 abbrev pub seen_in : Reply → Seen
@@ -33,6 +33,7 @@ seen_in (Group group) = nothing_seen
 seen_in (Names names) = nothing_seen
 seen_in (Count count) = nothing_seen
 seen_in (Opened view sight) = sight
+seen_in (Stream bytes) = nothing_seen
 
 -- its code, that of the pair of the fields
 abbrev pub viewed_code : Coded Viewed
