@@ -4,7 +4,7 @@ use Rattle.model.specs.State.{State}
 use Rattle.model.specs.Step.{Step}
 use Rattle.model.specs.declared.request.Request.{Request}
 use Rattle.model.specs.declared.reply.Reply.{Reply}
-use Rattle.model.specs.declared.reply.Reply.TheVariants.{Done, Refused, Data, Value, Group, Names, Count, Opened}
+use Rattle.model.specs.declared.reply.Reply.TheVariants.{Done, Refused, Data, Value, Group, Names, Count, Opened, Stream}
 use Rattle.model.specs.declared.entry.Entry.{Entry}
 
 -- a view was opened (profile)
@@ -17,6 +17,7 @@ is_opened (Group group) = false
 is_opened (Names names) = false
 is_opened (Count count) = false
 is_opened (Opened view sight) = true
+is_opened (Stream bytes) = false
 
 -- an entry's other owners have the same, and a view has one of its own exactly where the entry opened it (profile)
 pub record AreOwners (entry second third : Entry) (viewed : Option Entry) : Type 0 where

@@ -55,6 +55,7 @@ fn answers_done(request: &Request) -> bool
             | Request::Release { .. }
             | Request::Bookmark { .. }
             | Request::Set { .. }
+            | Request::Receive { .. }
     )
 }
 

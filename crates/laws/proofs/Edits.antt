@@ -1,4 +1,4 @@
--- What each edit of a world makes of its file systems: they go on, or are new and have no snapshot.
+-- What each edit of a world makes of its file systems: they go on, or are new and have no snapshots but of the open group.
 use Rattle.std.proofs.Common.{◌≡◌, ℕ, ◌+◌, ◌≤◌, Bool, true, false, cond, not, ◌||◌, List, [], ◌∷◌, ◌++◌, Option, Some, None, refl, sym, ap, subst, ◌∙◌, ◌⊎◌, inl, inr, ⊎_elim, map}
 use Rattle.std.specs.Prelude.{nat_le, if◌then◌else◌}
 use Rattle.std.specs.List.{filter, list_any}
@@ -12,10 +12,11 @@ use Rattle.base.specs.Surveys.{IsIn}
 use Rattle.name.specs.Names.{name_cmp, same_name}
 use Rattle.name.specs.declared.member.Member.{Member}
 use Rattle.model.specs.World.{World, FileSystem, Snap, SnapId, Bookmark, id_of, same_id}
-use Rattle.model.specs.Edits.{with_file_system, with_file_systems, with_tags, without_snaps, with_next_group}
+use Rattle.model.specs.Edits.{with_file_system, with_file_systems, with_tags, without_snaps}
 use Rattle.model.specs.requests.Destroy.{with_deferred, without_file_systems}
+use Rattle.model.specs.requests.Receive.{back_to_newest}
 use Rattle.model.specs.requests.Rollback.{back_at}
-use Rattle.model.specs.requests.Snapshot.{snap_of_live, with_snapshots}
+use Rattle.model.specs.requests.Snapshot.{snap_of_live, with_snapshot, with_snapshots}
 use Rattle.world.specs.Numbering.{ChangesKeys}
 use Rattle.world.specs.Shapes.{Name, name_order}
 use Rattle.world.specs.Usage.{IsEntry}
@@ -26,7 +27,7 @@ use Rattle.world.proofs.Maps.{same_value, no_value, entry_from_find}
 use Rattle.world.proofs.Put.{put_cases}
 use Rattle.world.proofs.Rewrites.{rewrite_is_change}
 use Rattle.world.proofs.Sweep.{get-with_file_systems}
-use Rattle.laws.proofs.Sources.{IsSameBelow, WentOn, IsLater}
+use Rattle.laws.proofs.Sources.{IsSameBelow, WentOn, ComesFrom, IsLater}
 
 -- ---- one file system
 
@@ -82,7 +83,7 @@ went_written g f ch number = record {
     by_touch b key c h true t = inr (inl (changes.made key c t h).1)
     by_touch b key c h false t = inl (λ q l. sym (changes.kept q (changes.below key q t l)))
 
--- it goes back to a snapshot: a bookmark that stands afterwards isn't newer than that one
+-- its live map goes back to a snapshot's: a bookmark that stands afterwards isn't newer than that one
 entry_passes : {X : Type 0} (p : List ℕ × X → Bool) (es : List (List ℕ × X)) (k : List ℕ) (v : X) → IsEntry (filter p es) k v
     → p (k, v) ≡ true
 entry_passes p [] k v h = absurd h
@@ -93,68 +94,88 @@ entry_passes {X} p (e ∷ es) k v h = by_test (p e) refl (entry_passes p es k v)
     by_test true t ih h = ⊎_elim (λ (i : (k ≡ e.0) × (v ≡ e.1)). (λ j. p (i.0 j, i.1 j)) ∙ t) ih h
     by_test false t ih h = ih h
 
-marks_upto : (m : FinMap name_cmp Bookmark) (group : ℕ) (k : List ℕ) (b : Bookmark)
+pub marks_upto : (m : FinMap name_cmp Bookmark) (group : ℕ) (k : List ℕ) (b : Bookmark)
     → get (from_entries {R = name_cmp} (filter (λ e. nat_le e.1.group group) (entries m))) k ≡ Some b → b.group ≤ group
 marks_upto m group k b h = leb-true b.group group (entry_passes (λ (e : List ℕ × Bookmark). nat_le e.1.group group) (entries m) k b
     (entry_from_find name_order (filter (λ (e : List ℕ × Bookmark). nat_le e.1.group group) (entries m)) k b
     (sym (get-from_entries name_order.total (filter (λ (e : List ℕ × Bookmark). nat_le e.1.group group) (entries m)) k) ∙ h)))
 
-pub went_back : (g : ℕ) (f : FileSystem) (t : Snap) → IsIn f.snaps t → WentOn g f (back_at f t)
-went_back g f t i = record {
+pub went_to_newest : (g : ℕ) (f : FileSystem) (t : Snap) → IsIn f.snaps t → WentOn g f (back_to_newest t f)
+went_to_newest g f t i = record {
   origin = refl;
-  snaps = λ u h. inl (u, (from_filter (λ (u : Snap). nat_le u.group t.group) f.snaps u h).0, refl, refl);
+  snaps = λ u h. inl (u, h, refl, refl);
   live = λ at b marked key c h. inr (inr (t, i, marks_upto f.bookmarks t.group at b marked, λ q l. refl));
 }
 
+-- and newer snapshots go
+pub went_back : (g : ℕ) (f : FileSystem) (t : Snap) → IsIn f.snaps t → WentOn g f (back_at f t)
+went_back g f t i = went_fewer g f (back_to_newest t f) (λ u. nat_le u.group t.group) (went_to_newest g f t i)
+
 -- ---- worlds
+
+-- a change of one file system leaves the open group
+pub same_group : (v : World) (name : Name) (change : FileSystem → FileSystem) → (with_file_system v name change).group ≡ v.group
+same_group v name change = by_system (get v.file_systems name)
+  where
+    by_system : (x : Option FileSystem) → (option_map_or (λ s. record v { file_systems = insert v.file_systems name (change s) }) x v).group ≡ v.group
+    by_system None = refl
+    by_system (Some s) = refl
 
 module _ (w : World) where
   pub same_later : IsLater w w
   same_later a f at = inl (f, at, went_same w.group f f refl refl refl)
 
-  -- one file system changed
+  -- one file system put into a later world
+  pub put_later : (v : World) (name : Name) (x : FileSystem) → IsLater w v → ComesFrom w name x
+      → IsLater w (record v { file_systems = insert v.file_systems name x })
+  put_later v name x later comes a f at = ⊎_elim
+      (λ k. subst (ComesFrom w a) (sym k.1) (subst (λ n. ComesFrom w n x) (sym k.0) comes))
+      (λ k. later a f k.1)
+      (put_cases v.file_systems name x a f at)
+
+  -- or changed there
+  pub with_later : (v : World) (name : Name) (change : FileSystem → FileSystem) → IsLater w v
+      → ((s : FileSystem) → get v.file_systems name ≡ Some s → ComesFrom w name (change s))
+      → IsLater w (with_file_system v name change)
+  with_later v name change later comes = by_system (get v.file_systems name) refl
+    where
+      by_system : (x : Option FileSystem) → get v.file_systems name ≡ x
+          → IsLater w (option_map_or (λ s. record v { file_systems = insert v.file_systems name (change s) }) x v)
+      by_system None e = later
+      by_system (Some s) e = put_later v name (change s) later (comes s e)
+
   pub one_later : (name : Name) (change : FileSystem → FileSystem)
       → ((f : FileSystem) → get w.file_systems name ≡ Some f → WentOn w.group f (change f))
       → IsLater w (with_file_system w name change)
-  one_later name change each = by_system (get w.file_systems name) refl
-    where
-      by_system : (x : Option FileSystem) → get w.file_systems name ≡ x
-          → IsLater w (option_map_or (λ s. record w { file_systems = insert w.file_systems name (change s) }) x w)
-      by_system None e a f at = same_later a f at
-      by_system (Some s) e a f at = ⊎_elim
-          (λ k. inl (s, ap (get w.file_systems) k.0 ∙ e, subst (WentOn w.group s) (sym k.1) (each s e)))
-          (λ k. inl (f, k.1, went_same w.group f f refl refl refl))
-          (put_cases w.file_systems name (change s) a f at)
+  one_later name change each = with_later w name change same_later (λ s at. inl (s, at, each s at))
 
   -- every file system of a later world changed
   pub all_later : (v : World) (change : List ℕ → FileSystem → FileSystem) → IsLater w v
       → ((a : Name) (f later : FileSystem) → WentOn w.group f later → WentOn w.group f (change a later))
-      → ((a : Name) (f : FileSystem) → f.snaps ≡ [] → (change a f).snaps ≡ [])
+      → ((a : Name) (f : FileSystem) (u : Snap) → IsIn (change a f).snaps u → (t : Snap) × IsIn f.snaps t × (u.group ≡ t.group))
       → IsLater w (with_file_systems v change)
-  all_later v change later went bare a f at = by_old (get v.file_systems a) refl (sym (get-with_file_systems v change a) ∙ at)
+  all_later v change later went from a f at = by_old (get v.file_systems a) refl (sym (get-with_file_systems v change a) ∙ at)
     where
-      by_old : (x : Option FileSystem) → get v.file_systems a ≡ x → option_map (change a) x ≡ Some f
-          → ((e : FileSystem) × (get w.file_systems a ≡ Some e) × WentOn w.group e f) ⊎ ((get w.file_systems a ≡ None) × (f.snaps ≡ []))
+      by_old : (x : Option FileSystem) → get v.file_systems a ≡ x → option_map (change a) x ≡ Some f → ComesFrom w a f
       by_old None e k = absurd (no_value f k)
-      by_old (Some y) e k =
-          let is = same_value (change a y) f k in
-          ⊎_elim
-          (λ (o, i, h). inl (o, i, subst (WentOn w.group o) is (went a o y h)))
-          (λ (none, h). inr (none, ap (λ (x : FileSystem). x.snaps) (sym is) ∙ bare a y h))
-          (later a y e)
+      by_old (Some y) e k = subst (ComesFrom w a) (same_value (change a y) f k)
+          (⊎_elim
+          (λ (o, i, h). inl (o, i, went a o y h))
+          (λ (none, fresh). inr (none, λ u i. let t = from a y u i in t.2 ∙ fresh t.0 t.1))
+          (later a y e))
 
   -- some of its snapshots gone
   pub without_later : (v : World) (goes : Snap → Bool) → IsLater w v → IsLater w (without_snaps v goes)
   without_later v goes later = all_later v (λ _ s. record s { snaps = filter (λ t. not (goes t)) s.snaps }) later
       (λ a f s went. went_fewer w.group f s (λ t. not (goes t)) went)
-      (λ a f h. ap (filter (λ t. not (goes t))) h)
+      (λ a f u h. (u, (from_filter (λ (t : Snap). not (goes t)) f.snaps u h).0, refl))
 
   -- some of its snapshots changed, but not in identity and map
   mapped_later : (v : World) (change : Snap → Snap) → ((t : Snap) → (id_of (change t) ≡ id_of t) × ((change t).map ≡ t.map)) → IsLater w v
       → IsLater w (with_file_systems v (λ _ f. record f { snaps = map {A = Snap} change f.snaps }))
   mapped_later v change same later = all_later v (λ _ f. record f { snaps = map {A = Snap} change f.snaps }) later
       (λ a f s went. went_mapped w.group f s change same went)
-      (λ a f h. ap (map {A = Snap} change) h)
+      (λ a f u h. let i = in_map change f.snaps u h in (i.0, i.1, ap (λ (x : Snap). x.group) i.2 ∙ ap (λ (x : SnapId). x.group) (same i.0).0))
 
   pub deferred_later : (v : World) (some : Snap → Bool) → IsLater w v → IsLater w (with_deferred v some)
   deferred_later v some = mapped_later v (λ t. record t { deferred = t.deferred || some t }) (λ t. (refl, refl))
@@ -170,10 +191,7 @@ module _ (w : World) where
   -- one file system more
   pub added_later : (name : Name) (f : FileSystem) → f.snaps ≡ [] → get w.file_systems name ≡ None
       → IsLater w (record w { file_systems = insert w.file_systems name f })
-  added_later name f bare absent a x at = ⊎_elim
-      (λ k. inr (ap (get w.file_systems) k.0 ∙ absent, ap (λ (y : FileSystem). y.snaps) k.1 ∙ bare))
-      (λ k. inl (x, k.1, went_same w.group x x refl refl refl))
-      (put_cases w.file_systems name f a x at)
+  added_later name f bare absent = put_later w name f same_later (inr (absent, λ u i. absurd (subst (λ l. IsIn l u) bare i)))
 
   -- some file systems gone
   pub left_later : (names : List (List ℕ)) → IsLater w (without_file_systems w names)
@@ -182,54 +200,34 @@ module _ (w : World) where
 
   -- ---- snapshots taken
 
-  -- each file system has no other snapshots than of its live map in the open group
-  abbrev IsTakenFrom : World → Type 0
-  IsTakenFrom v =
-      (a : Name) (f : FileSystem) → get v.file_systems a ≡ Some f
-      → (e : FileSystem) × (get w.file_systems a ≡ Some e) × (f.live ≡ e.live) × (f.origin ≡ e.origin)
-      × ((u : Snap) → IsIn f.snaps u → IsIn e.snaps u ⊎ ((u.group ≡ w.group) × (u.map ≡ e.live)))
-
-  take_one : (v : World) (m : Member) (guid : ℕ) (s : FileSystem) → v.group ≡ w.group → get v.file_systems m.file_system ≡ Some s
-      → IsTakenFrom v
-      → IsTakenFrom (record v { file_systems = insert v.file_systems m.file_system (record s { snaps = s.snaps ++ snap_of_live v s m.component guid ∷ [] }) })
-  take_one v m guid s open_is at taken a f is = ⊎_elim
-      (λ k.
-      let o = taken a s (ap (get v.file_systems) k.0 ∙ at) in (
-        o.0,
-        o.1,
-        ap (λ (y : FileSystem). y.live) k.1 ∙ o.2,
-        ap (λ (y : FileSystem). y.origin) k.1 ∙ o.3,
-        λ u h. ⊎_elim
-            (λ i. o.4 u i)
-            (λ i. ⊎_elim
-            (λ (e : u ≡ snap_of_live v s m.component guid). inr (ap (λ (x : Snap). x.group) e ∙ open_is, ap (λ (x : Snap). x.map) e ∙ o.2))
-            (λ e. absurd e)
-            i)
-            (in_either s.snaps (snap_of_live v s m.component guid ∷ []) u (subst (λ (y : FileSystem). IsIn y.snaps u) k.1 h)),
-      ))
-      (λ k. taken a f k.1)
-      (put_cases v.file_systems m.file_system (record s { snaps = s.snaps ++ snap_of_live v s m.component guid ∷ [] }) a f is)
-
-  take_all : (ms : List Member) (guid : ℕ) (v : World) → v.group ≡ w.group → IsTakenFrom v → IsTakenFrom (with_snapshots v guid ms)
-  take_all [] guid v open_is taken = taken
-  take_all (m ∷ ms) guid v open_is taken = by_system (get v.file_systems m.file_system) refl (λ u. take_all ms (guid + 1) u)
-    where
-      by_system : (x : Option FileSystem) → get v.file_systems m.file_system ≡ x
-          → ((u : World) → u.group ≡ w.group → IsTakenFrom u → IsTakenFrom (with_snapshots u (guid + 1) ms))
-          → IsTakenFrom (with_snapshots (option_map_or (λ s. record v { file_systems = insert v.file_systems m.file_system (record s { snaps = s.snaps ++ snap_of_live v s m.component guid ∷ [] }) }) x v) (guid + 1) ms)
-      by_system None e rest = rest v open_is taken
-      by_system (Some s) e rest = rest (record v { file_systems = insert v.file_systems m.file_system (record s { snaps = s.snaps ++ snap_of_live v s m.component guid ∷ [] }) })
-          open_is (take_one v m guid s open_is e taken)
-
-  pub taken_later : (guid : ℕ) (ms : List Member) → IsLater w (with_next_group (with_snapshots w guid ms))
-  taken_later guid ms a f at =
-      let o = take_all ms guid w refl (λ a f is. (f, is, refl, refl, λ u h. inl h)) a f at in
-      inl (
-        o.0,
-        o.1,
+  -- one, of a live map of a later world
+  pub snapped_later : (v : World) (m : Member) (guid : ℕ) → v.group ≡ w.group → IsLater w v → IsLater w (with_snapshot v m guid)
+  snapped_later v m guid open_is later = with_later v m.file_system (λ s. record s { snaps = s.snaps ++ snap_of_live v s m.component guid ∷ [] }) later
+      (λ s at. ⊎_elim
+      (λ (e, is, went). inl (
+        e,
+        is,
         record {
-          origin = o.3;
-          snaps = λ u h. ⊎_elim (λ i. inl (u, i, refl, refl)) inr (o.4 u h);
-          live = λ mark b marked key c h. inl (λ q l. ap (λ m. get m q) (sym o.2));
+          origin = went.origin;
+          snaps = λ u h. ⊎_elim (λ i. went.snaps u i) (λ k. inr (k.1, k.0)) (from_one s u h);
+          live = went.live;
         },
-      )
+      ))
+      (λ (none, fresh). inr (none, λ u h. ⊎_elim (λ i. fresh u i) (λ k. k.1) (from_one s u h)))
+      (later m.file_system s at))
+    where
+      from_one : (s : FileSystem) (u : Snap) → IsIn (s.snaps ++ snap_of_live v s m.component guid ∷ []) u → IsIn s.snaps u ⊎ ((u.map ≡ s.live) × (u.group ≡ w.group))
+      from_one s u h = ⊎_elim
+          inl
+          (⊎_elim
+          (λ (e : u ≡ snap_of_live v s m.component guid). inr (ap (λ (x : Snap). x.map) e, ap (λ (x : Snap). x.group) e ∙ open_is))
+          (λ e. absurd e))
+          (in_either s.snaps (snap_of_live v s m.component guid ∷ []) u h)
+
+  -- any number
+  pub taken_later : (guid : ℕ) (ms : List Member) (v : World) → v.group ≡ w.group → IsLater w v → IsLater w (with_snapshots v guid ms)
+  taken_later guid [] v open_is later = later
+  taken_later guid (m ∷ ms) v open_is later =
+      taken_later (guid + 1) ms (with_snapshot v m guid)
+      (same_group v m.file_system (λ s. record s { snaps = s.snaps ++ snap_of_live v s m.component guid ∷ [] }) ∙ open_is)
+      (snapped_later v m guid open_is later)

@@ -3,6 +3,7 @@ pub mod Reaching
 pub mod Walking
 pub mod Sources
 pub mod Edits
+pub mod Receiving
 pub mod Turning
 pub mod Stepping
 pub mod Making

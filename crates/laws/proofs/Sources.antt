@@ -1,5 +1,5 @@
 -- What serves as a source for a file system serves so in a later world.
-use Rattle.std.proofs.Common.{◌≡◌, ℕ, zero, ◌-◌, ◌/◌, ◌^◌, ◌<◌, ◌≤◌, List, [], Some, None, refl, sym, ap, subst, ◌∙◌, ◌⊎◌, inl, inr, ⊎_elim, map, arith}
+use Rattle.std.proofs.Common.{◌≡◌, ℕ, zero, ◌-◌, ◌/◌, ◌^◌, ◌<◌, ◌≤◌, List, Some, None, refl, sym, ap, subst, ◌∙◌, ◌⊎◌, inl, inr, ⊎_elim, map, arith}
 use Rattle.std.specs.Prelude.{IsTrue, nat_le, ◌==◌}
 use Rattle.std.specs.FinMap.{get}
 use Rattle.std.proofs.lemmas.Bool.{eq-eqb, le-leb, and_from}
@@ -32,19 +32,23 @@ itself_below k =
     (eq-eqb (k.index / 16 ^ (k.level - k.level)) k.index (ap (λ j. k.index / 16 ^ j) z ∙ div-one k.index))
 
 -- What becomes of a file system in a step, where this group is open: its snapshots are earlier ones, in identity and map, or its live map
--- as it was; what its live map has it had, with all below, or is born in the open group, or a snapshot had it so that no bookmark is newer than
+-- as it is; what its live map has it had, with all below, or is born in the open group, or a snapshot had it so that no bookmark is newer than
 pub record WentOn (g : ℕ) (f later : FileSystem) : Type 0 where
   pub origin : later.origin ≡ f.origin
   pub snaps : (u : Snap) → IsIn later.snaps u
-      → ((v : Snap) × IsIn f.snaps v × (id_of u ≡ id_of v) × (u.map ≡ v.map)) ⊎ ((u.group ≡ g) × (u.map ≡ f.live))
+      → ((v : Snap) × IsIn f.snaps v × (id_of u ≡ id_of v) × (u.map ≡ v.map)) ⊎ ((u.group ≡ g) × (u.map ≡ later.live))
   pub live : (at : List ℕ) (b : Bookmark) → get later.bookmarks at ≡ Some b → (key : Key) (c : Cell) → get later.live key ≡ Some c
       → IsSameBelow key f.live later.live ⊎ (c.birth ≡ g) ⊎ ((v : Snap) × IsIn f.snaps v × (b.group ≤ v.group) × IsSameBelow key v.map later.live)
 
--- each file system went on so, or is new and has no snapshot
+-- a file system of this name went on so, or is new and has no snapshots but of the open group
+abbrev pub ComesFrom : World → Name → FileSystem → Type 0
+ComesFrom w a f =
+    ((e : FileSystem) × (get w.file_systems a ≡ Some e) × WentOn w.group e f)
+    ⊎ ((get w.file_systems a ≡ None) × ((u : Snap) → IsIn f.snaps u → u.group ≡ w.group))
+
+-- each file system did
 abbrev pub IsLater : World → World → Type 0
-IsLater w new =
-    (a : Name) (f : FileSystem) → get new.file_systems a ≡ Some f
-    → ((e : FileSystem) × (get w.file_systems a ≡ Some e) × WentOn w.group e f) ⊎ ((get w.file_systems a ≡ None) × (f.snaps ≡ []))
+IsLater w new = (a : Name) (f : FileSystem) → get new.file_systems a ≡ Some f → ComesFrom w a f
 
 -- so do the shapes
 shapes_later : (w new : World) → IsLater w new → AreGrown w.group (shapes w.file_systems) (shapes new.file_systems)
@@ -62,7 +66,12 @@ shapes_later w new later a f at =
           (λ k. inr (ap (λ y. y.id.group) t.2 ∙ k.0))
           (went.snaps t.0 t.1),
     ))
-    (λ (none, bare). inr (shape_none w.file_systems a none, ap (λ y. y.snapshots) x.2 ∙ ap (map snap_shape) bare))
+    (λ (none, fresh). inr (
+      shape_none w.file_systems a none,
+      λ u i.
+          let t = from_among x.0.snaps u (subst (λ y. IsAmong y.snapshots u) x.2 i) in
+          ap (λ y. y.id.group) t.2 ∙ fresh t.0 t.1,
+    ))
     (later a x.0 x.1)
 
 module _ (w new : World) (good : IsGood (shapes w.file_systems) w.group) (good' : IsGood (shapes new.file_systems) new.group) (later : IsLater w new)
@@ -119,7 +128,7 @@ module _ (w new : World) (good : IsGood (shapes w.file_systems) w.group) (good' 
 
   -- a snapshot that was taken since
   of_taken : (e : Shape) (u : SnapShape) → shapes new.file_systems name ≡ Some e → IsAmong e.snapshots u → u.id.group ≡ w.group
-      → map_of new (Snapped u.id) ≡ f.live
+      → map_of new (Snapped u.id) ≡ f'.live
   of_taken e u here i l =
       let x = from_shape new.file_systems name e here in
       let same = same_value x.0 f' (sym x.1 ∙ is') in
@@ -153,7 +162,11 @@ module _ (w new : World) (good : IsGood (shapes w.file_systems) w.group) (good' 
       let two = k.0 in
       absurd (omega arith))
       (went.snaps t.0 t.1))
-      (λ k. absurd (subst (λ l. IsIn l t.0) k.1 t.1))
+      (λ (none, fresh).
+      let lo = row_low (shapes w.file_systems) w.group good id n old in
+      let one : t.0.group ≡ id.group = ap (λ (y : SnapId). y.group) ids in
+      let two = fresh t.0 t.1 in
+      absurd (omega arith))
       (later s.1.0 x.0 x.1)
 
   pub source_stays : IsSource new name b.group held
@@ -172,7 +185,7 @@ module _ (w new : World) (good : IsGood (shapes w.file_systems) w.group) (good' 
 
       by_place : Met (shapes w.file_systems) (shapes new.file_systems) w.group name d → SharesUntil b.group held (map_of new d)
       by_place (at_live e) = of_map (Live name) f'.live e (map_of_live new name f' is') new_live
-      by_place (taken e u here i g e') = of_map (Snapped u.id) f.live e' (of_taken e u here i g) of_live
+      by_place (taken e u here i g e') = of_map (Snapped u.id) f'.live e' (of_taken e u here i g) new_live
       by_place (kept j id e a) =
           let n = end_row rows good.facts j (Live name) (Snapped id) L in_L a in
           let maps = of_kept id n.0 end.0 n.1 (subst (λ y. rows' y end.0) e end.1) in

@@ -15,7 +15,7 @@ use Rattle.name.specs.declared.target.Target.TheVariants.{FileSystem as OfFileSy
 use Rattle.model.specs.Limits.{limited}
 use Rattle.model.specs.declared.limits.Limit.{Limit}
 use Rattle.model.specs.declared.request.Request.{Request}
-use Rattle.model.specs.declared.request.Request.TheVariants.{Create as ToCreate, Write as ToWrite, Punch as ToPunch, FreeObject as ToFreeObject, Snapshot as ToSnapshot, Read as ToRead, Get as ToGet, PoolGet as ToPoolGet, List as ToList, Rollback as ToRollback, Destroy as ToDestroy, Slice as ToSlice, Sync as ToSync, OpenView as ToOpenView, CloseView as ToCloseView, Clone as ToClone, Promote as ToPromote, Hold as ToHold, Release as ToRelease, Holds as ToHolds, Bookmark as ToBookmark, WrittenSince as ToWrittenSince, WouldFree as ToWouldFree, Set as ToSet}
+use Rattle.model.specs.declared.request.Request.TheVariants.{Create as ToCreate, Write as ToWrite, Punch as ToPunch, FreeObject as ToFreeObject, Snapshot as ToSnapshot, Read as ToRead, Get as ToGet, PoolGet as ToPoolGet, List as ToList, Rollback as ToRollback, Destroy as ToDestroy, Slice as ToSlice, Sync as ToSync, OpenView as ToOpenView, CloseView as ToCloseView, Clone as ToClone, Promote as ToPromote, Hold as ToHold, Release as ToRelease, Holds as ToHolds, Bookmark as ToBookmark, WrittenSince as ToWrittenSince, WouldFree as ToWouldFree, Set as ToSet, Send as ToSend, Receive as ToReceive}
 use Rattle.model.specs.declared.reply.Reply.{Reply}
 use Rattle.model.specs.World.{World, FileSystem, Snap, Bookmark, id_of, empty_file_system, map_of_snap}
 use Rattle.model.specs.State.{State}
@@ -45,6 +45,7 @@ use Rattle.world.proofs.Promotions.{promote_systems}
 use Rattle.world.proofs.ViewedRequests.{row_false, from_placed}
 use Rattle.laws.specs.Bookmarks.{IsSource}
 use Rattle.laws.proofs.Edits.{went_same, went_written, went_back, same_later, one_later, without_later, deferred_later, tagged_later, added_later, left_later, taken_later}
+use Rattle.laws.proofs.Receiving.{got}
 use Rattle.laws.proofs.Sources.{IsLater, source_stays}
 use Rattle.laws.proofs.Turning.{live_turned, turned_source}
 
@@ -89,7 +90,7 @@ changed s (OfBookmark m) changes c = same_later s.now
 
 took : (s : State) (ms : List Member) → IsLater s.now (snapshots_taken s ms).now
 took s [] = same_later s.now
-took s (m ∷ ms) = taken_later s.now (guid_by s.pool s.next_guid) (m ∷ ms)
+took s (m ∷ ms) = taken_later s.now (guid_by s.pool s.next_guid) (m ∷ ms) s.now refl (same_later s.now)
 
 created : (s : State) (name : Name) → refusal_of s (create_rule name) ≡ None → IsLater s.now (with_new_file_system s.now name)
 unfolding refusal_of
@@ -220,3 +221,5 @@ step_became q r s new good step = followed s new r (rule_of q step.reading) (by_
     by_request (ToWrittenSince target since) c none = went (same_later s.now)
     by_request (ToWouldFree name first last) c none = went (same_later s.now)
     by_request (ToSet name limit amount) c none = went (set_one s.now name limit amount)
+    by_request (ToSend target from) c none = went (same_later s.now)
+    by_request (ToReceive m bytes force) c none = went (got s m step.reading force c.number none)

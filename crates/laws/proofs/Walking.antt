@@ -1,5 +1,5 @@
 -- What stands before a live map in a later world: what stood there in the world before, and snapshots of its own that were taken since.
-use Rattle.std.proofs.Common.{◌≡◌, ℕ, zero, suc, ◌<◌, [], Option, Some, None, refl, sym, ap, subst, ◌∙◌, ◌⊎◌, ⊎_elim, arith}
+use Rattle.std.proofs.Common.{◌≡◌, ℕ, zero, suc, ◌<◌, Option, Some, None, refl, sym, ap, subst, ◌∙◌, ◌⊎◌, inl, inr, ⊎_elim, arith}
 use Rattle.std.specs.Option.{option_map}
 use Rattle.model.specs.World.{SnapId, Dataset, Live, Snapped}
 use Rattle.world.specs.Lineage.{Row, Rows, IsPrior}
@@ -12,12 +12,12 @@ use Rattle.world.proofs.Requests.{lineage_facts}
 use Rattle.laws.proofs.Chains.{then_on, end_row}
 use Rattle.laws.proofs.Reaching.{start_prev, reach_start, reach_own}
 
--- each later file system is an earlier one, with its origin and no other snapshots but of the group that was open, or is new and has none
+-- each later file system is an earlier one, with its origin, or is new; it has no other snapshots but of the group that was open
 abbrev pub AreGrown : ℕ → Shapes → Shapes → Type 0
 AreGrown g m later =
     (a : Name) (f : Shape) → later a ≡ Some f
     → ((e : Shape) × (m a ≡ Some e) × (f.origin ≡ e.origin) × ((u : SnapShape) → IsAmong f.snapshots u → IsAmong e.snapshots u ⊎ (u.id.group ≡ g)))
-    ⊎ ((m a ≡ None) × (f.snapshots ≡ []))
+    ⊎ ((m a ≡ None) × ((u : SnapShape) → IsAmong f.snapshots u → u.id.group ≡ g))
 
 -- the live map itself, a snapshot of it that was taken since, or what stood before it
 pub data Met (m later : Shapes) (g : ℕ) (name : Name) (d : Dataset) : Type 0 where
@@ -73,6 +73,12 @@ module _ (m later : Shapes) (g h : ℕ) (good : IsGood m g) (good' : IsGood late
   abbrev w : Rows Dataset
   w = lineages m g
 
+  kept_low : (j : ℕ) (id : SnapId) → IsAncestor (lineages m g) j (Live name) (Snapped id) → id.group < g
+  kept_low j id c =
+      let p = good.closed name x here in
+      let k = end_row w good.facts j (Live name) (Snapped id) (row g (before_live p.0 x.snapshots) x.live) (name, x, p.0, here, p.1, live_in g name x.live p.0 x.snapshots) c in
+      row_low m g good id k.0 k.1
+
   -- a dataset before the live map, of the file system a, that stands there for one of the later world
   record Point (a : Name) (f : Shape) (at : m a ≡ Some f) (n : Row Dataset) : Type 0 where
     place : ℕ
@@ -111,12 +117,6 @@ module _ (m later : Shapes) (g h : ℕ) (good : IsGood m g) (good' : IsGood late
 
     taken_at : (e : Shape) (u : SnapShape) → later name ≡ Some e → IsAmong e.snapshots u → d ≡ Snapped u.id → name ≡ a
     taken_at e u is i k = let s = snap_at' u.id k in sym (good'.placed a name f' e s.0 u at' is s.1 i s.2)
-
-    kept_low : (j : ℕ) (id : SnapId) → IsAncestor (lineages m g) j (Live name) (Snapped id) → id.group < g
-    kept_low j id c =
-        let p = good.closed name x here in
-        let k = end_row w good.facts j (Live name) (Snapped id) (row g (before_live p.0 x.snapshots) x.live) (name, x, p.0, here, p.1, live_in g name x.live p.0 x.snapshots) c in
-        row_low m g good id k.0 k.1
 
     point : Met m later g name d → Point a f at n
     point (at_live e) = point_live (live_at e)
@@ -178,7 +178,7 @@ module _ (m later : Shapes) (g h : ℕ) (good : IsGood m g) (good' : IsGood late
       (λ (s, i, is). subst (Met m later g name) (sym is)
       (by_own a f' at' q' f at snaps d n r' met s i (falling later h good' d n s.id (a, f', q', at', st', r') (e ∙ ap Some is))))
       (prev_of_row h a f'.live q' f'.snapshots d p n r' e))
-      (λ (none, bare). absurd (by_bare none bare met))
+      (λ (none, fresh). absurd (by_fresh none fresh met (id_of_row h a f'.live q' f'.snapshots d n r')))
       (grown a f' at')
     where
       by_origin : (o : Option SnapId) → f'.origin ≡ o → q'.prev ≡ Some p → (id : SnapId) × (f'.origin ≡ Some id) × (p ≡ Snapped id)
@@ -190,13 +190,23 @@ module _ (m later : Shapes) (g h : ℕ) (good : IsGood m g) (good' : IsGood late
           → (id : SnapId) × (f'.origin ≡ Some id) × (p ≡ Snapped id) → Met m later g name p
       from_start f at o snaps k = subst (Met m later g name) (sym k.2) (by_start a f' at' q' f at snaps d n r' met k.0 (sym o ∙ k.1))
 
-      is_live : f'.snapshots ≡ [] → d ≡ Live a
-      is_live bare = ⊎_elim (λ k. k) (λ (s, i, k). absurd (subst (λ l. IsAmong l s) bare i)) (id_of_row h a f'.live q' f'.snapshots d n r')
+      -- a new file system has no dataset of the lineage
+      elsewhere : m a ≡ None → a ≡ name → ⊥
+      elsewhere none same = no_value x (sym none ∙ ap m same ∙ here)
 
-      by_bare : m a ≡ None → f'.snapshots ≡ [] → Met m later g name d → ⊥
-      by_bare none bare (at_live k) = no_value x (sym none ∙ ap m (same_live a name (sym (is_live bare) ∙ k)) ∙ here)
-      by_bare none bare (taken f u is i l k) = live_or_snap a u.id (sym (is_live bare) ∙ k)
-      by_bare none bare (kept j id is c) = live_or_snap a id (sym (is_live bare) ∙ is)
+      by_fresh : m a ≡ None → ((u : SnapShape) → IsAmong f'.snapshots u → u.id.group ≡ g) → Met m later g name d
+          → (d ≡ Live a) ⊎ ((s : SnapShape) × IsAmong f'.snapshots s × (d ≡ Snapped s.id)) → ⊥
+      by_fresh none fresh (at_live k) (inl is) = elsewhere none (same_live a name (sym is ∙ k))
+      by_fresh none fresh (at_live k) (inr (s, i, is)) = live_or_snap name s.id (sym k ∙ is)
+      by_fresh none fresh (taken f u there i l k) (inl is) = live_or_snap a u.id (sym is ∙ k)
+      by_fresh none fresh (taken f u there i l k) (inr (s, j, is)) =
+          elsewhere none (good'.placed a name f' f s u at' there j i (same_snap s.id u.id (sym is ∙ k)))
+      by_fresh none fresh (kept j id k c) (inl is) = live_or_snap a id (sym is ∙ k)
+      by_fresh none fresh (kept j id k c) (inr (s, i, is)) =
+          let low = kept_low j id c in
+          let one : s.id.group ≡ id.group = ap (λ (z : SnapId). z.group) (same_snap s.id id (sym is ∙ k)) in
+          let two = fresh s i in
+          absurd (omega arith)
 
   -- any number of places back
   pub walk : (k : ℕ) (d e : Dataset) → Met m later g name d → IsAncestor (lineages later h) k d e → Met m later g name e

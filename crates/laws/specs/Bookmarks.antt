@@ -51,9 +51,9 @@ IsRunWithin Holds s [] [] u = Holds s × (s ≡ u)
 IsRunWithin Holds s (q ∷ qs) (r ∷ rs) u = Holds s × ((t : State) × Step s q r t × IsRunWithin Holds t qs rs u)
 IsRunWithin Holds s _ _ u = ⊥
 
--- What serves as a source in a bookmark's group serves so after each run in which the bookmark stands: whatever is written, snapped, rolled
--- back, cloned, promoted or destroyed meanwhile, its snapshot too. The states are a pool's: a step alone may give a new block the number
--- that another file system's new block of the same bytes has (zfs-send(8), -i with a bookmark; profile)
+-- What serves as a source in a bookmark's group serves so after each run in which the bookmark stands: whatever is written, received,
+-- snapped, rolled back, cloned, promoted or destroyed meanwhile, its snapshot too. The states are a pool's: a step alone may give a new
+-- block the number that another file system's new block of the same bytes has (zfs-send(8), -i with a bookmark; profile)
 abbrev pub BookmarkStands : Type 0
 BookmarkStands =
     (s u : State) (qs : List Request) (rs : List Reply) (mark : Member) (b : Bookmark) (held : Map)

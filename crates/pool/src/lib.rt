@@ -8,7 +8,6 @@ mod cloning;
 mod destroying;
 mod limiting;
 mod marking;
-mod measuring;
 mod pool;
 mod viewing;
 

@@ -10,6 +10,8 @@ mod bookmarked;
 #[cfg(test)]
 mod cloned;
 #[cfg(test)]
+mod damaged;
+#[cfg(test)]
 mod families;
 #[cfg(test)]
 mod held;
@@ -22,6 +24,8 @@ mod quotas;
 #[cfg(test)]
 mod ranges;
 #[cfg(test)]
+mod received;
+#[cfg(test)]
 mod removed;
 #[cfg(test)]
 mod reserved;
@@ -30,9 +34,13 @@ mod rig;
 #[cfg(test)]
 mod rows;
 #[cfg(test)]
+mod sent;
+#[cfg(test)]
 mod settings;
 #[cfg(test)]
 mod spaces;
+#[cfg(test)]
+mod streams;
 #[cfg(test)]
 mod taken;
 #[cfg(test)]

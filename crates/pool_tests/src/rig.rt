@@ -1,4 +1,5 @@
 //! A pool that is asked script lines, in both of its ways.
+use crate::streams::push_text;
 use base::failing::Counted;
 use model::reply::Reply;
 use model::request::Request;
@@ -58,14 +59,14 @@ fn script_of(rt: &impl Abort, alloc: Global, rows: &str) -> Result<Vec<u8>, Allo
     let mut script = Vec::new(alloc);
     for row in rows.lines() {
         if let Some((line, _)) = row_of(rt, row) {
-            script.extend_from_slice(line.as_bytes())?;
+            push_text(&mut script, line)?;
             script.push(b'\n')?;
         }
     }
     Ok(script)
 }
 
-/// Their replies as they are printed. `61..` stands for a block that begins so and goes on with zeros.
+/// Their replies as they are printed. `61..` stands for a block that begins so and goes on with zeros, and `{X}` for a stream's digits.
 fn replies_of(rt: &impl Abort, alloc: Global, rows: &str) -> Result<Vec<u8>, AllocError> {
     let mut replies = Vec::new(alloc);
     for row in rows.lines() {
@@ -79,7 +80,7 @@ fn replies_of(rt: &impl Abort, alloc: Global, rows: &str) -> Result<Vec<u8>, All
 fn push_reply(replies: &mut Vec<u8>, reply: &str) -> Result<(), AllocError> {
     match reply.strip_suffix("..") {
         Some(digits) => push_block(replies, digits.as_bytes())?,
-        None => replies.extend_from_slice(reply.as_bytes())?,
+        None => push_text(replies, reply)?,
     }
     replies.push(b'\n')?;
     Ok(())

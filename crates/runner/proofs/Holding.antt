@@ -5,9 +5,9 @@ use Rattle.std.specs.List.{list_any, position, position_or_len, prefix_len}
 use Rattle.std.specs.List.Sorted.{IsPermutation}
 use Rattle.std.proofs.lemmas.List.Sorted.{IsPermutation-refl}
 use Rattle.model.specs.declared.request.Request.{Request}
-use Rattle.model.specs.declared.request.Request.TheVariants.{Create, Write, Punch, FreeObject, Snapshot, Read, Get, PoolGet, List as ToList, Rollback, Destroy, Slice, Sync, OpenView, CloseView, Clone, Promote, Hold, Release, Holds, Bookmark, WrittenSince, WouldFree, Set}
+use Rattle.model.specs.declared.request.Request.TheVariants.{Create, Write, Punch, FreeObject, Snapshot, Read, Get, PoolGet, List as ToList, Rollback, Destroy, Slice, Sync, OpenView, CloseView, Clone, Promote, Hold, Release, Holds, Bookmark, WrittenSince, WouldFree, Set, Send, Receive}
 use Rattle.model.specs.declared.reply.Reply.{Reply}
-use Rattle.model.specs.declared.reply.Reply.TheVariants.{Done, Refused, Data, Value, Group, Names, Count, Opened}
+use Rattle.model.specs.declared.reply.Reply.TheVariants.{Done, Refused, Data, Value, Group, Names, Count, Opened, Stream}
 use Rattle.book.specs.Entered.{is_opened}
 use Rattle.session.specs.ViewCalls.{is_of_views}
 use Rattle.session.specs.Views.{Viewed}
@@ -39,6 +39,8 @@ same_held (Bookmark target mark) r held e = IsPermutation-refl held
 same_held (WrittenSince target since) r held e = IsPermutation-refl held
 same_held (WouldFree name first last) r held e = IsPermutation-refl held
 same_held (Set name limit amount) r held e = IsPermutation-refl held
+same_held (Send target from) r held e = IsPermutation-refl held
+same_held (Receive snapshot bytes force) r held e = IsPermutation-refl held
 
 -- a reply that opened none
 pub none_opened : (r : Reply) → is_opened r ≡ false → where_opened r ≡ []
@@ -50,6 +52,7 @@ none_opened (Group group) e = refl
 none_opened (Names names) e = refl
 none_opened (Count count) e = refl
 none_opened (Opened view sight) e = absurd (cc e)
+none_opened (Stream bytes) e = refl
 
 -- a reply that isn't Done
 pub none_done : (n : ℕ) (r : Reply) → r ≢ Done → where_done n r ≡ []
@@ -61,6 +64,7 @@ none_done n (Group group) e = refl
 none_done n (Names names) e = refl
 none_done n (Count count) e = refl
 none_done n (Opened view sight) e = refl
+none_done n (Stream bytes) e = refl
 
 -- the numbers of views that have one
 pub any_number : (vs : List Viewed) (n : ℕ) → list_any (λ k. k == n) (map (λ (v : Viewed). v.number) vs) ≡ list_any (λ (v : Viewed). v.number == n) vs
@@ -93,6 +97,8 @@ not_of_views (Bookmark target mark) to_open to_close = refl
 not_of_views (WrittenSince target since) to_open to_close = refl
 not_of_views (WouldFree name first last) to_open to_close = refl
 not_of_views (Set name limit amount) to_open to_close = refl
+not_of_views (Send target from) to_open to_close = refl
+not_of_views (Receive snapshot bytes force) to_open to_close = refl
 
 -- ---- a view by its number
 

@@ -5,9 +5,9 @@ use Rattle.std.specs.List.Sorted.{IsPermutation}
 use Rattle.base.specs.declared.refusal.Refusal.{Refusal}
 use Rattle.base.specs.declared.refusal.Refusal.TheVariants.{NoView}
 use Rattle.model.specs.declared.request.Request.{Request}
-use Rattle.model.specs.declared.request.Request.TheVariants.{Create, Write, Punch, FreeObject, Snapshot, Read, Get, PoolGet, List as ToList, Rollback, Destroy, Slice, Sync, OpenView, CloseView, Clone, Promote, Hold, Release, Holds, Bookmark, WrittenSince, WouldFree, Set}
+use Rattle.model.specs.declared.request.Request.TheVariants.{Create, Write, Punch, FreeObject, Snapshot, Read, Get, PoolGet, List as ToList, Rollback, Destroy, Slice, Sync, OpenView, CloseView, Clone, Promote, Hold, Release, Holds, Bookmark, WrittenSince, WouldFree, Set, Send, Receive}
 use Rattle.model.specs.declared.reply.Reply.{Reply}
-use Rattle.model.specs.declared.reply.Reply.TheVariants.{Done, Refused, Data, Value, Group, Names, Count, Opened}
+use Rattle.model.specs.declared.reply.Reply.TheVariants.{Done, Refused, Data, Value, Group, Names, Count, Opened, Stream}
 use Rattle.model.specs.declared.entry.Entry.{Entry}
 use Rattle.model.specs.State.{State}
 use Rattle.book.specs.Calls.{Ran, IsFullOrNoMemory}
@@ -27,6 +27,7 @@ where_opened (Group group) = []
 where_opened (Names names) = []
 where_opened (Count count) = []
 where_opened (Opened view sight) = view ∷ []
+where_opened (Stream bytes) = []
 
 -- the view, where the reply says that the request was done (profile)
 abbrev pub where_done : ℕ → Reply → List ℕ
@@ -38,6 +39,7 @@ where_done view (Group group) = []
 where_done view (Names names) = []
 where_done view (Count count) = []
 where_done view (Opened other sight) = []
+where_done view (Stream bytes) = []
 
 -- the view that a request opened with this reply (profile)
 abbrev pub opened_by : Request → Reply → List ℕ
@@ -65,6 +67,8 @@ opened_by (Bookmark target mark) r = []
 opened_by (WrittenSince target since) r = []
 opened_by (WouldFree name first last) r = []
 opened_by (Set name limit amount) r = []
+opened_by (Send target from) r = []
+opened_by (Receive snapshot bytes force) r = []
 
 -- the view that a request closed with this reply (profile)
 abbrev pub closed_by : Request → Reply → List ℕ
@@ -92,6 +96,8 @@ closed_by (Bookmark target mark) r = []
 closed_by (WrittenSince target since) r = []
 closed_by (WouldFree name first last) r = []
 closed_by (Set name limit amount) r = []
+closed_by (Send target from) r = []
+closed_by (Receive snapshot bytes force) r = []
 
 -- a request to close a view that the seat doesn't hold (profile)
 abbrev pub IsUnheld : Request → List ℕ → Type 0

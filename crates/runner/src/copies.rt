@@ -17,7 +17,7 @@ pub(crate) fn reply_of(alloc: Global, receipt: Receipt) -> Option<Reply>
     }
 }
 
-/// A copy of a reply. None where there is no memory for its names, or for one more owner of a tree.
+/// A copy of a reply. None where there is no memory for its names or bytes, or for one more owner of a tree.
 fn copy_of(alloc: Global, reply: &Reply) -> Option<Reply>
     ensures { IfSome result (λ r. r ≡ reply.now) }
 {
@@ -30,6 +30,7 @@ fn copy_of(alloc: Global, reply: &Reply) -> Option<Reply>
         Reply::Names(names) => Some(Reply::Names(copy_of_names(alloc, names)?)),
         Reply::Count(count) => Some(Reply::Count(*count)),
         Reply::Opened(number, sight) => Some(Reply::Opened(*number, sight.copy().ok()?)),
+        Reply::Stream(bytes) => Some(Reply::Stream(copy_of_bytes(alloc, bytes)?)),
     }
 }
 
@@ -39,13 +40,17 @@ fn copy_of_value(alloc: Global, value: &Value) -> Option<Value>
     match value {
         Value::Size(size) => Some(Value::Size(*size)),
         Value::Number(number) => Some(Value::Number(*number)),
-        Value::Named(text) => {
-            let bytes = Vec::from_slice(alloc, text.as_slice()).ok()?;
-            Some(Value::Named(Bytes::from(bytes)))
-        }
+        Value::Named(text) => Some(Value::Named(copy_of_bytes(alloc, text)?)),
         Value::Truth(truth) => Some(Value::Truth(*truth)),
         Value::NotApplicable => Some(Value::NotApplicable),
     }
+}
+
+fn copy_of_bytes(alloc: Global, bytes: &Bytes) -> Option<Bytes>
+    ensures { IfSome result (λ r. r ≡ bytes.now) }
+{
+    let copy = Vec::from_slice(alloc, bytes.as_slice()).ok()?;
+    Some(Bytes::from(copy))
 }
 
 fn copy_of_names(alloc: Global, names: &Names) -> Option<Names>
@@ -53,8 +58,7 @@ fn copy_of_names(alloc: Global, names: &Names) -> Option<Names>
 {
     let mut copy = Vec::new(alloc);
     for name in names.as_slice() {
-        let bytes = Vec::from_slice(alloc, name.as_slice()).ok()?;
-        copy.push(Bytes::from(bytes)).ok()?;
+        copy.push(copy_of_bytes(alloc, name)?).ok()?;
     }
     Some(Names::from(copy))
 }

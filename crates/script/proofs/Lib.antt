@@ -6,3 +6,4 @@ pub mod NumberProofs
 pub mod NamesLemmas
 pub mod SnapWords
 pub mod Within
+pub mod PartLemmas

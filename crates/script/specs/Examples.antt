@@ -7,8 +7,8 @@ use Rattle.name.specs.declared.target.Target.TheVariants.{FileSystem, Snapshot, 
 use Rattle.model.specs.declared.request.Property.TheVariants.{Used, Available, Referenced, Written, UsedByDataset, UsedBySnapshots, UsedByChildren, UsedByRefReservation, Quota, RefQuota, Reservation, RefReservation, Guid, CreateTxg, Origin, Clones, UserRefs, DeferDestroy}
 use Rattle.model.specs.declared.limits.Limit.TheVariants as limits
 use Rattle.model.specs.declared.request.PoolProperty.TheVariants.{Free, Freeing}
-use Rattle.model.specs.declared.request.Request.TheVariants.{Create, Write, Punch, FreeObject, Snapshot as TakeSnapshots, Read, Get, PoolGet, List as ListNames, Rollback, Destroy, Slice, Sync, OpenView, CloseView, Clone, Promote, Hold, Release, Holds, Bookmark as MakeBookmark, WrittenSince, WouldFree, Set}
-use Rattle.model.specs.declared.reply.Reply.TheVariants.{Done, Refused, Value as ValueIs, Group, Names, Count, Opened}
+use Rattle.model.specs.declared.request.Request.TheVariants.{Create, Write, Punch, FreeObject, Snapshot as TakeSnapshots, Read, Get, PoolGet, List as ListNames, Rollback, Destroy, Slice, Sync, OpenView, CloseView, Clone, Promote, Hold, Release, Holds, Bookmark as MakeBookmark, WrittenSince, WouldFree, Set, Send, Receive}
+use Rattle.model.specs.declared.reply.Reply.TheVariants.{Done, Refused, Value as ValueIs, Group, Names, Count, Opened, Stream}
 use Rattle.model.specs.declared.reply.Value.TheVariants.{Size, Named, Truth}
 use Rattle.script.specs.Lines.{lines}
 use Rattle.script.specs.Words.{number_up_to}
@@ -155,6 +155,29 @@ pub record WorkedLines : Type 0 where
   pub free : meaning (codes "pget free") ≡ Asks (PoolGet Free)
   pub freeing : meaning (codes "pget freeing") ≡ Asks (PoolGet Freeing)
   pub no_such_property : meaning (codes "pget nothing") ≡ Faulty BadLine
+  pub send : meaning (codes "send p/a@t") ≡ Asks (Send (Snapshot (record { file_system = codes "p/a"; component = codes "t" })) None)
+  pub send_from_snapshot :
+      meaning (codes "send -i p/a@s p/a@t")
+      ≡ Asks (Send (Snapshot (record { file_system = codes "p/a"; component = codes "t" })) (Some (Snapshot (record { file_system = codes "p/a"; component = codes "s" }))))
+  pub send_from_bookmark :
+      meaning (codes "send -i p/a#b p/a@t")
+      ≡ Asks (Send (Snapshot (record { file_system = codes "p/a"; component = codes "t" })) (Some (Bookmark (record { file_system = codes "p/a"; component = codes "b" }))))
+  pub send_file_system : meaning (codes "send p/a") ≡ Asks (Send (FileSystem (codes "p/a")) None)
+  pub send_of_two : meaning (codes "send p/a@s p/a@t") ≡ Faulty BadLine
+  pub send_from_alone : meaning (codes "send -i p/a@s") ≡ Faulty BadLine
+  pub send_from_last : meaning (codes "send p/a@t -i p/a@s") ≡ Faulty BadLine
+  pub send_from_short : meaning (codes "send -i @s p/a@t") ≡ Faulty BadName
+  pub receive :
+      meaning (codes "receive p/b@s 5aF0")
+      ≡ Asks (Receive (record { file_system = codes "p/b"; component = codes "s" }) (90 ∷ 240 ∷ []) false)
+  pub receive_by_force :
+      meaning (codes "receive -F p/b@s 00")
+      ≡ Asks (Receive (record { file_system = codes "p/b"; component = codes "s" }) (0 ∷ []) true)
+  pub receive_odd_digits : meaning (codes "receive p/b@s 5aF") ≡ Faulty BadLine
+  pub receive_no_digits : meaning (codes "receive p/b@s 5g") ≡ Faulty BadLine
+  pub receive_alone : meaning (codes "receive p/b@s") ≡ Faulty BadLine
+  pub receive_shape_first : meaning (codes "receive p/b 5aF") ≡ Faulty BadLine
+  pub receive_file_system : meaning (codes "receive p/b 5a") ≡ Faulty BadName
   pub bad_name : meaning (codes "write p/ 0 0 61") ≡ Faulty BadName
   pub too_great : meaning (codes "write p/ 4294967296 0 61") ≡ Faulty BadLine
   pub leading_zero : meaning (codes "read p 00 0") ≡ Faulty BadLine
@@ -165,7 +188,7 @@ pub record WorkedLines : Type 0 where
   pub done : line_of Done ≡ codes "ok" ++ 10 ∷ []
   pub group : line_of (Group 12) ≡ codes "12" ++ 10 ∷ []
   pub count : line_of (Count 20) ≡ codes "20" ++ 10 ∷ []
-  pub opened : line_of (Opened 3 (record { map = finmap.empty; guid = 5; group = 7 })) ≡ codes "3" ++ 10 ∷ []
+  pub opened : line_of (Opened 3 (record { map = finmap.empty; guid = 5; group = 7; sources = [] })) ≡ codes "3" ++ 10 ∷ []
   pub size : line_of (ValueIs (Size 1024)) ≡ codes "1024" ++ 10 ∷ []
   pub no_limit : line_of (ValueIs (Size 0)) ≡ codes "0" ++ 10 ∷ []
   pub no_names : line_of (Names []) ≡ codes "-" ++ 10 ∷ []
@@ -174,6 +197,7 @@ pub record WorkedLines : Type 0 where
   pub no_text : line_of (ValueIs (Named [])) ≡ codes "-" ++ 10 ∷ []
   pub on : line_of (ValueIs (Truth true)) ≡ codes "on" ++ 10 ∷ []
   pub off : line_of (ValueIs (Truth false)) ≡ codes "off" ++ 10 ∷ []
+  pub stream : line_of (Stream (90 ∷ 240 ∷ 7 ∷ [])) ≡ codes "5af007" ++ 10 ∷ []
   pub refused : line_of (Refused NoDataset) ≡ codes "error 2 NoDataset" ++ 10 ∷ []
 
 -- a number has one spelling, the one in which it is printed, whatever is the greatest (profile)

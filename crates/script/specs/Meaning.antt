@@ -9,9 +9,9 @@ use Rattle.name.specs.declared.member.Member.{Member}
 use Rattle.name.specs.declared.target.Target.{Target}
 use Rattle.name.specs.Reading.{name_of, snap_of, mark_of, tag_of, target_of}
 use Rattle.model.specs.declared.request.Request.{Request}
-use Rattle.model.specs.declared.request.Request.TheVariants.{Create, Write, Punch, FreeObject, Snapshot, Read, Get, PoolGet, List as ListNames, Rollback, Destroy, Slice, Sync, OpenView, CloseView, Clone, Promote, Hold, Release, Holds, Bookmark, WrittenSince, WouldFree, Set}
+use Rattle.model.specs.declared.request.Request.TheVariants.{Create, Write, Punch, FreeObject, Snapshot, Read, Get, PoolGet, List as ListNames, Rollback, Destroy, Slice, Sync, OpenView, CloseView, Clone, Promote, Hold, Release, Holds, Bookmark, WrittenSince, WouldFree, Set, Send, Receive}
 use Rattle.script.specs.Lines.{line_limit}
-use Rattle.script.specs.Words.{is_printable, words_of, is_word, number_of_word, block_of_word, property_of_word, pool_property_of_word, at_equals, limit_of_word, amount_of_word, since_word, file_system_of, word_within, snap_within}
+use Rattle.script.specs.Words.{is_printable, words_of, is_word, number_of_word, block_of_word, bytes_of_word, property_of_word, pool_property_of_word, at_equals, limit_of_word, amount_of_word, since_word, file_system_of, word_within, snap_within}
 
 -- a line asks for nothing and has no reply, is at fault and is refused so, or asks a request (profile)
 pub data Meaning : Type 0 where
@@ -166,6 +166,30 @@ set_of operands =
     shaped (two_of operands) (λ w. shaped (at_equals w.0) (λ setting. shaped (limit_of_word setting.0) (λ limit.
     shaped (amount_of_word setting.1) (λ amount. named (name_of w.1) (λ name. Asks (Set name limit amount))))))
 
+-- `TARGET TARGET`: a send from a source (zfs-send(8), -i)
+unfoldable pub send_from_of : List (List ℕ) → Meaning
+send_from_of operands =
+    shaped (two_of operands) (λ w. named (target_of w.0) (λ source. named (target_of w.1) (λ target. Asks (Send target (Some source)))))
+
+-- `TARGET`: a full send (zfs-send(8))
+unfoldable pub send_whole_of : List (List ℕ) → Meaning
+send_whole_of operands = target_request_of (λ target. Send target None) operands
+
+-- `send [-i TARGET] TARGET` (zfs-send(8))
+unfoldable pub send_of : List (List ℕ) → Meaning
+send_of operands =
+    if has_option (codes "-i") operands then send_from_of (after_option (codes "-i") operands)
+    else send_whole_of (after_option (codes "-i") operands)
+
+-- `SNAP HEX`: a receive (zfs-receive(8); that the line has the stream is profile)
+unfoldable pub received_of : Bool → List (List ℕ) → Meaning
+received_of force operands =
+    shaped (two_of operands) (λ w. shaped (bytes_of_word w.1) (λ bytes. named (snap_of w.0) (λ snapshot. Asks (Receive snapshot bytes force))))
+
+-- `receive [-F] SNAP HEX` (zfs-receive(8))
+unfoldable pub receive_of : List (List ℕ) → Meaning
+receive_of operands = received_of (has_option (codes "-F") operands) (after_option (codes "-F") operands)
+
 -- `pget PROP` (profile)
 unfoldable pub pool_get_of : List (List ℕ) → Meaning
 pool_get_of operands = shaped (one_of operands) (λ w. shaped (pool_property_of_word w) (λ property. Asks (PoolGet property)))
@@ -201,6 +225,8 @@ command_of command operands =
     else if bytes_eq command (codes "bookmark") then bookmark_of operands
     else if bytes_eq command (codes "wouldfree") then would_free_of operands
     else if bytes_eq command (codes "set") then set_of operands
+    else if bytes_eq command (codes "send") then send_of operands
+    else if bytes_eq command (codes "receive") then receive_of operands
     else Faulty BadLine
 
 -- by the words (profile)

@@ -1,7 +1,7 @@
 -- What the readers of words answer.
 use Rattle.std.specs.Prelude.{◌≡◌, ◌⊎◌, ℕ, List, [], Option, Some, None, Result, Ok, Err}
 use Rattle.base.specs.declared.refusal.Refusal.{Refusal}
-use Rattle.base.specs.declared.refusal.Refusal.TheVariants.{NoMemory}
+use Rattle.base.specs.declared.refusal.Refusal.TheVariants.{NoMemory, BadLine}
 use Rattle.name.specs.declared.target.Target.{Target}
 use Rattle.model.specs.declared.request.Request.{Request}
 use Rattle.script.specs.Words.{words_of}
@@ -46,3 +46,8 @@ MeansNumber (Err refusal) words request = number_request_of request words ≡ Fa
 abbrev pub MeansBare : Result (Unit {0}) Refusal → List (List ℕ) → Request → Type 0
 MeansBare (Ok _) words request = bare request words ≡ Asks request
 MeansBare (Err refusal) words request = bare request words ≡ Faulty refusal
+
+-- the bytes that a word says, or BadLine where it says none, unless memory ran out
+abbrev pub Says : Result (List ℕ) Refusal → Option (List ℕ) → Type 0
+Says (Ok bytes) said = said ≡ Some bytes
+Says (Err refusal) said = (refusal ≡ NoMemory) ⊎ ((refusal ≡ BadLine) × (said ≡ None))

@@ -3,7 +3,7 @@ use Rattle.std.specs.Prelude.{◌≡◌, ◌≢◌, ◌&&◌, ◌||◌, ◌⊎�
 use Rattle.std.specs.Io.KnownBytes.{Keeps, Appends}
 use Rattle.model.specs.declared.request.Request.{Request}
 use Rattle.model.specs.declared.reply.Reply.{Reply}
-use Rattle.model.specs.declared.reply.Reply.TheVariants.{Done, Refused, Data, Value, Group, Names, Count, Opened}
+use Rattle.model.specs.declared.reply.Reply.TheVariants.{Done, Refused, Data, Value, Group, Names, Count, Opened, Stream}
 use Rattle.script.specs.declared.run.ScriptFault.{ScriptFault}
 use Rattle.script.specs.declared.run.ScriptFault.TheVariants.{NoMemory, Device}
 use Rattle.script.specs.Lines.{lines}
@@ -25,6 +25,7 @@ is_refusal (Some (Group group)) = false
 is_refusal (Some (Names names)) = false
 is_refusal (Some (Count count)) = false
 is_refusal (Some (Opened view sight)) = false
+is_refusal (Some (Stream bytes)) = false
 
 -- what is written for a line's reply, if it has one (profile)
 abbrev pub output_of : Option Reply → List ℕ

@@ -7,7 +7,7 @@ use Rattle.base.specs.Refusals.{number_of, name_of}
 use Rattle.model.specs.declared.reply.Value.{Value}
 use Rattle.model.specs.declared.reply.Value.TheVariants.{Size, Number, Named, Truth, NotApplicable}
 use Rattle.model.specs.declared.reply.Reply.{Reply}
-use Rattle.model.specs.declared.reply.Reply.TheVariants.{Done, Refused, Data, Value as ValueIs, Group, Names, Count, Opened}
+use Rattle.model.specs.declared.reply.Reply.TheVariants.{Done, Refused, Data, Value as ValueIs, Group, Names, Count, Opened, Stream}
 
 -- a text, or `-` where it is empty (profile)
 abbrev pub named_text : List ℕ → List ℕ
@@ -46,6 +46,7 @@ text_of (Group group) = decimal group
 text_of (Names names) = names_text names
 text_of (Count count) = decimal count
 text_of (Opened view sight) = decimal view
+text_of (Stream bytes) = encode_lower bytes
 
 -- a reply's line (profile)
 abbrev pub line_of : Reply → List ℕ

@@ -2,6 +2,7 @@
 use Rattle.std.specs.Prelude.{ℕ, ◌+◌, ◌-◌, ◌*◌, ◌/◌, ◌%◌, ◌^◌, ◌==◌, ◌&&◌, Bool, nat_lt, nat_le, List, [], ◌∷◌, ◌++◌, Option, Some, None, Result, Ok, Err, length, take, drop, replicate, if◌then◌else◌, codes}
 use Rattle.std.specs.List.{slice_split, position}
 use Rattle.std.specs.Option.{option_map, option_and_then}
+use Rattle.std.specs.Result.{result_ok}
 use Rattle.std.specs.Str.{bytes_eq}
 use Rattle.hex.specs.Hex.{decode_of}
 use Rattle.hex.specs.declared.error.FromHexError.{FromHexError}
@@ -61,6 +62,10 @@ block_of_word word =
     if nat_lt (length word) 2 then None
     else if nat_lt 1024 (length word) then None
     else filled (decode_of word)
+
+-- HEX of a stream: an even number of digits, 2 or more (profile)
+unfoldable pub bytes_of_word : List ℕ → Option (List ℕ)
+bytes_of_word word = if nat_lt (length word) 2 then None else result_ok (decode_of word)
 
 -- PROP: a property's name (zfsprops(7))
 unfoldable pub property_of_word : List ℕ → Option Property

@@ -12,6 +12,7 @@ ghost use Rattle.script.specs.Reading.{words_left, Means, MeansBlock, MeansTagge
 use crate::lines::LINE_LIMIT;
 use crate::settings::set;
 use crate::space::{get, would_free};
+use crate::streams::{receive, send};
 use crate::words::{
     four, has_only_words, is_all_printable, leading_option, next_word, one, three, two,
 };
@@ -90,6 +91,10 @@ fn command_at(alloc: Global, command: &[u8], operands: Option<&[u8]>) -> Result<
         would_free(alloc, operands)
     } else if command == b"set".as_slice() {
         set(alloc, operands)
+    } else if command == b"send".as_slice() {
+        send(alloc, operands)
+    } else if command == b"receive".as_slice() {
+        receive(alloc, operands)
     } else {
         Err(Refusal::BadLine)
     }
@@ -296,9 +301,9 @@ fn snap_names(alloc: Global, words: &[u8]) -> Result<SnapNames, Refusal>
     Ok(SnapNames::from(names))
 }
 
-// The target of a request that has no other operand.
+/// The target of a request that has no other operand.
 #[tactic(auto, unfolding(crate::specs::Meaning::target_request_of))]
-fn lone_target(alloc: Global, operands: Option<&[u8]>) -> Result<Target, Refusal>
+pub(crate) fn lone_target(alloc: Global, operands: Option<&[u8]>) -> Result<Target, Refusal>
     ensures { (request : Target → Request) → MeansTarget result (words_left (option_copied operands.entry)) request }
 {
     let Some(target) = one(operands) else {

@@ -1,7 +1,8 @@
 //! Replies as lines.
-ghost use Rattle.std.specs.Prelude.{◌++◌, ◌∷◌, [], Some, OnOk};
+ghost use Rattle.std.specs.Prelude.{◌++◌, ◌∷◌, ◌≤◌, [], Some, OnOk, length};
 ghost use Rattle.std.specs.Io.KnownBytes.{Appends};
 ghost use Rattle.script.specs.Text.{line_of, data_text, truth_text, named_text, names_text};
+ghost use Rattle.hex.specs.Hex.{encode_lower};
 
 use base::text::Bytes;
 use model::reply::{Reply, Value};
@@ -44,6 +45,7 @@ pub(crate) fn write_reply<W: Write>(writer: &mut W, reply: &Reply) -> io::Result
         }
         Reply::Names(names) => write_names(writer, names.as_slice()),
         Reply::Value(Value::NotApplicable) => writer.write_all(b"-\n"),
+        Reply::Stream(bytes) => write_digits(writer, bytes.as_slice()),
     }
 }
 
@@ -89,4 +91,29 @@ fn write_names<W: Write>(writer: &mut W, names: &[Bytes]) -> io::Result<()>
         writer.write_all(name.as_slice())?;
     }
     writer.write_all(b"\n")
+}
+
+/// Bytes of a stream that are turned to digits at once.
+const PART: usize = 512;
+
+fn write_digits<W: Write>(writer: &mut W, bytes: &[u8]) -> io::Result<()>
+    ensures { OnOk result (Appends (W.contents writer.old) (W.contents writer.new) (encode_lower bytes.now ++ 10 ∷ [])) }
+{
+    let mut left = bytes;
+    while !left.is_empty() {
+        let (part, more) = left.split_at(left.len().min(PART));
+        write_part(writer, part)?;
+        left = more;
+    }
+    writer.write_all(b"\n")
+}
+
+fn write_part<W: Write>(writer: &mut W, part: &[u8]) -> io::Result<()>
+    requires { length part.now ≤ 512 }
+    ensures { OnOk result (Appends (W.contents writer.old) (W.contents writer.new) (encode_lower part.now)) }
+{
+    let mut text = [0u8; 2 * PART];
+    let digits = &mut text[..2 * part.len()];
+    let _ = hex::encode_to_slice(part, digits);
+    writer.write_all(digits)
 }

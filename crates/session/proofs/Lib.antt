@@ -1,3 +1,4 @@
 pub mod SoFar
 pub mod Works
 pub mod Reading
+pub mod Sending

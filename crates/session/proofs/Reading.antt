@@ -1,5 +1,5 @@
 -- A view is read as Read reads a dataset of its map.
-use Rattle.std.proofs.Common.{◌≡◌, ℕ, Bool, true, false, cond, not, List, Option, Some, None, refl, sym, ap, ◌∙◌}
+use Rattle.std.proofs.Common.{◌≡◌, ℕ, Bool, true, false, cond, not, List, Option, Some, None, inl, refl, sym, ap, ◌∙◌}
 use Rattle.std.specs.Option.{option_map_or}
 use Rattle.std.specs.FinMap.{get}
 use Rattle.std.specs.FinSet as set
@@ -31,7 +31,7 @@ module _ (s : State) (target : Target) (object block : ℕ) (here : has_dataset 
   pub reads_refused : is_block object block ≡ false → Step s (Read target object block) (Refused BadKey) s
   reads_refused outside = record {
     reading = None;
-    read = refl;
+    read = inl refl;
     follows = refused (record { why = BadKey; row = row ∙ ap (λ i. cond i None (Some BadKey)) outside; reply_is = refl; unchanged = refl });
   }
 
@@ -40,7 +40,7 @@ module _ (s : State) (target : Target) (object block : ℕ) (here : has_dataset 
   unfolding state_after
   reads_done d m bytes numbered is map inside same = record {
     reading = None;
-    read = refl;
+    read = inl refl;
     follows = done (record {
       choice = record { number = λ _. 0; taken = set.empty };
       allowed = refl;

@@ -2,7 +2,7 @@
 use Rattle.std.specs.Prelude.{◌≡◌, ◌≢◌, Bool, true, false}
 use Rattle.name.specs.declared.target.Target.{Target}
 use Rattle.model.specs.declared.request.Request.{Request}
-use Rattle.model.specs.declared.request.Request.TheVariants.{Create, Write, Punch, FreeObject, Snapshot, Read, Get, PoolGet, List, Rollback, Destroy, Slice, Sync, OpenView, CloseView, Clone, Promote, Hold, Release, Holds, Bookmark, WrittenSince, WouldFree, Set}
+use Rattle.model.specs.declared.request.Request.TheVariants.{Create, Write, Punch, FreeObject, Snapshot, Read, Get, PoolGet, List, Rollback, Destroy, Slice, Sync, OpenView, CloseView, Clone, Promote, Hold, Release, Holds, Bookmark, WrittenSince, WouldFree, Set, Send, Receive}
 use Rattle.model.specs.declared.reply.Reply.TheVariants.{Opened as TheOpened, Done}
 use Rattle.book.specs.Calls.{Ran, IsFullOrNoMemory}
 use Rattle.book.specs.Entered.{is_opened}
@@ -39,6 +39,8 @@ is_of_views (Bookmark target mark) = false
 is_of_views (WrittenSince target since) = false
 is_of_views (WouldFree name first last) = false
 is_of_views (Set name limit amount) = false
+is_of_views (Send target from) = false
+is_of_views (Receive snapshot bytes force) = false
 
 -- the view shows what the reply says; or the reply opened none (profile)
 abbrev pub IsOpenedBy : {K : Type 0} → Placed → OpenedView K → Type 0

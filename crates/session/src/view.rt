@@ -1,18 +1,26 @@
 //! Views of snapshots, which are read without the session.
-ghost use Rattle.std.specs.Prelude.{◌≡◌, ◌↔◌, false, Err, IfSome, IfNone, IfOk};
+ghost use Rattle.std.specs.Prelude.{◌≡◌, ◌↔◌, ◌⊎◌, false, None, Some, Err, IfSome, IfNone, IfOk, IfErr};
 ghost use Rattle.std.specs.FinMap.{get};
+ghost use Rattle.std.specs.Option.{option_copied, option_map};
 ghost use Rattle.base.specs.Key.{leaf_index};
 ghost use Rattle.base.specs.Map.{contents};
 ghost use Rattle.model.specs.Targets.{is_block};
+ghost use Rattle.model.specs.requests.Send.{start_of, stream_of};
 ghost use Rattle.model.specs.declared.reply.Reply.TheVariants.{Opened as TheOpened};
 ghost use Rattle.book.specs.Entered.{is_opened};
-ghost use Rattle.session.specs.Views.{ReadsAs};
+ghost use Rattle.session.specs.Views.{ReadsAs, SendsAs};
 
 use base::meter::Meter;
 use base::refusal::Refusal;
+use base::text::Bytes;
 use book::{Opening, Receipt};
 use model::entry::Entry;
 use model::reply::Reply;
+use model::sight::Sight;
+use name::Target;
+use sends::stream_bytes;
+use sources::start_in;
+use std::alloc::Global;
 use std::marker::{Model, PhantomData};
 use std::sync::Arc;
 use toll::Toll;
@@ -94,12 +102,46 @@ impl<K: Opening> View<K> {
         ensures bad_key { (result ≡ Err Refusal.BadKey) ↔ (is_block object block ≡ false) }
         ensures as_read { ReadsAs self.now.sight object block result }
     {
+        let mut meter = Meter::new(Toll::new());
+        let sight = self.sight();
+        let bytes = objset::read(sight.tree(), object, block, &mut meter)?;
+        Ok(bytes.copied())
+    }
+
+    /// The stream of the snapshot, whole or from a source (zfs-send(8), -i): what Send of it answered right after the request that opened
+    /// the view, whatever others have asked since; a source may be gone by then. NotAncestor exactly where the source was neither an older
+    /// snapshot of its lineage nor a bookmark of its file system of a lower group; else perhaps NoMemory. It takes no lock. It costs the
+    /// sources, the nodes younger than the source's group, each with its sixteen places, and the bytes, which are in memory with the
+    /// records.
+    pub fn send(&self, alloc: Global, from: Option<&Target>) -> Result<Bytes, Refusal>
+        ensures ok { IfOk result (λ bytes. option_map (stream_of self.now.sight) (start_of self.now.sight.sources (option_copied from.entry)) ≡ Some bytes) }
+        ensures not_ancestor { (result ≡ Err Refusal.NotAncestor) ↔ (start_of self.now.sight.sources (option_copied from.entry) ≡ None) }
+        ensures refusal { IfErr result (λ r. (r ≡ Refusal.NotAncestor) ⊎ (r ≡ Refusal.NoMemory)) }
+        ensures as_sent { SendsAs self.now.sight (option_copied from.entry) result }
+    {
+        let sight = self.sight();
+        let Some(start) = start_in(sight.sources(), from) else {
+            return Err(Refusal::NotAncestor);
+        };
+        let mut meter = Meter::new(Toll::new());
+        stream_bytes(
+            alloc,
+            sight.tree(),
+            start.source(),
+            start.group,
+            sight.guid(),
+            &mut meter,
+        )
+    }
+
+    // What it shows.
+    fn sight(&self) -> &Sight
+        ensures { result.now ≡ self.now.sight }
+    {
         let Some(Reply::Opened(_, sight)) = self.entry.reply.other() else {
             unreachable!()
         };
-        let mut meter = Meter::new(Toll::new());
-        let bytes = objset::read(sight.tree(), object, block, &mut meter)?;
-        Ok(bytes.copied())
+        sight
     }
 
     /// Gives the view up, and tells its number. The snapshot stays in use until CloseView is asked of the pool itself. Constant time.

@@ -12,6 +12,8 @@ mod memory;
 #[cfg(test)]
 mod rig;
 #[cfg(test)]
+mod sending;
+#[cfg(test)]
 mod threads;
 #[cfg(test)]
 mod viewing;

@@ -17,7 +17,7 @@ use std::sync::Wait;
 use std::sync::atomic::{AtomicBool, Ordering};
 use std::thread::{Threads, join, map_vec, yield_now};
 
-fn snapshot_of(alloc: Global, name: &[u8]) -> Result<Request, Refusal> {
+pub fn snapshot_of(alloc: Global, name: &[u8]) -> Result<Request, Refusal> {
     let name = SnapName::read(alloc, name)?;
     Ok(Request::Snapshot {
         names: SnapNames::from(vec![in alloc; name]?),
@@ -25,7 +25,7 @@ fn snapshot_of(alloc: Global, name: &[u8]) -> Result<Request, Refusal> {
     })
 }
 
-fn destroy_of(alloc: Global, name: &[u8]) -> Result<Request, Refusal> {
+pub fn destroy_of(alloc: Global, name: &[u8]) -> Result<Request, Refusal> {
     let target = Target::read(alloc, name)?;
     Ok(Request::Destroy {
         target,
@@ -83,7 +83,7 @@ fn view<K: Opening, R: Wait + Abort>(
     viewed(opened).expect(rt, "a view")
 }
 
-fn viewed<K: Opening>(opened: Result<OpenedView<K>, Refusal>) -> Option<View<K>> {
+pub fn viewed<K: Opening>(opened: Result<OpenedView<K>, Refusal>) -> Option<View<K>> {
     match opened {
         Ok(OpenedView::Opened(view, receipt)) => {
             drop(receipt);
@@ -118,7 +118,7 @@ fn destroys<K: Opening, R: Wait + Abort>(
 }
 
 // Whether a view is closed by the request with this number.
-fn closes_view<K: Opening, R: Wait>(
+pub fn closes_view<K: Opening, R: Wait>(
     rt: &R,
     alloc: Global,
     session: &Session<K>,

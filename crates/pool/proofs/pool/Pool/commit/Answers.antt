@@ -15,7 +15,8 @@ use Rattle.pool.specs.Pools.{state_of, IsSound}
 use Rattle.pool.specs.Shown.{Shown, Leap}
 use Rattle.pool.proofs.Commits.{sound_changed, sound_put, sound_lost, sound_freed, sound_synced, sound_copied, sound_viewing, sound_closed, sound_swept}
 use Rattle.pool.proofs.Cloned.{plus_none, sound_now}
-use Rattle.pool.proofs.Limited.{nothing_kept, accounted_next, few_sound}
+use Rattle.steps.proofs.Asked.{nothing_kept}
+use Rattle.pool.proofs.Limited.{accounted_next, few_sound}
 use Rattle.pool.proofs.pool.Pool.commit.Goals as goal
 
 pub release_all-requires : goal.release_all-requires

@@ -1,0 +1,98 @@
+//! Lines that send and receive streams.
+ghost use Rattle.std.specs.Option.{option_copied};
+ghost use Rattle.script.specs.Words.{bytes_of_word};
+ghost use Rattle.script.specs.Meaning.{send_of, send_from_of, send_whole_of, receive_of, received_of};
+ghost use Rattle.script.specs.Reading.{words_left, Means, Says};
+
+use crate::parse::lone_target;
+use crate::words::{leading_option, two};
+use base::refusal::Refusal;
+use base::text::Bytes;
+use hex::FromHexError;
+use model::request::Request;
+use name::{SnapName, Target};
+use std::alloc::Global;
+
+/// Reads `send [-i TARGET] TARGET` (zfs-send(8)); what stands after `-i` is the source. BadLine where another number of operands
+/// stands there, BadName where one is no name, the source first, NoMemory where there is no memory for a name.
+#[inline(never)]
+#[tactic(auto, unfolding(crate::specs::Meaning::send_of))]
+pub(crate) fn send(alloc: Global, operands: Option<&[u8]>) -> Result<Request, Refusal>
+    ensures { Means result (send_of (words_left (option_copied operands.entry))) }
+{
+    let (has_source, rest) = leading_option(operands, b"-i");
+    if has_source {
+        send_from(alloc, rest)
+    } else {
+        send_whole(alloc, rest)
+    }
+}
+
+// A send from a source.
+#[tactic(auto, unfolding(crate::specs::Meaning::send_from_of))]
+fn send_from(alloc: Global, operands: Option<&[u8]>) -> Result<Request, Refusal>
+    ensures { Means result (send_from_of (words_left (option_copied operands.entry))) }
+{
+    let Some((source, target)) = two(operands) else {
+        return Err(Refusal::BadLine);
+    };
+    let source = Target::read(alloc, source)?;
+    let target = Target::read(alloc, target)?;
+    Ok(Request::Send {
+        target,
+        from: Some(source),
+    })
+}
+
+// A full send.
+#[tactic(auto, unfolding(crate::specs::Meaning::send_whole_of))]
+fn send_whole(alloc: Global, operands: Option<&[u8]>) -> Result<Request, Refusal>
+    ensures { Means result (send_whole_of (words_left (option_copied operands.entry))) }
+{
+    let target = lone_target(alloc, operands)?;
+    Ok(Request::Send { target, from: None })
+}
+
+/// Reads `receive [-F] SNAP HEX` (zfs-receive(8)); HEX has the bytes of the stream, two digits each. BadLine where there aren't two
+/// operands or the second is no such word, BadName where the first is no snapshot's name, NoMemory where there is no memory for the
+/// name or the bytes. The bytes are in memory beside the line.
+#[inline(never)]
+#[tactic(auto, unfolding(crate::specs::Meaning::receive_of))]
+pub(crate) fn receive(alloc: Global, operands: Option<&[u8]>) -> Result<Request, Refusal>
+    ensures { Means result (receive_of (words_left (option_copied operands.entry))) }
+{
+    let (force, rest) = leading_option(operands, b"-F");
+    received(alloc, rest, force)
+}
+
+// A receive of a stream as a snapshot, by force or not.
+#[tactic(auto, unfolding(crate::specs::Meaning::received_of))]
+fn received(alloc: Global, operands: Option<&[u8]>, force: bool) -> Result<Request, Refusal>
+    ensures { Means result (received_of force (words_left (option_copied operands.entry))) }
+{
+    let Some((snapshot, digits)) = two(operands) else {
+        return Err(Refusal::BadLine);
+    };
+    let bytes = bytes_said(alloc, digits)?;
+    let snapshot = SnapName::read(alloc, snapshot)?;
+    Ok(Request::Receive {
+        snapshot,
+        bytes,
+        force,
+    })
+}
+
+// The bytes that a word of hexadecimal digits says.
+#[tactic(auto, unfolding(crate::specs::Words::bytes_of_word))]
+fn bytes_said(alloc: Global, word: &[u8]) -> Result<Bytes, Refusal>
+    ensures { Says result (bytes_of_word word.now) }
+{
+    if word.len() < 2 {
+        return Err(Refusal::BadLine);
+    }
+    match hex::decode(alloc, word) {
+        Ok(bytes) => Ok(Bytes::from(bytes)),
+        Err(FromHexError::OutOfMemory) => Err(Refusal::NoMemory),
+        Err(_) => Err(Refusal::BadLine),
+    }
+}
