@@ -61,3 +61,5 @@ pub mod Batching
 pub mod Beginning
 pub mod Receiving
 pub mod Foreseen
+pub mod Taking
+pub mod Fitting

@@ -24,8 +24,8 @@ use Rattle.receives.specs.Requests.{begun}
 use Rattle.steps.specs.Edits.{datasets_of, StaysUnlimited}
 use Rattle.steps.specs.Received.{asked_by_receive, put_freeing, CanReceive}
 use Rattle.steps.specs.Steady.{IsSteady}
-use Rattle.intake.specs.declared.intake.Present.{Present}
-use Rattle.intake.specs.declared.intake.Intake.{Intake}
+use Rattle.steps.specs.declared.intake.Present.{Present}
+use Rattle.steps.specs.declared.intake.Intake.{Intake}
 
 -- why bytes aren't read: they are no stream, or there is no memory for it (zfs-receive(8))
 abbrev pub IsUnread : List ℕ → Refusal → Type 0
@@ -53,11 +53,11 @@ pub record IsUnderWay (s : State) (p : Present) (m : Member) (sent : Sending) (f
   pub changes : changes_of us ≡ changes_of_records sent.records
 
 -- the pool can put this in the place of what it keeps, and then the receive is done (zfs-receive(8))
-pub record IsTaken (s : State) (m : Member) (bytes : List ℕ) (force : Bool) (i : Intake) : Type 0 where
+pub record IsIntakeOf (s : State) (m : Member) (bytes : List ℕ) (force : Bool) (i : Intake) : Type 0 where
   pub can : CanReceive s i.to i.freeing (map dead_block i.done.released.items) (map (λ n. n.0) i.done.taken.items)
   pub unlimited : StaysUnlimited s i.to
   pub step : Step s (Receive m bytes force) Done (put_freeing s i.to i.freeing)
 
--- the limits that are asked hold, or this is the first that doesn't (zfsprops(7): quota, refquota, reservation)
-abbrev pub IsOver : State → Member → Sending → Bool → Refusal → Type 0
-IsOver s m sent force why = first_of (limit_row (asked_by_receive s m sent force)) ≡ Some why
+-- this is the first of the limits that are asked which doesn't hold (zfsprops(7): quota, refquota, reservation)
+abbrev pub BreaksLimit : State → Member → Sending → Bool → Refusal → Type 0
+BreaksLimit s m sent force why = first_of (limit_row (asked_by_receive s m sent force)) ≡ Some why

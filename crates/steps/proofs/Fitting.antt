@@ -48,9 +48,9 @@ use Rattle.steps.proofs.Beginning.{IsBegun, begun_world}
 use Rattle.steps.proofs.Counts.{count-free, count-waiting}
 use Rattle.steps.proofs.Foreseen.{receive_asked_is, begun_waiting, asked_freeing, begun_few, receive_foretold}
 use Rattle.steps.proofs.Known.{states_of}
-use Rattle.intake.specs.declared.intake.Present.{Present}
-use Rattle.intake.specs.Intakes.{IsUnderWay}
-use Rattle.intake.proofs.Taking.{to_is, freeing_is, can_take}
+use Rattle.steps.specs.declared.intake.Present.{Present}
+use Rattle.steps.specs.Intakes.{IsUnderWay}
+use Rattle.steps.proofs.Taking.{to_is, freeing_is, can_take}
 
 module _ (s : State) (p : Present) (m : Member) (sent : Sending) (force : Bool) (edit : Edit) (us : List Update) (way : IsUnderWay s p m sent force edit us) where
   abbrev w : World

@@ -6,7 +6,7 @@ ghost use Rattle.model.specs.State.{State};
 ghost use Rattle.model.specs.requests.Change.{limit_row};
 ghost use Rattle.stream.specs.Spelling.{Sending};
 ghost use Rattle.steps.specs.Received.{asked_by_receive};
-ghost use Rattle.intake.specs.Intakes.{IsUnderWay, IsOver};
+ghost use Rattle.steps.specs.Intakes.{IsUnderWay, BreaksLimit};
 
 use crate::intake::Present;
 use base::meter::Meter;
@@ -32,7 +32,7 @@ pub(crate) fn ask_limits(
 ) -> Result<(), Refusal>
     requires { (s : State) × (sent : Sending) × (force : Bool) × IsUnderWay s present name.now sent force edit.now updates.now }
     ensures ok { (s : State) (sent : Sending) (force : Bool) → IsUnderWay s present name.now sent force edit.now updates.now → present.is_limited ≡ true → OnOk result (first_of (limit_row (asked_by_receive s name.now sent force)) ≡ None) }
-    ensures err { (s : State) (sent : Sending) (force : Bool) → IsUnderWay s present name.now sent force edit.now updates.now → IfErr result (λ e. IsOver s name.now sent force e ⊎ (e ≡ Refusal.NoMemory)) }
+    ensures err { (s : State) (sent : Sending) (force : Bool) → IsUnderWay s present name.now sent force edit.now updates.now → IfErr result (λ e. BreaksLimit s name.now sent force e ⊎ (e ≡ Refusal.NoMemory)) }
 {
     if !present.is_limited {
         return Ok(());

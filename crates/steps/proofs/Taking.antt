@@ -37,9 +37,9 @@ use Rattle.steps.proofs.Batching.{batch_allows}
 use Rattle.steps.proofs.Beginning.{IsBegun, begun_world, begun_datasets, begun_freeing}
 use Rattle.steps.proofs.Receiving.{receive_no_memory, receive_bad_stream, receive_refused, receive_refused_by_limit, begun_states, receive_fits, receive_short, receive_not_short, receive_can, receive_unlimited, receive_done}
 use Rattle.steps.proofs.Writing.{union_is}
-use Rattle.intake.specs.declared.intake.Present.{Present}
-use Rattle.intake.specs.declared.intake.Intake.{Intake}
-use Rattle.intake.specs.Intakes.{IsUnread, IsPresent, IsUnderWay, IsOver, IsTaken}
+use Rattle.steps.specs.declared.intake.Present.{Present}
+use Rattle.steps.specs.declared.intake.Intake.{Intake}
+use Rattle.steps.specs.Intakes.{IsUnread, IsPresent, IsUnderWay, BreaksLimit, IsIntakeOf}
 
 -- ---- before the datasets are another's
 
@@ -107,7 +107,7 @@ module _ (s : State) (p : Present) (m : Member) (sent : Sending) (force : Bool) 
 
   module _ (bytes : List ℕ) (stream : IsStream bytes sent) where
     -- what the limits refuse
-    pub not_fitting : (why : Refusal) → IsOver s m sent force why ⊎ (why ≡ NoMemory) → Step s (Receive m bytes force) (Refused why) s
+    pub not_fitting : (why : Refusal) → BreaksLimit s m sent force why ⊎ (why ≡ NoMemory) → Step s (Receive m bytes force) (Refused why) s
     not_fitting why which = ⊎_elim (λ e. receive_refused_by_limit s m bytes force sent stream way.none why e) (no_memory s p way.present m bytes force why) which
 
     module _ (fits : p.is_limited ≡ true → first_of (limit_row (asked_by_receive s m sent force)) ≡ None) where
@@ -146,7 +146,7 @@ module _ (s : State) (p : Present) (m : Member) (sent : Sending) (force : Bool) 
       -- and those that are
       pub finished : (to : Datasets) (done : Changed) → HasReceived edit.to to m sent.target (changes_of us) p.synced.0 p.allocator.now done
           → HasRoom (live_of edit.to.file_systems m.file_system) (changes_of us) (young_of edit.to m.file_system p.synced.0) p.allocator.now
-          → IsTaken s m bytes force (record { to = to; freeing = edit.freeing; done = done })
+          → IsIntakeOf s m bytes force (record { to = to; freeing = edit.freeing; done = done })
       finished to done r room =
           let change = subst (λ (x : Datasets × ℕ × Changes). HasWritten x.0 r.written m.file_system x.2 x.1 p.allocator.now done) (λ i. (to_is i, sym way.present.synced i, way.changes i)) r.change in
           let none = by_limits (λ e. e) (λ bare. receive_fits s way.present.steady p.allocator.now way.present.states m sent force way.none can_take bare (has_here room)) in

@@ -1,13 +1,14 @@
-//! What a receive makes of a pool.
+//! What a receive makes of a pool, before anything of the pool is changed (zfs-receive(8)): all that can fail comes here.
 ghost use Rattle.std.specs.Prelude.{ℕ, IfOk, IfErr};
+ghost use Rattle.stream.specs.Spelling.{IsStream};
 ghost use Rattle.model.specs.declared.request.Request.{Request};
 ghost use Rattle.model.specs.declared.reply.Reply.{Reply};
 ghost use Rattle.model.specs.State.{State};
 ghost use Rattle.model.specs.Step.{Step};
-ghost use Rattle.intake.specs.Intakes.{IsPresent, IsTaken};
+ghost use Rattle.steps.specs.Intakes.{IsUnread, IsPresent, IsIntakeOf};
 
-use crate::asking::ask_limits;
-use crate::reading::stream_in;
+use crate::fitting::ask_limits;
+use base::failing::Counted;
 use base::meter::{Meter, SegMeter};
 use base::number::Group;
 use base::refusal::Refusal;
@@ -17,6 +18,7 @@ use name::SnapName;
 use receives::{begin, finish, updates_of};
 use removals::Edit;
 use std::alloc::Global;
+use stream::{Stream, StreamFault, read_stream};
 use tree::Changed;
 use zalloc::Allocator;
 
@@ -49,7 +51,7 @@ pub struct Intake {
 /// refquota, reservation; the order is profile); or NoMemory where there is none for it. It costs the bytes, the number of file systems, the
 /// chunks of pieces that are to be freed, the change, and what `receives::begin` and `receives::finish` do; where a file system may have a limit
 /// the change is looked at twice, and the limits cost the number of file systems times its logarithm.
-pub fn prepare(
+pub fn intake_of(
     alloc: Global,
     present: Present,
     name: &SnapName,
@@ -59,7 +61,7 @@ pub fn prepare(
     segments: &mut SegMeter,
 ) -> Result<Intake, Refusal>
     requires { (s : State) × IsPresent s present }
-    ensures ok { (s : State) → IsPresent s present → IfOk result (IsTaken s name.now bytes.now force) }
+    ensures ok { (s : State) → IsPresent s present → IfOk result (IsIntakeOf s name.now bytes.now force) }
     ensures err { (s : State) → IsPresent s present → IfErr result (λ e. Step s (Request.Receive name.now bytes.now force) (Reply.Refused e) s) }
 {
     let stream = stream_in(alloc, bytes)?;
@@ -87,4 +89,17 @@ pub fn prepare(
         segments,
     )?;
     Ok(Intake { to, freeing, done })
+}
+
+// The stream that these bytes are. BadStream where they are none; else NoMemory where there is none for its records (zfs-receive(8); the bytes are
+// profile). It costs their number.
+fn stream_in(alloc: Global, bytes: &[u8]) -> Result<Stream, Refusal>
+    ensures ok { IfOk result (IsStream bytes.now) }
+    ensures err { IfErr result (IsUnread bytes.now) }
+{
+    match read_stream(alloc, &mut Counted::new(bytes)) {
+        Ok(stream) => Ok(stream),
+        Err(StreamFault::Bad) => Err(Refusal::BadStream),
+        Err(_) => Err(Refusal::NoMemory),
+    }
 }

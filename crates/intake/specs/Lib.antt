@@ -1,2 +1,0 @@
--- What a receive makes of a pool.
-pub mod Intakes
