@@ -2,4 +2,4 @@ pub mod Names
 pub mod Values
 pub mod Measured
 pub mod Reading
-pub mod Counting
+pub mod PoolCounts

@@ -1,8 +1,8 @@
 //! Requests that only read: their replies, from what a pool keeps.
 #![tactic(auto)]
 
-mod answer;
+mod answering;
 mod counting;
 mod naming;
 
-pub use crate::answer::answer;
+pub use crate::answering::answer;

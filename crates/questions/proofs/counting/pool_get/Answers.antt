@@ -1,6 +1,6 @@
 use Rattle.std.proofs.Common.{ap}
 use Rattle.model.specs.declared.reply.Value.TheVariants.{Number}
-use Rattle.questions.proofs.Counting.{pool_get_size, pool_get_allocated, pool_get_free, pool_get_freeing, pool_get_waiting, pool_get_group}
+use Rattle.questions.proofs.PoolCounts.{pool_get_size, pool_get_allocated, pool_get_free, pool_get_freeing, pool_get_waiting, pool_get_group}
 use Rattle.questions.proofs.counting.pool_get.Goals as goal
 
 pub returns-in-Size : goal.returns-in-Size
