@@ -3,7 +3,7 @@
 //! what a receive makes of a pool. Its `proofs/` has the lemmas on each request's step, which the pool's own proofs cite.
 #![tactic(auto)]
 
-mod answer;
+mod answering;
 mod asking;
 mod counting;
 mod fitting;
@@ -12,7 +12,7 @@ mod limiting;
 mod naming;
 mod sending;
 
-pub use crate::answer::answer;
+pub use crate::answering::answer;
 pub use crate::asking::{ask_change, room_asked, with_limit};
 pub use crate::intake::{Intake, Present, intake_of};
 pub use crate::limiting::{Limiting, kept_ledger, over, renew, settle};
