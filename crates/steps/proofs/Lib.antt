@@ -57,3 +57,6 @@ pub mod Measured
 pub mod Reading
 pub mod Counting
 pub mod Sent
+pub mod Batching
+pub mod Beginning
+pub mod Receiving

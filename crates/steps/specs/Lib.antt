@@ -9,3 +9,4 @@ pub mod Asked
 pub mod Ruled
 pub mod Limiting
 pub mod Counted
+pub mod Received
