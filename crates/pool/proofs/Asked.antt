@@ -4,7 +4,8 @@ use Rattle.std.specs.Prelude.{count_by, is_some, IsSome}
 use Rattle.std.specs.FinMap.{get}
 use Rattle.std.specs.FinSet as set
 use Rattle.zalloc.specs.declared.BlockState.{BlockState}
-use Rattle.zalloc.specs.States.{is_free, is_waiting}
+use Rattle.zalloc.specs.declared.Counts.{Counts}
+use Rattle.zalloc.specs.States.{is_free, is_allocated, is_waiting}
 use Rattle.model.specs.declared.limits.Limit.{Limit}
 use Rattle.model.specs.declared.request.Request.TheVariants.{Set}
 use Rattle.model.specs.declared.reply.Reply.TheVariants.{Done}
@@ -12,19 +13,20 @@ use Rattle.model.specs.Rule.{first_of}
 use Rattle.model.specs.requests.Change.{limit_row}
 use Rattle.model.specs.State.{State, waiting_of}
 use Rattle.model.specs.Step.{Step}
-use Rattle.model.specs.Sums.{free_of}
+use Rattle.model.specs.Sums.{allocated_of, waiting_count}
 use Rattle.model.specs.World.{reach_of}
 use Rattle.world.specs.Tables.{Datasets}
 use Rattle.datasets.specs.Limits.{with_limit_of}
 use Rattle.steps.specs.Asked.{asked_by_set}
 use Rattle.steps.specs.Edits.{datasets_of, with_datasets, CanPut}
-use Rattle.steps.proofs.Counts as counts
+use Rattle.steps.proofs.Counts as counted
 use Rattle.steps.proofs.Known.{states_of}
 use Rattle.steps.proofs.Properties.{are_balanced}
 use Rattle.steps.proofs.Putting.{put_none}
 use Rattle.steps.proofs.Setting as setting
 use Rattle.limits.specs.declared.pool_space.Space.{Space}
 use Rattle.steps.specs.Limiting.{IsStateWith}
+use Rattle.steps.specs.Counted.{IsCountOf}
 use Rattle.pool.specs.Pools.{IsSound}
 use Rattle.pool.specs.Shown.{Shown, shown}
 use Rattle.pool.proofs.Fitting as fitting
@@ -32,15 +34,23 @@ use Rattle.pool.proofs.Fitting as fitting
 module _ (seen : Shown) (s : State) (numbers : List BlockState) (view : shown s numbers ≡ seen) (sound : IsSound s numbers) where
   counted_here : count_by is_waiting numbers ≡ set.len (waiting_of s)
   unfolding waiting_of
-  counted_here = counts.count-waiting (reach_of s.now) (reach_of s.last) s.last.group s.now.group s.size sound.steady.good.pair.reached numbers (states_of s numbers sound.states)
+  counted_here = counted.count-waiting (reach_of s.now) (reach_of s.last) s.last.group s.now.group s.size sound.steady.good.pair.reached numbers (states_of s numbers sound.states)
 
   -- as many numbers wait as blocks
   pub waiting_counted : count_by is_waiting numbers ≡ set.len (waiting_of seen.state)
   waiting_counted = counted_here ∙ ap (λ (x : Shown). set.len (waiting_of x.state)) view
 
-  -- and as many are free
-  pub free_counted : count_by is_free numbers ≡ free_of seen.state
-  free_counted = fitting.free_counted s sound.steady numbers sound.states ∙ ap (λ (x : Shown). free_of x.state) view
+  -- so are those that are allocated, and those that are free
+  pub count_with : (counts : Counts) → counts.allocated ≡ count_by is_allocated numbers → counts.free ≡ count_by is_free numbers → counts.waiting ≡ count_by is_waiting numbers
+      → IsCountOf seen.state counts
+  unfolding allocated_of waiting_count
+  count_with counts allocated free waiting = subst (λ (x : Shown). IsCountOf x.state counts) view (record {
+    allocated =
+        allocated
+        ∙ counted.count-allocated (reach_of s.now) (reach_of s.last) s.last.group s.now.group s.size sound.steady.good.pair.reached numbers (states_of s numbers sound.states);
+    free = free ∙ fitting.free_counted s sound.steady numbers sound.states;
+    waiting = waiting ∙ counted_here;
+  })
 
   -- the state has the pool's datasets, and this beside them
   pub state_with : (space : Space) → space.size ≡ seen.state.size → space.freeing ≡ set.len s.now.freeing → space.waiting ≡ set.len (waiting_of seen.state)

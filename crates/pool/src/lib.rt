@@ -9,6 +9,7 @@ mod destroying;
 mod limiting;
 mod marking;
 mod pool;
+mod receiving;
 mod viewing;
 
 pub use pool::{Pool, Ready};

@@ -82,6 +82,11 @@ pub(crate) enum Plan {
         to: Table,
         done: Changed,
     },
+    Receive {
+        to: Table,
+        freeing: Freeing,
+        done: Changed,
+    },
     Put {
         to: Table,
         guids: u64,
@@ -254,7 +259,11 @@ impl Pool {
             | Request::List
             | Request::Holds { .. }
             | Request::Send { .. } => (self.asked(alloc, request), Plan::Nothing),
-            Request::Receive { .. } => (Reply::Refused(Refusal::NoMemory), Plan::Nothing),
+            Request::Receive {
+                snapshot,
+                bytes,
+                force,
+            } => self.planned_receive(alloc, snapshot, bytes, *force),
         }
     }
 
@@ -424,6 +433,13 @@ impl Pool {
                 release_all(&mut self.allocator, &done.released, self.last.group());
                 take_all(&mut self.allocator, &done.taken);
                 self.present = to;
+                renew(&mut self.limiting, &self.present);
+            }
+            Plan::Receive { to, freeing, done } => {
+                release_all(&mut self.allocator, &done.released, self.last.group());
+                take_all(&mut self.allocator, &done.taken);
+                self.present = to;
+                self.freeing = freeing;
                 renew(&mut self.limiting, &self.present);
             }
             Plan::Put { to, guids } => {

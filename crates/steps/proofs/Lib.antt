@@ -55,7 +55,7 @@ pub mod Names
 pub mod Values
 pub mod Measured
 pub mod Reading
-pub mod Counting
+pub mod PoolCounts
 pub mod Sent
 pub mod Batching
 pub mod Beginning

@@ -3,13 +3,13 @@
 //! read. Its `proofs/` has the lemmas on each request's step, which the pool's own proofs cite.
 #![tactic(auto)]
 
-mod answer;
+mod answering;
 mod asking;
 mod counting;
 mod limiting;
 mod naming;
 mod sending;
 
-pub use crate::answer::answer;
+pub use crate::answering::answer;
 pub use crate::asking::{ask_change, room_asked, with_limit};
 pub use crate::limiting::{Limiting, kept_ledger, over, renew, settle};
