@@ -25,8 +25,8 @@ use Rattle.world.specs.Blocks.{block_order as o}
 use Rattle.world.specs.Shapes.{Name, name_order}
 use Rattle.world.specs.Takings.{AreTakable}
 use Rattle.world.specs.Tables.{world_of}
-use Rattle.world.specs.Worlds.{AreFileSystems, IsPoolState}
-use Rattle.world.proofs.Kept.{reach_is, union-fields}
+use Rattle.world.specs.Worlds.{AreFileSystems}
+use Rattle.world.proofs.Kept.{reach_is}
 use Rattle.world.proofs.Maps.{same_value, key_cases}
 use Rattle.world.proofs.Put.{put_here}
 use Rattle.world.proofs.SetCounts.{in_union_left, len-subset}

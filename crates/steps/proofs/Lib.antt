@@ -62,4 +62,4 @@ pub mod Beginning
 pub mod Receiving
 pub mod Foreseen
 pub mod Taking
-pub mod Fitting
+pub mod Ahead

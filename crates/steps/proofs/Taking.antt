@@ -1,14 +1,15 @@
 -- What a receive makes of a pool leads to its step.
 use Rattle.std.proofs.Common.{◌≡◌, ℕ, Bool, true, false, List, [], ◌∷◌, Some, None, refl, sym, ap, subst, ◌∙◌, ◌⊎◌, ⊎_elim}
-use Rattle.base.specs.Map.{Block, BlockSet}
+use Rattle.base.specs.Map.{BlockSet}
 use Rattle.base.specs.Rewrite.{Changes}
 use Rattle.base.specs.declared.refusal.Refusal.{Refusal}
 use Rattle.base.specs.declared.refusal.Refusal.TheVariants.{NoSpace, NoMemory}
-use Rattle.batch.specs.Updates.{changes_of}
+use Rattle.batch.specs.Updates.{changes_of, IsBatch}
 use Rattle.batch.specs.declared.update.Update.{Update}
 use Rattle.name.specs.declared.member.Member.{Member}
 use Rattle.stream.specs.Records.{changes_of as changes_of_records}
 use Rattle.stream.specs.Spelling.{Sending, IsStream}
+use Rattle.stream.specs.declared.record.Record.{Record}
 use Rattle.tree.specs.declared.change.Changed.{Changed}
 use Rattle.tree.specs.Asking.{IsNoSpaceOrNoMemory}
 use Rattle.tree.specs.Change.{HasRoom, LacksRoom}
@@ -38,7 +39,6 @@ use Rattle.steps.proofs.Beginning.{IsBegun, begun_world, begun_datasets, begun_f
 use Rattle.steps.proofs.Receiving.{receive_no_memory, receive_bad_stream, receive_refused, receive_refused_by_limit, begun_states, receive_fits, receive_short, receive_not_short, receive_can, receive_unlimited, receive_done}
 use Rattle.steps.proofs.Writing.{union_is}
 use Rattle.steps.specs.declared.intake.Present.{Present}
-use Rattle.steps.specs.declared.intake.Intake.{Intake}
 use Rattle.steps.specs.Intakes.{IsUnread, IsPresent, IsUnderWay, BreaksLimit, IsIntakeOf}
 
 -- ---- before the datasets are another's
@@ -70,6 +70,21 @@ module _ (s : State) (p : Present) (is : IsPresent s p) where
       -- a receive that isn't begun
       pub not_begun : (why : Refusal) → (receive_refusal p.table.now m sent force ≡ Some why) ⊎ (why ≡ NoMemory) → Step s (Receive m bytes force) (Refused why) s
       not_begun why which = ⊎_elim (λ e. receive_refused s m bytes force sent stream why (sym row_here ∙ e)) (no_memory why) which
+
+      -- a receive that is begun, with its records as updates
+      pub under_way : (edit : Edit) → receive_refusal p.table.now m sent force ≡ None → edit.to ≡ begun p.table.now m.file_system sent force
+          → HasLost p.table.now p.freeing.now edit.to edit.freeing → CanFinish edit.to m
+          → (items us : List Update) → us ≡ items → IsBatch items → (records : List Record) → records ≡ sent.records → changes_of items ≡ changes_of_records records
+          → IsUnderWay s p m sent force edit us
+      under_way edit may to lost ready items us same batch records all changes = record {
+        present = is;
+        none = sym row_here ∙ may;
+        to = to;
+        lost = lost;
+        ready = ready;
+        batch = subst IsBatch (sym same) batch;
+        changes = ap changes_of same ∙ changes ∙ ap changes_of_records all;
+      }
 
 -- ---- a receive that has begun
 

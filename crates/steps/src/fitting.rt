@@ -31,8 +31,8 @@ pub(crate) fn ask_limits(
     meter: &mut Meter,
 ) -> Result<(), Refusal>
     requires { (s : State) × (sent : Sending) × (force : Bool) × IsUnderWay s present name.now sent force edit.now updates.now }
-    ensures ok { (s : State) (sent : Sending) (force : Bool) → IsUnderWay s present name.now sent force edit.now updates.now → present.is_limited ≡ true → OnOk result (first_of (limit_row (asked_by_receive s name.now sent force)) ≡ None) }
-    ensures err { (s : State) (sent : Sending) (force : Bool) → IsUnderWay s present name.now sent force edit.now updates.now → IfErr result (λ e. BreaksLimit s name.now sent force e ⊎ (e ≡ Refusal.NoMemory)) }
+    ensures ok { (s : State) (sent : Sending) (force : Bool) → IsUnderWay s present.entry name.now sent force edit.now updates.now → present.entry.is_limited ≡ true → OnOk result (first_of (limit_row (asked_by_receive s name.now sent force)) ≡ None) }
+    ensures err { (s : State) (sent : Sending) (force : Bool) → IsUnderWay s present.entry name.now sent force edit.now updates.now → IfErr result (λ e. BreaksLimit s name.now sent force e ⊎ (e ≡ Refusal.NoMemory)) }
 {
     if !present.is_limited {
         return Ok(());

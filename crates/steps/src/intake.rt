@@ -61,8 +61,8 @@ pub fn intake_of(
     segments: &mut SegMeter,
 ) -> Result<Intake, Refusal>
     requires { (s : State) × IsPresent s present }
-    ensures ok { (s : State) → IsPresent s present → IfOk result (IsIntakeOf s name.now bytes.now force) }
-    ensures err { (s : State) → IsPresent s present → IfErr result (λ e. Step s (Request.Receive name.now bytes.now force) (Reply.Refused e) s) }
+    ensures ok { (s : State) → IsPresent s present.entry → IfOk result (IsIntakeOf s name.now bytes.now force) }
+    ensures err { (s : State) → IsPresent s present.entry → IfErr result (λ e. Step s (Request.Receive name.now bytes.now force) (Reply.Refused e) s) }
 {
     let stream = stream_in(alloc, bytes)?;
     let edit = begin(

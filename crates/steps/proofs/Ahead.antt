@@ -78,6 +78,9 @@ module _ (s : State) (p : Present) (m : Member) (sent : Sending) (force : Bool) 
   pub not_absent : None ≡ option_map {T = FileSystem} {U = Row} (λ f. row_in edit.to.file_systems (name, f)) (get edit.to.file_systems m.file_system) → ⊥
   not_absent e = let k = e ∙ ap (option_map (λ (f : FileSystem). row_in edit.to.file_systems (name, f))) way.ready.takable.0.1 in cc
 
+  pub hierarchy_to : IsHierarchy edit.to.file_systems
+  hierarchy_to = subst (λ (t : Datasets). IsHierarchy t.file_systems) (sym (to_is s p m sent force edit us way)) is_begun.good.now.systems.hierarchy
+
   -- as many numbers wait as blocks
   counted : count_by is_waiting p.allocator.now ≡ set.len (waiting_of s)
   unfolding waiting_of
@@ -102,10 +105,12 @@ module _ (s : State) (p : Present) (m : Member) (sent : Sending) (force : Bool) 
         (subst (λ u. set.len u < 2 ^ 32) (sym (union-fields (world_of (datasets_of here)) w refl))
         (begun_few s way.present.steady m sent force way.none can p.allocator.now way.present.states size_small))
 
-    module _ (r : Row) (found : Some r ≡ option_map {T = FileSystem} {U = Row} (λ f. row_in edit.to.file_systems (m.file_system, f)) (get edit.to.file_systems m.file_system))
-        (live : Map) (live_is : live ≡ r.system.live) (f : Forecast) (forecast : IsForecast live (changes_of us) f) where
+    module _ (k : Member) (same : k ≡ m) (r : Row)
+        (found : Some r ≡ option_map {T = FileSystem} {U = Row} (λ f. row_in edit.to.file_systems (k.file_system, f)) (get edit.to.file_systems k.file_system)) (live : Map) (live_is : live ≡ r.system.live) (f : Forecast) (forecast : IsForecast live (changes_of us) f) where
       found_here : Some r ≡ option_map {T = FileSystem} {U = Row} (λ f. row_in w.file_systems (name, f)) (get w.file_systems name)
-      found_here = subst (λ (t : Datasets). Some r ≡ option_map {T = FileSystem} {U = Row} (λ f. row_in t.file_systems (name, f)) (get t.file_systems name)) (to_is s p m sent force edit us way) found
+      found_here =
+          subst (λ (t : Datasets). Some r ≡ option_map {T = FileSystem} {U = Row} (λ f. row_in t.file_systems (name, f)) (get t.file_systems name)) (to_is s p m sent force edit us way)
+          (subst (λ (j : Member). Some r ≡ option_map {T = FileSystem} {U = Row} (λ f. row_in edit.to.file_systems (j.file_system, f)) (get edit.to.file_systems j.file_system)) same found)
 
       named : r.name ≡ name
       named = (found_row (datasets_of here) name r found_here).1
@@ -158,7 +163,7 @@ module _ (s : State) (p : Present) (m : Member) (sent : Sending) (force : Bool) 
             omega (arith, is, c, a, l, size_small)
 
         -- one account is another
-        pub is_changed : IsChanged (world_of edit.to) (asked_by_receive s m sent force).now m.file_system look.here look.referenced
+        is_changed : IsChanged (world_of edit.to) asked.now name look.here look.referenced
         is_changed = subst (λ t. IsChanged (world_of t) asked.now name look.here look.referenced) (sym (to_is s p m sent force edit us way))
             (receive_foretold s way.present.steady m sent force way.none can (map dead_block f.dropped.items) is_ahead.forecast.made survey_here look.here look.referenced is_here is_referenced)
 
@@ -170,10 +175,10 @@ module _ (s : State) (p : Present) (m : Member) (sent : Sending) (force : Bool) 
             waiting = let c = counted in let a = waits in omega (arith, waiting, c, a);
           }
 
-          -- what the ledger that is settled so says is what the row of limits does
-          pub over_is : (lines : List Line)
-              → ((old new : World) → IsHierarchy old.file_systems → keys old.file_systems ≡ keys edit.to.file_systems → ledger_of (world_of edit.to) ≡ ledger_of old → IsChanged old new m.file_system look.here look.referenced → lines ≡ ledger_of new)
+          -- what is said by the ledger of those datasets, once it is settled so, is what the row of limits says
+          pub over_is : (filled lines : List Line) → filled ≡ ledger_of (world_of edit.to)
+              → ((old new : World) → IsHierarchy old.file_systems → keys old.file_systems ≡ keys edit.to.file_systems → filled ≡ ledger_of old → IsChanged old new k.file_system look.here look.referenced → lines ≡ ledger_of new)
               → (over : Option Refusal) → ((x : State) → IsHierarchy x.now.file_systems → lines ≡ ledger_of x.now → IsSpaceOf x space → over ≡ first_of (limit_row x))
-              → IsHierarchy edit.to.file_systems → over ≡ first_of (limit_row (asked_by_receive s m sent force))
-          over_is lines settled over said hierarchy =
-              said asked is_changed.hierarchy (settled (world_of edit.to) asked.now hierarchy refl refl is_changed) beside
+              → over ≡ first_of (limit_row (asked_by_receive s m sent force))
+          over_is filled lines of settled over said =
+              said asked is_changed.hierarchy (settled (world_of edit.to) asked.now hierarchy_to refl of (subst (λ (j : Member). IsChanged (world_of edit.to) asked.now j.file_system look.here look.referenced) (sym same) is_changed)) beside
