@@ -16,7 +16,7 @@ use Rattle.model.specs.requests.Send.{Start, start_named, sending_from, send_row
 use Rattle.world.specs.Tables.{Datasets, world_of}
 use Rattle.steps.specs.Edits.{datasets_of}
 use Rattle.steps.specs.Steady.{IsSteady, snap_in}
-use Rattle.steps.proofs.Sending as sending
+use Rattle.steps.proofs.Sends as sending
 
 -- one that isn't refused names a snapshot, which is there
 module _ (t : Datasets) (target : Target) (from : Option Target) (can : first_of (send_row (world_of t) target from) ≡ None) where
