@@ -7,7 +7,7 @@ use Rattle.base.specs.Map.{Map}
 use Rattle.base.specs.Surveys.{IsIn}
 use Rattle.bookmarks.specs.Marks.{without_newer}
 use Rattle.model.specs.World.{World, FileSystem, Snap}
-use Rattle.model.specs.Edits.{with_file_system}
+use Rattle.model.specs.Edits.{with_file_system, with_losses}
 use Rattle.model.specs.requests.Receive.{newest_of, back_to_newest}
 use Rattle.file_system.specs.Losses.{newest_map}
 use Rattle.file_system.specs.Rows.{live_of, snaps_at, with_live}
@@ -57,7 +57,7 @@ module _ (t : Datasets) (name : List ℕ) (f : FileSystem) (at : get t.file_syst
 
   back_is : back t name ≡ record t { file_systems = insert t.file_systems name all_back }
   back_is =
-      ap (λ x. record t { file_systems = (option_map_or (λ (u : Snap). with_file_system w name (back_to_newest u)) x w).file_systems })
+      ap (λ x. record t { file_systems = (option_map_or (λ (u : Snap). with_losses w (with_file_system w name (back_to_newest u))) x w).file_systems })
       (ap (option_and_then (λ (g : FileSystem). last_or None g.snaps)) at ∙ newest)
       ∙ ap (λ x. record t { file_systems = (option_map_or (λ (g : FileSystem). record w { file_systems = insert t.file_systems name (back_to_newest s g) }) x w).file_systems }) at
 
