@@ -83,7 +83,7 @@ module _ (v w : World) (good : AreFileSystems v.file_systems v.group) (good' : A
     by_dataset : used_by_dataset v s ≡ used_by_dataset w t
     by_dataset = live_without (map_of_snap v s.origin) (map_of_snap w t.origin) same_origin (low_of w good' t.origin (origin_there w good' name t at'))
 
-    by_written : written_of v (Live name) ≡ written_of w (Live name)
+    pub by_written : written_of v (Live name) ≡ written_of w (Live name)
     unfolding written_of
     by_written =
         (λ i. len (difference (blocks (map_of_live v name s at i)) (blocks (map_of_snap v (previous_of v (Live name))))))

@@ -61,13 +61,13 @@ module _ (s : State) (good : IsPoolState s) (name : Name) (x : FileSystem) (at :
           let old = sym ((rewrite_is_change x.live c s.now.group (fresh_number s)).kept k t) ∙ e in
           inl (subst (λ z. Has (blocks x.live) z) is (in_blocks x.live k y old))
 
-  asked_systems : AreFileSystems (after_change s.now name c (fresh_number s)).file_systems (after_change s.now name c (fresh_number s)).group
+  pub asked_systems : AreFileSystems (after_change s.now name c (fresh_number s)).file_systems (after_change s.now name c (fresh_number s)).group
   asked_systems =
       subst (λ (w : World). AreFileSystems w.file_systems w.group) (sym (after_is s.now name x at c (fresh_number s)))
       (live_systems s.now good.now.systems name x at (rewrite x.live c s.now.group (fresh_number s)) new_or_old)
 
   module _ (choice : Choice) (later : IsPoolState (with_now s (after_change s.now name c choice.number))) where
-    asked_alike : AreWorldsAlike (after_change s.now name c (fresh_number s)) (after_change s.now name c choice.number)
+    pub asked_alike : AreWorldsAlike (after_change s.now name c (fresh_number s)) (after_change s.now name c choice.number)
     asked_alike = changes_alike s.now name x at all_once c (fresh_number s) choice.number
         (fresh_rewrite_once s x.live c s.now.group tree (all_once name x at))
         (once_of_pair s.size (after_change s.now name c choice.number) s.last later.pair name (record x { live = rewrite x.live c s.now.group choice.number })

@@ -28,7 +28,7 @@ module _ (old new : World) (good : AreFileSystems old.file_systems old.group) (g
       (λ none. absurd (none p s u at i (ids ∙ sym ids')))
       (from q t v at' i')
 
-  map_same : (x : Option SnapId) → ((id : SnapId) → x ≡ Some id → IsThere old (Snapped id)) → ((id : SnapId) → x ≡ Some id → IsThere new (Snapped id)) → map_of_snap new x ≡ map_of_snap old x
+  pub map_same : (x : Option SnapId) → ((id : SnapId) → x ≡ Some id → IsThere old (Snapped id)) → ((id : SnapId) → x ≡ Some id → IsThere new (Snapped id)) → map_of_snap new x ≡ map_of_snap old x
   map_same None a b = refl
   map_same (Some id) a b = snap_same id (a id refl) (b id refl)
 

@@ -34,3 +34,5 @@ pub mod AskedSteps
 pub mod Surveyed
 pub mod Replaced
 pub mod Forecasts
+pub mod Taken
+pub mod TakenAlike

@@ -6,8 +6,9 @@ use base::number::{Group, Guid};
 use base::refusal::Refusal;
 use clones::promote_now;
 use datasets::Table;
+use model::source::Source;
 use name::{DsName, SnapName, Target};
-use sources::{Kind, Source, sources_of, start_of};
+use sources::{sources_of, start_in, start_of};
 use std::alloc::Global;
 use toll::Toll;
 
@@ -134,22 +135,26 @@ fn a_full_send_starts_from_nothing(rt: HostRuntime) {
     assert!(rt; is_right == Ok(true));
 }
 
-fn mark_of(kind: Kind) -> u8 {
-    match kind {
-        Kind::Snapshot => b'@',
-        Kind::Bookmark => b'#',
-    }
+/// Adds the name of a source with its group, which has one digit, and a blank.
+fn push_source(text: &mut Vec<u8>, source: &Source) -> Result<(), Refusal> {
+    let (name, mark) = match &source.name {
+        Target::FileSystem(_) => return Err(Refusal::BadName),
+        Target::Snapshot(name) => (name.member(), b'@'),
+        Target::Bookmark(name) => (name.member(), b'#'),
+    };
+    text.extend_from_slice(name.file_system.as_bytes())?;
+    text.push(mark)?;
+    text.extend_from_slice(name.component.as_bytes())?;
+    text.push(b'0' + (source.group.0 % 10) as u8)?;
+    text.push(b' ')?;
+    Ok(())
 }
 
 /// The names of these sources, each with its group, which has one digit, and a blank.
 fn text_of(alloc: Global, sources: &[Source]) -> Result<Vec<u8>, Refusal> {
     let mut text = Vec::new(alloc);
     for source in sources {
-        text.extend_from_slice(source.name.file_system.as_bytes())?;
-        text.push(mark_of(source.kind))?;
-        text.extend_from_slice(source.name.component.as_bytes())?;
-        text.push(b'0' + (source.group.0 % 10) as u8)?;
-        text.push(b' ')?;
+        push_source(&mut text, source)?;
     }
     Ok(text)
 }
@@ -195,5 +200,50 @@ fn lists_promoted(alloc: Global) -> Result<bool, Refusal> {
 #[test]
 fn promoted_sources_stand_in_order(rt: HostRuntime) {
     let is_right = lists_promoted(rt.alloc());
+    assert!(rt; is_right == Ok(true));
+}
+
+/// The number of the source that a send of this snapshot starts at, where it has the list of all and names this one: 0 for a full one, none
+/// where that is no source.
+fn start_listed(
+    alloc: Global,
+    table: &Table,
+    target: &[u8],
+    from: Option<&[u8]>,
+) -> Result<Option<u64>, Refusal> {
+    let name = SnapName::read(alloc, target)?;
+    let member = name.member();
+    let Some(file_system) = table.find(&member.file_system) else {
+        return Err(Refusal::NoDataset);
+    };
+    let Some(_) = file_system.snapshot_named(member.component.as_bytes()) else {
+        return Err(Refusal::NoDataset);
+    };
+    let sources = sources_of(alloc, table, &name)?;
+    let from = match from {
+        Some(source) => Some(Target::read(alloc, source)?),
+        None => None,
+    };
+    match start_in(&sources, from.as_ref()) {
+        Some(start) if start.source().is_none() => Ok(Some(0)),
+        Some(start) => Ok(Some(start.group.0)),
+        None => Ok(None),
+    }
+}
+
+fn starts_in_lists(alloc: Global) -> Result<bool, Refusal> {
+    let table = with_history(alloc)?;
+    Ok(
+        start_listed(alloc, &table, b"p/c@v", Some(b"p/a@t"))? == Some(2)
+            && start_listed(alloc, &table, b"p/a@u", Some(b"p/a#b"))? == Some(1)
+            && start_listed(alloc, &table, b"p/a@u", Some(b"p/a@b"))?.is_none()
+            && start_listed(alloc, &table, b"p/a@u", Some(b"p/a"))?.is_none()
+            && start_listed(alloc, &table, b"p/a@u", None)? == Some(0),
+    )
+}
+
+#[test]
+fn sends_start_in_lists_of_sources(rt: HostRuntime) {
+    let is_right = starts_in_lists(rt.alloc());
     assert!(rt; is_right == Ok(true));
 }

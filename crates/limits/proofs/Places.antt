@@ -1,22 +1,24 @@
 -- A binary search among the rows of a table finds the place of a name.
-use Rattle.std.proofs.Common.{◌≡◌, ℕ, ◌<◌, T, List, [], ◌∷◌, Option, Some, None, is_some, length, get_or, map, refl, sym, ap, subst, ◌∙◌, arith}
+use Rattle.std.proofs.Common.{◌≡◌, ℕ, ◌<◌, T, List, [], ◌∷◌, Option, Some, None, true, is_some, length, get_or, map, refl, sym, ap, subst, ◌∙◌, arith}
 use Rattle.std.specs.Prelude.{Result, Ok, Err, IfOk, IfErr, IfSome, IfNone, IsTrue}
+use Rattle.std.specs.Option.{option_map}
 use Rattle.std.specs.Result.{result_ok}
 use Rattle.std.specs.Arc.{arc_value}
 use Rattle.std.specs.declared.sync.Arc.{Arc}
 use Rattle.std.specs.declared.alloc.Global.{Global}
 use Rattle.std.specs.Cmp.Lexicographic.{nat_list_cmp_total}
-use Rattle.std.specs.FinMap.{get, entries, keys, len, is_sorted, entries_sorted, get-entries, len-entries}
+use Rattle.std.specs.FinMap.{get, entries, keys, len, is_sorted, entries_sorted, get-entries, len-entries, find}
 use Rattle.std.specs.List.Sorted.{IsSearchInRange, IsBinarySearchResult}
 use Rattle.std.proofs.lemmas.List.{length-map, get_or-map}
-use Rattle.name.specs.Names.{name_cmp, parent_of}
+use Rattle.name.specs.Names.{name_cmp, same_name, parent_of}
 use Rattle.model.specs.Hierarchy.{FileSystems, IsHierarchy}
+use Rattle.world.proofs.Finding.{one_name}
 use Rattle.world.proofs.Maps.{no_value}
 use Rattle.file_system.specs.Rows.{Row, Entry, entry_of, entry_in}
 use Rattle.file_systems.specs.Clones.{row_in}
 use Rattle.file_systems.specs.Places.{IsAt, IsGapFor}
 use Rattle.file_systems.proofs.Rows.{searched, row_of, true_from}
-use Rattle.file_systems.proofs.Sorted.{find_gap}
+use Rattle.file_systems.proofs.Sorted.{find_at, find_gap}
 use Rattle.accounts.proofs.Names.{in_keys, from_keys, parent_in}
 use Rattle.limits.specs.Places.{IsParentAt}
 use Rattle.limits.proofs.Order.{no_entry, keys_long, key_is, entry_at}
@@ -60,6 +62,29 @@ module _ (m : FileSystems) (rows : List (Arc Row Global)) (all : map arc_value r
       let e = len-entries m in
       ap (λ (x : Entry). x.0) (row_of entry_in rows i r is ∙ ap (λ es. get_or es i (entry_in r)) entries_are)
       ∙ sym (get_or-map (λ (x : Entry). x.0) (entries m) i (entry_in r) [] (omega (arith, e, lt)))
+
+  -- a row that has the name stands at the name's place
+  pub near_at : (name : List ℕ) (i : ℕ) (r : Arc Row Global) → i < length rows → r ≡ get_or rows i r → same_name (arc_value r).name name ≡ true → IsAt (entries m) name i
+  near_at name i r w is named =
+      let l = rows_long in
+      let e = len-entries m in
+      record {
+        within = omega (arith, l, w);
+        named = λ d.
+            sym (get_or-map (λ (x : Entry). x.0) (entries m) i d [] (omega (arith, l, w)))
+            ∙ sym (name_at i r (omega (arith, l, e, w)) is)
+            ∙ one_name (arc_value r).name name named;
+      }
+
+  -- and is what the map has under it
+  pub row_at : (name : List ℕ) (i : ℕ) (r : Arc Row Global) → IsAt (entries m) name i → r ≡ get_or rows i r → (row : Row) → row ≡ arc_value r
+      → Some row ≡ option_map (λ f. row_in m (name, f)) (get m name)
+  row_at name i r at is row row_is =
+      let e : Entry = entry_in r in
+      ap Some (row_is ∙ row_of arc_value rows i r is ∙ ap (λ rs. get_or rs i (arc_value r)) all ∙ get_or-map (row_in m) (entries m) i e (arc_value r) at.within)
+      ∙ ap (λ n. Some (row_in m (n, (get_or (entries m) i e).1))) (at.named e)
+      ∙ sym (ap (option_map (λ f. row_in m (name, f)))
+      (get-entries m name ∙ ap (λ k. find name_cmp k (entries m)) (sym (at.named e)) ∙ find_at nat_list_cmp_total (entries m) (entries_sorted m) i e at.within))
 
 -- the place of a name that is the parent of the key at a place
 module _ (m : FileSystems) (good : IsHierarchy m) (i : ℕ) (lt : i < len m) (parent : List ℕ) (is : parent_of (get_or (keys m) i []) ≡ Some parent) where

@@ -19,7 +19,8 @@ ghost use Rattle.limits.specs.Changes.{IsChanged, IsModest, IsNear, IsNext, IsTo
 use crate::account::Account;
 use crate::ledger::Ledger;
 use crate::line::Line;
-use crate::place::{parent_place, place_of};
+use crate::near::Near;
+use crate::place::{parent_place, place_near};
 use crate::pool_space::Space;
 use base::refusal::Refusal;
 use datasets::Table;
@@ -43,7 +44,7 @@ impl Ledger {
         requires small { here < 2 ^ 42 }
         ensures { (s : State) → IsChanged (world_of table.now) s.now name.now here referenced → AreQuotasMet (world_of table.now) → IsSpaceOf s space → result ≡ first_of (limit_row s) }
     {
-        match charge_after(table, &self.lines, name, here, referenced) {
+        match charge_after(table, &self.lines, &self.near, name, here, referenced) {
             Ok(charge) if space.has_room(charge) => None,
             Ok(_) => Some(Refusal::NoSpace),
             Err(refusal) => Some(refusal),
@@ -60,7 +61,7 @@ impl Ledger {
         requires small { here < 2 ^ 42 }
         ensures { (old new : World) → IsHierarchy old.file_systems → keys old.file_systems ≡ keys table.now.file_systems → self.old ≡ ledger_of old → IsChanged old new name.now here referenced → self.new ≡ ledger_of new }
     {
-        settle_lines(table, &mut self.lines, name, here, referenced);
+        settle_lines(table, &mut self.lines, &self.near, name, here, referenced);
     }
 }
 
@@ -80,7 +81,13 @@ fn amended(line: &Line, here: u64, referenced: u64) -> Line
 
 // Where the line at a place becomes this one, the next line that changes: the place of its parent's, and what that becomes; none where what is
 // charged stays the same, or there is no parent. It costs the logarithm of the number of file systems, and the length of the name.
-fn next_change(table: &Table, lines: &[Line], place: usize, line: &Line) -> Option<(usize, Line)>
+fn next_change(
+    table: &Table,
+    lines: &[Line],
+    near: &Near,
+    place: usize,
+    line: &Line,
+) -> Option<(usize, Line)>
     requires long { length lines.now ≡ len table.now.file_systems }
     requires within { place < length lines.now }
     requires little { All (λ l. used_in l ≤ 2 ^ 54) lines.now }
@@ -94,7 +101,7 @@ fn next_change(table: &Table, lines: &[Line], place: usize, line: &Line) -> Opti
     if before == after {
         return None;
     }
-    let parent = parent_place(table, place)?;
+    let parent = parent_place(table, place, near.parent(place))?;
     let above = lines[parent];
     Some((
         parent,
@@ -125,6 +132,7 @@ fn root_charge(lines: &[Line], place: usize, line: &Line) -> u64
 fn charge_after(
     table: &Table,
     lines: &[Line],
+    near: &Near,
     name: &DsName,
     here: u64,
     referenced: u64,
@@ -138,7 +146,7 @@ fn charge_after(
 {
     // It tells what holds of the file systems.
     let _count = table.len();
-    let Some(start) = place_of(table, name.as_bytes()) else {
+    let Some(start) = place_near(table, name.as_bytes(), near.last) else {
         unreachable!()
     };
     let own = amended(&lines[start], here, referenced);
@@ -148,7 +156,7 @@ fn charge_after(
         if !line.is_in_quota() {
             return Err(Refusal::Quota);
         }
-        let Some((parent, above)) = next_change(table, lines, place, &line) else {
+        let Some((parent, above)) = next_change(table, lines, near, place, &line) else {
             if own.is_in_refquota() {
                 return Ok(root_charge(lines, place, &line));
             }
@@ -160,7 +168,14 @@ fn charge_after(
 }
 
 // The lines of the ledger of a world with the names of the table become those of the world that differs in this account.
-fn settle_lines(table: &Table, lines: &mut [Line], name: &DsName, here: u64, referenced: u64)
+fn settle_lines(
+    table: &Table,
+    lines: &mut [Line],
+    near: &Near,
+    name: &DsName,
+    here: u64,
+    referenced: u64,
+)
     requires there { IsSome (get table.now.file_systems name.now) }
     requires own { (old : World) × IsLedgerOf old (keys table.now.file_systems) lines.old }
     requires modest { All IsModest lines.old }
@@ -169,13 +184,13 @@ fn settle_lines(table: &Table, lines: &mut [Line], name: &DsName, here: u64, ref
     ensures modest { All IsModest lines.new }
     ensures little { All (λ l. used_in l ≤ 2 ^ 54) lines.new }
 {
-    let Some(start) = place_of(table, name.as_bytes()) else {
+    let Some(start) = place_near(table, name.as_bytes(), near.last) else {
         unreachable!()
     };
     let mut place = start;
     let mut line = amended(&lines[start], here, referenced);
     loop {
-        let next = next_change(table, lines, place, &line);
+        let next = next_change(table, lines, near, place, &line);
         lines[place] = line;
         let Some((parent, above)) = next else {
             return;

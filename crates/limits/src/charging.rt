@@ -10,6 +10,7 @@ ghost use Rattle.limits.specs.Charges.{fresh, IsCharged};
 
 use crate::account::account_of;
 use crate::line::Line;
+use crate::near::Near;
 use crate::place::parent_place;
 use datasets::Table;
 use file_systems::FileSystem;
@@ -33,22 +34,23 @@ pub fn refill(lines: &mut Vec<Line>, file_systems: &[Arc<FileSystem>])
     }
 }
 
-/// Adds the charge of each line to what the children of its parent use, from the last line to the first: a child stands after its parent.
-/// It costs the number of file systems times its logarithm, and the length of the names.
-pub fn charge_all(table: &Table, lines: &mut [Line])
+/// Adds the charge of each line to what the children of its parent use, from the last line to the first: a child stands after its parent,
+/// which is looked for at `near` first. It costs the number of file systems, times its logarithm where no parent stands there, and the length
+/// of the names.
+pub fn charge_all(table: &Table, lines: &mut [Line], near: &Near)
     requires long { length lines.old ≡ len table.now.file_systems }
     requires none { IsCharged table.now.file_systems (length lines.old) lines.old }
     ensures charged { IsCharged table.now.file_systems 0 lines.new }
     ensures accounts { map (λ l. l.account) lines.new ≡ map (λ l. l.account) lines.old }
 {
     for place in (0..lines.len()).rev() {
-        charge(table, lines, place);
+        charge(table, lines, place, near);
     }
 }
 
 // Adds the charge of the line at that place to what the children of its parent use. It costs the logarithm of the number of file systems, and
 // the length of the name.
-fn charge(table: &Table, lines: &mut [Line], place: usize)
+fn charge(table: &Table, lines: &mut [Line], place: usize, near: &Near)
     requires long { length lines.old ≡ len table.now.file_systems }
     requires within { place < length lines.old }
     requires later { IsCharged table.now.file_systems (place + 1) lines.old }
@@ -56,7 +58,7 @@ fn charge(table: &Table, lines: &mut [Line], place: usize)
     ensures accounts { map (λ l. l.account) lines.new ≡ map (λ l. l.account) lines.old }
 {
     let amount = lines[place].charge();
-    if let Some(parent) = parent_place(table, place) {
+    if let Some(parent) = parent_place(table, place, near.parent(place)) {
         let line = &mut lines[parent];
         line.children += amount;
     }

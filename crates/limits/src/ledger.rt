@@ -2,6 +2,7 @@
 ghost use Rattle.std.specs.Prelude.{[], ◌≡◌, ◌<◌, ◌≤◌, ◌+◌, ◌*◌, ◌^◌, IsSome, IfSome, IfOk, IfErr};
 ghost use Rattle.std.specs.FinMap.{get};
 ghost use Rattle.std.specs.FinSet.{len};
+ghost use Rattle.std.specs.Option.{option_copied, option_map};
 ghost use Rattle.base.specs.declared.refusal.Refusal.{Refusal};
 ghost use Rattle.model.specs.Hierarchy.{IsHierarchy};
 ghost use Rattle.model.specs.Rule.{first_of};
@@ -10,25 +11,30 @@ ghost use Rattle.model.specs.Sums.{used_of, used_by_children, room_of};
 ghost use Rattle.model.specs.World.{union_of};
 ghost use Rattle.model.specs.requests.Change.{limit_row};
 ghost use Rattle.world.specs.Tables.{world_of};
+ghost use Rattle.file_systems.specs.Clones.{row_in};
 ghost use Rattle.accounts.specs.Levels.{slashes};
 ghost use Rattle.limits.specs.Lines.{IsSmall};
 ghost use Rattle.limits.specs.Ledgers.{line_in, ledger_of, IsSpaceOf};
 
 use crate::charging::{charge_all, refill};
 use crate::line::Line;
+use crate::near::Near;
 use crate::parent::parent_of;
-use crate::place::place_of;
+use crate::place::place_near;
 use crate::pool_space::Space;
 use base::refusal::Refusal;
 use datasets::{FILE_SYSTEM_LIMIT, Table};
+use file_systems::FileSystem;
 use name::DsName;
 use std::alloc::Global;
 use std::marker::Model;
 
 /// A line for each file system of a pool, in byte order of the names: its account, and what its children use. Contracts see the lines.
+/// Beside them it keeps where parents stand, and where the file system stood that was found last, which saves searches.
 #[derive(Drop)]
 pub struct Ledger {
     pub(crate) lines: Vec<Line>,
+    pub(crate) near: Near,
 }
 
 impl Model for Ledger {
@@ -52,7 +58,8 @@ impl Ledger {
         ensures err { IfErr result (λ e. e ≡ Refusal.NoMemory) }
     {
         let lines = Vec::with_capacity(alloc, FILE_SYSTEM_LIMIT)?;
-        Ok(Ledger { lines })
+        let near = Near::new(alloc)?;
+        Ok(Ledger { lines, near })
     }
 
     /// It becomes the ledger of this table. It takes no memory, and costs the number of file systems times its logarithm, and the length of
@@ -64,7 +71,19 @@ impl Ledger {
         // It tells what holds of the file systems.
         let _count = table.len();
         refill(&mut self.lines, table.file_systems());
-        charge_all(table, &mut self.lines);
+        self.near.fill(table.file_systems());
+        charge_all(table, &mut self.lines, &self.near);
+    }
+
+    /// The file system of this name in the table, or none. Where it stands is kept: what is asked of it next looks there first. It costs the
+    /// logarithm of the number of file systems.
+    pub fn find<'a>(&mut self, table: &'a Table, name: &DsName) -> Option<&'a FileSystem>
+        ensures same { self.new ≡ self.old }
+        ensures value { option_copied result ≡ option_map (λ f. row_in table.now.file_systems (name.now, f)) (get table.now.file_systems name.now) }
+    {
+        let place = place_near(table, name.as_bytes(), self.near.last)?;
+        self.near.last = place;
+        Some(&*table.file_systems()[place])
     }
 
     /// The limit that is broken, where the pool has this beside its file systems: Quota, else RefQuota, else NoSpace where the pool has no
@@ -150,7 +169,7 @@ impl Ledger {
         ensures value { IfSome (get table.now.file_systems name.now) (λ f. result.now ≡ line_in (world_of table.now) (name.now, f)) }
         ensures small { IsSmall result.now }
     {
-        let Some(place) = place_of(table, name) else {
+        let Some(place) = place_near(table, name, self.near.last) else {
             unreachable!()
         };
         &self.lines[place]

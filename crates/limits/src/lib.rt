@@ -9,6 +9,7 @@ mod change;
 mod charging;
 mod ledger;
 mod line;
+mod near;
 mod parent;
 mod place;
 mod pool_space;

@@ -20,9 +20,21 @@ pub fn place_of(table: &Table, name: &[u8]) -> Option<usize>
         .ok()
 }
 
-/// Where the parent of the file system at that place stands, or none where it has none. It costs the logarithm of the number of file
-/// systems, and the length of the name.
-pub fn parent_place(table: &Table, place: usize) -> Option<usize>
+/// The same, but it looks at this place first, whatever stands there: where that is it, it costs the length of the name, and else what
+/// `place_of` does.
+pub fn place_near(table: &Table, name: &[u8], near: usize) -> Option<usize>
+    ensures some { IfSome result (IsAt (entries table.now.file_systems) name.now) }
+    ensures none { IfNone result (get table.now.file_systems name.now ≡ None) }
+{
+    match table.file_systems().get(near) {
+        Some(file_system) if file_system.name().as_bytes() == name => Some(near),
+        _ => place_of(table, name),
+    }
+}
+
+/// Where the parent of the file system at that place stands, or none where it has none; it looks at the place `near` first. It costs the
+/// length of the name, and where the parent isn't there the logarithm of the number of file systems.
+pub fn parent_place(table: &Table, place: usize, near: usize) -> Option<usize>
     requires { place < len table.now.file_systems }
     ensures some { IfSome result (IsParentAt (keys table.now.file_systems) place) }
     ensures none { IfNone result (parent_name (slice_index_or (keys table.now.file_systems) place []) ≡ None) }
@@ -31,5 +43,5 @@ pub fn parent_place(table: &Table, place: usize) -> Option<usize>
     let _count = table.len();
     let file_system = &table.file_systems()[place];
     let parent = parent_of(file_system.name().as_bytes())?;
-    place_of(table, parent)
+    place_near(table, parent, near)
 }

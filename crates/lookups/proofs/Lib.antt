@@ -1,3 +1,4 @@
 mod Yielded
 mod Joined
 pub mod Fitting
+mod Written

@@ -1,16 +1,18 @@
 //! Datasets and bookmarks by a name of any kind.
-ghost use Rattle.std.specs.Prelude.{◌≡◌};
+ghost use Rattle.std.specs.Prelude.{◌≡◌, IfOk, IfErr};
 ghost use Rattle.std.specs.Option.{option_copied, option_map};
 ghost use Rattle.bookmarks.specs.Marks.{bookmark_of};
 ghost use Rattle.model.specs.Hierarchy.{snap_in};
 ghost use Rattle.model.specs.World.{bookmark_named};
 ghost use Rattle.world.specs.Tables.{world_of};
-ghost use Rattle.lookups.specs.Named.{map_named};
+ghost use Rattle.name.specs.declared.target.Target.{Target};
+ghost use Rattle.lookups.specs.Named.{map_named, IsNoLive};
 
+use base::refusal::Refusal;
 use datasets::Table;
 use file_systems::{FileSystem, Snapshot};
 use model::snapshot_id::SnapshotId;
-use name::{Member, Target};
+use name::{DsName, Member, Target};
 use tree::Tree;
 
 /// The tree of the dataset that the name is of, a file system's live one or a snapshot's, or none. It costs the logarithm of the
@@ -22,6 +24,22 @@ pub fn tree_named<'a>(table: &'a Table, target: &Target) -> Option<&'a Tree>
         Target::FileSystem(name) => table.find(name).map(FileSystem::live),
         Target::Snapshot(name) => snapshot_named(table, name.member()).map(Snapshot::tree),
         Target::Bookmark(_) => None,
+    }
+}
+
+/// The name of the file system that a change is asked of (zfs(8): a snapshot never changes). ReadOnly where the target is a snapshot that is
+/// there, and NoDataset where it is nothing that is there, or a bookmark. It costs what `tree_named` does, and for a file system's name
+/// nothing: whether there is one isn't asked.
+pub fn live_name<'a>(table: &Table, target: &'a Target) -> Result<&'a DsName, Refusal>
+    ensures ok { IfOk result (λ name. target.now ≡ Target.FileSystem name.now) }
+    ensures err { IfErr result (λ why. IsNoLive table.now.file_systems target.now why) }
+{
+    match target {
+        Target::FileSystem(name) => Ok(name),
+        _ => Err(match tree_named(table, target) {
+            Some(_) => Refusal::ReadOnly,
+            None => Refusal::NoDataset,
+        }),
     }
 }
 

@@ -1,18 +1,19 @@
 //! The values of properties of file systems, snapshots and bookmarks.
 ghost use Rattle.std.specs.Prelude.{◌≡◌, ◌<◌, ◌*◌, ◌-◌, ◌^◌, true, Some, IsSome, IfOk, IfErr, map};
-ghost use Rattle.std.specs.Option.{option_copied, unwrap_or};
+ghost use Rattle.std.specs.Option.{option_copied, option_map, unwrap_or};
 ghost use Rattle.std.specs.List.{join_with_byte};
 ghost use Rattle.std.specs.FinMap.{get};
 ghost use Rattle.std.specs.FinSet.{len};
 ghost use Rattle.base.specs.declared.refusal.Refusal.{Refusal};
 ghost use Rattle.base.specs.Map.{blocks};
 ghost use Rattle.bookmarks.specs.Marks.{bookmark_of};
-ghost use Rattle.file_system.specs.Dead.{newest_blocks};
+ghost use Rattle.file_system.specs.Dead.{newest_blocks, written_from};
 ghost use Rattle.file_systems.specs.CloneNames.{name_of};
 ghost use Rattle.model.specs.Ids.{snap_id};
 ghost use Rattle.model.specs.Properties.{text_of_snap, bookmark_value};
 ghost use Rattle.model.specs.Sums.{size_without, used_of, used_by_children};
 ghost use Rattle.model.specs.World.{clones_of, union_of};
+ghost use Rattle.model.specs.declared.reply.Value.{Value};
 ghost use Rattle.model.specs.declared.request.Property.{Property};
 ghost use Rattle.model.specs.requests.Get.{needs_memory};
 ghost use Rattle.world.specs.Tables.{world_of};
@@ -190,6 +191,14 @@ fn value_of_live(
     }
 }
 
+// What the snapshot of this name within a file system has that the one before hasn't, or none where there is no such snapshot
+// (zfsprops(7): written).
+fn written_within(file_system: &FileSystem, component: &[u8]) -> Option<Value>
+    ensures { result ≡ option_map (λ n. Value.Size (512 * n)) (written_from (blocks file_system.now.below) file_system.now.system.snaps component.now) }
+{
+    file_system.written_at(component).map(in_bytes)
+}
+
 // A property of the snapshot of this name within its file system of the table, which isn't what it uses; or none where there is no such
 // snapshot. NoMemory where there is none for a text.
 fn value_within(
@@ -203,13 +212,15 @@ fn value_within(
     ensures ok { IfOk result (λ value. value ≡ snapshot_value table.now file_system.now component.now property) }
     ensures err { IfErr result (λ e. (needs_memory property ≡ true) × (e ≡ Refusal.NoMemory)) }
 {
+    if let Property::Written = property {
+        return Ok(written_within(file_system, component));
+    }
     let Some(snapshot) = file_system.snapshot_named(component) else {
         return Ok(None);
     };
     let value = match property {
-        Property::Used => unreachable!(),
+        Property::Used | Property::Written => unreachable!(),
         Property::Referenced => in_bytes(snapshot.tree().node_count()),
-        Property::Written => return Ok(file_system.written_at(component).map(in_bytes)),
         Property::Guid => Value::Number(snapshot.guid().0),
         Property::CreateTxg => Value::Number(snapshot.group().0),
         Property::Clones => Value::Named(clones_text(alloc, table, snapshot.id())?),

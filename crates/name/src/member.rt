@@ -40,6 +40,17 @@ impl Model for SnapName {
     ghost inverse = { λ m. record { snapshot = m } };
 }
 
+impl From<Member> for SnapName {
+    ghost use Rattle.std.specs.Prelude.{◌≡◌};
+
+    ghost from_gives = { λ snapshot n. n ≡ snapshot };
+
+    /// The name of the snapshot of these parts, however long it is.
+    fn from(snapshot: Member) -> SnapName {
+        SnapName { snapshot }
+    }
+}
+
 impl SnapName {
     /// Reads a snapshot's name. BadName where the bytes are none, NoMemory where there is no memory for it.
     #[tactic(auto, unfolding(crate::specs::Reading::snap_of))]
@@ -82,6 +93,17 @@ impl Model for MarkName {
     ghost view = { λ n. n.bookmark };
 
     ghost inverse = { λ m. record { bookmark = m } };
+}
+
+impl From<Member> for MarkName {
+    ghost use Rattle.std.specs.Prelude.{◌≡◌};
+
+    ghost from_gives = { λ bookmark n. n ≡ bookmark };
+
+    /// The name of the bookmark of these parts, however long it is.
+    fn from(bookmark: Member) -> MarkName {
+        MarkName { bookmark }
+    }
 }
 
 impl MarkName {

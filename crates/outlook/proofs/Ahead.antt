@@ -1,22 +1,20 @@
 -- The counts after a change, by what a forecast says and what a row keeps.
-use Rattle.std.proofs.Common.{◌≡◌, ◌+◌, ◌-◌, ◌≤◌, ◌<◌, ◌^◌, ℕ, Bool, cond, List, [], ◌∷◌, map, length, Option, None, Some, refl, sym, ap, subst, ◌∙◌, arith, inl, inr, ⊎_elim}
+use Rattle.std.proofs.Common.{◌≡◌, ◌+◌, ◌-◌, ◌≤◌, ◌<◌, ◌^◌, ℕ, Bool, cond, List, [], ◌∷◌, map, length, Option, None, Some, refl, sym, ap, ◌∙◌, arith, inl, inr, ⊎_elim}
 use Rattle.std.specs.Prelude.{count_by, nat_lt, ◌&&◌, unwrap_or}
 use Rattle.std.specs.Option.{option_map, option_map_or}
 use Rattle.std.specs.Option.{option_or}
 use Rattle.std.specs.List.{last_or}
-use Rattle.std.specs.FinMap.{get}
 use Rattle.std.specs.FinMap.{len as map_len}
 use Rattle.std.specs.FinSet.{len}
 use Rattle.std.proofs.lemmas.List.{length-map}
 use Rattle.std.proofs.lemmas.List.Sums.{sum_by-cons}
 use Rattle.base.specs.declared.number.Dead.{Dead}
-use Rattle.base.specs.declared.number.Key.{Key}
 use Rattle.base.specs.Map.{Map, Block, BlockSet, blocks}
 use Rattle.base.specs.Rewrite.{Changes, rewrite}
 use Rattle.base.specs.Surveys.{IsIn, dead_block}
 use Rattle.batch.specs.declared.forecast.Forecast.{Forecast}
 use Rattle.model.specs.State.{State, waiting_of}
-use Rattle.model.specs.World.{World, FileSystem, Snap, SnapId, Live, id_of, map_of_snap, maps_of, previous_of, blocks_of_all, union_of}
+use Rattle.model.specs.World.{Snap, SnapId, Live, id_of, map_of_snap, maps_of, previous_of, blocks_of_all, union_of}
 use Rattle.model.specs.Sums.{size_without, used_here, referenced_of, written_of, used_by_dataset, used_by_snapshots}
 use Rattle.model.specs.Edits.{with_now}
 use Rattle.model.specs.Refusals.{fresh_number}
@@ -169,3 +167,6 @@ module _ (s : State) (c : Changes) (r : Row) (f : Forecast) (synced : ℕ) (is :
 
   pub waiting_after : len (waiting_of s) + count_before (base_of s.now (Live r.name)) s.last.group (map dead_block f.dropped.items) ≡ len (waiting_of (with_now s (ahead s c r)))
   waiting_after = sym look.waiting
+
+  pub written_after : written_of (ahead s c r) (Live r.name) ≡ written_of s.now (Live r.name) + f.made - count_after (base_of s.now (Live r.name)) (map dead_block f.dropped.items)
+  written_after = let w = look.written in let n = is.forecast.count in omega (arith, w, n)

@@ -6,4 +6,4 @@
 
 mod outlook;
 
-pub use crate::outlook::{Outlook, outlook_of};
+pub use crate::outlook::{Outlook, kept_outlook_of, outlook_of};

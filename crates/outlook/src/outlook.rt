@@ -1,9 +1,11 @@
 //! The counts after a change.
-ghost use Rattle.std.specs.Prelude.{◌≡◌, ◌<◌, ◌^◌, ◌&&◌, IfOk, IfErr, count_by, nat_lt};
+ghost use Rattle.std.specs.Prelude.{◌≡◌, ◌<◌, ◌≤◌, ◌^◌, ◌&&◌, [], ◌∷◌, ℕ, IfOk, IfErr, count_by, nat_lt};
 ghost use Rattle.base.specs.Rewrite.{Changes};
 ghost use Rattle.base.specs.declared.refusal.Refusal.{Refusal};
 ghost use Rattle.model.specs.State.{State};
-ghost use Rattle.outlook.specs.Outlooks.{IsAhead, IsOutlookOf};
+ghost use Rattle.name.specs.declared.member.Member.{Member};
+ghost use Rattle.world.specs.Takings.{AreTakable};
+ghost use Rattle.outlook.specs.Outlooks.{IsAhead, IsOutlookOf, IsKeptOutlookOf, IsTallyOf};
 
 use base::number::{Dead, Group};
 use base::refusal::Refusal;
@@ -39,17 +41,25 @@ fn count_before(dropped: &[Dead], low: Group, high: Group) -> usize
         .count()
 }
 
-/// What the counts of a file system and of its pool come to with the change of a forecast, where the last sync opened the group `synced`: for
-/// every state and change of which it is the forecast, those of the world that limits are asked of (zfsprops(7): quota, refquota,
-/// reservation). NoMemory where the change makes more blocks than a u32 counts. It costs the blocks that the change drops.
-pub fn outlook_of(
-    file_system: &FileSystem,
-    forecast: &Forecast,
-    synced: Group,
-) -> Result<Outlook, Refusal>
+// What the counts come to is told of, in blocks.
+#[derive(Drop)]
+struct Tally {
+    // What the file system has of its own: its live map, and its snapshots beside it.
+    held: u64,
+    // What it keeps for its live map (zfsprops(7): refreservation).
+    kept: u64,
+    // What of that the live map's own blocks take up (zfsprops(7): written).
+    written: u64,
+    referenced: u64,
+    waiting: u64,
+}
+
+// The tally of a change. NoMemory where the change makes more blocks than a u32 counts. It costs the blocks that the change drops.
+fn tally_of(file_system: &FileSystem, forecast: &Forecast, synced: Group) -> Result<Tally, Refusal>
     requires { (s : State) × (c : Changes) × IsAhead s c file_system.now forecast.now synced.0 }
-    ensures ok { IfOk result (λ o. (s : State) (c : Changes) → IsAhead s c file_system.now forecast.now synced.0 → IsOutlookOf s c file_system.now o) }
-    ensures small { IfOk result (λ o. o.here < 2 ^ 42) }
+    ensures ok { IfOk result (λ t. (s : State) (c : Changes) → IsAhead s c file_system.now forecast.now synced.0 → IsTallyOf s c file_system.now t) }
+    ensures little { IfOk result (λ t. t.held < 2 ^ 36) }
+    ensures most { IfOk result (λ t. t.kept ≤ 2 ^ 40) }
     ensures err { IfErr result (λ e. e ≡ Refusal.NoMemory) }
 {
     let Ok(made) = u32::try_from(forecast.made) else {
@@ -65,10 +75,53 @@ pub fn outlook_of(
         Some(amount) => amount.get(),
         None => 0,
     };
-    Ok(Outlook {
-        here: held + kept.saturating_sub(written),
+    Ok(Tally {
+        held,
+        kept,
+        written,
         referenced: u64::from(file_system.live().node_count()) + made
             - forecast.dropped.len() as u64,
         waiting: count_before(&forecast.dropped, before, synced) as u64,
+    })
+}
+
+/// What the counts of a file system and of its pool come to with the change of a forecast, where the last sync opened the group `synced`: for
+/// every state and change of which it is the forecast, those of the world that limits are asked of (zfsprops(7): quota, refquota,
+/// reservation). NoMemory where the change makes more blocks than a u32 counts. It costs the blocks that the change drops.
+pub fn outlook_of(
+    file_system: &FileSystem,
+    forecast: &Forecast,
+    synced: Group,
+) -> Result<Outlook, Refusal>
+    requires { (s : State) × (c : Changes) × IsAhead s c file_system.now forecast.now synced.0 }
+    ensures ok { IfOk result (λ o. (s : State) (c : Changes) → IsAhead s c file_system.now forecast.now synced.0 → IsOutlookOf s c file_system.now o) }
+    ensures small { IfOk result (λ o. o.here < 2 ^ 42) }
+    ensures err { IfErr result (λ e. e ≡ Refusal.NoMemory) }
+{
+    let tally = tally_of(file_system, forecast, synced)?;
+    Ok(Outlook {
+        here: tally.held + tally.kept.saturating_sub(tally.written),
+        referenced: tally.referenced,
+        waiting: tally.waiting,
+    })
+}
+
+/// The same where the live map is kept as a snapshot once it is changed, as a receive does: then nothing of the file system's refreservation
+/// is written (zfsprops(7): usedbyrefreservation; zfs-receive(8)). NoMemory and the cost are those of `outlook_of`.
+pub fn kept_outlook_of(
+    file_system: &FileSystem,
+    forecast: &Forecast,
+    synced: Group,
+) -> Result<Outlook, Refusal>
+    requires { (s : State) × (c : Changes) × IsAhead s c file_system.now forecast.now synced.0 }
+    ensures ok { IfOk result (λ o. (s : State) (c : Changes) → IsAhead s c file_system.now forecast.now synced.0 → (m : Member) → m.file_system ≡ file_system.now.name → AreTakable s.now.file_systems (m ∷ []) → (guid : ℕ) → IsKeptOutlookOf s c file_system.now m guid o) }
+    ensures small { IfOk result (λ o. o.here < 2 ^ 42) }
+    ensures err { IfErr result (λ e. e ≡ Refusal.NoMemory) }
+{
+    let tally = tally_of(file_system, forecast, synced)?;
+    Ok(Outlook {
+        here: tally.held + tally.kept,
+        referenced: tally.referenced,
+        waiting: tally.waiting,
     })
 }

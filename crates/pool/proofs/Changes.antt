@@ -1,5 +1,5 @@
 -- A change of a live map, from the update that a request asks for to the step.
-use Rattle.std.proofs.Common.{◌≡◌, ◌≤◌, ◌⊎◌, ◌↔◌, ℕ, Bool, true, false, ◌&&◌, List, Result, Ok, Err, Some, None, refl, sym, ap, subst, [], ◌∷◌, inl, inr, ⊎_elim}
+use Rattle.std.proofs.Common.{◌≡◌, ◌⊎◌, ℕ, true, false, List, Result, Ok, Err, Some, None, refl, sym, ap, subst, [], ◌∷◌, ⊎_elim}
 use Rattle.std.specs.FinMap.{get}
 use Rattle.name.specs.declared.target.Target.{Target}
 use Rattle.name.specs.declared.target.Target.TheVariants.{FileSystem as OfFileSystem}
@@ -23,7 +23,7 @@ use Rattle.pool.specs.Asked.{Asks}
 use Rattle.lookups.specs.Named.{IsNoLive}
 use Rattle.pool.specs.Pools.{IsSound}
 use Rattle.pool.specs.Shown.{Shown, shown}
-use Rattle.pool.proofs.Names.{found, absent, is_snapshot}
+use Rattle.steps.proofs.Names.{found, absent, is_snapshot}
 
 -- no update
 abbrev update_error : Refusal → Result Update Refusal
@@ -76,8 +76,3 @@ module _ (s : State) (numbers : List BlockState) (sound : IsSound s numbers) (q 
 -- an answer with the pool as it was, told of what contracts see
 pub told : (seen : Shown) (s : State) (numbers : List BlockState) → shown s numbers ≡ seen → (q : Request) (reply : Reply) → Step s q reply s → Step seen.state q reply seen.state
 told seen s numbers view q reply step = subst (λ (x : Shown). Step x.state q reply x.state) view step
-
--- why a name is no file system's, told of the state
-pub told_no_live : (seen : Shown) (s : State) (numbers : List BlockState) → shown s numbers ≡ seen → (target : Target) (why : Refusal) → IsNoLive seen.state.now.file_systems target why
-    → IsNoLive s.now.file_systems target why
-told_no_live seen s numbers view target why is = subst (λ (x : Shown). IsNoLive x.state.now.file_systems target why) (sym view) is

@@ -12,7 +12,9 @@ use Rattle.steps.specs.Settles.{releases}
 use Rattle.steps.specs.Steady.{IsSteady}
 use Rattle.steps.specs.Edits.{with_datasets, put, lose, with_freeing, synced, viewing, closed, CanPut, CanLose, CanFree, CanChange, CanSync}
 use Rattle.steps.proofs.Known.{states_of, of_states}
+use Rattle.steps.specs.Received.{put_freeing, CanReceive}
 use Rattle.steps.proofs.Losing.{lose_states}
+use Rattle.steps.proofs.Receiving.{receive_states}
 use Rattle.steps.proofs.Slicing.{freed_states}
 use Rattle.steps.proofs.Putting.{put_states, kept_states}
 use Rattle.steps.proofs.Syncing.{sync_steady, sync_states}
@@ -23,6 +25,15 @@ module _ (s : State) (numbers : List BlockState) (sound : IsSound s numbers) (to
   pub sound_changed : (released : List Block) (taken : List ℕ) → CanChange s to released taken
       → IsSound (with_datasets s to) (takes (releases s.last.group numbers released) taken)
   sound_changed released taken can = record { steady = can.steady; states = put_states s sound.steady numbers sound.states to released taken can; guids = sound.guids }
+
+  -- and so it has after a receive
+  pub sound_received : (freeing : BlockSet) (released : List Block) (taken : List ℕ) → CanReceive s to freeing released taken
+      → IsSound (put_freeing s to freeing) (takes (releases s.last.group numbers released) taken)
+  sound_received freeing released taken can = record {
+    steady = can.steady;
+    states = receive_states s sound.steady numbers sound.states to freeing released taken can;
+    guids = sound.guids;
+  }
 
   -- and so it has where the same blocks are reached
   pub sound_put : (guids : ℕ) → CanPut s to guids → s.next_guid + guids ≤ guid_limit + 1 → IsSound (put s to guids) numbers

@@ -41,9 +41,10 @@ use Rattle.model.specs.requests.Change.{limit_row}
 use Rattle.accounts.specs.Limits.{IsUnlimited}
 use Rattle.steps.specs.Asked.{asked_by_snapshot}
 use Rattle.outlook.specs.declared.outlook.Outlook.{Outlook}
-use Rattle.pool.specs.declared.limiting.Limiting.{Limiting}
-use Rattle.pool.specs.Limiting.{IsAccounted, IsNoChange, MayChange, Foretells, CanSettle}
-use Rattle.pool.proofs.Settled.{can_settle}
+use Rattle.limits.specs.declared.line.Line.{Line}
+use Rattle.lookups.specs.Accounted.{IsAccounted}
+use Rattle.steps.specs.Limiting.{IsNoChange, MayChange, Foretells, CanSettle}
+use Rattle.steps.proofs.Settled.{can_settle}
 use Rattle.pool.proofs.Limited.{bare_here}
 use Rattle.base.specs.Rewrite.{Changes}
 
@@ -106,8 +107,8 @@ module _ (s : State) (numbers : List BlockState) (sound : IsSound s numbers) (ol
       stays_now = written_unlimited s numbers name new (changes_of (u ∷ [])) done (here (Ok done) applied).ok
 
       -- the ledger that is kept can be settled
-      pub settles_now : (limiting : Option Limiting) → IsAccounted (datasets_of s) limiting → (outlook : Option Outlook)
-          → Foretells s name (changes_of (u ∷ [])) outlook → CanSettle (datasets_of s) new name limiting outlook
+      pub settles_now : (lines : Option (List Line)) → IsAccounted (datasets_of s) lines → (outlook : Option Outlook)
+          → Foretells s name (changes_of (u ∷ [])) outlook → CanSettle (datasets_of s) new name lines outlook
       settles_now = can_settle s sound.steady numbers sound.states name (changes_of (u ∷ [])) new done (here (Ok done) applied).ok can_now.steady there
 
       pub done_now : (q : Request) → Asks q (OfFileSystem name) (Ok u) → Step s q Done (with_datasets s new)

@@ -1,10 +1,7 @@
-pub mod Names
 pub mod Fitting
-pub mod Values
 pub mod Commits
 pub mod Changes
 pub mod Steps
-pub mod Measured
 pub mod Slicing
 pub mod Removing
 pub mod Asking
@@ -13,6 +10,4 @@ pub mod Sights
 pub mod Cloned
 pub mod Marked
 pub mod Limited
-pub mod Foretold
 pub mod Asked
-pub mod Settled

@@ -1,5 +1,5 @@
 -- Where no file system has a limit, none has one after a request that sets none; and what limits say where some have.
-use Rattle.std.proofs.Common.{◌≡◌, ◌<◌, ◌^◌, ◌+◌, ℕ, List, Option, None, Some, refl, sym, ap, subst, ◌∙◌, ⊎_elim, arith}
+use Rattle.std.proofs.Common.{◌≡◌, ◌<◌, ◌^◌, ◌+◌, ℕ, List, Option, None, Some, sym, ap, subst, ◌∙◌, ⊎_elim}
 use Rattle.std.specs.FinSet as set
 use Rattle.std.specs.FinSet.{difference}
 use Rattle.base.specs.declared.refusal.Refusal.{Refusal}
@@ -8,24 +8,21 @@ use Rattle.model.specs.State.{State, waiting_of}
 use Rattle.model.specs.Numbers.{HasStates}
 use Rattle.model.specs.Rule.{first_of}
 use Rattle.model.specs.requests.Change.{limit_row}
-use Rattle.model.specs.Sums.{allocated_of}
 use Rattle.model.specs.World.{union_of, reach_of}
-use Rattle.world.specs.Sets.{Has}
-use Rattle.world.specs.Blocks.{block_order as o}
-use Rattle.world.proofs.Kept.{reach_is, union-fields}
-use Rattle.world.proofs.SetCounts.{in_union_left, len-subset}
 use Rattle.steps.specs.Steady.{IsSteady}
 use Rattle.steps.proofs.Asking.{IsUnasked}
 use Rattle.steps.proofs.Properties.{are_balanced}
 use Rattle.world.specs.Tables.{Datasets, world_of}
 use Rattle.accounts.specs.Limits.{IsUnlimited}
 use Rattle.steps.specs.Edits.{datasets_of, StaysUnlimited}
-use Rattle.pool.specs.Limiting.{IsAccounted, IsAsked, IsOver}
+use Rattle.lookups.specs.Accounted.{IsAccounted}
+use Rattle.steps.specs.Limiting.{IsAsked, IsOver}
+use Rattle.steps.proofs.Balanced as balanced
+use Rattle.steps.proofs.Foretold.{ledger_alike}
+use Rattle.limits.specs.declared.line.Line.{Line}
 use Rattle.pool.specs.Pools.{IsSound}
 use Rattle.pool.specs.Shown.{Shown, shown}
-use Rattle.pool.specs.declared.limiting.Limiting.{Limiting}
 use Rattle.pool.proofs.Fitting as fitting
-use Rattle.pool.proofs.Foretold.{ledger_alike}
 
 module _ (seen : Shown) (s : State) (numbers : List BlockState) (view : shown s numbers ≡ seen) (bare : IsUnlimited seen.state.now.file_systems) where
   pub bare_here : IsUnlimited s.now.file_systems
@@ -35,22 +32,18 @@ module _ (seen : Shown) (s : State) (numbers : List BlockState) (view : shown s 
   pub still_bare : (to : Datasets) → StaysUnlimited s to → IsUnlimited to.file_systems
   still_bare to stays = stays bare_here
 
--- where nothing is kept, no file system has a limit
-pub nothing_kept : (t : Datasets) (l : Option Limiting) → IsAccounted t l → l ≡ None → IsUnlimited t.file_systems
-nothing_kept t l kept none = subst (IsAccounted t) none kept
-
 -- what datasets have can be counted by so many bits
 pub few_sound : (s : State) (numbers : List BlockState) → IsSound s numbers → s.size < 2 ^ 32 → set.len (union_of (world_of (datasets_of s))) < 2 ^ 32
 few_sound s numbers sound = fitting.few s sound.steady numbers sound.states
 
 -- after a request that was refused
-pub same_accounted : (t to : Datasets) (l : Option Limiting) → to ≡ t → IsAccounted t l → IsAccounted to l
+pub same_accounted : (t to : Datasets) (l : Option (List Line)) → to ≡ t → IsAccounted t l → IsAccounted to l
 same_accounted t to l same kept = subst (λ d. IsAccounted d l) (sym same) kept
 
-pub never_none : (l : Limiting) → Some l ≡ None → ⊥
+pub never_none : (l : List Line) → Some l ≡ None → ⊥
 never_none l e = cc
 
-pub accounted_next : (t next : Datasets) (l : Option Limiting) → next ≡ record t { group = t.group + 1 } → IsAccounted t l → IsAccounted next l
+pub accounted_next : (t next : Datasets) (l : Option (List Line)) → next ≡ record t { group = t.group + 1 } → IsAccounted t l → IsAccounted next l
 accounted_next t next None is kept = subst (λ (d : Datasets). IsUnlimited d.file_systems) (sym is) kept
 accounted_next t next (Some l) is kept = kept ∙ ledger_alike (world_of t) (world_of next) (ap (λ (d : Datasets). d.file_systems) (sym is))
 
@@ -73,11 +66,4 @@ module _ (s new : State) (is : IsUnasked s new) where
   -- what its datasets have can be counted by so many bits
   pub few_unasked : IsSteady s → (numbers : List BlockState) → HasStates s numbers → s.size < 2 ^ 32 → (to : Datasets) → to.file_systems ≡ new.now.file_systems
       → set.len (union_of (world_of to)) < 2 ^ 32
-  unfolding allocated_of
-  few_unasked steady numbers known small to same =
-      let b = are_balanced s steady numbers known in
-      let a : allocated_of s ≡ set.len (reach_of s.now) = refl in
-      let l = len-subset o (union_of new.now) (reach_of new.now) (λ k h. subst (λ x. Has x k) (sym (reach_is new.now)) (in_union_left o (union_of new.now) new.now.freeing k h)) in
-      let r = ap set.len is.reach in
-      let u = ap set.len (union-fields (world_of to) new.now same) in
-      omega (arith, a, b, l, r, u, small)
+  few_unasked steady numbers known small to same = balanced.few_unasked s (are_balanced s steady numbers known) new is small to same

@@ -1,27 +1,24 @@
 -- Holds, releases and bookmarks: what is planned can be done, and is a step.
 use Rattle.std.proofs.Common.{◌≡◌, ◌⊎◌, ◌+◌, ◌≤◌, ℕ, List, Some, None, sym, subst}
-use Rattle.std.specs.Prelude.{IfSome}
 use Rattle.base.specs.Map.{BlockSet}
 use Rattle.base.specs.declared.refusal.Refusal.{Refusal}
 use Rattle.base.specs.declared.refusal.Refusal.TheVariants.{NoMemory}
 use Rattle.name.specs.declared.member.Member.{Member}
 use Rattle.name.specs.declared.target.Target.{Target}
 use Rattle.zalloc.specs.declared.BlockState.{BlockState}
-use Rattle.model.specs.declared.request.Request.TheVariants.{Hold, Release, Holds, Bookmark}
-use Rattle.model.specs.declared.reply.Reply.TheVariants.{Done, Refused, Names as NamesAre}
+use Rattle.model.specs.declared.request.Request.TheVariants.{Hold, Release, Bookmark}
+use Rattle.model.specs.declared.reply.Reply.TheVariants.{Done, Refused}
 use Rattle.model.specs.State.{State}
 use Rattle.model.specs.Step.{Step}
 use Rattle.model.specs.Targets.{guid_limit}
-use Rattle.model.specs.requests.Rollback.{placed}
-use Rattle.world.specs.Tables.{Datasets, world_of}
+use Rattle.world.specs.Tables.{Datasets}
 use Rattle.removals.specs.Edits.{HasLost}
 use Rattle.removals.specs.Requests.{swept}
-use Rattle.marks.specs.Requests.{hold_refusal, held_in, release_refusal, released_in, bookmark_refusal, bookmarked_in, holds_refusal}
+use Rattle.marks.specs.Requests.{hold_refusal, held_in, release_refusal, released_in, bookmark_refusal, bookmarked_in}
 use Rattle.steps.specs.Edits.{datasets_of, put, lose, CanPut, CanLose, StaysUnlimited}
 use Rattle.steps.proofs.Holding as holding
 use Rattle.steps.proofs.Releasing as releasing
 use Rattle.steps.proofs.Marking as marking
-use Rattle.steps.proofs.Tags as tags
 use Rattle.pool.specs.Pools.{IsSound}
 use Rattle.pool.specs.Shown.{Shown, shown}
 use Rattle.pool.proofs.Cloned.{plus_none}
@@ -73,12 +70,3 @@ module _ (seen : Shown) (s : State) (numbers : List BlockState) (view : shown s 
       pub bookmark_done : Step seen.state (Bookmark target mark) Done (put seen.state to 0)
       bookmark_done = subst (λ (x : Shown). Step x.state (Bookmark target mark) Done (put x.state to 0)) view
           (subst (λ t. Step s (Bookmark target mark) Done (put s t 0)) (sym is) (marking.bookmark_done s target mark sound.steady none))
-
-  module _ (target : Target) where
-    pub holds_refused : (why : Refusal) → (holds_refusal (datasets_of s) target ≡ Some why) ⊎ (why ≡ NoMemory) → Step seen.state (Holds target) (Refused why) seen.state
-    holds_refused why which = subst (λ (x : Shown). Step x.state (Holds target) (Refused why) x.state) view (tags.holds_refused s target why which)
-
-    pub holds_told : holds_refusal (datasets_of s) target ≡ None → (names : List (List ℕ)) → IfSome (placed (world_of (datasets_of s)) target) (λ p. names ≡ p.1.tags)
-        → (told : List (List ℕ)) → told ≡ names → Step seen.state (Holds target) (NamesAre told) seen.state
-    holds_told none names are told same = subst (λ (x : Shown). Step x.state (Holds target) (NamesAre told) x.state) view
-        (subst (λ ns. Step s (Holds target) (NamesAre ns) s) (sym same) (tags.holds_answered s target sound.steady none names are))

@@ -1,6 +1,6 @@
 -- Views opened and closed: what is planned can be done, and is a step.
-use Rattle.std.proofs.Common.{◌≡◌, ◌+◌, ◌<◌, ◌||◌, ℕ, Bool, true, false, List, Option, Some, None, Result, Ok, Err, refl, sym, subst}
-use Rattle.std.specs.Prelude.{nat_lt, IfErr, IfSome, IfNone}
+use Rattle.std.proofs.Common.{◌≡◌, ◌+◌, ◌<◌, ◌||◌, ℕ, Bool, true, false, List, Option, Some, None, Result, Ok, Err, refl, sym, ap, subst, ◌∙◌}
+use Rattle.std.specs.Prelude.{nat_lt, IsSome, IfErr, IfSome, IfNone}
 use Rattle.std.specs.Option.{option_map, is_some}
 use Rattle.std.specs.FinMap.{get, len, remove}
 use Rattle.base.specs.declared.refusal.Refusal.{Refusal}
@@ -15,22 +15,33 @@ use Rattle.model.specs.declared.reply.Reply.{Reply}
 use Rattle.model.specs.declared.reply.Reply.TheVariants.{Done, Refused, Opened}
 use Rattle.model.specs.declared.snapshot_id.SnapshotId.{SnapshotId}
 use Rattle.model.specs.Ids.{snap_id}
-use Rattle.model.specs.Sights.{Seen, sight_of}
+use Rattle.model.specs.Sights.{Seen}
 use Rattle.model.specs.State.{State}
 use Rattle.model.specs.Step.{Step}
 use Rattle.model.specs.Targets.{number_limit}
 use Rattle.model.specs.World.{Snap, SnapId, id_of}
 use Rattle.model.specs.requests.OpenView.{view_limit}
+use Rattle.model.specs.requests.Send.{sources_of, sight_of}
+use Rattle.world.specs.Tables.{world_of}
 use Rattle.removals.specs.Edits.{HasLost}
 use Rattle.removals.specs.Requests.{swept, IsSweptBy}
 use Rattle.removals.specs.declared.edit.Edit.{Edit}
 use Rattle.steps.specs.Edits.{datasets_of, lose, viewing, closed, CanLose, StaysUnlimited}
 use Rattle.steps.specs.Steady.{IsSteady, snap_in}
 use Rattle.steps.proofs.Freeing.{joined_losses}
+use Rattle.steps.proofs.Sending.{sources_alike, sight_is}
 use Rattle.steps.proofs.Viewing as views
 use Rattle.pool.specs.Plans.{CanOpen}
 use Rattle.pool.specs.Pools.{IsSound}
 use Rattle.pool.specs.Shown.{Shown, shown}
+
+-- what is told of the one that was found
+pub told_of : {A : Type 0} (P : A → Type 0) (x : Option A) (a : A) → Some a ≡ x → IfSome x P → P a
+told_of P x a is told = subst (λ (y : Option A). IfSome y P) (sym is) told
+
+-- it was found
+pub is_told : {A : Type 0} (x : Option A) (a : A) → Some a ≡ x → IsSome x
+is_told x a is = subst IsSome is tt
 
 module _ (seen : Shown) (s : State) (numbers : List BlockState) (view : shown s numbers ≡ seen) (sound : IsSound s numbers) where
   at : (q : Request) (r : Reply) → Step s q r s → Step seen.state q r seen.state
@@ -74,11 +85,13 @@ module _ (seen : Shown) (s : State) (numbers : List BlockState) (view : shown s 
             open_can = subst (λ (x : Shown). CanOpen x.state (snap_id id)) view
                 (record { steady = subst (λ i. IsSteady (viewing s i)) (sym is) (views.open_can s m t (sym found) sound.steady below); room = sym room })
 
-            pub open_done : (sight : Seen) → sight ≡ sight_of t → Step seen.state (OpenView target) (Opened seen.state.next_view sight) (viewing seen.state (snap_id id))
+            pub open_done : (sight : Seen) → sight ≡ record { map = t.map; guid = t.guid; group = t.group; sources = sources_of (world_of (datasets_of s)) (id_of t) }
+                → Step seen.state (OpenView target) (Opened seen.state.next_view sight) (viewing seen.state (snap_id id))
             open_done sight shows = subst (λ (x : Shown). Step x.state (OpenView target) (Opened x.state.next_view sight) (viewing x.state (snap_id id))) view
                 (subst (λ i. Step s (OpenView target) (Opened s.next_view sight) (viewing s i)) (sym is)
-                (subst (λ z. Step s (OpenView target) (Opened s.next_view z) (viewing s (id_of t))) (sym shows)
-                (of_name (Opened s.next_view (sight_of t)) (viewing s (id_of t))
+                (subst (λ z. Step s (OpenView target) (Opened s.next_view z) (viewing s (id_of t)))
+                (sym (shows ∙ ap (λ l. record { map = t.map; guid = t.guid; group = t.group; sources = l }) (sources_alike s (id_of t)) ∙ sym (sight_is s m t (sym found) sound.steady)))
+                (of_name (Opened s.next_view (sight_of s.now (id_of t))) (viewing s (id_of t))
                 (views.open_done s m t (sym found) (sym d) (sym room) (views.open_can s m t (sym found) sound.steady below)))))
 
   -- ---- closed

@@ -1,5 +1,5 @@
 -- A slice that was taken out of what is to be freed: its blocks can be released, and that is a step.
-use Rattle.std.proofs.Common.{◌≡◌, ◌≤◌, ℕ, List, Result, Err, sym, subst, ◌∙◌, map, length, arith}
+use Rattle.std.proofs.Common.{◌≡◌, ℕ, List, Result, Err, sym, subst, ◌∙◌, map, length}
 use Rattle.std.specs.Prelude.{IsTrue, min}
 use Rattle.std.specs.FinSet as set
 use Rattle.std.specs.FinSet.{difference, contains-is_subset}
@@ -22,7 +22,6 @@ use Rattle.world.proofs.Lists.{in_listed}
 use Rattle.steps.proofs.Surveys.{len-from_list}
 use Rattle.destroyer.specs.Members.{dead_blocks, dead_set}
 use Rattle.steps.specs.Edits.{with_freeing, CanFree}
-use Rattle.steps.proofs.Freeing.{freeing_fits}
 use Rattle.steps.proofs.Slicing.{can_free, slice_done, slice_no_memory}
 use Rattle.pool.specs.Pools.{IsSound}
 use Rattle.pool.specs.Shown.{Shown, shown}
@@ -55,12 +54,3 @@ module _ (seen : Shown) (s : State) (numbers : List BlockState) (view : shown s 
         (subst (λ k. Step s (ToSlice count) (Count k) (with_freeing s rest)) (sym (told ∙ counted))
         (subst (λ r. Step s (ToSlice count) (Count (slice_size s count)) (with_freeing s r)) (sym is)
         (slice_done s count sound.steady (dead_set taken) subset (len-from_list (dead_blocks taken) once ∙ length-map taken dead_block ∙ counted))))
-
-  -- how many blocks are to be freed, cut at the number of all blocks
-  pub freeing_told : (n most m : ℕ) → n ≡ set.len s.now.freeing → most ≡ s.size → m ≡ min n most → m ≡ set.len seen.state.now.freeing
-  freeing_told n most m told all is =
-      let fits = freeing_fits s sound.steady numbers sound.states in
-      subst (λ (x : Shown). m ≡ set.len x.state.now.freeing) view (is ∙ min_left n most (omega (arith, told, all, fits)) ∙ told)
-    where
-      min_left : (a b : ℕ) → a ≤ b → min a b ≡ a
-      min_left a b l = omega (arith, l)

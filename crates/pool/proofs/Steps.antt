@@ -1,28 +1,18 @@
 -- The steps of a pool, as its functions need them: over what a contract sees of it.
-use Rattle.std.proofs.Common.{◌≡◌, ◌≤◌, ◌<◌, ◌+◌, ◌-◌, ◌*◌, ◌⊎◌, ◌↔◌, ℕ, Bool, true, false, ◌||◌, List, Option, Result, Ok, Err, None, Some, [], ◌∷◌, length, refl, sym, ap, subst, ◌∙◌, arith}
-use Rattle.std.specs.Prelude.{count_by, nat_lt}
-use Rattle.std.specs.List.{flat_map}
-use Rattle.std.specs.FinMap.{get, entries}
+use Rattle.std.proofs.Common.{◌≡◌, ◌≤◌, ◌<◌, ◌+◌, ◌-◌, ◌⊎◌, ℕ, Bool, true, false, ◌||◌, List, None, Some, [], ◌∷◌, length, refl, sym, ap, subst, ◌∙◌, arith}
+use Rattle.std.specs.Prelude.{nat_lt}
 use Rattle.std.proofs.lemmas.Bool.{ltb-false, le-ltb, lt-ltb}
 use Rattle.name.specs.declared.member.Member.{Member}
-use Rattle.name.specs.declared.target.Target.{Target}
 use Rattle.base.specs.declared.refusal.Refusal.{Refusal}
-use Rattle.base.specs.declared.refusal.Refusal.TheVariants.{NoDataset, BadKey, TooMany, NoMemory}
-use Rattle.base.specs.Key.{leaf_index}
-use Rattle.base.specs.Map.{Map, BlockSet, contents}
+use Rattle.base.specs.declared.refusal.Refusal.TheVariants.{TooMany, NoMemory}
+use Rattle.base.specs.Map.{BlockSet}
 use Rattle.zalloc.specs.declared.BlockState.{BlockState}
-use Rattle.zalloc.specs.States.{is_free, is_allocated, is_waiting}
 use Rattle.model.specs.declared.request.Request.{Request}
-use Rattle.model.specs.declared.request.Request.TheVariants.{Create, Snapshot, Read, PoolGet, List as ListNames, Sync}
-use Rattle.model.specs.declared.request.PoolProperty.{PoolProperty}
-use Rattle.model.specs.declared.request.PoolProperty.TheVariants.{Size as SizeAsked, Allocated, Free, Freeing, Waiting, Group}
+use Rattle.model.specs.declared.request.Request.TheVariants.{Create, Snapshot, Sync}
 use Rattle.model.specs.declared.reply.Reply.{Reply}
-use Rattle.model.specs.declared.reply.Reply.TheVariants.{Done, Refused, Data, Value as ValueIs, Group as GroupIs, Names as NamesAre}
-use Rattle.model.specs.declared.reply.Value.{Value}
-use Rattle.model.specs.declared.reply.Value.TheVariants.{Size, Number}
-use Rattle.std.specs.FinSet as set
+use Rattle.model.specs.declared.reply.Reply.TheVariants.{Done, Refused, Group as GroupIs}
 use Rattle.model.specs.World.{World, empty_file_system, snaps_of}
-use Rattle.model.specs.Targets.{is_block, number_limit, guid_limit, snap_limit, has_no_next_group}
+use Rattle.model.specs.Targets.{number_limit, guid_limit, snap_limit, has_no_next_group}
 use Rattle.model.specs.Rule.{first_of}
 use Rattle.model.specs.Step.{Step}
 use Rattle.model.specs.Sums.{IsBalanced}
@@ -35,29 +25,18 @@ use Rattle.model.specs.State.{State}
 use Rattle.world.specs.Tables.{Datasets, with_system}
 use Rattle.world.proofs.States.{state_numbered}
 use Rattle.world.proofs.Takings.{may_take}
-use Rattle.file_system.specs.Rows.{Entry}
 use Rattle.datasets.specs.Snapshots.{taken_of}
 use Rattle.snap.specs.Taking.{after_taking}
 use Rattle.steps.specs.Edits.{datasets_of, put, synced, CanPut, CanSync, StaysUnlimited}
-use Rattle.steps.specs.Listed.{own_names}
 use Rattle.steps.proofs.Creating as creates
 use Rattle.steps.proofs.Snapping as snaps
-use Rattle.steps.proofs.Questions as reads
-use Rattle.steps.proofs.Listing.{list_no_memory, list_done}
 use Rattle.steps.proofs.Properties as properties
 use Rattle.steps.proofs.Syncing as sync
-use Rattle.lookups.specs.Named.{map_named}
 use Rattle.pool.specs.Pools.{IsSound}
 use Rattle.pool.specs.Shown.{Shown, shown}
-use Rattle.model.proofs.Blocks.{not_false, block_tells}
-use Rattle.pool.proofs.Names.{found, absent}
 use Rattle.model.specs.requests.Change.{limit_row}
 use Rattle.steps.specs.Asked.{asked_by_snapshot}
 use Rattle.steps.proofs.Asking.{IsUnasked}
-
--- a read that was refused
-abbrev no_bytes : (B : Type 0) → Refusal → Result B Refusal
-no_bytes B why = Err why
 
 -- a group below the last one has a next one
 not_last : (g : ℕ) → g < number_limit → nat_lt number_limit (g + 1) ≡ false
@@ -92,28 +71,7 @@ module _ (seen : Shown) (s : State) (numbers : List BlockState) (view : shown s 
       → Step seen.state q (Refused why) seen.state
   refused_for q why because e step = at q (Refused why) (subst (λ r. Step s q (Refused r) s) (sym e) step)
 
-  -- ---- reads
-
-  module _ (t : Target) (ob bl : ℕ) where
-    pub read_absent : None ≡ map_named s.now.file_systems t → Step seen.state (Read t ob bl) (Refused NoDataset) seen.state
-    read_absent none = at _ _ (reads.read_no_dataset s sound.steady t ob bl (absent s.now.file_systems t none))
-
-    module _ (m : Map) (there : Some m ≡ map_named s.now.file_systems t) where
-      pub read_refused : {B : Type 0} (why : Refusal) → why ≡ BadKey → (no_bytes B why ≡ no_bytes B BadKey) ↔ ((256 ≤ ob) ⊎ (4096 ≤ bl))
-          → Step seen.state (Read t ob bl) (Refused why) seen.state
-      read_refused {B} why e tells = refused_for (Read t ob bl) why BadKey e
-          (reads.read_bad_key s sound.steady t ob bl m (found s sound.steady t m there) ((block_tells ob bl tells).0 (ap (no_bytes B) e)))
-
-      pub read_done : {B : Type 0} (bytes_found : B) (bytes : Option (List ℕ)) → bytes ≡ get (contents m) (leaf_index ob bl) → (Ok bytes_found ≡ Err BadKey) ↔ ((256 ≤ ob) ⊎ (4096 ≤ bl))
-          → Step seen.state (Read t ob bl) (Data bytes) seen.state
-      read_done {B} bytes_found bytes e tells = at _ _
-          (reads.read_done s sound.steady t ob bl m (found s sound.steady t m there)
-          (not_false (is_block ob bl) (λ f. no_refusal ((block_tells ob bl tells).1 f))) bytes e)
-        where
-          no_refusal : Ok bytes_found ≡ Err BadKey → ⊥
-          no_refusal h = cc
-
-  -- ---- properties of the pool
+  -- ---- what holds of its state
 
   -- each block is allocated, free or waiting
   pub balanced : IsBalanced seen.state
@@ -134,41 +92,6 @@ module _ (seen : Shown) (s : State) (numbers : List BlockState) (view : shown s 
   -- each number is in the state that the worlds give it
   pub in_states : HasStates seen.state seen.numbers
   in_states = subst (λ (x : Shown). HasStates x.state x.numbers) view sound.states
-
-  -- a property of the pool, by a variable that stands for it
-  module _ (p : PoolProperty) (v : Value) where
-    asked : (q : PoolProperty) (t : Value) → p ≡ q → v ≡ t → Step s (PoolGet q) (ValueIs t) s → Step seen.state (PoolGet p) (ValueIs v) seen.state
-    asked q t is same step =
-        subst (λ x. Step seen.state (PoolGet x) (ValueIs v) seen.state) (sym is)
-        (subst (λ x. Step seen.state (PoolGet q) (ValueIs x) seen.state) (sym same) (at _ _ step))
-
-    pub pool_get_size : p ≡ SizeAsked → v ≡ Size (512 * s.size) → Step seen.state (PoolGet p) (ValueIs v) seen.state
-    pool_get_size is same = asked SizeAsked _ is same (properties.size_done s sound.steady s.size refl)
-
-    pub pool_get_group : p ≡ Group → v ≡ Number s.now.group → Step seen.state (PoolGet p) (ValueIs v) seen.state
-    pool_get_group is same = asked Group _ is same (properties.group_done s sound.steady s.now.group refl)
-
-    pub pool_get_freeing : (n : ℕ) → p ≡ Freeing → v ≡ Size (512 * n) → n ≡ set.len seen.state.now.freeing → Step seen.state (PoolGet p) (ValueIs v) seen.state
-    pool_get_freeing n is same e = asked Freeing _ is same (properties.freeing_done s sound.steady n (e ∙ ap (λ (x : Shown). set.len x.state.now.freeing) (sym view)))
-
-    module _ (n : ℕ) where
-      pub pool_get_allocated : p ≡ Allocated → v ≡ Size (512 * n) → n ≡ count_by is_allocated numbers → Step seen.state (PoolGet p) (ValueIs v) seen.state
-      pool_get_allocated is same e = asked Allocated _ is same (properties.allocated_done s sound.steady numbers sound.states n e)
-
-      pub pool_get_free : p ≡ Free → v ≡ Size (512 * n) → n ≡ count_by is_free numbers → Step seen.state (PoolGet p) (ValueIs v) seen.state
-      pool_get_free is same e = asked Free _ is same (properties.free_done s sound.steady numbers sound.states n e)
-
-      pub pool_get_waiting : p ≡ Waiting → v ≡ Size (512 * n) → n ≡ count_by is_waiting numbers → Step seen.state (PoolGet p) (ValueIs v) seen.state
-      pool_get_waiting is same e = asked Waiting _ is same (properties.waiting_done s sound.steady numbers sound.states n e)
-
-  -- ---- names
-
-  pub names_listed : (names : List (List ℕ)) (rows : List Entry) → rows ≡ entries s.now.file_systems → names ≡ flat_map own_names rows
-      → (told : List (List ℕ)) → told ≡ names → Step seen.state ListNames (NamesAre told) seen.state
-  names_listed names rows all e told same = at _ _ (list_done s sound.steady told (same ∙ e ∙ ap (flat_map own_names) all))
-
-  pub names_refused : (why : Refusal) → why ≡ NoMemory → Step seen.state ListNames (Refused why) seen.state
-  names_refused why e = refused_for ListNames why NoMemory e (list_no_memory s)
 
   -- ---- a creation
 

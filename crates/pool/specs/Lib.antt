@@ -2,4 +2,3 @@ pub mod Shown
 pub mod Pools
 pub mod Plans
 pub mod Asked
-pub mod Limiting

@@ -8,13 +8,15 @@ use Rattle.model.specs.Ids.{snap_id}
 use Rattle.views.specs.Viewing.{is_full}
 use Rattle.steps.specs.Steady.{IsSteady}
 use Rattle.steps.specs.Edits.{with_datasets, put, lose, with_freeing, synced, viewing, closed, StaysUnlimited, CanPut, CanLose, CanFree, CanChange, CanSync}
+use Rattle.steps.specs.Received.{put_freeing, CanReceive}
 use Rattle.pool.specs.declared.pool.Plan.{Plan}
-use Rattle.pool.specs.declared.pool.Plan.TheVariants.{Nothing, Change, Put, Limit, Lose, Free, Sync, Open, Close, Sweep}
+use Rattle.pool.specs.declared.pool.Plan.TheVariants.{Nothing, Change, Receive, Put, Limit, Lose, Free, Sync, Open, Close, Sweep}
 
 -- the pool's state after a plan (profile)
 abbrev pub state_after_plan : State → Plan → State
 state_after_plan s Nothing = s
 state_after_plan s (Change to done) = with_datasets s to
+state_after_plan s (Receive to freeing done) = put_freeing s to freeing
 state_after_plan s (Put to guids) = put s to guids
 state_after_plan s (Limit to limiting) = with_datasets s to
 state_after_plan s (Lose to freeing) = lose s to
@@ -33,6 +35,7 @@ pub record CanOpen (s : State) (id : SnapId) : Type 0 where
 abbrev pub CanDo : State → Plan → Type 0
 CanDo s Nothing = Unit {0}
 CanDo s (Change to done) = CanChange s to (map dead_block done.released.items) (map (λ n. n.0) done.taken.items) × StaysUnlimited s to
+CanDo s (Receive to freeing done) = CanReceive s to freeing (map dead_block done.released.items) (map (λ n. n.0) done.taken.items) × StaysUnlimited s to
 CanDo s (Put to guids) = (CanPut s to guids × (s.next_guid + guids ≤ guid_limit + 1)) × StaysUnlimited s to
 CanDo s (Limit to limiting) = CanPut s to 0
 CanDo s (Lose to freeing) = (CanLose s to × (freeing ≡ (lose s to).now.freeing)) × StaysUnlimited s to

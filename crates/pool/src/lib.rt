@@ -8,8 +8,8 @@ mod cloning;
 mod destroying;
 mod limiting;
 mod marking;
-mod measuring;
 mod pool;
+mod receiving;
 mod viewing;
 
 pub use pool::{Pool, Ready};

@@ -6,8 +6,7 @@ ghost use Rattle.accounts.specs.Limits.{IsUnlimited};
 ghost use Rattle.pool.specs.Plans.{state_after_plan, CanDo};
 
 use crate::pool::{Plan, Pool};
-use marks::{bookmark, bookmark_now, hold, hold_now, release, release_now, tags_of};
-use model::names::Names;
+use marks::{bookmark, bookmark_now, hold, hold_now, release, release_now};
 use model::reply::Reply;
 use name::{MarkName, Tag, Target};
 use removals::Edit;
@@ -66,16 +65,6 @@ impl Pool {
             Err(refusal) => return (Reply::Refused(refusal), Plan::Nothing),
         };
         (Reply::Done, Plan::Lose { to, freeing })
-    }
-
-    pub(crate) fn holds(&self, alloc: Global, target: &Target) -> Reply
-        ensures { Step self.now.state (Request.Holds target.now) result self.now.state }
-    {
-        let _size = self.size;
-        match tags_of(alloc, &self.present, target) {
-            Ok(tags) => Reply::Names(Names::from(tags)),
-            Err(refusal) => Reply::Refused(refusal),
-        }
     }
 
     // Gives a snapshot a tag at once, or answers why it can't, and then nothing has changed.

@@ -1,6 +1,5 @@
 //! The pool and its steps.
 ghost use Rattle.std.specs.Prelude.{◌≡◌, ◌<◌, ◌≤◌, ◌⊎◌, ◌↔◌, [], ◌∷◌, false, Err, IfOk, IfErr, map};
-ghost use Rattle.std.specs.FinSet as set;
 ghost use Rattle.base.specs.declared.refusal.Refusal.{Refusal};
 ghost use Rattle.base.specs.Surveys.{dead_block};
 ghost use Rattle.tree.specs.Updates.{IsBatch};
@@ -15,19 +14,17 @@ ghost use Rattle.name.specs.declared.target.Target.{Target};
 ghost use Rattle.world.specs.Worlds.{IsPoolState};
 ghost use Rattle.accounts.specs.Limits.{AreQuotasMet, IsUnlimited};
 ghost use Rattle.pool.specs.Asked.{Asks};
-ghost use Rattle.lookups.specs.Named.{IsNoLive};
 ghost use Rattle.pool.specs.Plans.{state_after_plan, CanDo};
 
-use crate::limiting::{Limiting, renew, settle};
 use base::meter::{Meter, SegMeter};
 use base::number::{Dead, Group};
 use base::refusal::Refusal;
 use datasets::Table;
 use destroyer::{Freeing, Slice};
-use lookups::{in_bytes, names_of, tree_named};
-use model::names::Names;
-use model::reply::{Reply, Value};
-use model::request::{PoolProperty, Request};
+use steps::{Limiting, renew, settle};
+use lookups::live_name;
+use model::reply::Reply;
+use model::request::Request;
 use model::snap_names::SnapNames;
 use model::snapshot_id::SnapshotId;
 use name::{DsName, SnapName, Target};
@@ -65,7 +62,7 @@ pub struct Pool {
 
 impl Model for Pool {
     ghost use Rattle.pool.specs.Shown.{Shown, shown, shown_code};
-    ghost use Rattle.pool.specs.Limiting.{IsAccounted};
+    ghost use Rattle.lookups.specs.Accounted.{IsAccounted};
     ghost use Rattle.pool.specs.Pools.{state_of, IsSound};
 
     ghost Value = { Shown };
@@ -83,6 +80,11 @@ pub(crate) enum Plan {
     Nothing,
     Change {
         to: Table,
+        done: Changed,
+    },
+    Receive {
+        to: Table,
+        freeing: Freeing,
         done: Changed,
     },
     Put {
@@ -186,13 +188,9 @@ impl Pool {
     /// made on a copy of them, which costs a count for each: beside it a write or a punch costs the path to its leaf, to free an object
     /// costs its nodes, a snapshot costs its names and a 32nd of the snapshots of its file system, a clone costs its name, and a promote
     /// the logarithm of the number of each file system's snapshots, the snapshots of the two with the segments of their dead lists, and
-    /// for each snapshot that changes sides the logarithm of those numbers, but no block. A read costs the path, and takes no memory. A
-    /// list costs the names. A property is known once its name is found, but: an origin costs what a promote finds it by, a snapshot's
-    /// clones their names, what a file system or its children use the number of file systems, and what a snapshot uses what
-    /// `space::used_by_snapshot` says. What was written since a snapshot costs what `space::written_since` says, and what a range of
-    /// snapshots would free what `space::would_free` does: they visit no block, and take no memory. To open a view costs what its name
-    /// does; to close one costs the number of open views and of file systems, and where its snapshot goes with it what to destroy that
-    /// does. Nothing else grows.
+    /// for each snapshot that changes sides the logarithm of those numbers, but no block. What only reads
+    /// costs what `steps::answer` says. To open a view costs what its name does; to close one costs the number of open views and of file
+    /// systems, and where its snapshot goes with it what to destroy that does. Nothing else grows.
     pub fn prepare(&mut self, alloc: Global, request: &Request) -> (Reply, Ready)
         ensures same { self.new ≡ self.old }
         ensures from { result.1.from ≡ self.new }
@@ -233,22 +231,6 @@ impl Pool {
             Request::FreeObject { target, object } => {
                 self.planned_update(alloc, target, free_of(*object))
             }
-            Request::Read {
-                target,
-                object,
-                block,
-            } => (self.read(target, *object, *block), Plan::Nothing),
-            Request::Get { target, property } => {
-                (self.get(alloc, target, *property), Plan::Nothing)
-            }
-            Request::WrittenSince { target, since } => {
-                (self.written_since(target, since), Plan::Nothing)
-            }
-            Request::WouldFree { name, first, last } => {
-                (self.would_free(name, first, last), Plan::Nothing)
-            }
-            Request::PoolGet { property } => (self.pool_get(*property), Plan::Nothing),
-            Request::List => (self.list(alloc), Plan::Nothing),
             Request::Rollback { target, later } => self.planned_rollback(alloc, target, *later),
             Request::Destroy {
                 target,
@@ -257,7 +239,7 @@ impl Pool {
             } => self.planned_destroy(alloc, target, *recursive, *defer),
             Request::Slice { count } => self.planned_slice(*count),
             Request::Sync => self.planned_sync(),
-            Request::OpenView { target } => self.planned_open(target),
+            Request::OpenView { target } => self.planned_open(alloc, target),
             Request::CloseView { view } => self.planned_close(alloc, *view),
             Request::Clone { target, name } => self.planned_clone(target, name),
             Request::Promote { name } => self.planned_promote(alloc, name),
@@ -268,8 +250,20 @@ impl Pool {
             } => self.planned_set(alloc, name, *limit, *amount),
             Request::Hold { tag, target } => self.planned_hold(alloc, tag, target),
             Request::Release { tag, target } => self.planned_release(alloc, tag, target),
-            Request::Holds { target } => (self.holds(alloc, target), Plan::Nothing),
             Request::Bookmark { target, mark } => self.planned_bookmark(alloc, target, mark),
+            Request::Read { .. }
+            | Request::Get { .. }
+            | Request::WrittenSince { .. }
+            | Request::WouldFree { .. }
+            | Request::PoolGet { .. }
+            | Request::List
+            | Request::Holds { .. }
+            | Request::Send { .. } => (self.asked(alloc, request), Plan::Nothing),
+            Request::Receive {
+                snapshot,
+                bytes,
+                force,
+            } => self.planned_receive(alloc, snapshot, bytes, *force),
         }
     }
 
@@ -374,7 +368,7 @@ impl Pool {
         ensures step { (q : Request) → Asks q target.now update.entry → Step self.old.state q result.0 (state_after_plan self.old.state result.1) }
     {
         let _size = self.size;
-        let name = match self.live_name(target) {
+        let name = match live_name(&self.present, target) {
             Ok(name) => name,
             Err(refusal) => return (Reply::Refused(refusal), Plan::Nothing),
         };
@@ -402,51 +396,6 @@ impl Pool {
             Ok(done) => (Reply::Done, Plan::Change { to, done }),
             Err(refusal) => (Reply::Refused(refusal), Plan::Nothing),
         }
-    }
-
-    fn read(&mut self, target: &Target, object: u32, block: u32) -> Reply
-        ensures same { self.new ≡ self.old }
-        ensures step { Step self.old.state (Request.Read target.now object block) result self.old.state }
-    {
-        let _size = self.size;
-        let Some(tree) = tree_named(&self.present, target) else {
-            return Reply::Refused(Refusal::NoDataset);
-        };
-        match objset::read(tree, object, block, &mut self.meter) {
-            Ok(bytes) => Reply::Data(bytes.copied()),
-            Err(refusal) => Reply::Refused(refusal),
-        }
-    }
-
-    fn list(&self, alloc: Global) -> Reply
-        ensures { Step self.now.state Request.List result self.now.state }
-    {
-        let _size = self.size;
-        match names_of(alloc, self.present.file_systems()) {
-            Ok(names) => Reply::Names(Names::from(names)),
-            Err(refusal) => Reply::Refused(refusal),
-        }
-    }
-
-    fn pool_get(&self, property: PoolProperty) -> Reply
-        ensures { Step self.now.state (Request.PoolGet property) result self.now.state }
-    {
-        let counts = self.allocator.counts();
-        match property {
-            PoolProperty::Size => Reply::Value(in_bytes(self.size)),
-            PoolProperty::Allocated => Reply::Value(in_bytes(counts.allocated)),
-            PoolProperty::Free => Reply::Value(in_bytes(counts.free)),
-            PoolProperty::Freeing => Reply::Value(in_bytes(self.freeing_len())),
-            PoolProperty::Waiting => Reply::Value(in_bytes(counts.waiting)),
-            PoolProperty::Group => Reply::Value(Value::Number(self.present.group().0)),
-        }
-    }
-
-    // How many blocks are to be freed, which are no more than all blocks. Constant time.
-    fn freeing_len(&self) -> u32
-        ensures { result ≡ set.len self.now.state.now.freeing }
-    {
-        self.freeing.len().min(u64::from(self.size)) as u32
     }
 
     fn planned_sync(&self) -> (Reply, Plan)
@@ -484,6 +433,13 @@ impl Pool {
                 release_all(&mut self.allocator, &done.released, self.last.group());
                 take_all(&mut self.allocator, &done.taken);
                 self.present = to;
+                renew(&mut self.limiting, &self.present);
+            }
+            Plan::Receive { to, freeing, done } => {
+                release_all(&mut self.allocator, &done.released, self.last.group());
+                take_all(&mut self.allocator, &done.taken);
+                self.present = to;
+                self.freeing = freeing;
                 renew(&mut self.limiting, &self.present);
             }
             Plan::Put { to, guids } => {
@@ -564,17 +520,14 @@ impl Pool {
             Request::FreeObject { target, object } => {
                 self.change_now(alloc, target, free_of(*object))
             }
-            Request::Read {
-                target,
-                object,
-                block,
-            } => self.read(target, *object, *block),
-            Request::Get { target, property } => self.get(alloc, target, *property),
-            Request::WrittenSince { target, since } => self.written_since(target, since),
-            Request::WouldFree { name, first, last } => self.would_free(name, first, last),
-            Request::PoolGet { property } => self.pool_get(*property),
-            Request::List => self.list(alloc),
-            Request::Holds { target } => self.holds(alloc, target),
+            Request::Read { .. }
+            | Request::Get { .. }
+            | Request::WrittenSince { .. }
+            | Request::WouldFree { .. }
+            | Request::PoolGet { .. }
+            | Request::List
+            | Request::Holds { .. }
+            | Request::Send { .. } => self.asked(alloc, request),
             Request::Slice { count } => self.slice_now(*count),
             Request::Sync => self.sync_now(),
             _ => self.edit(alloc, request),
@@ -692,7 +645,7 @@ impl Pool {
         ensures { (q : Request) → Asks q target.now update.entry → Step self.old.state q result self.new.state }
     {
         let _size = self.size;
-        let name = match self.live_name(target) {
+        let name = match live_name(&self.present, target) {
             Ok(name) => name,
             Err(refusal) => return Reply::Refused(refusal),
         };
@@ -740,21 +693,6 @@ impl Pool {
                 Reply::Done
             }
             Err(refusal) => Reply::Refused(refusal),
-        }
-    }
-
-    // The name of the file system that a change is asked of: ReadOnly where the target is a snapshot, and NoDataset where it is
-    // nothing that is there.
-    fn live_name<'a>(&self, target: &'a Target) -> Result<&'a DsName, Refusal>
-        ensures ok { IfOk result (λ name. target.now ≡ Target.FileSystem name.now) }
-        ensures err { IfErr result (λ why. IsNoLive self.now.state.now.file_systems target.now why) }
-    {
-        match target {
-            Target::FileSystem(name) => Ok(name),
-            _ => Err(match tree_named(&self.present, target) {
-                Some(_) => Refusal::ReadOnly,
-                None => Refusal::NoDataset,
-            }),
         }
     }
 

@@ -15,14 +15,19 @@ use model::sight::Sight;
 use model::snapshot_id::SnapshotId;
 use name::Target;
 use removals::{Edit, close_view};
+use sources::sources_of;
 use std::alloc::Global;
+use std::sync::Arc;
 
 impl Pool {
     // The snapshot that the next view shows, where it is opened of this name, and what it shows. NotSnapshot where the name isn't one of a
     // snapshot, else NoDataset where there is no such snapshot, else Deferred where its destroy is deferred, else TooMany where no more
-    // views can be opened; else NoMemory where there is none for it. It costs the logarithm of the number of file systems, and that of
-    // the number of its file system's snapshots.
-    fn next_view_of(&self, target: &Target) -> Result<(SnapshotId, Sight), Refusal>
+    // views can be opened; else NoMemory where there is none for it. It costs what `sources::sources_of` does.
+    fn next_view_of(
+        &self,
+        alloc: Global,
+        target: &Target,
+    ) -> Result<(SnapshotId, Sight), Refusal>
         ensures can { IfOk result (λ p. CanOpen self.now.state (snap_id p.0)) }
         ensures ok { IfOk result (λ p. Step self.now.state (Request.OpenView target.now) (Reply.Opened self.now.state.next_view p.1) (viewing self.now.state (snap_id p.0))) }
         ensures err { IfErr result (λ e. Step self.now.state (Request.OpenView target.now) (Reply.Refused e) self.now.state) }
@@ -42,17 +47,18 @@ impl Pool {
             return Err(Refusal::TooMany);
         }
         let tree = snapshot.tree().copy()?;
+        let sources = Arc::new(alloc, sources_of(alloc, &self.present, name)?)?;
         Ok((
             snapshot.id(),
-            Sight::new(tree, snapshot.guid(), snapshot.group()),
+            Sight::new(tree, snapshot.guid(), snapshot.group(), sources),
         ))
     }
 
-    pub(crate) fn planned_open(&self, target: &Target) -> (Reply, Plan)
+    pub(crate) fn planned_open(&self, alloc: Global, target: &Target) -> (Reply, Plan)
         ensures can { CanDo self.now.state result.1 }
         ensures step { Step self.now.state (Request.OpenView target.now) result.0 (state_after_plan self.now.state result.1) }
     {
-        match self.next_view_of(target) {
+        match self.next_view_of(alloc, target) {
             Ok((snapshot, sight)) => (
                 Reply::Opened(self.views.next(), sight),
                 Plan::Open { snapshot },

@@ -1,8 +1,8 @@
 -- What a receive begins with takes the snapshot.
-use Rattle.std.proofs.Common.{◌≡◌, ℕ, ◌+◌, ◌<◌, ◌≤◌, ◌^◌, Bool, true, false, not, cond, ◌||◌, ◌&&◌, List, [], ◌∷◌, Option, Some, None, Result, Ok, Err, refl, sym, ap, subst, ◌∙◌, true≢false, length, arith}
+use Rattle.std.proofs.Common.{◌≡◌, ◌+◌, ◌<◌, ◌≤◌, ◌^◌, Bool, true, false, not, cond, ◌||◌, ◌&&◌, [], ◌∷◌, Option, Some, None, Result, Ok, Err, refl, sym, ap, subst, ◌∙◌, true≢false, length, arith}
 use Rattle.std.specs.Prelude.{IfOk, is_some, nat_lt, nat_le, ◌==◌, if◌then◌else◌}
 use Rattle.std.proofs.lemmas.Bool.{ltb-false, not-false}
-use Rattle.std.specs.List.{find, last_or}
+use Rattle.std.specs.List.{find}
 use Rattle.std.specs.Option.{option_map_or, option_and_then}
 use Rattle.std.specs.FinMap.{get, insert, contains_key, len}
 use Rattle.base.specs.declared.refusal.Refusal.{Refusal}
@@ -14,24 +14,20 @@ use Rattle.name.specs.Names.{same_name}
 use Rattle.stream.specs.Spelling.{Sending}
 use Rattle.model.specs.Hierarchy.{FileSystems, file_system_limit, has_parent}
 use Rattle.model.specs.Rule.{first_of}
-use Rattle.model.specs.World.{World, FileSystem, Snap, id_of, snaps_of, snap_named, empty_file_system}
+use Rattle.model.specs.World.{World, FileSystem, Snap, snaps_of, snap_named, empty_file_system}
 use Rattle.model.specs.Targets.{snap_limit, has_no_next_group, number_limit}
 use Rattle.model.specs.Edits.{with_file_system, with_losses}
 use Rattle.model.specs.requests.Create.{with_new_file_system}
-use Rattle.model.specs.requests.Rollback.{back_at, after_rollback}
-use Rattle.model.specs.requests.Receive.{newest_of, forced_back, is_modified, has_no_room, full_row, incremental_row}
+use Rattle.model.specs.requests.Receive.{newest_of, back_to_newest, forced_back, is_modified, has_no_room, full_row, incremental_row}
 use Rattle.file_system.specs.Rows.{with_live}
-use Rattle.world.specs.Worlds.{AreFileSystems}
 use Rattle.world.specs.Takings.{AreTakable}
 use Rattle.world.specs.Tables.{Datasets, world_of}
-use Rattle.world.proofs.Bridge.{snap_is_at}
-use Rattle.world.proofs.Finding.{or_none, found_none, from_filter, name_itself}
+use Rattle.world.proofs.Finding.{or_none, found_none, name_itself}
 use Rattle.world.proofs.Maps.{some_of, no_value}
 use Rattle.world.proofs.Put.{put_here}
 use Rattle.removals.specs.declared.edit.Edit.{Edit}
 use Rattle.receives.specs.Ends.{CanFinish}
 use Rattle.receives.specs.Requests.{begun, back, receive_refusal}
-use Rattle.receives.proofs.Newest.{newest_there}
 
 -- a file system that has no snapshot of the name
 takable_at : (ss : FileSystems) (m : Member) (f : FileSystem) → get ss m.file_system ≡ Some f → ((u : Snap) → IsIn f.snaps u → u.name ≡ m.component → ⊥) → AreTakable ss (m ∷ [])
@@ -47,26 +43,18 @@ takable_written ss m new can =
     subst (λ x. AreTakable x (m ∷ [])) (sym (ap (λ x. option_map_or (λ (f : FileSystem). insert ss m.file_system (record f { live = new })) x ss) can.0.1))
     (takable_put ss m (record can.0.0 { live = new }) can.0.2)
 
--- and back at its newest snapshot no other ones
-takable_back : (t : Datasets) → AreFileSystems t.file_systems t.group → (m : Member) → AreTakable t.file_systems (m ∷ []) → AreTakable (back t m.file_system).file_systems (m ∷ [])
-takable_back t good m can = by_newest (last_or None can.0.0.snaps) refl
+-- and back at its newest snapshot too
+takable_back : (t : Datasets) (m : Member) → AreTakable t.file_systems (m ∷ []) → AreTakable (back t m.file_system).file_systems (m ∷ [])
+takable_back t m can = by_newest (newest_of w m.file_system)
   where
     w : World
     w = world_of t
 
-    at_newest : Option Snap → FileSystems
-    at_newest x = (option_map_or (λ (u : Snap). with_losses w (after_rollback w (id_of u))) x w).file_systems
-
-    newest_is : newest_of w m.file_system ≡ last_or None can.0.0.snaps
-    newest_is = ap (option_and_then (λ (g : FileSystem). last_or None g.snaps)) can.0.1
-
-    by_newest : (x : Option Snap) → last_or None can.0.0.snaps ≡ x → AreTakable (back t m.file_system).file_systems (m ∷ [])
-    by_newest None e = subst (λ ss. AreTakable ss (m ∷ [])) (sym (ap at_newest (newest_is ∙ e))) can
-    by_newest (Some s) e = subst (λ ss. AreTakable ss (m ∷ []))
-        (sym (ap at_newest (newest_is ∙ e)
-        ∙ ap (λ x. (option_map_or (λ (p : List ℕ × Snap). with_file_system w p.0 (λ f. back_at f p.1)) x w).file_systems) (snap_is_at w t.group good.lines m.file_system can.0.0 s (id_of s) can.0.1 (newest_there can.0.0.snaps s e) refl)
-        ∙ ap (λ x. (option_map_or (λ (f : FileSystem). record w { file_systems = insert w.file_systems m.file_system (back_at f s) }) x w).file_systems) can.0.1))
-        (takable_put t.file_systems m (back_at can.0.0 s) (λ u i. can.0.2 u (from_filter (λ (v : Snap). nat_le v.group s.group) can.0.0.snaps u i).0))
+    by_newest : (x : Option Snap) → AreTakable (option_map_or (λ (u : Snap). with_losses w (with_file_system w m.file_system (back_to_newest u))) x w).file_systems (m ∷ [])
+    by_newest None = can
+    by_newest (Some s) = subst (λ ss. AreTakable ss (m ∷ []))
+        (sym (ap (λ x. (option_map_or (λ (f : FileSystem). record w { file_systems = insert w.file_systems m.file_system (back_to_newest s f) }) x w).file_systems) can.0.1))
+        (takable_put t.file_systems m (back_to_newest s can.0.0) can.0.2)
 
 -- ---- what the rows say
 
@@ -104,14 +92,14 @@ takable_now ss m there new =
     sym (ap (option_and_then (λ (g : FileSystem). find (λ (u : Snap). same_name u.name m.component) g.snaps)) f.1) ∙ no_value_of _ new in
     takable_at ss m f.0 f.1 (λ u i e. found_none (λ (v : Snap). same_name v.name m.component) f.0.snaps none u i (ap (λ n. same_name n m.component) e ∙ name_itself m.component))
 
-pub ready : (t : Datasets) → AreFileSystems t.file_systems t.group → (m : Member) (s : Sending) (force : Bool) → receive_refusal t m s force ≡ None → CanFinish (begun t m.file_system s force) m
-ready t good m s force none = by_source (s.source == 0) none
+pub ready : (t : Datasets) (m : Member) (s : Sending) (force : Bool) → receive_refusal t m s force ≡ None → CanFinish (begun t m.file_system s force) m
+ready t m s force none = by_source (s.source == 0) none
   where
     w : World
     w = world_of t
 
     by_force : (b : Bool) → AreTakable t.file_systems (m ∷ []) → AreTakable (if b then forced_back w m.file_system else w).file_systems (m ∷ [])
-    by_force true can = takable_back t good m can
+    by_force true can = takable_back t m can
     by_force false can = can
 
     by_source : (b : Bool) → first_of (if b then full_row w m else incremental_row w m s.source force) ≡ None

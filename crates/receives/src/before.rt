@@ -52,8 +52,6 @@ pub fn begin(
     if let Some(refusal) = receive_refusal(table, name, stream, force) {
         return Err(refusal);
     }
-    // It tells what holds of the file systems.
-    let _count = table.len();
     start(alloc, table, freeing, name, stream, force, segments)
 }
 
@@ -110,8 +108,6 @@ fn forced_back(
     ensures lost { IfOk result (λ e. HasLost table.now freeing.now e.to e.freeing) }
     ensures err { IfErr result (λ e. e ≡ Refusal.NoMemory) }
 {
-    // It tells of the snapshots that their groups rise.
-    let _count = table.len();
     let Some(newest) = newest_named(table, name) else {
         return Edit::of(table, freeing);
     };

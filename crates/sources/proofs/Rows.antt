@@ -13,7 +13,8 @@ use Rattle.name.specs.declared.target.Target.TheVariants.{Snapshot as OfSnapshot
 use Rattle.model.specs.Rule.{first_of}
 use Rattle.model.specs.World.{FileSystem, Snap, id_of, snap_named}
 use Rattle.model.specs.requests.Rollback.{placed}
-use Rattle.model.specs.requests.Send.{Seen, Start, sight_of, sources_of, start_of, start_named, send_row}
+use Rattle.model.specs.Sights.{Seen}
+use Rattle.model.specs.requests.Send.{Start, sight_of, sources_of, start_of, start_named, send_row}
 use Rattle.world.specs.Tables.{Datasets, world_of}
 use Rattle.world.proofs.Maps.{no_value}
 use Rattle.file_system.specs.Rows.{Row}

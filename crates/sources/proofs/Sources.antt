@@ -15,7 +15,8 @@ use Rattle.bookmarks.specs.declared.mark.Mark.{Mark}
 use Rattle.bookmarks.specs.Marks.{Entry, Marks, entry_in, name_in, keyed, marks_in_order, alone}
 use Rattle.model.specs.Properties.{bookmark_cmp, bookmarks_in_order}
 use Rattle.model.specs.World.{FileSystem, Snap, SnapId, Bookmark, Snapped, id_of, snap_at, older_of}
-use Rattle.model.specs.requests.Send.{Source, snapshot_source, bookmark_source, bookmark_sources}
+use Rattle.model.specs.declared.source.Source.{Source}
+use Rattle.model.specs.requests.Send.{snapshot_source, bookmark_source, bookmark_sources}
 use Rattle.world.specs.Dead.{IsThere, next_in}
 use Rattle.world.specs.Shapes.{Name, name_order}
 use Rattle.world.specs.Tables.{Datasets, world_of}
@@ -162,7 +163,7 @@ module _ (t : Datasets) (sound : IsTable t) where
 -- the older ones of some
 module _ (name : Name) (group : ℕ) where
   abbrev pub below_of : List (Arc Mark Global) → List Source
-  below_of marks = filter (λ (b : Source). nat_lt b.group group) (map (λ a. bookmark_in name (entry_in a)) marks)
+  below_of marks = filter (λ (b : Source). nat_lt b.group.0 group) (map (λ a. bookmark_in name (entry_in a)) marks)
 
   -- one more
   module _ (marks : List (Arc Mark Global)) (i : ℕ) (a : Arc Mark Global) (before now : List Source) (lt : i < length marks) (is : a ≡ get_or marks i a) (so_far : now ≡ before ++ below_of (take i marks)) (m : Mark)
@@ -170,8 +171,8 @@ module _ (name : Name) (group : ℕ) where
     more : before ++ below_of (take (i + 1) marks) ≡ now ++ cond (nat_lt m.snapshot.group.0 group) (bookmark_in name (entry_in a) ∷ []) []
     more =
         ap (λ l. before ++ l) (ap below_of (take_more marks i a lt ∙ ap (λ x. take i marks ++ x ∷ []) (sym is))
-        ∙ ap (filter (λ (b : Source). nat_lt b.group group)) (map-append {B = Source} (λ a. bookmark_in name (entry_in a)) (take i marks) (a ∷ []))
-        ∙ filter_join (λ (b : Source). nat_lt b.group group) (map (λ a. bookmark_in name (entry_in a)) (take i marks)) (bookmark_in name (entry_in a) ∷ []))
+        ∙ ap (filter (λ (b : Source). nat_lt b.group.0 group)) (map-append {B = Source} (λ a. bookmark_in name (entry_in a)) (take i marks) (a ∷ []))
+        ∙ filter_join (λ (b : Source). nat_lt b.group.0 group) (map (λ a. bookmark_in name (entry_in a)) (take i marks)) (bookmark_in name (entry_in a) ∷ []))
         ∙ sym (append_assoc before (below_of (take i marks)) (cond (nat_lt (entry_in a).1.group group) (bookmark_in name (entry_in a) ∷ []) []))
         ∙ (λ j. sym so_far j ++ cond (nat_lt ((sym m_is j).snapshot.group.0) group) (bookmark_in name (entry_in a) ∷ []) [])
 
@@ -202,9 +203,9 @@ marked m e i =
 
 -- those of a file system, one after another
 pub marks_are : (name : Name) (f : FileSystem) (group : ℕ) (m : Marks) (marks : List (Arc Mark Global)) → m ≡ f.bookmarks → map entry_in marks ≡ marks_in_order m → map name_in marks ≡ bookmarks_in_order (alone m)
-    → filter (λ (b : Source). nat_lt b.group group) (map (λ a. bookmark_in name (entry_in a)) marks) ≡ bookmark_sources name f group
+    → filter (λ (b : Source). nat_lt b.group.0 group) (map (λ a. bookmark_in name (entry_in a)) marks) ≡ bookmark_sources name f group
 marks_are name f group m marks is all names =
-    ap (filter (λ (b : Source). nat_lt b.group group)) (sym (
+    ap (filter (λ (b : Source). nat_lt b.group.0 group)) (sym (
     ap (filter_map (bookmark_source name f)) (sym (names ∙ ap (λ (x : Marks). bookmarks_in_order (alone x)) is))
     ∙ given_all (bookmark_source name f) name_in (λ a. bookmark_in name (entry_in a)) marks (λ a i.
     ap (option_map {T = Bookmark} {U = Source} (λ b. bookmark_in name (name_in a, b)))

@@ -13,7 +13,8 @@ use Rattle.name.specs.declared.target.Target.{Target}
 use Rattle.name.specs.declared.target.Target.TheVariants.{FileSystem as OfFileSystem, Snapshot as OfSnapshot, Bookmark as OfBookmark}
 use Rattle.model.specs.Properties.{bookmark_cmp, bookmarks_in_order}
 use Rattle.model.specs.World.{World, FileSystem, Snap, SnapId, Bookmark, Snapped, id_of, snap_at, snap_named, older_of, file_system_at}
-use Rattle.model.specs.requests.Send.{Source, Start, snapshot_source, bookmark_source, bookmark_sources, sources_of, same_member, same_target, start_of}
+use Rattle.model.specs.declared.source.Source.{Source}
+use Rattle.model.specs.requests.Send.{Start, source_at, snapshot_source, bookmark_source, bookmark_sources, sources_of, same_member, same_target, start_of}
 use Rattle.world.specs.Sets.{IsExactOrder}
 use Rattle.world.specs.Shapes.{Name, name_order}
 use Rattle.world.specs.Tables.{Datasets, world_of}
@@ -76,33 +77,33 @@ module _ (t : Datasets) (sound : IsTable t) (r : Row) (u : Snap) (place : IsPlac
 
   -- the snapshot of a source, by its identity
   module _ (s : Source) (id : SnapId) (e : snapshot_source (world_of t) id ≡ Some s) where
-    its : (n : Name) × (v : Snap) × (snap_at (world_of t) id ≡ Some (n, v)) × (s ≡ record { name = OfSnapshot (record { file_system = n; component = v.name }); guid = id.guid; group = id.group })
+    its : (n : Name) × (v : Snap) × (snap_at (world_of t) id ≡ Some (n, v)) × (s ≡ source_at (OfSnapshot (record { file_system = n; component = v.name })) id.guid id.group)
     its = at (snap_at (world_of t) id) refl e
       where
         at : (x : Option (Name × Snap)) → snap_at (world_of t) id ≡ x
-            → option_map {T = Name × Snap} {U = Source} (λ p. record { name = OfSnapshot (record { file_system = p.0; component = p.1.name }); guid = id.guid; group = id.group }) x ≡ Some s
-            → (n : Name) × (v : Snap) × (snap_at (world_of t) id ≡ Some (n, v)) × (s ≡ record { name = OfSnapshot (record { file_system = n; component = v.name }); guid = id.guid; group = id.group })
+            → option_map {T = Name × Snap} {U = Source} (λ p. source_at (OfSnapshot (record { file_system = p.0; component = p.1.name })) id.guid id.group) x ≡ Some s
+            → (n : Name) × (v : Snap) × (snap_at (world_of t) id ≡ Some (n, v)) × (s ≡ source_at (OfSnapshot (record { file_system = n; component = v.name })) id.guid id.group)
         at None k h = absurd (no_value s h)
         at (Some p) k h = (p.0, p.1, k, sym (same_value _ s h))
 
   -- the bookmark of a source
   marked : (s : Source) (component : Name) → bookmark_source r.name r.system component ≡ Some s
-      → (b : Bookmark) × (get r.system.bookmarks component ≡ Some b) × (s ≡ record { name = OfBookmark (record { file_system = r.name; component = component }); guid = b.guid; group = b.group })
+      → (b : Bookmark) × (get r.system.bookmarks component ≡ Some b) × (s ≡ source_at (OfBookmark (record { file_system = r.name; component = component })) b.guid b.group)
   marked s component e = at (get r.system.bookmarks component) refl e
     where
       at : (x : Option Bookmark) → get r.system.bookmarks component ≡ x
-          → option_map {T = Bookmark} {U = Source} (λ b. record { name = OfBookmark (record { file_system = r.name; component = component }); guid = b.guid; group = b.group }) x ≡ Some s
-          → (b : Bookmark) × (get r.system.bookmarks component ≡ Some b) × (s ≡ record { name = OfBookmark (record { file_system = r.name; component = component }); guid = b.guid; group = b.group })
+          → option_map {T = Bookmark} {U = Source} (λ b. source_at (OfBookmark (record { file_system = r.name; component = component })) b.guid b.group) x ≡ Some s
+          → (b : Bookmark) × (get r.system.bookmarks component ≡ Some b) × (s ≡ source_at (OfBookmark (record { file_system = r.name; component = component })) b.guid b.group)
       at None k h = absurd (no_value s h)
       at (Some b) k h = (b, k, sym (same_value _ s h))
 
   pub from_sources : (s : Source) → IsIn (sources_of (world_of t) (id_of u)) s
       → ((id : SnapId) × IsIn older id × (snapshot_source (world_of t) id ≡ Some s))
-      ⊎ ((component : Name) × (bookmark_source r.name r.system component ≡ Some s) × (nat_lt s.group u.group ≡ true))
+      ⊎ ((component : Name) × (bookmark_source r.name r.system component ≡ Some s) × (nat_lt s.group.0 u.group ≡ true))
   from_sources s i = ⊎_elim
       (λ k. inl (from_given (snapshot_source (world_of t)) older s k))
       (λ k.
-      let p = from_filter (λ (b : Source). nat_lt b.group u.group) (filter_map (bookmark_source r.name r.system) (bookmarks_in_order r.system)) s k in
+      let p = from_filter (λ (b : Source). nat_lt b.group.0 u.group) (filter_map (bookmark_source r.name r.system) (bookmarks_in_order r.system)) s k in
       let q = from_given (bookmark_source r.name r.system) (bookmarks_in_order r.system) s p.0 in
       inr (q.0, q.2, p.1))
       (in_either (filter_map (snapshot_source (world_of t)) older) (bookmark_sources r.name r.system u.group) s (subst (λ l. IsIn l s) parted i))
@@ -122,7 +123,7 @@ module _ (t : Datasets) (sound : IsTable t) (r : Row) (u : Snap) (place : IsPlac
     -- a source of that name is an older snapshot
     of_snapshot : (s : Source) → IsIn (sources_of (world_of t) (id_of u)) s → same_target s.name (OfSnapshot m) ≡ true
         → (id : SnapId) × IsIn older id × (f : FileSystem) × (v : Snap) × (get t.file_systems m.file_system ≡ Some f) × IsIn f.snaps v × (v.name ≡ m.component) × (id_of v ≡ id)
-        × (s ≡ record { name = OfSnapshot (record { file_system = m.file_system; component = m.component }); guid = id.guid; group = id.group })
+        × (s ≡ source_at (OfSnapshot (record { file_system = m.file_system; component = m.component })) id.guid id.group)
     of_snapshot s i e = ⊎_elim
         (λ (id, k, given).
         let p = its s id given in
@@ -136,7 +137,7 @@ module _ (t : Datasets) (sound : IsTable t) (r : Row) (u : Snap) (place : IsPlac
           x.2,
           same.1,
           x.3,
-          p.3 ∙ (λ j. record { name = OfSnapshot (record { file_system = same.0 j; component = same.1 j }); guid = id.guid; group = id.group }),
+          p.3 ∙ (λ j. source_at (OfSnapshot (record { file_system = same.0 j; component = same.1 j })) id.guid id.group),
         ))
         (λ (component, given, l). let p = marked s component given in absurd (true≢false (sym e ∙ ap (λ (x : Source). same_target x.name (OfSnapshot m)) p.2)))
         (from_sources s i)
@@ -150,7 +151,7 @@ module _ (t : Datasets) (sound : IsTable t) (r : Row) (u : Snap) (place : IsPlac
 
     module _ (o : Row) (v : Snap) (found : IsSnapshot t m o v) where
       abbrev source : Source
-      source = record { name = OfSnapshot m; guid = v.guid; group = v.group }
+      source = source_at (OfSnapshot m) v.guid v.group
 
       v_named : v.name ≡ m.component
       v_named =
@@ -166,7 +167,7 @@ module _ (t : Datasets) (sound : IsTable t) (r : Row) (u : Snap) (place : IsPlac
           let one : x ≡ v = (sound.systems.tidy m.file_system o.system found.at).names x v (subst (λ (g : FileSystem). IsIn g.snaps x) f_is there) found.there (named ∙ sym v_named) in
           let id_is : id ≡ id_of v = sym is ∙ ap id_of one in (
             subst (IsIn older) id_is k,
-            s_is ∙ ap (λ (j : SnapId). record { name = OfSnapshot m; guid = j.guid; group = j.group }) id_is,
+            s_is ∙ ap (λ (j : SnapId). source_at (OfSnapshot m) j.guid j.group) id_is,
           )
 
       pub older_source : is_before t (Snapped (id_of u)) (id_of v) ≡ true → find (λ (s : Source). same_target s.name (OfSnapshot m)) (sources_of (world_of t) (id_of u)) ≡ Some source
@@ -174,9 +175,9 @@ module _ (t : Datasets) (sound : IsTable t) (r : Row) (u : Snap) (place : IsPlac
           find_only (λ (s : Source). same_target s.name (OfSnapshot m)) (sources_of (world_of t) (id_of u)) source
           (subst (λ l. IsIn l source) (sym parted) (in_left (filter_map (snapshot_source (world_of t)) older) (bookmark_sources r.name r.system u.group) source
           (in_given (snapshot_source (world_of t)) older (id_of v) source (any_from older (id_of v) before)
-          (ap (option_map {T = Name × Snap} {U = Source} (λ p. record { name = OfSnapshot (record { file_system = p.0; component = p.1.name }); guid = v.guid; group = v.group }))
+          (ap (option_map {T = Name × Snap} {U = Source} (λ p. source_at (OfSnapshot (record { file_system = p.0; component = p.1.name })) v.guid v.group))
           (snap_is_at (world_of t) t.group sound.systems.lines m.file_system o.system v (id_of v) found.at found.there refl)
-          ∙ ap (λ n. Some (record { name = OfSnapshot (record { file_system = m.file_system; component = n }); guid = v.guid; group = v.group })) v_named))))
+          ∙ ap (λ n. Some (source_at (OfSnapshot (record { file_system = m.file_system; component = n })) v.guid v.group)) v_named))))
           (same_itself m)
           (λ s i e. (it_is s i e).1)
 
@@ -188,7 +189,7 @@ module _ (t : Datasets) (sound : IsTable t) (r : Row) (u : Snap) (place : IsPlac
 
   module _ (m : Member) where
     of_bookmark : (s : Source) → IsIn (sources_of (world_of t) (id_of u)) s → same_target s.name (OfBookmark m) ≡ true
-        → (r.name ≡ m.file_system) × (b : Bookmark) × (get r.system.bookmarks m.component ≡ Some b) × (b.group < u.group) × (s ≡ record { name = OfBookmark m; guid = b.guid; group = b.group })
+        → (r.name ≡ m.file_system) × (b : Bookmark) × (get r.system.bookmarks m.component ≡ Some b) × (b.group < u.group) × (s ≡ source_at (OfBookmark m) b.guid b.group)
     of_bookmark s i e = ⊎_elim
         (λ (id, k, given). let p = its s id given in absurd (true≢false (sym e ∙ ap (λ (x : Source). same_target x.name (OfBookmark m)) p.3)))
         (λ (component, given, l).
@@ -197,8 +198,8 @@ module _ (t : Datasets) (sound : IsTable t) (r : Row) (u : Snap) (place : IsPlac
           same.0,
           p.0,
           ap (get r.system.bookmarks) (sym same.1) ∙ p.1,
-          ltb-true p.0.group u.group (ap (λ (x : Source). nat_lt x.group u.group) (sym p.2) ∙ l),
-          p.2 ∙ (λ j. record { name = OfBookmark (record { file_system = same.0 j; component = same.1 j }); guid = p.0.guid; group = p.0.group }),
+          ltb-true p.0.group u.group (ap (λ (x : Source). nat_lt x.group.0 u.group) (sym p.2) ∙ l),
+          p.2 ∙ (λ j. source_at (OfBookmark (record { file_system = same.0 j; component = same.1 j })) p.0.guid p.0.group),
         ))
         (from_sources s i)
 
@@ -222,26 +223,26 @@ module _ (t : Datasets) (sound : IsTable t) (r : Row) (u : Snap) (place : IsPlac
           omega (arith, l, g, high))
 
       pub mark_source : same_name r.name m.file_system ≡ true → b.group < u.group
-          → find (λ (s : Source). same_target s.name (OfBookmark m)) (sources_of (world_of t) (id_of u)) ≡ Some (record { name = OfBookmark m; guid = b.guid; group = b.group })
+          → find (λ (s : Source). same_target s.name (OfBookmark m)) (sources_of (world_of t) (id_of u)) ≡ Some (source_at (OfBookmark m) b.guid b.group)
       mark_source own low =
-          let source : Source = record { name = OfBookmark m; guid = b.guid; group = b.group } in
+          let source : Source = source_at (OfBookmark m) b.guid b.group in
           find_only (λ (s : Source). same_target s.name (OfBookmark m)) (sources_of (world_of t) (id_of u)) source
           (subst (λ l. IsIn l source) (sym parted) (in_right (filter_map (snapshot_source (world_of t)) older) (bookmark_sources r.name r.system u.group) source
-          (in_filter (λ (s : Source). nat_lt s.group u.group) (filter_map (bookmark_source r.name r.system) (bookmarks_in_order r.system)) source
+          (in_filter (λ (s : Source). nat_lt s.group.0 u.group) (filter_map (bookmark_source r.name r.system) (bookmarks_in_order r.system)) source
           (in_given (bookmark_source r.name r.system) (bookmarks_in_order r.system) m.component source (in_order r.system m.component b at)
-          (ap (option_map {T = Bookmark} {U = Source} (λ b. record { name = OfBookmark (record { file_system = r.name; component = m.component }); guid = b.guid; group = b.group })) at
-          ∙ ap (λ n. Some (record { name = OfBookmark (record { file_system = n; component = m.component }); guid = b.guid; group = b.group })) (one_name r.name m.file_system own)))
+          (ap (option_map {T = Bookmark} {U = Source} (λ b. source_at (OfBookmark (record { file_system = r.name; component = m.component })) b.guid b.group)) at
+          ∙ ap (λ n. Some (source_at (OfBookmark (record { file_system = n; component = m.component })) b.guid b.group)) (one_name r.name m.file_system own)))
           (lt-ltb b.group u.group low))))
           (same_itself m)
           (λ s i e.
           let p = of_bookmark s i e in
-          p.4 ∙ ap (λ (x : Bookmark). record { name = OfBookmark m; guid = x.guid; group = x.group }) (same_value p.1 b (sym p.2 ∙ at)))
+          p.4 ∙ ap (λ (x : Bookmark). source_at (OfBookmark m) x.guid x.group) (same_value p.1 b (sym p.2 ∙ at)))
 
   -- where a send starts that names this source
   pub started : (name : Target) (x : Option Source) → find (λ (s : Source). same_target s.name name) (sources_of (world_of t) (id_of u)) ≡ x
-      → start_of (sources_of (world_of t) (id_of u)) (Some name) ≡ option_map {T = Source} {U = Start} (λ s. record { guid = s.guid; group = s.group }) x
+      → start_of (sources_of (world_of t) (id_of u)) (Some name) ≡ option_map {T = Source} {U = Start} (λ s. record { guid = s.guid.0; group = s.group.0 }) x
   unfolding start_of
-  started name x e = ap (option_map {T = Source} {U = Start} (λ s. record { guid = s.guid; group = s.group })) e
+  started name x e = ap (option_map {T = Source} {U = Start} (λ s. record { guid = s.guid.0; group = s.group.0 })) e
 
 -- a full send
 pub whole : (sources : List Source) → start_of sources None ≡ Some (record { guid = 0; group = 0 })

@@ -1,4 +1,3 @@
 -- Where sends may start in a table.
-pub mod Kinds
 pub mod Sources
 pub mod Starts

@@ -3,17 +3,18 @@ use Rattle.std.specs.Prelude.{ℕ, List, map, reverse, nat_lt}
 use Rattle.std.specs.List.{filter, filter_map}
 use Rattle.name.specs.declared.target.Target.TheVariants.{Snapshot as OfSnapshot, Bookmark as OfBookmark}
 use Rattle.model.specs.World.{Snap, SnapId, Snapped, older_of}
-use Rattle.model.specs.requests.Send.{Source, snapshot_source}
+use Rattle.model.specs.declared.source.Source.{Source}
+use Rattle.model.specs.requests.Send.{source_at, snapshot_source}
 use Rattle.bookmarks.specs.Marks.{Entry}
 use Rattle.world.specs.Tables.{Datasets, world_of}
 
 -- a snapshot of the file system of this name (zfs-send(8), -i)
 abbrev pub snapshot_in : List ℕ → Snap → Source
-snapshot_in name u = record { name = OfSnapshot (record { file_system = name; component = u.name }); guid = u.guid; group = u.group }
+snapshot_in name u = source_at (OfSnapshot (record { file_system = name; component = u.name })) u.guid u.group
 
 -- a bookmark of it (zfs-send(8), -i)
 abbrev pub bookmark_in : List ℕ → Entry → Source
-bookmark_in name e = record { name = OfBookmark (record { file_system = name; component = e.0 }); guid = e.1.guid; group = e.1.group }
+bookmark_in name e = source_at (OfBookmark (record { file_system = name; component = e.0 })) e.1.guid e.1.group
 
 -- those of its snapshots that are older than this group, the newest first (zfs-send(8), -i)
 abbrev pub older_sources : List ℕ → ℕ → List Snap → List Source

@@ -6,9 +6,10 @@
 mod lineage;
 mod list;
 mod place;
+mod shown;
 mod source;
 mod start;
 
 pub use crate::list::sources_of;
-pub use crate::source::{Kind, Source};
+pub use crate::shown::start_in;
 pub use crate::start::{Start, start_of};

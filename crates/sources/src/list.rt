@@ -8,11 +8,12 @@ ghost use Rattle.world.specs.Tables.{world_of};
 ghost use Rattle.sources.specs.Sources.{lineage_sources, older_sources};
 
 use crate::place::{snapshot_named, snapshot_of};
-use crate::source::Source;
+use crate::source::{bookmark_source, snapshot_source};
 use base::number::Group;
 use base::refusal::Refusal;
 use datasets::Table;
 use file_systems::{FileSystem, Snapshot};
+use model::source::Source;
 use name::SnapName;
 use std::alloc::Global;
 
@@ -60,7 +61,7 @@ fn push_lineage(
         let Some((owner, next)) = snapshot_of(table, origin) else {
             unreachable!()
         };
-        sources.push(Source::of_snapshot(owner, next)?)?;
+        sources.push(snapshot_source(owner, next)?)?;
         passed = owner;
         at = next;
     }
@@ -80,7 +81,7 @@ fn push_older(
     let mut older = Vec::new(alloc);
     for kept in file_system.snapshots().iter() {
         if kept.snapshot.group().0 < group.0 {
-            older.push(Source::of_snapshot(file_system, &kept.snapshot)?)?;
+            older.push(snapshot_source(file_system, &kept.snapshot)?)?;
         }
     }
     older.reverse();
@@ -101,7 +102,7 @@ fn push_bookmarks(
     let marks = file_system.bookmarks().in_order()?;
     for mark in marks.as_slice() {
         if mark.snapshot.group.0 < group.0 {
-            sources.push(Source::of_bookmark(file_system, mark)?)?;
+            sources.push(bookmark_source(file_system, mark)?)?;
         }
     }
     Ok(())

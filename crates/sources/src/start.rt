@@ -2,10 +2,11 @@
 ghost use Rattle.std.specs.Prelude.{◌≡◌, Some, None, IfSome, IfOk, IfErr, OnOk};
 ghost use Rattle.std.specs.Option.{option_copied};
 ghost use Rattle.name.specs.declared.target.Target.{Target};
+ghost use Rattle.stream.specs.Spelling.{guid_number};
 ghost use Rattle.model.specs.Ids.{snap_id};
 ghost use Rattle.model.specs.Rule.{first_of};
 ghost use Rattle.model.specs.World.{id_of};
-ghost use Rattle.model.specs.requests.Send.{sources_of, start_of, start_named, send_row};
+ghost use Rattle.model.specs.requests.Send.{sources_of, start_of, start_named, no_source, send_row};
 ghost use Rattle.space.specs.Places.{IsPlace};
 ghost use Rattle.world.specs.Tables.{world_of};
 ghost use Rattle.sources.specs.Starts.{start_at};
@@ -35,6 +36,18 @@ impl Model for Start {
     ghost view = { λ s. record { guid = s.guid.0; group = s.group.0 } };
 
     ghost inverse = { λ s. record { guid = record { 0 = s.guid }; group = record { 0 = s.group } } };
+}
+
+impl Start {
+    /// The guid of the source, and none for a full send. Constant time.
+    pub fn source(&self) -> Option<Guid>
+        ensures { guid_number result ≡ self.now.guid }
+    {
+        if self.guid.0 == 0 {
+            return None;
+        }
+        Some(self.guid)
+    }
 }
 
 /// Where a send of the snapshot of this name starts that names this source, or none and then it is a full one (zfs-send(8), -i). NotSnapshot
@@ -73,10 +86,7 @@ fn start_from(
 {
     match from {
         Some(source) => start_from_source(table, file_system, snapshot, source),
-        None => Some(Start {
-            guid: Guid(0),
-            group: Group(0),
-        }),
+        None => Some(full_start()),
     }
 }
 
@@ -143,6 +153,16 @@ fn start_from_bookmark(
         return None;
     }
     Some(start_at(id))
+}
+
+// The start of a full send.
+pub fn full_start() -> Start
+    ensures { result ≡ no_source }
+{
+    Start {
+        guid: Guid(0),
+        group: Group(0),
+    }
 }
 
 // The start at a source of this identity.

@@ -1,7 +1,7 @@
 //! What a range of snapshots alone has.
-ghost use Rattle.std.specs.Prelude.{◌≡◌, ◌<◌, ◌^◌, ◌&&◌, Some, None, IfSome, IfOk, IfErr, OnOk};
+ghost use Rattle.std.specs.Prelude.{◌≡◌, ◌<◌, ◌^◌, ◌&&◌, if◌then◌else◌, Some, None, IfSome, IfOk, IfErr, OnOk, nat_lt};
 ghost use Rattle.std.specs.List.{find, list_any};
-ghost use Rattle.std.specs.Option.{option_map};
+ghost use Rattle.std.specs.Option.{option_map, option_or};
 ghost use Rattle.std.specs.FinSet.{len};
 ghost use Rattle.name.specs.Names.{same_name};
 ghost use Rattle.model.specs.World.{union_of};
@@ -38,21 +38,31 @@ pub fn would_free(
 {
     // It tells what holds of the file systems.
     let _count = table.len();
-    let (file_system, first, last) = range_of(table, name, first, last)?;
-    let before = group_before(file_system, first);
-    let next = group_after(file_system, last);
-    Ok(file_system.gone_after(Some(before), next, before, segments))
+    let (file_system, _first, _last, around) = range_of(table, name, first, last)?;
+    let before = around.before;
+    Ok(file_system.gone_after(Some(before), around.next, before, segments))
 }
 
-// The file system of this name, and the groups of the first and the last snapshot of the range; refused as `would_free` says. It costs
-// what that does, but for the dead lists.
+// What stands around a range of the snapshots of a file system: the group of the newest that is older, or else of the origin, and 0 where
+// there is neither; that of the first that is newer; and whether one of the range has a clone.
+#[derive(Clone, Copy)]
+struct Around {
+    before: Group,
+    next: Option<Group>,
+    is_cloned: bool,
+}
+
+// The file system of this name, the groups of the first and the last snapshot of the range, and what stands around it; refused as
+// `would_free` says. It costs what that does, but for the dead lists.
 fn range_of<'a>(
     table: &'a Table,
     name: &DsName,
     first: &Component,
     last: &Component,
-) -> Result<(&'a FileSystem, Group, Group), Refusal>
+) -> Result<(&'a FileSystem, Group, Group, Around), Refusal>
     ensures ok { IfOk result (λ p. IsRange table.now name.now first.now last.now p.0.now p.1.0 p.2.0) }
+    ensures before { IfOk result (λ p. p.3.before.0 ≡ newest_group (origin_group p.0.now.system.origin) (older_than p.1.0 p.0.now.system.snaps)) }
+    ensures next { IfOk result (λ p. option_map (λ g. g.0) p.3.next ≡ group_after p.2.0 p.0.now.system.snaps) }
     ensures refused { IfErr result (λ e. range_refusal table.now name.now first.now last.now ≡ Some e) }
 {
     let Some(file_system) = table.find(name) else {
@@ -67,10 +77,11 @@ fn range_of<'a>(
     if last.0 < first.0 {
         return Err(Refusal::NotAncestor);
     }
-    if any_cloned(table, file_system, first, last) {
+    let around = look_around(table, file_system, first, last);
+    if around.is_cloned {
         return Err(Refusal::HasClones);
     }
-    Ok((file_system, first, last))
+    Ok((file_system, first, last, around))
 }
 
 // The creation group of the snapshot of this name within a file system, or none. It costs the logarithm of the number of its snapshots.
@@ -88,31 +99,45 @@ fn is_cloned_between(table: &Table, snapshot: &Snapshot, first: Group, last: Gro
     first.0 <= snapshot.group().0 && snapshot.group().0 <= last.0 && table.has_clone(snapshot.id())
 }
 
-// Whether that holds of a snapshot of this file system. It costs the number of its snapshots, and for each of the range the logarithm of
-// the number of clones.
-fn any_cloned(table: &Table, file_system: &FileSystem, first: Group, last: Group) -> bool
-    ensures { result ≡ list_any (is_cloned_between table.now first.0 last.0) file_system.now.system.snaps }
+// What stands around the range from one group to another. It costs the number of the file system's snapshots, and for each of the range the
+// logarithm of the number of clones.
+fn look_around(table: &Table, file_system: &FileSystem, first: Group, last: Group) -> Around
+    ensures before { result.before.0 ≡ newest_group (origin_group file_system.now.system.origin) (older_than first.0 file_system.now.system.snaps) }
+    ensures next { option_map (λ g. g.0) result.next ≡ group_after last.0 file_system.now.system.snaps }
+    ensures cloned { result.is_cloned ≡ list_any (is_cloned_between table.now first.0 last.0) file_system.now.system.snaps }
 {
+    let mut around = Around {
+        before: base_of(file_system),
+        next: None,
+        is_cloned: false,
+    };
     for kept in file_system.snapshots().iter() {
-        if is_cloned_between(table, &kept.snapshot, first, last) {
-            return true;
-        }
+        let group = kept.snapshot.group();
+        around = Around {
+            before: older(around.before, group, first),
+            next: newer(around.next, group, last),
+            is_cloned: around.is_cloned | is_cloned_between(table, &kept.snapshot, first, last),
+        };
     }
-    false
+    around
 }
 
-// The group of the newest snapshot of this file system that is older than that group, or else of its origin, and 0 where there is neither.
-// It costs the number of its snapshots.
-fn group_before(file_system: &FileSystem, first: Group) -> Group
-    ensures { result.0 ≡ newest_group (origin_group file_system.now.system.origin) (older_than first.0 file_system.now.system.snaps) }
+// The group that comes next, where it is older than the first of a range, and else the one before. Constant time.
+fn older(before: Group, group: Group, first: Group) -> Group
+    ensures { result.0 ≡ (if nat_lt group.0 first.0 then group.0 else before.0) }
 {
-    let mut before = base_of(file_system);
-    for kept in file_system.snapshots().iter() {
-        if kept.snapshot.group().0 < first.0 {
-            before = kept.snapshot.group();
-        }
+    if group.0 < first.0 { group } else { before }
+}
+
+// The one before, where there is one, and else the group that comes next, where it is newer than the last of a range. Constant time.
+fn newer(next: Option<Group>, group: Group, last: Group) -> Option<Group>
+    ensures { result ≡ option_or next (if nat_lt last.0 group.0 then Some group else None) }
+{
+    match next {
+        Some(_) => next,
+        None if last.0 < group.0 => Some(group),
+        None => None,
     }
-    before
 }
 
 // The creation group of its origin, and 0 where it has none. Constant time.
@@ -123,16 +148,4 @@ fn base_of(file_system: &FileSystem) -> Group
         Some(origin) => origin.group,
         None => Group(0),
     }
-}
-
-// The group of the first of its snapshots that is newer than that group, or none. It costs the number of its snapshots.
-fn group_after(file_system: &FileSystem, last: Group) -> Option<Group>
-    ensures { option_map (λ g. g.0) result ≡ group_after last.0 file_system.now.system.snaps }
-{
-    for kept in file_system.snapshots().iter() {
-        if last.0 < kept.snapshot.group().0 {
-            return Some(kept.snapshot.group());
-        }
-    }
-    None
 }

@@ -30,6 +30,7 @@ pub mod Snapping
 pub mod Seeing
 pub mod Losing
 pub mod Viewing
+pub mod Sending
 pub mod Freeing
 pub mod Rolling
 pub mod Destroying
@@ -46,3 +47,16 @@ pub mod Setting
 pub mod Tags
 pub mod Spaces
 pub mod Alike
+pub mod Foretold
+pub mod Balanced
+pub mod Asked
+pub mod Settled
+pub mod Names
+pub mod Values
+pub mod Measured
+pub mod Reading
+pub mod PoolCounts
+pub mod Sent
+pub mod Batching
+pub mod Beginning
+pub mod Receiving

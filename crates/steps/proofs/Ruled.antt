@@ -1,5 +1,5 @@
 -- Steps by a rule.
-use Rattle.std.proofs.Common.{◌≡◌, true, false, Some, refl, sym, subst, ◌∙◌, inl}
+use Rattle.std.proofs.Common.{◌≡◌, true, false, None, Some, refl, sym, subst, ◌∙◌, inl}
 use Rattle.std.specs.Prelude.{IsTrue, if◌then◌else◌}
 use Rattle.std.specs.FinSet as set
 use Rattle.base.specs.declared.refusal.Refusal.{Refusal}

@@ -13,7 +13,6 @@ use Rattle.name.specs.declared.target.Target.{Target}
 use Rattle.name.specs.declared.target.Target.TheVariants.{FileSystem as OfFileSystem, Snapshot as OfSnapshot, Bookmark as OfBookmark}
 use Rattle.model.specs.declared.request.Request.TheVariants.{OpenView, CloseView}
 use Rattle.model.specs.declared.reply.Reply.TheVariants.{Done, Refused, Opened}
-use Rattle.model.specs.Sights.{sight_of}
 use Rattle.model.specs.World.{World, FileSystem, Snap, SnapId, id_of, reach_of}
 use Rattle.model.specs.State.{State}
 use Rattle.model.specs.Outcome.{is_needed, state_after_sweep}
@@ -25,6 +24,7 @@ use Rattle.model.specs.Step.{Step}
 use Rattle.model.specs.requests.Rollback.{placed}
 use Rattle.model.specs.requests.OpenView.{view_limit, open_view_row, open_view_rule}
 use Rattle.model.specs.requests.CloseView.{close_view_rule}
+use Rattle.model.specs.requests.Send.{sight_of}
 use Rattle.world.specs.Shapes.{Name, view_order}
 use Rattle.world.specs.Tables.{world_of}
 use Rattle.world.specs.Worlds.{IsPoolState, IsSwept}
@@ -134,10 +134,10 @@ module _ (s : State) where
         limits = record { now = steady.limits.now; last = steady.limits.last };
       }
 
-      pub open_done : t.deferred ≡ false → full ≡ false → IsSteady (viewing s (id_of t)) → Step s (OpenView (OfSnapshot m)) (Opened s.next_view (sight_of t)) (viewing s (id_of t))
-      open_done d f can = done_by (OpenView (OfSnapshot m)) (open_view_rule (OfSnapshot m)) (None, refl, refl) s no_choice (viewing s (id_of t)) (Opened s.next_view (sight_of t)) refl refl
+      pub open_done : t.deferred ≡ false → full ≡ false → IsSteady (viewing s (id_of t)) → Step s (OpenView (OfSnapshot m)) (Opened s.next_view (sight_of s.now (id_of t))) (viewing s (id_of t))
+      open_done d f can = done_by (OpenView (OfSnapshot m)) (open_view_rule (OfSnapshot m)) (None, refl, refl) s no_choice (viewing s (id_of t)) (Opened s.next_view (sight_of s.now (id_of t))) refl refl
           (row_there ∙ (λ i. cond {A = Option Refusal} (d i) (Some Deferred) (cond (f i) (Some TooMany) None)))
-          (sym (ap (λ (x : Option (FileSystem × Snap)). option_map_or (λ (p : FileSystem × Snap). Opened s.next_view (sight_of p.1)) x Done) at.1))
+          (sym (ap (λ (x : Option (FileSystem × Snap)). option_map_or (λ (p : FileSystem × Snap). Opened s.next_view (sight_of s.now (id_of p.1))) x Done) at.1))
           (sym (ap (λ (x : Option (FileSystem × Snap)). option_map_or (λ (p : FileSystem × Snap). viewing s (id_of p.1)) x s) at.1))
           can
 

@@ -7,3 +7,6 @@ pub mod Listed
 pub mod Spaces
 pub mod Asked
 pub mod Ruled
+pub mod Limiting
+pub mod Counted
+pub mod Received

@@ -24,7 +24,7 @@ returns-clause-some c =
     ∙ name_at c.args.table.now.file_systems c.file_systems.result.now c.file_systems.ensures c.args.place c.index-file_systems-place.result c.requires c.index-file_systems-place.is in
     (parent_found c.args.table.now.file_systems c.len-count.ensures.good.hierarchy c.args.place c.requires c.in_ok-parent.parent.now
     (ap parent_name (sym named) ∙ sym c.parent_of.ensures ∙ ap (λ x. option_copied x) c.in_ok-parent.was)
-    c.place_of.result c.place_of.ensures.some c.place_of.ensures.none).0
+    c.place_near.result c.place_near.ensures.some c.place_near.ensures.none).0
 
 pub returns-clause-none : goal.returns-clause-none
 returns-clause-none c =
@@ -32,4 +32,4 @@ returns-clause-none c =
     ∙ name_at c.args.table.now.file_systems c.file_systems.result.now c.file_systems.ensures c.args.place c.index-file_systems-place.result c.requires c.index-file_systems-place.is in
     (parent_found c.args.table.now.file_systems c.len-count.ensures.good.hierarchy c.args.place c.requires c.in_ok-parent.parent.now
     (ap parent_name (sym named) ∙ sym c.parent_of.ensures ∙ ap (λ x. option_copied x) c.in_ok-parent.was)
-    c.place_of.result c.place_of.ensures.some c.place_of.ensures.none).1
+    c.place_near.result c.place_near.ensures.some c.place_near.ensures.none).1

@@ -11,4 +11,4 @@ returns-clause-ready c =
     let t = c.args.table.now in
     let m = c.member-name.result.now in
     subst (λ (n : Member). IfOk c.start.result (λ (e : Edit). CanFinish e.to n)) c.member-name.ensures
-    (ready_after c.start.result _ m c.start.ensures.ok (ready t c.len-count.ensures.good m c.args.stream.now c.args.force (sym c.receive_refusal.ensures ∙ c.in_default.is)))
+    (ready_after c.start.result _ m c.start.ensures.ok (ready t m c.args.stream.now c.args.force (sym c.receive_refusal.ensures ∙ c.in_default.is)))

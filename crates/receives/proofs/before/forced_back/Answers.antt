@@ -18,7 +18,7 @@ returns-in_default-clause-lost c = lost_with_copy c.args.table.now c.args.freein
 
 pub returns-in_err-lose_live-clause-err : goal.returns-in_err-lose_live-clause-err
 returns-in_err-lose_live-clause-err c =
-    let both = forced c.args.table.now c.len-count.ensures.good c.args.name.now c.in-Some.newest.now (sym c.newest_named.ensures ∙ ap option_copied c.in-Some.is) c.in_ok-edit.edit.to c.in_ok-edit.ensures.ok.0 in
+    let both = forced c.args.table.now c.args.name.now c.in-Some.newest.now (sym c.newest_named.ensures ∙ ap option_copied c.in-Some.is) c.in_ok-edit.edit.to c.in_ok-edit.ensures.ok.0 in
     let only : c.in_err-lose_live.field-0.0 ≡ NoMemory = ⊎_elim
     (λ k. absurd (both.0 (c.in_err-lose_live.ensures.no_dataset.0 (ap Err k))))
     (λ k. k)
@@ -27,7 +27,7 @@ returns-in_err-lose_live-clause-err c =
 
 pub returns-clause-ok : goal.returns-clause-ok
 returns-clause-ok c =
-    let both = forced c.args.table.now c.len-count.ensures.good c.args.name.now c.in-Some.newest.now (sym c.newest_named.ensures ∙ ap option_copied c.in-Some.is) c.in_ok-edit.edit.to c.in_ok-edit.ensures.ok.0 in
+    let both = forced c.args.table.now c.args.name.now c.in-Some.newest.now (sym c.newest_named.ensures ∙ ap option_copied c.in-Some.is) c.in_ok-edit.edit.to c.in_ok-edit.ensures.ok.0 in
     c.in_ok-lose_newer_bookmarks.ensures.ok
     ∙ ap (λ n. with_marks c.lose_live.new.self.to c.args.name.now (λ marks. without_newer marks n)) c.group.ensures
     ∙ both.1 c.lose_live.new.self.to c.in_ok-lose_live.ensures.ok

@@ -43,6 +43,6 @@ lineage-preserved c =
           ∙ sym (append_assoc c.lineage.sources.items (older ++ source ∷ []) rest)
           ∙ ap (λ l. l ++ rest) (sym (append_assoc c.lineage.sources.items older (source ∷ []))
           ∙ ap (λ l. l ++ source ∷ []) (sym (c.in_ok-push_older.ensures.ok ∙ ap (λ n. c.lineage.sources.items ++ older_sources c.lineage.passed.now.name n c.lineage.passed.now.system.snaps) c.group.ensures))
-          ∙ ap (λ x. c.push_older.new.sources.items ++ x ∷ []) (sym c.in_ok-of_snapshot.ensures.ok)
+          ∙ ap (λ x. c.push_older.new.sources.items ++ x ∷ []) (sym c.in_ok-snapshot_source.ensures.ok)
           ∙ sym c.in_ok-push.ensures.items),
     )

@@ -14,7 +14,7 @@ loop-kept-init c = c.new-older.ensures.items
 
 pub loop-kept-preserved-in_ok-push : goal.loop-kept-preserved-in_ok-push
 loop-kept-preserved-in_ok-push c =
-    c.in_ok-push.ensures.items ∙ (λ i. c.loop-kept.invariant i ++ c.in_ok-of_snapshot.ensures.ok i ∷ [])
+    c.in_ok-push.ensures.items ∙ (λ i. c.loop-kept.invariant i ++ c.in_ok-snapshot_source.ensures.ok i ∷ [])
     ∙ sym (ap (λ l. map (snapshot_in c.args.file_system.now.name) (filter (λ u. nat_lt u.group c.args.group.0) l)) (passed_more c.loop-kept.yielded c.in-Some.kept)
     ∙ kept_one c.args.file_system.now.name c.args.group.0 (passed c.loop-kept.yielded) c.in-Some.kept.now.snapshot
     (ap (λ n. nat_lt n c.args.group.0) (sym c.group.ensures) ∙ lt-ltb c.group.result.0 c.args.group.0 c.if-group.true))

@@ -10,7 +10,7 @@ use Rattle.space.proofs.range.would_free.Goals as goal
 pub returns-clause-ok : goal.returns-clause-ok
 returns-clause-ok c =
     let sound : IsTable c.args.table.now = record { systems = c.len-count.ensures.good; numbers = c.len-count.ensures.numbers } in
-    let s = freed_is c.args.table.now sound c.args.name.now c.args.first.now c.args.last.now c.in_ok-file_system.file_system.now c.in_ok-file_system.first.0 c.in_ok-file_system.last.0 c.in_ok-file_system.ensures.ok
-    c.group_before-before.result.0 (option_map (λ g. g.0) c.group_after-next.result) c.group_before-before.ensures c.group_after-next.ensures in
+    let s = freed_is c.args.table.now sound c.args.name.now c.args.first.now c.args.last.now c.in_ok-file_system.file_system.now c.in_ok-file_system._first.0 c.in_ok-file_system._last.0 c.in_ok-file_system.ensures.ok
+    c.in_ok-file_system.around.before.0 (option_map (λ g. g.0) c.in_ok-file_system.around.next) c.in_ok-file_system.ensures.before c.in_ok-file_system.ensures.next in
     let few = would_free_few (world_of c.args.table.now) (range_ids c.args.table.now c.args.name.now c.args.first.now c.args.last.now) in
     omega (arith, s, few, c.gone_after.ensures, c.requires.few)

@@ -8,14 +8,17 @@ use Rattle.views.specs.Viewing.{Viewing}
 use Rattle.model.specs.Targets.{guid_limit}
 use Rattle.steps.specs.Edits.{with_datasets, put, lose, synced, closed}
 use Rattle.steps.proofs.Putting.{release_them, take_them}
+use Rattle.steps.specs.Received.{put_freeing}
+use Rattle.steps.proofs.Receiving.{receive_release, receive_take}
 use Rattle.steps.proofs.Slicing.{free_them}
-use Rattle.pool.specs.declared.pool.Plan.TheVariants.{Change, Put, Limit, Lose, Free, Sync, Open, Close, Sweep}
+use Rattle.pool.specs.declared.pool.Plan.TheVariants.{Change, Receive, Put, Limit, Lose, Free, Sync, Open, Close, Sweep}
 use Rattle.pool.specs.Plans.{CanDo}
 use Rattle.pool.specs.Pools.{state_of, IsSound}
 use Rattle.pool.specs.Shown.{Shown, Leap}
-use Rattle.pool.proofs.Commits.{sound_changed, sound_put, sound_lost, sound_freed, sound_synced, sound_copied, sound_viewing, sound_closed, sound_swept}
+use Rattle.pool.proofs.Commits.{sound_changed, sound_received, sound_put, sound_lost, sound_freed, sound_synced, sound_copied, sound_viewing, sound_closed, sound_swept}
 use Rattle.pool.proofs.Cloned.{plus_none, sound_now}
-use Rattle.pool.proofs.Limited.{nothing_kept, accounted_next, few_sound}
+use Rattle.steps.proofs.Asked.{nothing_kept}
+use Rattle.pool.proofs.Limited.{accounted_next, few_sound}
 use Rattle.pool.proofs.pool.Pool.commit.Goals as goal
 
 pub release_all-requires : goal.release_all-requires
@@ -196,3 +199,43 @@ invariant_of-self-in-Limit c =
     let can = subst (λ (x : Shown). CanDo x.state (Limit c.in-Limit.to c.in-Limit.limiting)) same
     (subst (λ plan. CanDo c.ready.inside.from.value.state plan) c.in-Limit.is c.ready.invariant) in
     (sound_now (state_of c.self.inside) c.self.inside.allocator c.in-Limit.to c.self.invariant.0 (can, subst (λ n. n ≤ guid_limit + 1) (plus_none (state_of c.self.inside).next_guid) c.self.invariant.0.guids), c.renew-in-Limit.ensures)
+
+pub release_all-requires-in-Receive : goal.release_all-requires-in-Receive
+release_all-requires-in-Receive c =
+    let same = ap (λ (l : Leap). l.from) c.ready.view_is ∙ c.requires ∙ sym c.self.view_is in
+    let can = subst (λ (x : Shown). CanDo x.state (Receive c.in-Receive.to c.in-Receive.freeing c.in-Receive.done)) same
+    (subst (λ plan. CanDo c.ready.inside.from.value.state plan) c.in-Receive.is c.ready.invariant) in
+    rw (c.deref-in-Receive.ensures, c.group-in-Receive.ensures)
+    (receive_release (state_of c.self.inside) c.self.invariant.0.steady c.self.inside.allocator c.self.invariant.0.states c.in-Receive.to c.in-Receive.freeing _ _ can.0)
+
+pub take_all-requires-in-Receive : goal.take_all-requires-in-Receive
+take_all-requires-in-Receive c =
+    let same = ap (λ (l : Leap). l.from) c.ready.view_is ∙ c.requires ∙ sym c.self.view_is in
+    let can = subst (λ (x : Shown). CanDo x.state (Receive c.in-Receive.to c.in-Receive.freeing c.in-Receive.done)) same
+    (subst (λ plan. CanDo c.ready.inside.from.value.state plan) c.in-Receive.is c.ready.invariant) in
+    rw (c.release_all-in-Receive.ensures, c.deref-in-Receive.ensures, c.deref-in-Receive-2.ensures, c.group-in-Receive.ensures)
+    (receive_take (state_of c.self.inside) c.self.invariant.0.steady c.self.inside.allocator c.self.invariant.0.states c.in-Receive.to c.in-Receive.freeing _ _ can.0)
+
+pub invariant_of-self-in-Receive : goal.invariant_of-self-in-Receive
+invariant_of-self-in-Receive c =
+    let same = ap (λ (l : Leap). l.from) c.ready.view_is ∙ c.requires ∙ sym c.self.view_is in
+    let can = subst (λ (x : Shown). CanDo x.state (Receive c.in-Receive.to c.in-Receive.freeing c.in-Receive.done)) same
+    (subst (λ plan. CanDo c.ready.inside.from.value.state plan) c.in-Receive.is c.ready.invariant) in (
+      rw (c.take_all-in-Receive.ensures, c.release_all-in-Receive.ensures, c.deref-in-Receive.ensures, c.deref-in-Receive-2.ensures, c.group-in-Receive.ensures)
+          (sound_received (state_of c.self.inside) c.self.inside.allocator c.self.invariant.0 c.in-Receive.to c.in-Receive.freeing _ _ can.0),
+      c.renew-in-Receive.ensures,
+    )
+
+pub renew-requires-in-Receive-clause-unlimited : goal.renew-requires-in-Receive-clause-unlimited
+renew-requires-in-Receive-clause-unlimited c =
+    let same = ap (λ (l : Leap). l.from) c.ready.view_is ∙ c.requires ∙ sym c.self.view_is in
+    let can = subst (λ (x : Shown). CanDo x.state (Receive c.in-Receive.to c.in-Receive.freeing c.in-Receive.done)) same
+    (subst (λ plan. CanDo c.ready.inside.from.value.state plan) c.in-Receive.is c.ready.invariant) in
+    λ none. can.1 (nothing_kept c.self.inside.present c.self.inside.limiting c.self.invariant.1 none)
+
+pub renew-requires-in-Receive-clause-few : goal.renew-requires-in-Receive-clause-few
+renew-requires-in-Receive-clause-few c =
+    let same = ap (λ (l : Leap). l.from) c.ready.view_is ∙ c.requires ∙ sym c.self.view_is in
+    let can = subst (λ (x : Shown). CanDo x.state (Receive c.in-Receive.to c.in-Receive.freeing c.in-Receive.done)) same
+    (subst (λ plan. CanDo c.ready.inside.from.value.state plan) c.in-Receive.is c.ready.invariant) in
+    few_sound (put_freeing (state_of c.self.inside) c.in-Receive.to c.in-Receive.freeing) _ (sound_received (state_of c.self.inside) c.self.inside.allocator c.self.invariant.0 c.in-Receive.to c.in-Receive.freeing _ _ can.0) (omega (arith, c.self.ranges))

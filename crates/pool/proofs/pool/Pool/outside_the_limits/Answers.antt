@@ -1,7 +1,7 @@
 use Rattle.file_systems.specs.Clones.{row_in}
 use Rattle.model.specs.World.{FileSystem}
 use Rattle.pool.specs.Pools.{state_of}
-use Rattle.pool.proofs.Names.{mapped, unmapped}
+use Rattle.steps.proofs.Names.{mapped, unmapped}
 use Rattle.pool.proofs.Changes.{told, outside_refused, outside_absent}
 use Rattle.pool.proofs.pool.Pool.outside_the_limits.Goals as goal
 

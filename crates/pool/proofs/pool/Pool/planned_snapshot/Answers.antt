@@ -9,7 +9,7 @@ use Rattle.pool.proofs.Steps.{snapshot_refused, snapshot_nothing, snapshot_can, 
 use Rattle.pool.proofs.Limited.{few_unasked, over_is}
 use Rattle.steps.specs.Asked.{asked_by_snapshot}
 use Rattle.pool.specs.Shown.{Shown}
-use Rattle.pool.specs.Limiting.{IsOver}
+use Rattle.steps.specs.Limiting.{IsOver}
 use Rattle.pool.proofs.pool.Pool.planned_snapshot.Goals as goal
 
 pub returns-in-Err-clause-step : goal.returns-in-Err-clause-step

@@ -7,7 +7,7 @@ use Rattle.model.specs.Step.{Step}
 use Rattle.steps.specs.Edits.{with_datasets}
 use Rattle.pool.specs.Pools.{state_of}
 use Rattle.pool.specs.Shown.{Shown}
-use Rattle.pool.proofs.Changes.{told, no_live, told_no_live, update_no_memory}
+use Rattle.pool.proofs.Changes.{told, no_live, update_no_memory}
 use Rattle.pool.proofs.Immediate.{allowed, asks_here, refused_now, can_now, done_now, stays_now, may_here, not_asked}
 use Rattle.pool.proofs.pool.Pool.planned_update.Goals as goal
 use Rattle.tree.specs.Updates.{changes_of}
@@ -17,7 +17,7 @@ pub returns-in-Err-clause-step : goal.returns-in-Err-clause-step
 returns-in-Err-clause-step c q asks =
     told c.args.self.now (state_of c.self.inside) c.self.inside.allocator c.self.view_is q _
     (no_live (state_of c.self.inside) c.self.inside.allocator c.self.invariant.0 q c.args.target.now c.args.update asks c.in-Err.refusal
-    (told_no_live c.args.self.now (state_of c.self.inside) c.self.inside.allocator c.self.view_is c.args.target.now c.in-Err.refusal c.in-Err.ensures.err))
+    c.in-Err.ensures.err)
 
 pub returns-in-Err-update-clause-step : goal.returns-in-Err-update-clause-step
 returns-in-Err-update-clause-step c q asks = c.outside_the_limits.ensures q (asks_here q c.args.target.now c.args.update c.in-Ok.name.now (Err c.in-Err-update.refusal) c.in-Ok.ensures.ok c.in-Err-update.is asks)

@@ -1,0 +1,67 @@
+//! Where file systems were seen last.
+ghost use Rattle.std.specs.Prelude.{◌≡◌, IfErr};
+ghost use Rattle.base.specs.declared.refusal.Refusal.{Refusal};
+
+use crate::parent::parent_of;
+use base::refusal::Refusal;
+use datasets::FILE_SYSTEM_LIMIT;
+use file_systems::FileSystem;
+use std::alloc::Global;
+use std::sync::Arc;
+
+/// For each place of a table where the parent of the file system there may stand, and where the one that was found last may stand, which saves
+/// searches. Nothing rests on it: whoever asks looks whether it stands there (profile).
+#[derive(Drop)]
+pub struct Near {
+    parents: Vec<usize>,
+    pub last: usize,
+}
+
+impl Near {
+    /// Room for as many file systems as a table can have. NoMemory where there is none for them.
+    pub fn new(alloc: Global) -> Result<Near, Refusal>
+        ensures err { IfErr result (λ e. e ≡ Refusal.NoMemory) }
+    {
+        let parents = vec![in alloc; 0; FILE_SYSTEM_LIMIT]?;
+        Ok(Near { parents, last: 0 })
+    }
+
+    /// Where the parent of the file system at that place may stand. Constant time.
+    pub fn parent(&self, place: usize) -> usize {
+        match self.parents.get(place) {
+            Some(near) => *near,
+            None => 0,
+        }
+    }
+
+    /// The parents of these file systems, which stand in byte order: each is the one before its child or above that one, but where a name
+    /// comes between by a byte below `/`. It costs the length of the names.
+    pub fn fill(&mut self, file_systems: &[Arc<FileSystem>]) {
+        for (place, file_system) in file_systems.iter().enumerate() {
+            let parent = match parent_of(file_system.name().as_bytes()) {
+                Some(parent) => self.up_to(file_systems, parent, place),
+                None => 0,
+            };
+            if let Some(near) = self.parents.get_mut(place) {
+                *near = parent;
+            }
+        }
+    }
+
+    // Where this name stands among those before a place and above it, or else any place. It costs the levels between.
+    fn up_to(&self, file_systems: &[Arc<FileSystem>], name: &[u8], place: usize) -> usize {
+        let mut at = place.saturating_sub(1);
+        while at > 0 && !is_named(file_systems, at, name) {
+            at = self.parent(at).min(at - 1);
+        }
+        at
+    }
+}
+
+// Whether the file system at that place has this name.
+fn is_named(file_systems: &[Arc<FileSystem>], place: usize, name: &[u8]) -> bool {
+    match file_systems.get(place) {
+        Some(file_system) => file_system.name().as_bytes() == name,
+        None => false,
+    }
+}

@@ -1,0 +1,71 @@
+//! The reply to a request that only reads.
+ghost use Rattle.std.specs.Prelude.{◌≡◌, ◌<◌, ◌^◌, None, true};
+ghost use Rattle.std.specs.FinSet as set;
+ghost use Rattle.model.specs.State.{State};
+ghost use Rattle.model.specs.Step.{Step};
+ghost use Rattle.model.specs.World.{union_of};
+ghost use Rattle.model.specs.requests.{rule_of};
+ghost use Rattle.world.specs.Tables.{world_of};
+ghost use Rattle.lookups.specs.Accounted.{IsAccounted};
+ghost use Rattle.steps.specs.Limiting.{IsStateWith};
+ghost use Rattle.steps.specs.Counted.{IsCountOf};
+
+use crate::counting::{get, pool_get, would_free, written_since};
+use crate::naming::{holds, list, read};
+use crate::sending::send;
+use base::meter::{Meter, SegMeter};
+use datasets::Table;
+use crate::limiting::Limiting;
+use limits::Space;
+use model::reply::Reply;
+use model::request::Request;
+use std::alloc::Global;
+use zalloc::Counts;
+
+/// The reply to a request that only reads, where a pool has these datasets, this beside them, and so many blocks in each state: that of the
+/// definition. The refusals are those of the request, or NoMemory where it takes memory and there is none. A read costs the path, and takes no
+/// memory. A list and the tags of a snapshot cost the names. A property is known once its name is found, but: an origin costs what a promote
+/// finds it by, a snapshot's clones their names, what a file system or its children use the number of file systems, and what a snapshot uses
+/// what `space::used_by_snapshot` says. What was written since a snapshot costs what `space::written_since` says, and what a range of snapshots
+/// would free what `space::would_free` does: they visit no block, and take no memory. A send costs what `sources::start_of` and
+/// `sends::stream_bytes` do.
+pub fn answer(
+    alloc: Global,
+    limiting: &Option<Limiting>,
+    table: &Table,
+    space: Space,
+    counts: Counts,
+    request: &Request,
+    meter: &mut Meter,
+    segments: &mut SegMeter,
+) -> Reply
+    requires reads { (rule_of request.now None).only_reads ≡ true }
+    requires own { IsAccounted table.now limiting.now }
+    requires few { set.len (union_of (world_of table.now)) < 2 ^ 32 }
+    ensures { (s : State) → IsStateWith s table.now space → IsCountOf s counts → Step s request.now result s }
+{
+    match request {
+        Request::Read {
+            target,
+            object,
+            block,
+        } => read(table, target, *object, *block, meter),
+        Request::Get { target, property } => get(
+            alloc,
+            limiting,
+            table,
+            space,
+            counts.free,
+            target,
+            *property,
+            segments,
+        ),
+        Request::WrittenSince { target, since } => written_since(table, target, since, segments),
+        Request::WouldFree { name, first, last } => would_free(table, name, first, last, segments),
+        Request::PoolGet { property } => pool_get(table, space, counts, *property),
+        Request::List => list(alloc, table),
+        Request::Holds { target } => holds(alloc, table, target),
+        Request::Send { target, from } => send(alloc, table, target, from.as_ref(), meter),
+        _ => unreachable!(),
+    }
+}

@@ -1,0 +1,133 @@
+//! What the limits of a pool's file systems say of a request before anything is changed.
+ghost use Rattle.std.specs.Prelude.{◌≡◌, ◌<◌, ◌^◌, [], ◌∷◌, ℕ, List, None, IsSome, IfOk, IfErr, OnOk};
+ghost use Rattle.std.specs.FinMap.{get};
+ghost use Rattle.base.specs.declared.refusal.Refusal.{Refusal};
+ghost use Rattle.name.specs.declared.target.Target.{Target};
+ghost use Rattle.tree.specs.Updates.{changes_of, IsBatch};
+ghost use Rattle.model.specs.declared.reply.Reply.{Reply};
+ghost use Rattle.model.specs.declared.request.Property.{Property};
+ghost use Rattle.model.specs.declared.request.Request.{Request};
+ghost use Rattle.model.specs.Rule.{first_of};
+ghost use Rattle.model.specs.State.{State};
+ghost use Rattle.model.specs.Step.{Step};
+ghost use Rattle.model.specs.Sums.{free_of, room_of};
+ghost use Rattle.model.specs.requests.Change.{limit_row};
+ghost use Rattle.datasets.specs.Limits.{with_limit_of};
+ghost use Rattle.steps.specs.Asked.{asked_by_set};
+ghost use Rattle.lookups.specs.Accounted.{IsAccounted};
+ghost use Rattle.steps.specs.Limiting.{IsStateWith, IsNoChange, MayChange, Foretells};
+
+use crate::limiting::Limiting;
+use base::limit::Blocks;
+use base::meter::Meter;
+use base::number::Group;
+use base::refusal::Refusal;
+use datasets::Table;
+use limits::Space;
+use model::limits::Limit;
+use model::request::Property;
+use name::{DsName, Target};
+use outlook::{Outlook, outlook_of};
+use std::alloc::Global;
+use std::slice::from_ref;
+use tree::Update;
+
+/// Asks the limits of the state that this update of the live tree of a file system leads to, before anything is changed: what the file
+/// system comes to with it, where limits are kept. The pool has these datasets and this beside them, and its last sync opened the group
+/// `synced`. The first limit that the update would break (zfsprops(7): quota, refquota, reservation; the order is profile); NoDataset where
+/// there is no such file system; else NoMemory where there is none to look ahead. It costs the nodes on the way to the changes, and for each
+/// level of the name the logarithm of the number of file systems; where no file system has a limit, nothing.
+pub fn ask_change(
+    limiting: &Option<Limiting>,
+    alloc: Global,
+    table: &Table,
+    space: Space,
+    synced: Group,
+    name: &DsName,
+    update: &Update,
+    meter: &mut Meter,
+) -> Result<Option<Outlook>, Refusal>
+    requires batch { IsBatch (update.now ∷ []) }
+    requires own { IsAccounted table.now limiting.now }
+    requires state { (s : State) × IsStateWith s table.now space × (synced.0 ≡ s.last.group) }
+    ensures ok { (s : State) → IsStateWith s table.now space → synced.0 ≡ s.last.group → OnOk result (MayChange s name.now (changes_of (update.now ∷ []))) }
+    ensures foretold { (s : State) → IsStateWith s table.now space → synced.0 ≡ s.last.group → IfOk result (Foretells s name.now (changes_of (update.now ∷ []))) }
+    ensures err { (s : State) → IsStateWith s table.now space → synced.0 ≡ s.last.group → IfErr result (IsNoChange s name.now (changes_of (update.now ∷ []))) }
+{
+    let Some(limiting) = limiting else {
+        return Ok(None);
+    };
+    let Some(file_system) = table.find(name) else {
+        return Err(Refusal::NoDataset);
+    };
+    let forecast = file_system.live().forecast(alloc, from_ref(update), meter)?;
+    let outlook = outlook_of(file_system, &forecast, synced)?;
+    let asked = Space {
+        size: space.size,
+        freeing: space.freeing,
+        waiting: space.waiting + outlook.waiting,
+    };
+    let over = limiting
+        .ledger
+        .over_after(table, name, outlook.here, outlook.referenced, asked);
+    match over {
+        Some(refusal) => Err(refusal),
+        None => Ok(Some(outlook)),
+    }
+}
+
+/// What is available to the file system of this name, where that is asked for, in blocks; else 0. The pool has these datasets and this
+/// beside them, and so many blocks free (zfsprops(7): available). It costs for each level of the name the logarithm of the number of file
+/// systems, and the length of the name; where no file system has a limit, constant time.
+pub fn room_asked(
+    limiting: &Option<Limiting>,
+    table: &Table,
+    space: Space,
+    free: u32,
+    target: &Target,
+    property: Property,
+) -> u64
+    requires own { IsAccounted table.now limiting.now }
+    ensures small { result < 2 ^ 55 }
+    ensures room { (s : State) → IsStateWith s table.now space → free ≡ free_of s → (name : List ℕ) → target.now ≡ Target.FileSystem name → property ≡ Property.Available → IsSome (get table.now.file_systems name) → result ≡ room_of s name }
+{
+    let (Target::FileSystem(name), Property::Available) = (target, property) else {
+        return 0;
+    };
+    let Some(limiting) = limiting else {
+        return u64::from(free);
+    };
+    if table.find(name).is_none() {
+        return 0;
+    }
+    limiting.ledger.room(table, name, space)
+}
+
+/// The datasets with a limit of a file system set, and room for what is kept of limits, where a pool has these datasets and this beside them
+/// (zfs-set(8)). NoDataset where there is no such file system, then, where an amount is given, the first limit that would be broken; else
+/// NoMemory where there is none for them. It costs a count for each file system, and their number times its logarithm.
+pub fn with_limit(
+    alloc: Global,
+    table: &Table,
+    space: Space,
+    name: &DsName,
+    limit: Limit,
+    amount: Option<Blocks>,
+) -> Result<(Table, Limiting), Refusal>
+    requires state { (s : State) × IsStateWith s table.now space }
+    ensures ok { IfOk result (λ p. p.0 ≡ with_limit_of table.now name.now limit amount) }
+    ensures there { OnOk result (IsSome (get table.now.file_systems name.now)) }
+    ensures fits { (s : State) → IsStateWith s table.now space → OnOk result (IsSome amount → first_of (limit_row (asked_by_set s name.now limit amount)) ≡ None) }
+    ensures err { (s : State) → IsStateWith s table.now space → IfErr result (λ e. Step s (Request.Set name.now limit amount) (Reply.Refused e) s) }
+{
+    let mut limiting = Limiting::new(alloc)?;
+    let mut to = table.copy()?;
+    to.set_limit(alloc, name, limit, amount)?;
+    if amount.is_none() {
+        return Ok((to, limiting));
+    }
+    match limiting.over(&to, space) {
+        Some(refusal) => Err(refusal),
+        None => Ok((to, limiting)),
+    }
+}

@@ -1,0 +1,114 @@
+//! Properties of datasets and of the pool, and questions on the space of datasets.
+ghost use Rattle.std.specs.Prelude.{◌≡◌, ◌<◌, ◌≤◌, ◌^◌};
+ghost use Rattle.std.specs.FinSet as set;
+ghost use Rattle.model.specs.State.{State};
+ghost use Rattle.model.specs.Step.{Step};
+ghost use Rattle.model.specs.Sums.{free_of};
+ghost use Rattle.model.specs.World.{union_of};
+ghost use Rattle.model.specs.declared.request.Request.{Request};
+ghost use Rattle.world.specs.Tables.{world_of};
+ghost use Rattle.steps.specs.Edits.{datasets_of};
+ghost use Rattle.steps.specs.Steady.{IsSteady};
+ghost use Rattle.lookups.specs.Accounted.{IsAccounted};
+ghost use Rattle.steps.specs.Limiting.{IsStateWith};
+ghost use Rattle.steps.specs.Counted.{IsCountOf};
+
+use base::meter::SegMeter;
+use base::refusal::Refusal;
+use datasets::Table;
+use crate::asking::room_asked;
+use crate::limiting::{Limiting, kept_ledger};
+use limits::Space;
+use lookups::{in_bytes, value_named};
+use model::reply::{Reply, Value};
+use model::request::{PoolProperty, Property};
+use name::{Component, DsName, SnapName, Target};
+use std::alloc::Global;
+use zalloc::Counts;
+
+// A property of a dataset or a bookmark.
+pub(crate) fn get(
+    alloc: Global,
+    limiting: &Option<Limiting>,
+    table: &Table,
+    space: Space,
+    free: u32,
+    target: &Target,
+    property: Property,
+    segments: &mut SegMeter,
+) -> Reply
+    requires own { IsAccounted table.now limiting.now }
+    requires few { set.len (union_of (world_of table.now)) < 2 ^ 32 }
+    ensures { (s : State) → IsStateWith s table.now space → free ≡ free_of s → Step s (Request.Get target.now property) result s }
+{
+    let room = room_asked(limiting, table, space, free, target, property);
+    let value = value_named(
+        alloc,
+        table,
+        kept_ledger(limiting),
+        target,
+        property,
+        room,
+        segments,
+    );
+    match value {
+        Ok(Some(value)) => Reply::Value(value),
+        Ok(None) => Reply::Refused(Refusal::NoDataset),
+        Err(refusal) => Reply::Refused(refusal),
+    }
+}
+
+// How many bytes of blocks a dataset has that an older snapshot of its lineage hasn't.
+pub(crate) fn written_since(
+    table: &Table,
+    target: &Target,
+    since: &SnapName,
+    segments: &mut SegMeter,
+) -> Reply
+    ensures { (s : State) → IsSteady s → datasets_of s ≡ table.now → Step s (Request.WrittenSince target.now since.now) result s }
+{
+    let written = space::written_since(table, target, since.member(), segments);
+    match written {
+        Ok(blocks) => Reply::Value(in_bytes(blocks)),
+        Err(refusal) => Reply::Refused(refusal),
+    }
+}
+
+// How many bytes of blocks would be freed with a file system's snapshots from one to another.
+pub(crate) fn would_free(
+    table: &Table,
+    name: &DsName,
+    first: &Component,
+    last: &Component,
+    segments: &mut SegMeter,
+) -> Reply
+    requires few { set.len (union_of (world_of table.now)) < 2 ^ 32 }
+    ensures { (s : State) → IsSteady s → datasets_of s ≡ table.now → Step s (Request.WouldFree name.now first.now last.now) result s }
+{
+    let freed = space::would_free(table, name, first, last, segments);
+    match freed {
+        Ok(blocks) => Reply::Value(in_bytes(blocks as u32)),
+        Err(refusal) => Reply::Refused(refusal),
+    }
+}
+
+// A property of the pool.
+pub(crate) fn pool_get(table: &Table, space: Space, counts: Counts, property: PoolProperty) -> Reply
+    ensures { (s : State) → IsStateWith s table.now space → IsCountOf s counts → Step s (Request.PoolGet property) result s }
+{
+    match property {
+        PoolProperty::Size => Reply::Value(in_bytes(space.size)),
+        PoolProperty::Allocated => Reply::Value(in_bytes(counts.allocated)),
+        PoolProperty::Free => Reply::Value(in_bytes(counts.free)),
+        PoolProperty::Freeing => Reply::Value(in_bytes(freeing_in(space))),
+        PoolProperty::Waiting => Reply::Value(in_bytes(counts.waiting)),
+        PoolProperty::Group => Reply::Value(Value::Number(table.group().0)),
+    }
+}
+
+// How many blocks are to be freed, which are no more than all blocks. Constant time.
+fn freeing_in(space: Space) -> u32
+    ensures { space.freeing ≤ space.size → result ≡ space.freeing }
+{
+    space.freeing.min(u64::from(space.size)) as u32
+}

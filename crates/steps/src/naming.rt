@@ -1,0 +1,56 @@
+//! Datasets by their names: their contents, their names in a list, and their tags.
+ghost use Rattle.std.specs.Prelude.{◌≡◌};
+ghost use Rattle.model.specs.State.{State};
+ghost use Rattle.model.specs.Step.{Step};
+ghost use Rattle.model.specs.declared.request.Request.{Request};
+ghost use Rattle.steps.specs.Edits.{datasets_of};
+ghost use Rattle.steps.specs.Steady.{IsSteady};
+
+use base::meter::Meter;
+use base::refusal::Refusal;
+use datasets::Table;
+use lookups::{names_of, tree_named};
+use marks::tags_of;
+use model::names::Names;
+use model::reply::Reply;
+use name::Target;
+use std::alloc::Global;
+
+// What a block of a dataset holds.
+pub(crate) fn read(
+    table: &Table,
+    target: &Target,
+    object: u32,
+    block: u32,
+    meter: &mut Meter,
+) -> Reply
+    ensures { (s : State) → IsSteady s → datasets_of s ≡ table.now → Step s (Request.Read target.now object block) result s }
+{
+    let Some(tree) = tree_named(table, target) else {
+        return Reply::Refused(Refusal::NoDataset);
+    };
+    match objset::read(tree, object, block, meter) {
+        Ok(bytes) => Reply::Data(bytes.copied()),
+        Err(refusal) => Reply::Refused(refusal),
+    }
+}
+
+// The names of all file systems, snapshots and bookmarks.
+pub(crate) fn list(alloc: Global, table: &Table) -> Reply
+    ensures { (s : State) → IsSteady s → datasets_of s ≡ table.now → Step s Request.List result s }
+{
+    match names_of(alloc, table.file_systems()) {
+        Ok(names) => Reply::Names(Names::from(names)),
+        Err(refusal) => Reply::Refused(refusal),
+    }
+}
+
+// The tags of a snapshot.
+pub(crate) fn holds(alloc: Global, table: &Table, target: &Target) -> Reply
+    ensures { (s : State) → IsSteady s → datasets_of s ≡ table.now → Step s (Request.Holds target.now) result s }
+{
+    match tags_of(alloc, table, target) {
+        Ok(tags) => Reply::Names(Names::from(tags)),
+        Err(refusal) => Reply::Refused(refusal),
+    }
+}

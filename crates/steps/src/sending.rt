@@ -1,0 +1,53 @@
+//! Sends of snapshots.
+ghost use Rattle.std.specs.Option.{option_copied};
+ghost use Rattle.std.specs.Prelude.{◌≡◌};
+ghost use Rattle.model.specs.declared.request.Request.{Request};
+ghost use Rattle.model.specs.State.{State};
+ghost use Rattle.model.specs.Step.{Step};
+ghost use Rattle.steps.specs.Edits.{datasets_of};
+ghost use Rattle.steps.specs.Steady.{IsSteady};
+
+use base::meter::Meter;
+use base::refusal::Refusal;
+use datasets::Table;
+use lookups::snapshot_named;
+use model::reply::Reply;
+use name::Target;
+use sends::stream_bytes;
+use sources::start_of;
+use std::alloc::Global;
+
+// The stream of a send of the snapshot of this name from this source, or from nothing. It costs what `sources::start_of` and
+// `sends::stream_bytes` do.
+pub(crate) fn send(
+    alloc: Global,
+    table: &Table,
+    target: &Target,
+    from: Option<&Target>,
+    meter: &mut Meter,
+) -> Reply
+    ensures { (s : State) → IsSteady s → datasets_of s ≡ table.now → Step s (Request.Send target.now (option_copied from.entry)) result s }
+{
+    let start = match start_of(table, target, from) {
+        Ok(start) => start,
+        Err(refusal) => return Reply::Refused(refusal),
+    };
+    let Target::Snapshot(name) = target else {
+        unreachable!()
+    };
+    let Some(snapshot) = snapshot_named(table, name.member()) else {
+        unreachable!()
+    };
+    let sent = stream_bytes(
+        alloc,
+        snapshot.tree(),
+        start.source(),
+        start.group,
+        snapshot.guid(),
+        meter,
+    );
+    match sent {
+        Ok(bytes) => Reply::Stream(bytes),
+        Err(refusal) => Reply::Refused(refusal),
+    }
+}
