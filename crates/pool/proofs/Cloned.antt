@@ -22,7 +22,7 @@ use Rattle.model.specs.Rule.{first_of}
 use Rattle.model.specs.requests.Change.{limit_row}
 use Rattle.accounts.specs.Limits.{IsUnlimited}
 use Rattle.steps.specs.Asked.{asked_by_promote}
-use Rattle.steps.proofs.Asking.{IsUnasked}
+use Rattle.steps.proofs.Bounded.{IsUnasked}
 
 pub plus_none : (n : ℕ) → n ≡ n + 0
 plus_none n = omega (arith)

@@ -10,7 +10,7 @@ use Rattle.model.specs.Rule.{first_of}
 use Rattle.model.specs.requests.Change.{limit_row}
 use Rattle.model.specs.World.{union_of, reach_of}
 use Rattle.steps.specs.Steady.{IsSteady}
-use Rattle.steps.proofs.Asking.{IsUnasked}
+use Rattle.steps.proofs.Bounded.{IsUnasked}
 use Rattle.steps.proofs.Properties.{are_balanced}
 use Rattle.world.specs.Tables.{Datasets, world_of}
 use Rattle.accounts.specs.Limits.{IsUnlimited}

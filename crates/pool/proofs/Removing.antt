@@ -30,7 +30,7 @@ use Rattle.model.specs.Rule.{first_of}
 use Rattle.model.specs.requests.Change.{limit_row}
 use Rattle.accounts.specs.Limits.{IsUnlimited}
 use Rattle.steps.specs.Asked.{asked_by_rollback}
-use Rattle.steps.proofs.Asking.{IsUnasked}
+use Rattle.steps.proofs.Bounded.{IsUnasked}
 
 module _ (seen : Shown) (s : State) (numbers : List BlockState) (view : shown s numbers ≡ seen) (sound : IsSound s numbers) where
   -- no block of a dataset is to be freed

@@ -29,7 +29,7 @@ use Rattle.removals.specs.declared.edit.Edit.{Edit}
 use Rattle.steps.specs.Edits.{datasets_of, lose, viewing, closed, CanLose, StaysUnlimited}
 use Rattle.steps.specs.Steady.{IsSteady, snap_in}
 use Rattle.steps.proofs.Freeing.{joined_losses}
-use Rattle.steps.proofs.Sending.{sources_alike, sight_is}
+use Rattle.steps.proofs.Sends.{sources_alike, sight_is}
 use Rattle.steps.proofs.Viewing as views
 use Rattle.pool.specs.Plans.{CanOpen}
 use Rattle.pool.specs.Pools.{IsSound}

@@ -36,7 +36,7 @@ use Rattle.pool.specs.Pools.{IsSound}
 use Rattle.pool.specs.Shown.{Shown, shown}
 use Rattle.model.specs.requests.Change.{limit_row}
 use Rattle.steps.specs.Asked.{asked_by_snapshot}
-use Rattle.steps.proofs.Asking.{IsUnasked}
+use Rattle.steps.proofs.Bounded.{IsUnasked}
 
 -- a group below the last one has a next one
 not_last : (g : ℕ) → g < number_limit → nat_lt number_limit (g + 1) ≡ false

@@ -74,8 +74,12 @@ fn what_is_not_received_onto_a_file_system(rt: HostRuntime) {
 #[test]
 fn the_newest_snapshot_has_to_be_the_source(rt: HostRuntime) {
     let rows = "
+        create p/a => ok
+        snapshot p/a@x => ok
+        snapshot p/a@y => ok
         receive p/b@s {X} => ok
         snapshot p/b@u => ok
+        get guid p/b@u => 4294967299
         write p/b 1 0 63 => ok
         receive p/b@t {Y} => error 23 WrongSource
         receive -F p/b@t {Y} => error 23 WrongSource

@@ -29,7 +29,7 @@ use Rattle.file_systems.specs.Clones.{row_in}
 use Rattle.datasets.specs.Limits.{with_limit_of}
 use Rattle.steps.specs.Asked.{asked_by_change, asked_by_set}
 use Rattle.steps.specs.Edits.{datasets_of}
-use Rattle.steps.proofs.Asking.{IsUnasked, unasked_waiting}
+use Rattle.steps.proofs.Bounded.{IsUnasked, unasked_waiting}
 use Rattle.steps.proofs.Setting as setting
 use Rattle.limits.specs.Changes.{IsChanged}
 use Rattle.limits.specs.Ledgers.{IsSpaceOf}

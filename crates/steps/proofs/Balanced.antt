@@ -11,7 +11,7 @@ use Rattle.world.specs.Tables.{Datasets, world_of}
 use Rattle.world.proofs.Kept.{reach_is, union-fields}
 use Rattle.world.proofs.SetCounts.{in_union_left, in_union_right, len-difference, len-subset, len-union}
 use Rattle.steps.specs.Edits.{datasets_of}
-use Rattle.steps.proofs.Asking.{IsUnasked}
+use Rattle.steps.proofs.Bounded.{IsUnasked}
 
 module _ (s : State) (balanced : IsBalanced s) where
   -- all that are reached are no more than the pool has

@@ -6,7 +6,7 @@ pub mod Lookups
 pub mod Ruled
 pub mod Room
 pub mod Limits
-pub mod Asking
+pub mod Bounded
 pub mod Unlimited
 pub mod Named
 pub mod Questions
@@ -30,7 +30,7 @@ pub mod Snapping
 pub mod Seeing
 pub mod Losing
 pub mod Viewing
-pub mod Sending
+pub mod Sends
 pub mod Freeing
 pub mod Rolling
 pub mod Destroying

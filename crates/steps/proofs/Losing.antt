@@ -14,7 +14,7 @@ use Rattle.accounts.specs.Limits.{HasLimits}
 use Rattle.steps.specs.Settles.{AreStatesOf}
 use Rattle.steps.specs.Steady.{IsSteady}
 use Rattle.steps.specs.Edits.{lose, CanLose}
-use Rattle.steps.proofs.Asking.{IsUnasked}
+use Rattle.steps.proofs.Bounded.{IsUnasked}
 use Rattle.steps.proofs.Known.{states_of, of_states}
 
 module _ (s : State) (steady : IsSteady s) (t : Datasets) (good : AreFileSystems t.file_systems t.group) (open_is : t.group ≡ s.now.group)

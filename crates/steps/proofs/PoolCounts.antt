@@ -1,5 +1,5 @@
 -- The pool's properties, by the counts of its blocks.
-use Rattle.std.proofs.Common.{◌≡◌, ◌≤◌, ◌*◌, ℕ, refl, sym, ap, subst, ◌∙◌, arith}
+use Rattle.std.proofs.Common.{◌≡◌, None, ◌≤◌, ◌*◌, ℕ, refl, sym, ap, subst, ◌∙◌, arith}
 use Rattle.model.specs.declared.request.Request.TheVariants.{PoolGet}
 use Rattle.model.specs.declared.request.PoolProperty.{PoolProperty}
 use Rattle.model.specs.declared.request.PoolProperty.TheVariants.{Size as SizeAsked, Allocated, Free, Freeing, Waiting, Group}

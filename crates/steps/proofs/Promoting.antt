@@ -36,7 +36,7 @@ use Rattle.clones.specs.Requests.{promoted as promoted_datasets, promote_refusal
 use Rattle.steps.specs.Steady.{IsSteady}
 use Rattle.steps.specs.Asked.{asked_by_promote}
 use Rattle.steps.specs.Edits.{datasets_of, with_datasets, put, StaysUnlimited, CanPut}
-use Rattle.steps.proofs.Asking.{first_left, first_after, IsUnasked, asked_steady, bare_steady, unasked_fits}
+use Rattle.steps.proofs.Bounded.{first_left, first_after, IsUnasked, asked_steady, bare_steady, unasked_fits}
 use Rattle.steps.proofs.Unlimited.{unlimited_put, still_swept, AreKnown, AreOriginsIn, same_known, put_known}
 use Rattle.steps.proofs.Putting.{put_none}
 use Rattle.steps.proofs.Ruled.{no_choice, refused_by, no_memory_by, done_by}

@@ -60,7 +60,7 @@ use Rattle.steps.specs.Settles.{AreTakable as AreTakableNumbers}
 use Rattle.steps.specs.Steady.{IsSteady}
 use Rattle.steps.specs.Edits.{datasets_of, with_datasets}
 use Rattle.steps.specs.Received.{asked_by_receive, put_freeing, CanReceive}
-use Rattle.steps.proofs.Asking.{first_left, first_after}
+use Rattle.steps.proofs.Bounded.{first_left, first_after}
 use Rattle.steps.proofs.Batching.{live_there_is, batch_apart, batch_enough, batch_room, batch_leads, batch_good, batch_swept, batch_there, batch_unlimited, batch_settles, batch_takable}
 use Rattle.steps.proofs.Beginning.{IsBegun, begun_world}
 use Rattle.steps.proofs.Known.{states_of, of_states}

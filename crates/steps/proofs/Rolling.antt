@@ -35,7 +35,7 @@ use Rattle.steps.specs.Edits.{datasets_of, lose, StaysUnlimited, CanLose}
 use Rattle.accounts.specs.Limits.{IsUnlimited}
 use Rattle.removals.specs.Named.{has_clone}
 use Rattle.removals.specs.Requests.{rolled, rollback_refusal}
-use Rattle.steps.proofs.Asking.{first_left, first_after, IsUnasked, asked_steady, bare_steady, unasked_fits}
+use Rattle.steps.proofs.Bounded.{first_left, first_after, IsUnasked, asked_steady, bare_steady, unasked_fits}
 use Rattle.steps.proofs.Losing.{lost_unasked}
 use Rattle.steps.proofs.Unlimited.{unlimited_put, still_swept, AreKnown, AreOriginsIn, same_known, put_known, same_origins, put_origins}
 use Rattle.steps.proofs.Ruled.{no_choice, refused_by, no_memory_by, done_by}

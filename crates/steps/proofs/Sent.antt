@@ -1,7 +1,6 @@
 -- Sends: what a pool with some datasets answers is a step.
 use Rattle.std.proofs.Common.{◌≡◌, ℕ, List, Option, Some, None, sym, ap, subst, ◌∙◌}
 use Rattle.base.specs.declared.refusal.Refusal.{Refusal}
-use Rattle.base.specs.declared.refusal.Refusal.TheVariants.{NoMemory}
 use Rattle.name.specs.declared.member.Member.{Member}
 use Rattle.name.specs.declared.target.Target.{Target}
 use Rattle.name.specs.declared.target.Target.TheVariants.{Snapshot as OfSnapshot}
@@ -16,22 +15,11 @@ use Rattle.model.specs.requests.Send.{Start, start_named, sending_from, send_row
 use Rattle.world.specs.Tables.{Datasets, world_of}
 use Rattle.steps.specs.Edits.{datasets_of}
 use Rattle.steps.specs.Steady.{IsSteady, snap_in}
-use Rattle.steps.proofs.Sending as sending
-
--- one that isn't refused names a snapshot, which is there
-module _ (t : Datasets) (target : Target) (from : Option Target) (can : first_of (send_row (world_of t) target from) ≡ None) where
-  pub named : ((m : Member) → target ≡ OfSnapshot m → ⊥) → ⊥
-  named = sending.send_named (world_of t) target from can
-
-  pub there : (m : Member) → target ≡ OfSnapshot m → None ≡ snap_in t.file_systems m → ⊥
-  there m is none = sending.send_there (world_of t) m from (ap (λ x. first_of (send_row (world_of t) x from)) (sym is) ∙ can) (sym none)
+use Rattle.steps.proofs.Sends as sending
 
 module _ (s : State) (steady : IsSteady s) (t : Datasets) (is : datasets_of s ≡ t) (target : Target) (from : Option Target) where
   pub refused : (why : Refusal) → first_of (send_row (world_of t) target from) ≡ Some why → Step s (Send target from) (Refused why) s
   refused why e = sending.send_refused s from target why (ap (λ t. first_of (send_row (world_of t) target from)) is ∙ e)
-
-  pub no_memory : (why : Refusal) → why ≡ NoMemory → Step s (Send target from) (Refused why) s
-  no_memory why e = subst (λ z. Step s (Send target from) (Refused z) s) (sym e) (sending.send_no_memory s from target)
 
   -- the bytes of its stream
   pub sent : first_of (send_row (world_of t) target from) ≡ None → (m : Member) → target ≡ OfSnapshot m → (u : Snap) → Some u ≡ snap_in t.file_systems m

@@ -29,7 +29,7 @@ use Rattle.datasets.specs.Limits.{with_limit_of}
 use Rattle.steps.specs.Steady.{IsSteady}
 use Rattle.steps.specs.Edits.{datasets_of, with_datasets, put, StaysUnlimited, CanPut}
 use Rattle.steps.specs.Asked.{asked_by_set}
-use Rattle.steps.proofs.Asking.{IsUnasked}
+use Rattle.steps.proofs.Bounded.{IsUnasked}
 use Rattle.steps.proofs.Labelling.{label_good, label_union, label_origins}
 use Rattle.steps.proofs.Limits.{kept_limits, unlimited_kept, asked_limits}
 use Rattle.steps.proofs.Putting.{put_none}

@@ -1,14 +1,12 @@
 -- What holds of a pool's state between two steps.
 use Rattle.std.specs.Prelude.{◌≡◌, Option, Some, None, true}
-use Rattle.std.specs.List.{find}
 use Rattle.std.specs.Option.{option_and_then}
 use Rattle.std.specs.FinMap.{get}
 use Rattle.base.specs.Map.{Map}
 use Rattle.name.specs.declared.member.Member.{Member}
 use Rattle.name.specs.declared.target.Target.{Target}
 use Rattle.name.specs.declared.target.Target.TheVariants.{FileSystem as OfFileSystem, Snapshot as OfSnapshot, Bookmark as OfBookmark}
-use Rattle.name.specs.Names.{same_name}
-use Rattle.model.specs.World.{Snap, Bookmark, Dataset, map_of}
+use Rattle.model.specs.World.{Bookmark, Dataset, map_of}
 use Rattle.model.specs.State.{State}
 use Rattle.model.specs.Targets.{dataset_of, has_dataset}
 pub use Rattle.model.specs.Hierarchy.{snap_in}

@@ -11,11 +11,11 @@ ghost use Rattle.steps.specs.Limiting.{IsStateWith};
 ghost use Rattle.steps.specs.Counted.{IsCountOf};
 
 use crate::counting::{get, pool_get, would_free, written_since};
+use crate::limiting::Limiting;
 use crate::naming::{holds, list, read};
 use crate::sending::send;
 use base::meter::{Meter, SegMeter};
 use datasets::Table;
-use crate::limiting::Limiting;
 use limits::Space;
 use model::reply::Reply;
 use model::request::Request;

@@ -13,11 +13,11 @@ ghost use Rattle.lookups.specs.Accounted.{IsAccounted};
 ghost use Rattle.steps.specs.Limiting.{IsStateWith};
 ghost use Rattle.steps.specs.Counted.{IsCountOf};
 
+use crate::asking::room_asked;
+use crate::limiting::{Limiting, kept_ledger};
 use base::meter::SegMeter;
 use base::refusal::Refusal;
 use datasets::Table;
-use crate::asking::room_asked;
-use crate::limiting::{Limiting, kept_ledger};
 use limits::Space;
 use lookups::{in_bytes, value_named};
 use model::reply::{Reply, Value};

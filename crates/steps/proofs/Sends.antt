@@ -8,12 +8,12 @@ use Rattle.base.specs.declared.refusal.Refusal.{Refusal}
 use Rattle.base.specs.declared.refusal.Refusal.TheVariants.{NoDataset, NotSnapshot, NotAncestor, NoMemory}
 use Rattle.name.specs.declared.member.Member.{Member}
 use Rattle.name.specs.declared.target.Target.{Target}
-use Rattle.name.specs.declared.target.Target.TheVariants.{FileSystem as OfFileSystem, Snapshot as OfSnapshot, Bookmark as OfBookmark}
+use Rattle.name.specs.declared.target.Target.TheVariants.{Snapshot as OfSnapshot}
 use Rattle.stream.specs.Spelling.{spell}
 use Rattle.model.specs.declared.request.Request.TheVariants.{Send}
 use Rattle.model.specs.declared.reply.Reply.TheVariants.{Done, Refused, Stream as StreamIs}
 use Rattle.model.specs.Sights.{Seen}
-use Rattle.model.specs.World.{World, FileSystem, Snap, SnapId, Snapped, id_of, snap_at, file_system_at, map_of}
+use Rattle.model.specs.World.{FileSystem, Snap, SnapId, Snapped, id_of, snap_at, file_system_at, map_of}
 use Rattle.model.specs.State.{State}
 use Rattle.model.specs.Refusals.{refusal_of}
 use Rattle.model.specs.Rule.{first_of}
@@ -24,12 +24,11 @@ use Rattle.model.specs.requests.Send.{Start, snapshot_source, bookmark_sources, 
 use Rattle.world.specs.Shapes.{Name}
 use Rattle.world.specs.Tables.{world_of}
 use Rattle.world.proofs.Bridge.{map_of_kept}
-use Rattle.world.proofs.Maps.{no_value}
 use Rattle.steps.specs.Steady.{IsSteady, snap_in}
 use Rattle.steps.specs.Edits.{datasets_of}
 use Rattle.steps.proofs.Alike.{older_alike}
 use Rattle.steps.proofs.Ruled.{refused_by, no_memory_by, answered_by}
-use Rattle.steps.proofs.Viewing.{none_placed, one_placed}
+use Rattle.steps.proofs.Viewing.{one_placed}
 
 -- ---- what a send of a snapshot sees, in a state's world and in that of its datasets
 
@@ -61,19 +60,6 @@ module _ (s : State) where
         let at = one_placed s.now m t found in
         ap (λ (x : Map). record { map = x; guid = t.guid; group = t.group; sources = sources_of s.now (id_of t) })
         (map_of_kept s.now s.now.group steady.good.now.systems.lines m.file_system at.0 t (id_of t) at.2 at.3 refl)
-
--- ---- what isn't refused
-
--- the target is the name of a snapshot
-pub send_named : (w : World) (target : Target) (from : Option Target) → first_of (send_row w target from) ≡ None → ((m : Member) → target ≡ OfSnapshot m → ⊥) → ⊥
-send_named w (OfFileSystem name) from can other = no_value NotSnapshot (sym can)
-send_named w (OfSnapshot m) from can other = other m refl
-send_named w (OfBookmark m) from can other = no_value NotSnapshot (sym can)
-
--- and the snapshot is there
-pub send_there : (w : World) (m : Member) (from : Option Target) → first_of (send_row w (OfSnapshot m) from) ≡ None → snap_in w.file_systems m ≡ None → ⊥
-send_there w m from can none = no_value NoDataset (sym can
-    ∙ ap (λ (x : Option (FileSystem × Snap)). first_of ((not (is_some x), NoDataset) ∷ (not (is_some (start_named w (OfSnapshot m) from)), NotAncestor) ∷ [])) (none_placed w m none))
 
 -- ---- the steps
 
