@@ -1,4 +1,5 @@
 pub mod Legal
+pub mod Stays
 pub mod Alls
 pub mod Decides
 pub mod Answered

@@ -1,4 +1,4 @@
-//! Tests of `file_systems`, `datasets`, `snap`, `clones`, `removals`, `marks`, `receives` and `sources` from outside.
+//! Tests of `file_systems`, `datasets`, `snap`, `clones`, `removals`, `marks` and `sources` from outside.
 #![tactic(auto)]
 
 #[cfg(test)]
@@ -23,8 +23,6 @@ mod lists;
 mod marked;
 #[cfg(test)]
 mod now;
-#[cfg(test)]
-mod received;
 #[cfg(test)]
 mod removing;
 #[cfg(test)]

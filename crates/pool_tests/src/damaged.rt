@@ -4,7 +4,7 @@ use base::refusal::Refusal;
 use base::text::Bytes;
 use model::reply::{Reply, Value};
 use model::request::{PoolProperty, Request};
-use name::SnapName;
+use name::{SnapName, Target};
 use pool::Pool;
 use std::alloc::{AllocError, Global};
 use std::process::Abort;
@@ -120,4 +120,85 @@ fn a_stream_of_63_bytes(rt: HostRuntime) {
 #[test]
 fn a_stream_of_1024_bytes(rt: HostRuntime) {
     assert!(rt; is_kept_from(&rt, rt.alloc(), "Y"));
+}
+
+/// Whether a pool has so many bytes allocated.
+fn has_allocated(alloc: Global, pool: &mut Pool, bytes: u64) -> bool {
+    let allocated = Request::PoolGet {
+        property: PoolProperty::Allocated,
+    };
+    let size = pool.apply(alloc, &allocated);
+    let is_so = size.same(&Reply::Value(Value::Size(bytes)));
+    drop(size);
+    is_so
+}
+
+/// Whether a reply is Done, and whether it is want of memory.
+fn outcome(reply: Result<Reply, Refusal>) -> (bool, bool) {
+    match reply {
+        Ok(Reply::Done) => (true, false),
+        Ok(Reply::Refused(Refusal::NoMemory)) | Err(Refusal::NoMemory) => (false, true),
+        _ => (false, false),
+    }
+}
+
+/// Whether a pool of 3,072 bytes receives a stream onto p/b@s and has twice as much, or is refused memory and has what it had.
+fn receives_or_stays(alloc: Global, pool: &mut Pool, bytes: &[u8]) -> bool {
+    let (is_done, is_refused) = outcome(reply_to(alloc, pool, b"p/b@t", bytes));
+    (is_done && has_allocated(alloc, pool, 6144)) || (is_refused && has_allocated(alloc, pool, 3072))
+}
+
+/// Whether a fresh pool receives a full stream and then one from its snapshot; or is refused memory, and has what it had.
+fn receives_both_or_stays(alloc: Global, pool: &mut Pool, first: &[u8], second: &[u8]) -> bool {
+    let (is_done, is_refused) = outcome(reply_to(alloc, pool, b"p/b@s", first));
+    if is_done {
+        return has_allocated(alloc, pool, 3072) && receives_or_stays(alloc, pool, second);
+    }
+    is_refused && has_allocated(alloc, pool, 0)
+}
+
+/// The same, where memory may be wanting for the pool too.
+fn is_received_or_refused(alloc: Global, first: &[u8], second: &[u8]) -> bool {
+    match Pool::create(alloc, 1, 100) {
+        Ok(mut pool) => receives_both_or_stays(alloc, &mut pool, first, second),
+        Err(refusal) => refusal.same(Refusal::NoMemory),
+    }
+}
+
+/// Run it with each allocation refused in turn: a refused receive leaves the pool with what it had.
+#[test]
+fn refused_memory_receives_nothing(rt: HostRuntime) {
+    let alloc = rt.alloc();
+    let (first, second) = (stream(&rt, alloc, "X"), stream(&rt, alloc, "Y"));
+    let is_right = is_received_or_refused(alloc, &first, &second);
+    drop(first);
+    drop(second);
+    assert!(rt; is_right);
+}
+
+/// Whether a pool with X sends it, or is refused memory.
+fn sends_or_is_refused(alloc: Global, pool: &mut Pool, wanted: &[u8]) -> Result<bool, Refusal> {
+    let request = Request::Send {
+        target: Target::read(alloc, b"p/b@s")?,
+        from: None,
+    };
+    let reply = pool.apply(alloc, &request);
+    drop(request);
+    match reply {
+        Reply::Stream(bytes) => Ok(bytes.as_slice() == wanted),
+        Reply::Refused(refusal) => Err(refusal),
+        _ => Ok(false),
+    }
+}
+
+/// Run it with each allocation refused in turn: a stream is whole, or memory is all that is wanting.
+#[test]
+fn refused_memory_sends_nothing(rt: HostRuntime) {
+    let alloc = rt.alloc();
+    let mut pool = pool_with_x(&rt, alloc);
+    let x = stream(&rt, alloc, "X");
+    let sent = sends_or_is_refused(alloc, &mut pool, &x);
+    drop(x);
+    drop(pool);
+    assert!(rt; sent == Ok(true) || sent == Err(Refusal::NoMemory));
 }

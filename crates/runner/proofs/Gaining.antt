@@ -1,5 +1,5 @@
 -- What a call on a seat that holds views comes to.
-use Rattle.std.proofs.lemmas.Bool.{eqb-true}
+use Rattle.std.proofs.lemmas.Bool.{eqb-true, false≢true}
 use Rattle.std.proofs.lemmas.List.Quantifiers.{position-Some}
 use Rattle.std.proofs.Common.{true, ◌≡◌, ◌≢◌, ◌==◌, ◌∷◌, ◌++◌, ◌⊎◌, ◌<◌, [], ℕ, List, map, length, false, Option, Some, None, refl, sym, ap, subst, ◌∙◌, inl, inr}
 use Rattle.std.specs.Prelude.{IfSome, get_or}
@@ -17,10 +17,11 @@ use Rattle.model.specs.declared.reply.Reply.TheVariants.{Done, Refused, Opened}
 use Rattle.book.specs.Calls.{Ran, IsFullOrNoMemory}
 use Rattle.book.specs.Entered.{is_opened}
 use Rattle.book.specs.Receipts.{Placed, Kept}
+use Rattle.session.specs.ViewCalls.{is_of_views}
 use Rattle.session.specs.Views.{Viewed}
 use Rattle.runner.specs.Beside.{Gains, where_opened, where_done, opened_by, closed_by}
 use Rattle.runner.specs.Sitting.{Sitting}
-use Rattle.runner.proofs.Holding.{none_opened, none_done, any_number, no_position}
+use Rattle.runner.proofs.Holding.{same_held, none_opened, none_done, any_number, no_position}
 
 -- the numbers of views
 abbrev pub numbers : List Viewed → List ℕ
@@ -39,6 +40,21 @@ gains_receipt s t q reply r ran held e = inl (r, ran, held, copied reply r.entry
 pub gains_none : (s t : Sitting) (q : Request) (reply : Option Reply) (refusal : Refusal) → t.seat ≡ s.seat → IsPermutation s.held t.held
     → reply ≡ Some (Refused refusal) → IsFullOrNoMemory refusal → Gains s q reply t
 gains_none s t q reply refusal seat held e why = inr (refusal, seat, held, e, inl why)
+
+-- ---- a request that isn't of views
+
+module _ (seat after : Kept) (vs : List Viewed) (q : Request) (reply : Option Reply) (other : is_of_views q ≡ false) where
+  -- it ran
+  pub gains_called : (r : Placed) → Ran seat q r after → IfSome reply (λ x. x ≡ r.entry.reply) → Gains (record { seat = seat; held = numbers vs }) q reply (record { seat = after; held = numbers vs })
+  gains_called r ran e =
+      gains_receipt (record { seat = seat; held = numbers vs }) (record { seat = after; held = numbers vs }) q reply r ran (same_held q r.entry.reply (numbers vs) other) e
+
+  -- it didn't
+  pub gains_uncalled : (refusal : Refusal) → after ≡ seat → reply ≡ Some (Refused refusal) → IsFullOrNoMemory refusal ⊎ ((refusal ≡ NoView) × (is_of_views q ≡ true))
+      → Gains (record { seat = seat; held = numbers vs }) q reply (record { seat = after; held = numbers vs })
+  gains_uncalled refusal still e (inl why) =
+      gains_none (record { seat = seat; held = numbers vs }) (record { seat = after; held = numbers vs }) q reply refusal still (IsPermutation-refl (numbers vs)) e why
+  gains_uncalled refusal still e (inr (no_view, of_views)) = absurd (false≢true (sym other ∙ of_views))
 
 -- a view that the seat doesn't hold
 pub gains_unheld : (seat : Kept) (vs : List Viewed) (n : ℕ) → None ≡ position (λ (v : Viewed). v.number == n) vs

@@ -62,6 +62,16 @@ fn views_of_a_seat(rt: HostRuntime) {
     assert!(rt; prints(&rt, rt.alloc(), false, script, output, 0));
 }
 
+// An empty snapshot has a stream of 63 bytes, also from an empty source: one record frees everything. Another program worked the bytes out.
+#[test]
+fn streams_of_a_seat(rt: HostRuntime) {
+    let script: &[u8] =
+        b"snapshot p@e\nsend p@e\nreceive p/e@e 5a445354524d3031000000000000000000000001000000010205000000000050fed7b6eeab8585615f1a7bbd4891f18f387321be0d41a66f6966a798ba22bd\nreceive p/e@e 5a445354524d3031000000000000000000000001000000010205000000000050fed7b6eeab8585615f1a7bbd4891f18f387321be0d41a66f6966a798ba22bd\nreceive p/f@f 5a445354524d3031000000000000000000000001000000010205000000000050fed7b6eeab8585615f1a7bbd4891f18f387321be0d41a66f6966a798ba2200\nget referenced p/e\nget guid p/e@e\nbookmark p/e@e p/e#b\nsnapshot p/e@f\nsend -i p/e#b p/e@f\n";
+    let output: &[u8] =
+        b"ok\n5a445354524d3031000000000000000000000001000000010205000000000050fed7b6eeab8585615f1a7bbd4891f18f387321be0d41a66f6966a798ba22bd\nok\nerror 3 Exists\nerror 22 BadStream\n0\n4294967297\nok\nok\n5a445354524d30310000000100000001000000010000000202050000000000014f3b25ae89fc0825ded3b64a25429515f2417cd915e33fc197522d30351e9e\n";
+    assert!(rt; prints(&rt, rt.alloc(), false, script, output, 0));
+}
+
 #[test]
 fn stops_at_the_first_refused_line(rt: HostRuntime) {
     let alloc = rt.alloc();
