@@ -45,12 +45,7 @@ pub(crate) fn ask_limits(
     let forecast = file_system.live().forecast(alloc, updates, meter)?;
     let outlook = kept_outlook_of(file_system, &forecast, present.synced)?;
     ledger.fill(&edit.to);
-    ledger.settle(
-        &edit.to,
-        file_system_name,
-        outlook.here,
-        outlook.referenced,
-    );
+    ledger.settle(&edit.to, file_system_name, outlook.here, outlook.referenced);
     let waiting = present.allocator.counts().waiting;
     let over = ledger.first_over(Space {
         size: present.size,
