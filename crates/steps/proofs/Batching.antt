@@ -16,10 +16,12 @@ use Rattle.base.specs.Surveys.{IsIn, IsSurvey, dead_block}
 use Rattle.zalloc.specs.declared.BlockState.{BlockState}
 use Rattle.zalloc.specs.declared.BlockState.TheVariants.{Free}
 use Rattle.zalloc.specs.States.{is_free}
+use Rattle.batch.specs.declared.update.Update.{Update}
+use Rattle.batch.specs.Updates.{IsBatch}
 use Rattle.tree.specs.declared.change.Changed.{Changed}
 use Rattle.tree.specs.Change.{Shown, IsChange, young_count}
 use Rattle.file_system.specs.Rows.{live_of}
-use Rattle.datasets.specs.Writes.{young_of, HasWritten}
+use Rattle.datasets.specs.Writes.{young_of, AllowsWrite, HasWritten}
 use Rattle.model.specs.World.{World, FileSystem, Live, union_of, reach_of}
 use Rattle.model.specs.State.{State, block_state}
 use Rattle.model.specs.Edits.{with_now, after_change}
@@ -49,14 +51,14 @@ use Rattle.accounts.proofs.Enough.{room_is_enough}
 use Rattle.accounts.proofs.Unlimited.{pool_unlimited}
 use Rattle.steps.specs.Settles.{state_at}
 use Rattle.steps.specs.Edits.{datasets_of, with_datasets}
-use Rattle.steps.proofs.States.{not_free}
+use Rattle.steps.proofs.States.{not_free, state_at-now}
 use Rattle.steps.proofs.Known.{states_of}
 use Rattle.steps.proofs.Room.{room_of_change, fresh_or_old, dropped_reached}
 use Rattle.steps.proofs.Counts.{count-free, len-young}
 use Rattle.steps.proofs.Unlimited.{AreKnown, AreOriginsIn, unlimited_put, same_known, put_known, same_origins, put_origins}
 use Rattle.steps.proofs.Gives.{gives_way, live_there, union_comes}
 use Rattle.steps.proofs.Planning.{with_live_is}
-use Rattle.steps.proofs.Writing.{base_is, young_is}
+use Rattle.steps.proofs.Writing.{union_is, base_is, young_is}
 
 -- a sum within the size, where another one and what is free are the size
 same_test : (a y u n f z : ℕ) → a + y ≡ u + n → f + u ≡ z → nat_le a z ≡ nat_le n (f + y)
@@ -68,6 +70,17 @@ same_test a y u n f z e g = ⊎_elim
 -- the live map of a file system that is there
 pub live_there_is : (ss : FileSystems) (name : Name) (f : FileSystem) → get ss name ≡ Some f → live_of ss name ≡ f.live
 live_there_is ss name f was = ap (λ x. option_map_or (λ (y : FileSystem). y.live) x finmap.empty) was
+
+-- what a table asks before a batch: it may be made
+pub batch_allows : (s : State) → IsPoolState s → (numbers : List BlockState) → HasStates s numbers → (us : List Update) → IsBatch us → AllowsWrite (datasets_of s) us s.last.group numbers
+batch_allows s good numbers known us batch = record {
+  batch = batch;
+  not_after = good.pair.reached.since.later;
+  allocated = λ b h.
+      let k = subst (λ y. Has y b) (sym (reach_is s.now)) (in_union_left o (union_of s.now) s.now.freeing b (subst (λ y. Has y b) (union_is s) h)) in
+      (states_of s numbers known).each b.number (good.pair.reached.small b (in_union_left o (reach_of s.now) (reach_of s.last) b k))
+      ∙ ap Some (state_at-now (reach_of s.now) (reach_of s.last) b k);
+}
 
 module _ (s : State) (good : IsPoolState s) (numbers : List BlockState) (known : HasStates s numbers) (name : Name) (f : FileSystem) (was : get s.now.file_systems name ≡ Some f)
     (ch : Changes) where

@@ -60,3 +60,6 @@ pub mod Sent
 pub mod Batching
 pub mod Beginning
 pub mod Receiving
+pub mod Foreseen
+pub mod Taking
+pub mod Ahead

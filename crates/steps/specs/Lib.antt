@@ -10,3 +10,4 @@ pub mod Ruled
 pub mod Limiting
 pub mod Counted
 pub mod Received
+pub mod Intakes

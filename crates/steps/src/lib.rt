@@ -1,15 +1,18 @@
 //! What the steps of a pool are made of, told of datasets and numbers and not of a pool: what is kept of limits and what they say of a request
-//! before anything is changed (zfsprops(7): quota, refquota, reservation, refreservation, available), and the replies to requests that only
-//! read. Its `proofs/` has the lemmas on each request's step, which the pool's own proofs cite.
+//! before anything is changed (zfsprops(7): quota, refquota, reservation, refreservation, available), the replies to requests that only read, and
+//! what a receive makes of a pool. Its `proofs/` has the lemmas on each request's step, which the pool's own proofs cite.
 #![tactic(auto)]
 
 mod answering;
 mod asking;
 mod counting;
+mod fitting;
+mod intake;
 mod limiting;
 mod naming;
 mod sending;
 
 pub use crate::answering::answer;
 pub use crate::asking::{ask_change, room_asked, with_limit};
+pub use crate::intake::{Intake, Present, intake_of};
 pub use crate::limiting::{Limiting, kept_ledger, over, renew, settle};

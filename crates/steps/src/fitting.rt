@@ -1,0 +1,59 @@
+//! What limits say of a receive.
+ghost use Rattle.std.specs.Prelude.{◌≡◌, ◌⊎◌, ℕ, Bool, true, None, IfErr, OnOk};
+ghost use Rattle.base.specs.declared.refusal.Refusal.{Refusal};
+ghost use Rattle.model.specs.Rule.{first_of};
+ghost use Rattle.model.specs.State.{State};
+ghost use Rattle.model.specs.requests.Change.{limit_row};
+ghost use Rattle.stream.specs.Spelling.{Sending};
+ghost use Rattle.steps.specs.Received.{asked_by_receive};
+ghost use Rattle.steps.specs.Intakes.{IsUnderWay, BreaksLimit};
+
+use crate::intake::Present;
+use base::meter::Meter;
+use base::refusal::Refusal;
+use limits::{Ledger, Space};
+use name::SnapName;
+use outlook::kept_outlook_of;
+use removals::Edit;
+use std::alloc::Global;
+use tree::Update;
+
+/// Asks the limits of the state that a receive which has begun leads to, before a record is in force, where a file system may have one
+/// (zfsprops(7): quota, refquota, reservation; when they are asked is profile). The first limit that would be broken: Quota, else RefQuota, else
+/// NoSpace; or NoMemory where there is none to look ahead. It costs the nodes on the way to the changes, and the number of file systems times
+/// its logarithm; where no file system has a limit, nothing.
+pub(crate) fn ask_limits(
+    alloc: Global,
+    present: Present,
+    edit: &Edit,
+    name: &SnapName,
+    updates: &[Update],
+    meter: &mut Meter,
+) -> Result<(), Refusal>
+    requires { (s : State) × (sent : Sending) × (force : Bool) × IsUnderWay s present name.now sent force edit.now updates.now }
+    ensures ok { (s : State) (sent : Sending) (force : Bool) → IsUnderWay s present.entry name.now sent force edit.now updates.now → present.entry.is_limited ≡ true → OnOk result (first_of (limit_row (asked_by_receive s name.now sent force)) ≡ None) }
+    ensures err { (s : State) (sent : Sending) (force : Bool) → IsUnderWay s present.entry name.now sent force edit.now updates.now → IfErr result (λ e. BreaksLimit s name.now sent force e ⊎ (e ≡ Refusal.NoMemory)) }
+{
+    if !present.is_limited {
+        return Ok(());
+    }
+    let file_system_name = &name.member().file_system;
+    let Some(file_system) = edit.to.find(file_system_name) else {
+        unreachable!()
+    };
+    let mut ledger = Ledger::new(alloc)?;
+    let forecast = file_system.live().forecast(alloc, updates, meter)?;
+    let outlook = kept_outlook_of(file_system, &forecast, present.synced)?;
+    ledger.fill(&edit.to);
+    ledger.settle(&edit.to, file_system_name, outlook.here, outlook.referenced);
+    let waiting = present.allocator.counts().waiting;
+    let over = ledger.first_over(Space {
+        size: present.size,
+        freeing: edit.freeing.len(),
+        waiting: u64::from(waiting) + outlook.waiting,
+    });
+    match over {
+        Some(refusal) => Err(refusal),
+        None => Ok(()),
+    }
+}

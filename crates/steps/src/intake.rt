@@ -1,0 +1,105 @@
+//! What a receive makes of a pool, before anything of the pool is changed (zfs-receive(8)): all that can fail comes here.
+ghost use Rattle.std.specs.Prelude.{ℕ, IfOk, IfErr};
+ghost use Rattle.stream.specs.Spelling.{IsStream};
+ghost use Rattle.model.specs.declared.request.Request.{Request};
+ghost use Rattle.model.specs.declared.reply.Reply.{Reply};
+ghost use Rattle.model.specs.State.{State};
+ghost use Rattle.model.specs.Step.{Step};
+ghost use Rattle.steps.specs.Intakes.{IsUnread, IsPresent, IsIntakeOf};
+
+use crate::fitting::ask_limits;
+use base::failing::Counted;
+use base::meter::{Meter, SegMeter};
+use base::number::Group;
+use base::refusal::Refusal;
+use datasets::Table;
+use destroyer::Freeing;
+use name::SnapName;
+use receives::{begin, finish, updates_of};
+use removals::Edit;
+use std::alloc::Global;
+use stream::{Stream, StreamFault, read_stream};
+use tree::Changed;
+use zalloc::Allocator;
+
+/// What a pool keeps, as a receive looks at it.
+#[derive(Clone, Copy)]
+pub struct Present<'a> {
+    pub table: &'a Table,
+    pub freeing: &'a Freeing,
+    /// The group that the last sync opened.
+    pub synced: Group,
+    pub allocator: &'a Allocator,
+    /// How many blocks the pool has.
+    pub size: u32,
+    /// Whether a file system may have a limit.
+    pub is_limited: bool,
+}
+
+/// What a pool keeps once a receive is done: the datasets and what is to be freed, and the blocks to be released and the numbers to be taken
+/// before.
+#[derive(Drop)]
+pub struct Intake {
+    pub to: Table,
+    pub freeing: Freeing,
+    pub done: Changed,
+}
+
+/// What a receive of these bytes as a snapshot of this name makes of a pool: for every state in which the pool keeps that, the step that is Done
+/// once it is put in place (zfs-receive(8)). The pool stays as it is. BadStream where the bytes are no stream; else what `receives::begin`
+/// refuses; else the first limit that would be broken with all records in force: Quota, else RefQuota, else NoSpace (zfsprops(7): quota,
+/// refquota, reservation; the order is profile); or NoMemory where there is none for it. It costs the bytes, the number of file systems, the
+/// chunks of pieces that are to be freed, the change, and what `receives::begin` and `receives::finish` do; where a file system may have a limit
+/// the change is looked at twice, and the limits cost the number of file systems times its logarithm.
+pub fn intake_of(
+    alloc: Global,
+    present: Present,
+    name: &SnapName,
+    bytes: &[u8],
+    force: bool,
+    meter: &mut Meter,
+    segments: &mut SegMeter,
+) -> Result<Intake, Refusal>
+    requires { (s : State) × IsPresent s present }
+    ensures ok { (s : State) → IsPresent s present.entry → IfOk result (IsIntakeOf s name.now bytes.now force) }
+    ensures err { (s : State) → IsPresent s present.entry → IfErr result (λ e. Step s (Request.Receive name.now bytes.now force) (Reply.Refused e) s) }
+{
+    let stream = stream_in(alloc, bytes)?;
+    let edit = begin(
+        alloc,
+        present.table,
+        present.freeing,
+        name,
+        &stream,
+        force,
+        segments,
+    )?;
+    let updates = updates_of(alloc, stream.records())?;
+    ask_limits(alloc, present, &edit, name, updates.as_slice(), meter)?;
+    let Edit { mut to, freeing } = edit;
+    let done = finish(
+        alloc,
+        &mut to,
+        name,
+        stream.target(),
+        updates.as_slice(),
+        present.synced,
+        present.allocator,
+        meter,
+        segments,
+    )?;
+    Ok(Intake { to, freeing, done })
+}
+
+// The stream that these bytes are. BadStream where they are none; else NoMemory where there is none for its records (zfs-receive(8); the bytes are
+// profile). It costs their number.
+fn stream_in(alloc: Global, bytes: &[u8]) -> Result<Stream, Refusal>
+    ensures ok { IfOk result (IsStream bytes.now) }
+    ensures err { IfErr result (IsUnread bytes.now) }
+{
+    match read_stream(alloc, &mut Counted::new(bytes)) {
+        Ok(stream) => Ok(stream),
+        Err(StreamFault::Bad) => Err(Refusal::BadStream),
+        Err(_) => Err(Refusal::NoMemory),
+    }
+}
