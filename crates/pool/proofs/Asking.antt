@@ -1,5 +1,5 @@
 -- What each request asks of a tree, from what its update tells.
-use Rattle.std.proofs.Common.{◌≡◌, ◌≤◌, ◌↔◌, ℕ, List, Result, Err, [], ◌∷◌, refl}
+use Rattle.std.proofs.Common.{◌≡◌, ◌≤◌, ◌↔◌, ℕ, List, Result, Err, [], ◌∷◌, None, refl}
 use Rattle.std.specs.Prelude.{IfOk, IfErr}
 use Rattle.base.specs.Key.{leaf_index}
 use Rattle.base.specs.Rewrite.{writes_leaf, punches_leaf, frees_object}
@@ -20,7 +20,7 @@ module _ (target : Target) (object : ℕ) (r : Result Update Refusal) (only : If
   asks_write block bytes is bad = record {
     changes = writes_leaf (leaf_index object block) bytes;
     in_range = is_block object block;
-    rule = refl;
+    rule = (None, refl, refl);
     is = is;
     bad_key = block_tells object block bad;
     only = only;
@@ -31,7 +31,7 @@ module _ (target : Target) (object : ℕ) (r : Result Update Refusal) (only : If
   asks_punch block is bad = record {
     changes = punches_leaf (leaf_index object block);
     in_range = is_block object block;
-    rule = refl;
+    rule = (None, refl, refl);
     is = is;
     bad_key = block_tells object block bad;
     only = only;
@@ -41,7 +41,7 @@ module _ (target : Target) (object : ℕ) (r : Result Update Refusal) (only : If
   asks_free is bad = record {
     changes = frees_object object;
     in_range = is_object object;
-    rule = refl;
+    rule = (None, refl, refl);
     is = is;
     bad_key = object_tells object bad;
     only = only;

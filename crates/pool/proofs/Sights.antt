@@ -1,6 +1,6 @@
 -- Views opened and closed: what is planned can be done, and is a step.
 use Rattle.std.proofs.Common.{◌≡◌, ◌+◌, ◌<◌, ◌||◌, ℕ, Bool, true, false, List, Option, Some, None, Result, Ok, Err, refl, sym, ap, subst, ◌∙◌}
-use Rattle.std.specs.Prelude.{nat_lt, IsSome, IfErr, IfSome, IfNone}
+use Rattle.std.specs.Prelude.{nat_lt, IfErr, IfSome, IfNone}
 use Rattle.std.specs.Option.{option_map, is_some}
 use Rattle.std.specs.FinMap.{get, len, remove}
 use Rattle.base.specs.declared.refusal.Refusal.{Refusal}
@@ -37,11 +37,7 @@ use Rattle.pool.specs.Shown.{Shown, shown}
 
 -- what is told of the one that was found
 pub told_of : {A : Type 0} (P : A → Type 0) (x : Option A) (a : A) → Some a ≡ x → IfSome x P → P a
-told_of P x a is told = subst (λ (y : Option A). IfSome y P) (sym is) told
-
--- it was found
-pub is_told : {A : Type 0} (x : Option A) (a : A) → Some a ≡ x → IsSome x
-is_told x a is = subst IsSome is tt
+told_of {A = A} P x a is told = subst (λ (y : Option A). IfSome y P) (sym is) told
 
 module _ (seen : Shown) (s : State) (numbers : List BlockState) (view : shown s numbers ≡ seen) (sound : IsSound s numbers) where
   at : (q : Request) (r : Reply) → Step s q r s → Step seen.state q r seen.state

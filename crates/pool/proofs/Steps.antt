@@ -121,12 +121,12 @@ module _ (seen : Shown) (s : State) (numbers : List BlockState) (view : shown s 
     -- those that were refused
     pub snapshot_refused : (why : Refusal) → (first_of (taking_row s.now s.next_guid names (snapshot_names s.now names recursive)) ≡ Some why) ⊎ (why ≡ NoMemory)
         → Step seen.state (Snapshot names recursive) (Refused why) seen.state
-    snapshot_refused why which = at _ _ (snaps.snapshot_refused s (Snapshot names recursive) names recursive refl why which)
+    snapshot_refused why which = at _ _ (snaps.snapshot_refused s (Snapshot names recursive) names recursive (None, refl, refl) why which)
 
     module _ (none : first_of (taking_row s.now s.next_guid names (snapshot_names s.now names recursive)) ≡ None) (count : ℕ) (counted : count ≡ length (snapshot_names s.now names recursive)) where
       -- no name at all
       pub snapshot_nothing : count ≡ 0 → Step seen.state (Snapshot names recursive) Done seen.state
-      snapshot_nothing e = at _ _ (snaps.snapshot_nothing_within s (Snapshot names recursive) names recursive refl none sound.steady (ap (λ n. nat_lt 0 n) (sym counted ∙ e)))
+      snapshot_nothing e = at _ _ (snaps.snapshot_nothing_within s (Snapshot names recursive) names recursive (None, refl, refl) none sound.steady (ap (λ n. nat_lt 0 n) (sym counted ∙ e)))
 
       module _ (some : 0 < count) (to : Datasets) (is : to ≡ after_taking (datasets_of s) (guid_by s.pool s.next_guid) (snapshot_names s.now names recursive)) where
         longer : nat_lt 0 (length all) ≡ true
@@ -144,7 +144,7 @@ module _ (seen : Shown) (s : State) (numbers : List BlockState) (view : shown s 
 
         -- a limit would be broken
         pub snapshot_over : (why : Refusal) → first_of (limit_row (asked_by_snapshot s names recursive)) ≡ Some why → Step seen.state (Snapshot names recursive) (Refused why) seen.state
-        snapshot_over why over = at _ _ (snaps.snapshot_refused_by_limit s (Snapshot names recursive) names recursive refl none longer why over)
+        snapshot_over why over = at _ _ (snaps.snapshot_refused_by_limit s (Snapshot names recursive) names recursive (None, refl, refl) none longer why over)
 
         pub snapshot_stays : StaysUnlimited seen.state to
         snapshot_stays = subst (λ (x : Shown). StaysUnlimited x.state to) view (subst (StaysUnlimited s) (sym taken_is) (snaps.snapshot_unlimited s names recursive))
@@ -161,7 +161,7 @@ module _ (seen : Shown) (s : State) (numbers : List BlockState) (view : shown s 
         snapshot_done fits = subst (λ (x : Shown). Step x.state (Snapshot names recursive) Done (put x.state to count)) view
             (subst (λ n. Step s (Snapshot names recursive) Done (put s to n)) (sym counted)
             (subst (λ t. Step s (Snapshot names recursive) Done (put s t (length all))) (sym taken_is)
-            (snaps.snapshot_done_within s (Snapshot names recursive) names recursive refl none longer sound.steady fits)))
+            (snaps.snapshot_done_within s (Snapshot names recursive) names recursive (None, refl, refl) none longer sound.steady fits)))
 
   -- ---- a sync
 

@@ -21,7 +21,6 @@ use base::number::{Dead, Group};
 use base::refusal::Refusal;
 use datasets::Table;
 use destroyer::{Freeing, Slice};
-use steps::{Limiting, renew, settle};
 use lookups::live_name;
 use model::reply::Reply;
 use model::request::Request;
@@ -35,6 +34,7 @@ use std::alloc::Global;
 use std::marker::Model;
 use std::slice::from_ref;
 use std::snapshot::Snapshot;
+use steps::{Limiting, renew, settle};
 use toll::Toll;
 use tree::{Changed, Update, take_all};
 use views::Views;
@@ -189,8 +189,8 @@ impl Pool {
     /// costs its nodes, a snapshot costs its names and a 32nd of the snapshots of its file system, a clone costs its name, and a promote
     /// the logarithm of the number of each file system's snapshots, the snapshots of the two with the segments of their dead lists, and
     /// for each snapshot that changes sides the logarithm of those numbers, but no block. What only reads
-    /// costs what `steps::answer` says. To open a view costs what its name does; to close one costs the number of open views and of file
-    /// systems, and where its snapshot goes with it what to destroy that does. Nothing else grows.
+    /// costs what `steps::answer` says. To open a view costs what `sources::sources_of` does; to close one costs the number of open views and
+    /// of file systems, and where its snapshot goes with it what to destroy that does. Nothing else grows.
     pub fn prepare(&mut self, alloc: Global, request: &Request) -> (Reply, Ready)
         ensures same { self.new ≡ self.old }
         ensures from { result.1.from ≡ self.new }

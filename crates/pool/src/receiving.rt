@@ -25,14 +25,14 @@ impl Pool {
         ensures can { CanDo self.old.state result.1 }
         ensures step { Step self.old.state (Request.Receive snapshot.now bytes.now force) result.0 (state_after_plan self.old.state result.1) }
     {
-        let _size = self.size;
+        let is_limited = self.is_limited();
         let present = Present {
             table: &self.present,
             freeing: &self.freeing,
             synced: self.last.group(),
             allocator: &self.allocator,
             size: self.size,
-            is_limited: self.limiting.is_some(),
+            is_limited,
         };
         let intake = intake_of(
             alloc,

@@ -23,11 +23,7 @@ impl Pool {
     // The snapshot that the next view shows, where it is opened of this name, and what it shows. NotSnapshot where the name isn't one of a
     // snapshot, else NoDataset where there is no such snapshot, else Deferred where its destroy is deferred, else TooMany where no more
     // views can be opened; else NoMemory where there is none for it. It costs what `sources::sources_of` does.
-    fn next_view_of(
-        &self,
-        alloc: Global,
-        target: &Target,
-    ) -> Result<(SnapshotId, Sight), Refusal>
+    fn next_view_of(&self, alloc: Global, target: &Target) -> Result<(SnapshotId, Sight), Refusal>
         ensures can { IfOk result (λ p. CanOpen self.now.state (snap_id p.0)) }
         ensures ok { IfOk result (λ p. Step self.now.state (Request.OpenView target.now) (Reply.Opened self.now.state.next_view p.1) (viewing self.now.state (snap_id p.0))) }
         ensures err { IfErr result (λ e. Step self.now.state (Request.OpenView target.now) (Reply.Refused e) self.now.state) }
