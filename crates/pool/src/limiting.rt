@@ -1,6 +1,6 @@
 //! The limits of file systems: what is kept of them, and what they say of a request.
 ghost use Rattle.std.specs.Prelude.{◌≡◌, ◌⊎◌, ◌<◌, ◌^◌, [], ◌∷◌, ℕ, List, false, None, Some, IsSome, IfOk, IfErr, OnOk, OnErr};
-ghost use Rattle.std.specs.Option.{option_copied};
+ghost use Rattle.std.specs.Option.{option_copied, option_map};
 ghost use Rattle.std.specs.FinMap.{get};
 ghost use Rattle.std.specs.FinSet as set;
 ghost use Rattle.base.specs.declared.refusal.Refusal.{Refusal};
@@ -18,6 +18,7 @@ ghost use Rattle.model.specs.requests.Change.{limit_row};
 ghost use Rattle.world.specs.Tables.{Datasets, world_of};
 ghost use Rattle.accounts.specs.Limits.{IsUnlimited};
 ghost use Rattle.datasets.specs.Limits.{with_limit_of};
+ghost use Rattle.file_systems.specs.Clones.{row_in};
 ghost use Rattle.steps.specs.Edits.{datasets_of, with_datasets};
 ghost use Rattle.limits.specs.Ledgers.{IsSpaceOf, ledger_of};
 ghost use Rattle.pool.specs.Limiting.{IsAccounted, IsOver, IsNoChange, MayChange, Foretells, CanSettle, ledger_in};
@@ -27,6 +28,7 @@ use crate::pool::{Plan, Pool};
 use base::limit::Blocks;
 use base::refusal::Refusal;
 use datasets::Table;
+use file_systems::FileSystem;
 use limits::{Ledger, Space};
 use model::limits::Limit;
 use model::reply::Reply;
@@ -88,6 +90,22 @@ pub(crate) fn kept_ledger(limiting: &Option<Limiting>) -> Option<&Ledger>
 {
     match limiting {
         Some(limiting) => Some(&limiting.ledger),
+        None => None,
+    }
+}
+
+// The file system of this name, where a ledger is kept, which then keeps where it stands; or none. It costs the logarithm of the number of
+// file systems.
+fn found<'a>(
+    limiting: &mut Option<Limiting>,
+    table: &'a Table,
+    name: &DsName,
+) -> Option<&'a FileSystem>
+    ensures same { ledger_in limiting.new ≡ ledger_in limiting.old }
+    ensures found { IsSome limiting.new → option_copied result ≡ option_map (λ f. row_in table.now.file_systems (name.now, f)) (get table.now.file_systems name.now) }
+{
+    match limiting {
+        Some(limiting) => limiting.ledger.find(table, name),
         None => None,
     }
 }
@@ -174,10 +192,11 @@ impl Pool {
         ensures err { IfErr result (IsNoChange self.old.state name.now (changes_of (update.now ∷ []))) }
     {
         let mut space = self.space(self.freeing.len());
+        let found = found(&mut self.limiting, &self.present, name);
         let Some(limiting) = &self.limiting else {
             return Ok(None);
         };
-        let Some(file_system) = self.present.find(name) else {
+        let Some(file_system) = found else {
             return Err(Refusal::NoDataset);
         };
         let forecast = file_system
