@@ -63,10 +63,7 @@ impl Limiting {
         ensures same { self.new.ledger ≡ self.old.ledger }
         ensures over { (asked : State) → asked.now.file_systems ≡ to.now.file_systems → IsSpaceOf asked space → result ≡ first_of (limit_row asked) }
     {
-        // It tells of the file systems what a table keeps.
-        let _count = to.len();
-        self.asked.fill(to);
-        self.asked.first_over(space)
+        refilled(&mut self.asked, to, space)
     }
 
     // The ledger becomes that of these datasets, as the function `settle` says.
@@ -82,6 +79,19 @@ impl Limiting {
             None => self.ledger.fill(table),
         }
     }
+}
+
+// The ledger becomes that of these datasets; and which limit is broken where a pool has them and so many other blocks, if one is. It costs
+// the number of file systems times its logarithm.
+fn refilled(ledger: &mut Ledger, to: &Table, space: Space) -> Option<Refusal>
+    requires few { set.len (union_of (world_of to.now)) < 2 ^ 32 }
+    ensures ledger { ledger.new ≡ ledger_of (world_of to.now) }
+    ensures over { (asked : State) → asked.now.file_systems ≡ to.now.file_systems → IsSpaceOf asked space → result ≡ first_of (limit_row asked) }
+{
+    // It tells of the file systems what a table keeps.
+    let _count = to.len();
+    ledger.fill(to);
+    ledger.first_over(space)
 }
 
 // The ledger, where one is kept. Constant time.
@@ -236,7 +246,7 @@ impl Pool {
             .room(&self.present, name, self.space(self.freeing.len()))
     }
 
-    // The datasets with a limit of a file system set, and room for what is kept of limits. NoDataset where there is no such file system, then,
+    // The datasets with a limit of a file system set, and what is kept of limits then. NoDataset where there is no such file system, then,
     // where an amount is given, the first limit that would be broken; else NoMemory where there is none for them. It costs a count for each
     // file system, and their number times its logarithm.
     fn with_limit(
@@ -247,6 +257,7 @@ impl Pool {
         amount: Option<Blocks>,
     ) -> Result<(Table, Limiting), Refusal>
         ensures ok { IfOk result (λ p. p.0 ≡ with_limit_of (datasets_of self.now.state) name.now limit amount) }
+        ensures ledger { IfOk result (λ p. p.1.ledger ≡ ledger_of (world_of p.0)) }
         ensures there { OnOk result (IsSome (get self.now.state.now.file_systems name.now)) }
         ensures fits { OnOk result (IsSome amount → first_of (limit_row (with_datasets self.now.state (with_limit_of (datasets_of self.now.state) name.now limit amount))) ≡ None) }
         ensures err { IfErr result (λ e. Step self.now.state (Request.Set name.now limit amount) (Reply.Refused e) self.now.state) }
@@ -256,10 +267,11 @@ impl Pool {
         let mut to = self.present.copy()?;
         to.set_limit(alloc, name, limit, amount)?;
         if amount.is_none() {
+            limiting.ledger.fill(&to);
             return Ok((to, limiting));
         }
         let space = self.space(self.freeing.len());
-        match limiting.over(&to, space) {
+        match refilled(&mut limiting.ledger, &to, space) {
             Some(refusal) => Err(refusal),
             None => Ok((to, limiting)),
         }

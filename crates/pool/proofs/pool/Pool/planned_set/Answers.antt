@@ -3,8 +3,10 @@ use Rattle.pool.proofs.Asked.{set_can, set_done}
 use Rattle.pool.proofs.pool.Pool.planned_set.Goals as goal
 
 pub returns-in-Ok-clause-can : goal.returns-in-Ok-clause-can
-returns-in-Ok-clause-can c =
-    set_can c.args.self.now (state_of c.self.inside) c.self.inside.allocator c.self.view_is c.self.invariant.0 c.args.name.now c.args.limit c.args.amount c.in-Ok.ensures.there c.in-Ok.ensures.fits c.in-Ok.to c.in-Ok.ensures.ok
+returns-in-Ok-clause-can c = (
+  set_can c.args.self.now (state_of c.self.inside) c.self.inside.allocator c.self.view_is c.self.invariant.0 c.args.name.now c.args.limit c.args.amount c.in-Ok.ensures.there c.in-Ok.ensures.fits c.in-Ok.to c.in-Ok.ensures.ok,
+  c.in-Ok.ensures.ledger,
+)
 
 pub returns-in-Ok-clause-step : goal.returns-in-Ok-clause-step
 returns-in-Ok-clause-step c =

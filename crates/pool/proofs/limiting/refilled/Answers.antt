@@ -2,7 +2,7 @@ use Rattle.std.proofs.Common.{sym, subst, ◌∙◌}
 use Rattle.model.specs.Hierarchy.{IsHierarchy}
 use Rattle.world.specs.Tables.{world_of}
 use Rattle.pool.proofs.Foretold.{ledger_alike}
-use Rattle.pool.proofs.limiting.Limiting.over.Goals as goal
+use Rattle.pool.proofs.limiting.refilled.Goals as goal
 
 pub returns-clause-over : goal.returns-clause-over
 returns-clause-over c asked same space =
