@@ -1,22 +1,19 @@
 -- What datasets have is counted by the pool: how much it can be, and what is left of the pool beside it.
-use Rattle.std.proofs.Common.{◌≡◌, ◌≤◌, ◌<◌, ◌^◌, ℕ, List, [], ◌∷◌, map, Some, refl, sym, ap, subst, ◌∙◌, inl, inr, ⊎_elim, arith}
+use Rattle.std.proofs.Common.{◌≡◌, ◌≤◌, ◌<◌, ◌^◌, ℕ, List, Some, refl, sym, ap, subst, ◌∙◌, arith}
 use Rattle.std.specs.Prelude.{is_some, count_by}
 use Rattle.std.specs.FinMap.{get}
 use Rattle.std.specs.FinSet as set
-use Rattle.base.specs.Map.{Map, BlockSet, blocks}
-use Rattle.base.specs.Surveys.{IsIn}
 use Rattle.zalloc.specs.declared.BlockState.{BlockState}
 use Rattle.zalloc.specs.States.{is_free}
-use Rattle.model.specs.World.{World, FileSystem, Snap, SnapId, maps_of, blocks_of_all, union_of, reach_of}
-use Rattle.model.specs.Sums.{size_without, would_free, room_of, allocated_of, free_of, waiting_count}
+use Rattle.model.specs.World.{FileSystem, union_of, reach_of}
+use Rattle.model.specs.Sums.{room_of, allocated_of, free_of, waiting_count}
 use Rattle.model.specs.State.{State, waiting_of}
 use Rattle.model.specs.Numbers.{HasStates}
-use Rattle.world.specs.Sets.{Has, IsSubset}
+use Rattle.world.specs.Sets.{Has}
 use Rattle.world.specs.Blocks.{block_order as o}
 use Rattle.world.specs.Tables.{world_of}
-use Rattle.world.proofs.Bridge.{in_union_of}
 use Rattle.world.proofs.Kept.{reach_is, union-fields}
-use Rattle.world.proofs.SetCounts.{no-empty, in_union_left, from_union, len-difference, len-subset, len-union}
+use Rattle.world.proofs.SetCounts.{in_union_left, len-subset, len-union}
 use Rattle.accounts.proofs.Rooms.{room_free}
 use Rattle.steps.specs.Edits.{datasets_of}
 use Rattle.accounts.specs.Limits.{IsUnlimited}

@@ -16,7 +16,7 @@ use Rattle.model.specs.State.{State}
 use Rattle.model.specs.Edits.{with_now, after_change}
 use Rattle.model.specs.Numbers.{HasStates}
 use Rattle.model.specs.Rule.{Choice}
-use Rattle.model.specs.Sums.{used_here, reservation_of, referenced_of}
+use Rattle.model.specs.Sums.{referenced_of}
 use Rattle.world.specs.Shapes.{Name, name_order}
 use Rattle.world.specs.Tables.{Datasets, world_of}
 use Rattle.world.specs.Worlds.{IsPoolState}
@@ -24,7 +24,6 @@ use Rattle.world.proofs.Maps.{same_value, key_cases}
 use Rattle.accounts.specs.Levels.{IsSameHere}
 use Rattle.accounts.proofs.AskedChanges.{after_is, live_there, others}
 use Rattle.accounts.proofs.AskedSteps.{change_same_here, change_same_size}
-use Rattle.file_system.specs.Rows.{live_of}
 use Rattle.datasets.specs.Writes.{young_of, HasWritten}
 use Rattle.steps.specs.Asked.{asked_by_change}
 use Rattle.steps.specs.Edits.{datasets_of, with_datasets}
