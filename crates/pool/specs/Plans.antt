@@ -1,6 +1,8 @@
 -- What a prepared step will do.
 use Rattle.std.specs.Prelude.{◌≡◌, ◌+◌, ◌≤◌, false, map}
 use Rattle.base.specs.Surveys.{dead_block}
+use Rattle.limits.specs.Ledgers.{ledger_of}
+use Rattle.world.specs.Tables.{world_of}
 use Rattle.model.specs.State.{State}
 use Rattle.model.specs.Targets.{guid_limit}
 use Rattle.model.specs.World.{SnapId}
@@ -37,7 +39,7 @@ CanDo s Nothing = Unit {0}
 CanDo s (Change to done) = CanChange s to (map dead_block done.released.items) (map (λ n. n.0) done.taken.items) × StaysUnlimited s to
 CanDo s (Receive to freeing done) = CanReceive s to freeing (map dead_block done.released.items) (map (λ n. n.0) done.taken.items) × StaysUnlimited s to
 CanDo s (Put to guids) = (CanPut s to guids × (s.next_guid + guids ≤ guid_limit + 1)) × StaysUnlimited s to
-CanDo s (Limit to limiting) = CanPut s to 0
+CanDo s (Limit to limiting) = CanPut s to 0 × (limiting ≡ ledger_of (world_of to))
 CanDo s (Lose to freeing) = (CanLose s to × (freeing ≡ (lose s to).now.freeing)) × StaysUnlimited s to
 CanDo s (Free rest taken) = CanFree s rest (map dead_block taken.items)
 CanDo s (Sync last freeing) = CanSync s last × (freeing ≡ s.now.freeing)

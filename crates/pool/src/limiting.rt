@@ -73,7 +73,7 @@ impl Pool {
     {
         let space = self.space(self.freeing.len());
         ask_change(
-            &self.limiting,
+            &mut self.limiting,
             alloc,
             &self.present,
             space,

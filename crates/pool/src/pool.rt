@@ -450,7 +450,6 @@ impl Pool {
             Plan::Limit { to, limiting } => {
                 self.present = to;
                 self.limiting = Some(limiting);
-                renew(&mut self.limiting, &self.present);
             }
             Plan::Lose { to, freeing } => {
                 self.present = to;

@@ -1,5 +1,6 @@
 //! What a line asks for.
-ghost use Rattle.std.specs.Prelude.{◌≡◌, ◌≤◌, ◌^◌, ℕ, List, ◌*◌, Some, None, IfSome, length, replicate};
+ghost use Rattle.std.specs.Prelude.{◌≡◌, ◌≤◌, ◌^◌, ℕ, List, ◌*◌, false, Some, None, IfSome, codes, length, replicate};
+ghost use Rattle.std.specs.Str.{bytes_eq};
 ghost use Rattle.std.specs.Bool.{OnTrue, OnFalse};
 ghost use Rattle.std.specs.Option.{option_copied};
 ghost use Rattle.hex.specs.Hex.{decode_of};
@@ -59,7 +60,29 @@ fn command_at(alloc: Global, command: &[u8], operands: Option<&[u8]>) -> Result<
         read(alloc, operands)
     } else if command == b"get".as_slice() {
         get(alloc, operands)
-    } else if command == b"pget".as_slice() {
+    } else {
+        other_command_at(alloc, command, operands)
+    }
+}
+
+// The same of another command than those. They stand apart, since each call takes room on the stack, which is filled first.
+#[inline(never)]
+#[tactic(auto, unfolding(crate::specs::Meaning::command_of))]
+fn other_command_at(
+    alloc: Global,
+    command: &[u8],
+    operands: Option<&[u8]>,
+) -> Result<Request, Refusal>
+    requires create { bytes_eq command.now (codes "create") ≡ false }
+    requires write { bytes_eq command.now (codes "write") ≡ false }
+    requires punch { bytes_eq command.now (codes "punch") ≡ false }
+    requires rmobj { bytes_eq command.now (codes "rmobj") ≡ false }
+    requires snapshot { bytes_eq command.now (codes "snapshot") ≡ false }
+    requires read { bytes_eq command.now (codes "read") ≡ false }
+    requires get { bytes_eq command.now (codes "get") ≡ false }
+    ensures { Means result (command_of command.now (words_left (option_copied operands.entry))) }
+{
+    if command == b"pget".as_slice() {
         pool_get(operands)
     } else if command == b"list".as_slice() {
         list(operands)

@@ -1,9 +1,12 @@
 //! Replies as lines.
 ghost use Rattle.std.specs.Prelude.{◌++◌, ◌∷◌, ◌≤◌, [], Some, OnOk, length};
+ghost use Rattle.std.specs.Fmt.{decimal};
 ghost use Rattle.std.specs.Io.KnownBytes.{Appends};
+ghost use Rattle.model.specs.declared.reply.Reply.{Reply};
 ghost use Rattle.script.specs.Text.{line_of, data_text, truth_text, named_text, names_text};
 ghost use Rattle.hex.specs.Hex.{encode_lower};
 
+use base::refusal::Refusal;
 use base::text::Bytes;
 use model::reply::{Reply, Value};
 use std::io;
@@ -15,40 +18,40 @@ pub(crate) fn write_reply<W: Write>(writer: &mut W, reply: &Reply) -> io::Result
 {
     match reply {
         Reply::Done => writer.write_all(b"ok\n"),
-        Reply::Refused(refusal) => {
-            let (number, name) = (refusal.number(), refusal.name());
-            writeln!(writer, "error {number} {name}")
-        }
+        Reply::Refused(refusal) => write_refusal(writer, *refusal),
         Reply::Data(None) => writer.write_all(b"hole\n"),
         Reply::Data(Some(bytes)) => write_block(writer, bytes),
-        Reply::Value(Value::Size(size)) => {
-            let size = *size;
-            writeln!(writer, "{size}")
-        }
-        Reply::Value(Value::Number(number)) => {
-            let number = *number;
-            writeln!(writer, "{number}")
-        }
+        Reply::Value(Value::Size(size)) => write_number(writer, *size),
+        Reply::Value(Value::Number(number)) => write_number(writer, *number),
         Reply::Value(Value::Named(text)) => write_text(writer, text),
         Reply::Value(Value::Truth(is_so)) => write_truth(writer, *is_so),
-        Reply::Group(group) => {
-            let group = *group;
-            writeln!(writer, "{group}")
-        }
-        Reply::Opened(view, _) => {
-            let view = *view;
-            writeln!(writer, "{view}")
-        }
-        Reply::Count(count) => {
-            let count = *count;
-            writeln!(writer, "{count}")
-        }
+        Reply::Group(group) => write_number(writer, *group),
+        Reply::Opened(view, _) => write_number(writer, *view),
+        Reply::Count(count) => write_number(writer, *count),
         Reply::Names(names) => write_names(writer, names.as_slice()),
         Reply::Value(Value::NotApplicable) => writer.write_all(b"-\n"),
         Reply::Stream(bytes) => write_digits(writer, bytes.as_slice()),
     }
 }
 
+// A number's line. It stands apart, since what prints it takes room on the stack, which is filled first.
+#[inline(never)]
+fn write_number<W: Write>(writer: &mut W, number: u64) -> io::Result<()>
+    ensures { OnOk result (Appends (W.contents writer.old) (W.contents writer.new) (decimal number ++ 10 ∷ [])) }
+{
+    writeln!(writer, "{number}")
+}
+
+// A refusal's line, which stands apart too.
+#[inline(never)]
+fn write_refusal<W: Write>(writer: &mut W, refusal: Refusal) -> io::Result<()>
+    ensures { OnOk result (Appends (W.contents writer.old) (W.contents writer.new) (line_of (Reply.Refused refusal))) }
+{
+    let (number, name) = (refusal.number(), refusal.name());
+    writeln!(writer, "error {number} {name}")
+}
+
+#[inline(never)]
 fn write_block<W: Write>(writer: &mut W, bytes: &[u8; 512]) -> io::Result<()>
     ensures { OnOk result (Appends (W.contents writer.old) (W.contents writer.new) (data_text (Some bytes.now) ++ 10 ∷ [])) }
 {

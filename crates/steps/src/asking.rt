@@ -12,12 +12,14 @@ ghost use Rattle.model.specs.State.{State};
 ghost use Rattle.model.specs.Step.{Step};
 ghost use Rattle.model.specs.Sums.{free_of, room_of};
 ghost use Rattle.model.specs.requests.Change.{limit_row};
+ghost use Rattle.world.specs.Tables.{world_of};
 ghost use Rattle.datasets.specs.Limits.{with_limit_of};
+ghost use Rattle.limits.specs.Ledgers.{ledger_of};
 ghost use Rattle.steps.specs.Asked.{asked_by_set};
 ghost use Rattle.lookups.specs.Accounted.{IsAccounted};
 ghost use Rattle.steps.specs.Limiting.{IsStateWith, IsNoChange, MayChange, Foretells};
 
-use crate::limiting::Limiting;
+use crate::limiting::{Limiting, found, refilled};
 use base::limit::Blocks;
 use base::meter::Meter;
 use base::number::Group;
@@ -38,7 +40,7 @@ use tree::Update;
 /// there is no such file system; else NoMemory where there is none to look ahead. It costs the nodes on the way to the changes, and for each
 /// level of the name the logarithm of the number of file systems; where no file system has a limit, nothing.
 pub fn ask_change(
-    limiting: &Option<Limiting>,
+    limiting: &mut Option<Limiting>,
     alloc: Global,
     table: &Table,
     space: Space,
@@ -48,16 +50,18 @@ pub fn ask_change(
     meter: &mut Meter,
 ) -> Result<Option<Outlook>, Refusal>
     requires batch { IsBatch (update.now ∷ []) }
-    requires own { IsAccounted table.now limiting.now }
+    requires own { IsAccounted table.now limiting.old }
     requires state { (s : State) × IsStateWith s table.now space × (synced.0 ≡ s.last.group) }
+    ensures same { limiting.new ≡ limiting.old }
     ensures ok { (s : State) → IsStateWith s table.now space → synced.0 ≡ s.last.group → OnOk result (MayChange s name.now (changes_of (update.now ∷ []))) }
     ensures foretold { (s : State) → IsStateWith s table.now space → synced.0 ≡ s.last.group → IfOk result (Foretells s name.now (changes_of (update.now ∷ []))) }
     ensures err { (s : State) → IsStateWith s table.now space → synced.0 ≡ s.last.group → IfErr result (IsNoChange s name.now (changes_of (update.now ∷ []))) }
 {
-    let Some(limiting) = limiting else {
+    let found = found(limiting, table, name);
+    let Some(limiting) = &*limiting else {
         return Ok(None);
     };
-    let Some(file_system) = table.find(name) else {
+    let Some(file_system) = found else {
         return Err(Refusal::NoDataset);
     };
     let forecast = file_system.live().forecast(alloc, from_ref(update), meter)?;
@@ -103,7 +107,7 @@ pub fn room_asked(
     limiting.ledger.room(table, name, space)
 }
 
-/// The datasets with a limit of a file system set, and room for what is kept of limits, where a pool has these datasets and this beside them
+/// The datasets with a limit of a file system set, and what is kept of limits then, where a pool has these datasets and this beside them
 /// (zfs-set(8)). NoDataset where there is no such file system, then, where an amount is given, the first limit that would be broken; else
 /// NoMemory where there is none for them. It costs a count for each file system, and their number times its logarithm.
 pub fn with_limit(
@@ -116,6 +120,7 @@ pub fn with_limit(
 ) -> Result<(Table, Limiting), Refusal>
     requires state { (s : State) × IsStateWith s table.now space }
     ensures ok { IfOk result (λ p. p.0 ≡ with_limit_of table.now name.now limit amount) }
+    ensures ledger { IfOk result (λ p. p.1 ≡ ledger_of (world_of p.0)) }
     ensures there { OnOk result (IsSome (get table.now.file_systems name.now)) }
     ensures fits { (s : State) → IsStateWith s table.now space → OnOk result (IsSome amount → first_of (limit_row (asked_by_set s name.now limit amount)) ≡ None) }
     ensures err { (s : State) → IsStateWith s table.now space → IfErr result (λ e. Step s (Request.Set name.now limit amount) (Reply.Refused e) s) }
@@ -124,9 +129,10 @@ pub fn with_limit(
     let mut to = table.copy()?;
     to.set_limit(alloc, name, limit, amount)?;
     if amount.is_none() {
+        limiting.ledger.fill(&to);
         return Ok((to, limiting));
     }
-    match limiting.over(&to, space) {
+    match refilled(&mut limiting.ledger, &to, space) {
         Some(refusal) => Err(refusal),
         None => Ok((to, limiting)),
     }

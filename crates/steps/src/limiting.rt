@@ -1,6 +1,7 @@
 //! The ledger of a pool's file systems where it is kept, and what it says of other datasets.
-ghost use Rattle.std.specs.Prelude.{◌≡◌, ◌<◌, ◌^◌, None, Some, IfErr};
-ghost use Rattle.std.specs.Option.{option_copied};
+ghost use Rattle.std.specs.Prelude.{◌≡◌, ◌<◌, ◌^◌, None, Some, IsSome, IfErr};
+ghost use Rattle.std.specs.FinMap.{get};
+ghost use Rattle.std.specs.Option.{option_copied, option_map};
 ghost use Rattle.std.specs.FinSet as set;
 ghost use Rattle.base.specs.declared.refusal.Refusal.{Refusal};
 ghost use Rattle.model.specs.Rule.{first_of};
@@ -9,12 +10,14 @@ ghost use Rattle.model.specs.World.{union_of};
 ghost use Rattle.model.specs.requests.Change.{limit_row};
 ghost use Rattle.world.specs.Tables.{Datasets, world_of};
 ghost use Rattle.accounts.specs.Limits.{IsUnlimited};
+ghost use Rattle.file_systems.specs.Clones.{row_in};
 ghost use Rattle.limits.specs.Ledgers.{IsSpaceOf, ledger_of};
 ghost use Rattle.lookups.specs.Accounted.{IsAccounted};
 ghost use Rattle.steps.specs.Limiting.{IsOver, CanSettle};
 
 use base::refusal::Refusal;
 use datasets::Table;
+use file_systems::FileSystem;
 use limits::{Ledger, Space};
 use name::DsName;
 use outlook::Outlook;
@@ -55,10 +58,7 @@ impl Limiting {
         ensures same { self.new ≡ self.old }
         ensures over { (asked : State) → asked.now.file_systems ≡ to.now.file_systems → IsSpaceOf asked space → result ≡ first_of (limit_row asked) }
     {
-        // It tells of the file systems what a table keeps.
-        let _count = to.len();
-        self.asked.fill(to);
-        self.asked.first_over(space)
+        refilled(&mut self.asked, to, space)
     }
 
     // The ledger becomes that of these datasets, as the function `settle` says.
@@ -73,6 +73,35 @@ impl Limiting {
                 .settle(table, name, outlook.here, outlook.referenced),
             None => self.ledger.fill(table),
         }
+    }
+}
+
+// The ledger becomes that of these datasets; and which limit is broken where a pool has them and so many other blocks, if one is. It costs
+// the number of file systems times its logarithm.
+pub(crate) fn refilled(ledger: &mut Ledger, to: &Table, space: Space) -> Option<Refusal>
+    requires few { set.len (union_of (world_of to.now)) < 2 ^ 32 }
+    ensures ledger { ledger.new ≡ ledger_of (world_of to.now) }
+    ensures over { (asked : State) → asked.now.file_systems ≡ to.now.file_systems → IsSpaceOf asked space → result ≡ first_of (limit_row asked) }
+{
+    // It tells of the file systems what a table keeps.
+    let _count = to.len();
+    ledger.fill(to);
+    ledger.first_over(space)
+}
+
+// The file system of this name, where a ledger is kept, which then keeps where it stands; or none. It costs the logarithm of the number of
+// file systems.
+pub(crate) fn found<'a>(
+    limiting: &mut Option<Limiting>,
+    table: &'a Table,
+    name: &DsName,
+) -> Option<&'a FileSystem>
+    ensures same { limiting.new ≡ limiting.old }
+    ensures found { IsSome limiting.new → option_copied result ≡ option_map (λ f. row_in table.now.file_systems (name.now, f)) (get table.now.file_systems name.now) }
+{
+    match limiting {
+        Some(limiting) => limiting.ledger.find(table, name),
+        None => None,
     }
 }
 

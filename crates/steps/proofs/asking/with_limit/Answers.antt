@@ -15,8 +15,15 @@ returns-in_err-set_limit-clause-err c s is =
     (set_not s c.args.table.now c.args.space is c.args.name.now c.args.limit c.args.amount c.in_err-set_limit.field-0.0
     (λ e. ap (λ (t : Datasets). get t.file_systems c.args.name.now) (sym c.in_ok-to.ensures.ok) ∙ c.in_err-set_limit.ensures.no_dataset.0 (ap Err e)) c.in_err-set_limit.ensures.only)
 
-pub over-requires : goal.over-requires
-over-requires c = record {
+pub fill-requires : goal.fill-requires
+fill-requires c = record {
+  few =
+      set_few c.requires.state.0 c.args.table.now c.args.space c.requires.state.1 c.args.name.now c.args.limit c.args.amount (omega arith) c.set_limit.new.self
+      (c.in_ok-set_limit.ensures.ok ∙ ap (λ (t : Datasets). with_limit_of t c.args.name.now c.args.limit c.args.amount) c.in_ok-to.ensures.ok);
+}
+
+pub refilled-requires : goal.refilled-requires
+refilled-requires c = record {
   few =
       set_few c.requires.state.0 c.args.table.now c.args.space c.requires.state.1 c.args.name.now c.args.limit c.args.amount (omega arith) c.set_limit.new.self
       (c.in_ok-set_limit.ensures.ok ∙ ap (λ (t : Datasets). with_limit_of t c.args.name.now c.args.limit c.args.amount) c.in_ok-to.ensures.ok);

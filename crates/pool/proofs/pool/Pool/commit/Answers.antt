@@ -186,19 +186,12 @@ renew-requires-in-Sweep-clause-few c =
     (subst (λ plan. CanDo c.ready.inside.from.value.state plan) c.in-Sweep.is c.ready.invariant) in
     few_sound (lose (closed (state_of c.self.inside) c.in-Sweep.number) c.in-Sweep.to) _ (sound_swept (state_of c.self.inside) c.self.inside.allocator c.self.invariant.0 c.in-Sweep.number c.in-Sweep.to can.0.0) (omega (arith, c.self.ranges))
 
-pub renew-requires-in-Limit-clause-few : goal.renew-requires-in-Limit-clause-few
-renew-requires-in-Limit-clause-few c =
-    let same = ap (λ (l : Leap). l.from) c.ready.view_is ∙ c.requires ∙ sym c.self.view_is in
-    let can = subst (λ (x : Shown). CanDo x.state (Limit c.in-Limit.to c.in-Limit.limiting)) same
-    (subst (λ plan. CanDo c.ready.inside.from.value.state plan) c.in-Limit.is c.ready.invariant) in
-    few_sound (with_datasets (state_of c.self.inside) c.in-Limit.to) _ (sound_now (state_of c.self.inside) c.self.inside.allocator c.in-Limit.to c.self.invariant.0 (can, subst (λ n. n ≤ guid_limit + 1) (plus_none (state_of c.self.inside).next_guid) c.self.invariant.0.guids)) (omega (arith, c.self.ranges))
-
 pub invariant_of-self-in-Limit : goal.invariant_of-self-in-Limit
 invariant_of-self-in-Limit c =
     let same = ap (λ (l : Leap). l.from) c.ready.view_is ∙ c.requires ∙ sym c.self.view_is in
     let can = subst (λ (x : Shown). CanDo x.state (Limit c.in-Limit.to c.in-Limit.limiting)) same
     (subst (λ plan. CanDo c.ready.inside.from.value.state plan) c.in-Limit.is c.ready.invariant) in
-    (sound_now (state_of c.self.inside) c.self.inside.allocator c.in-Limit.to c.self.invariant.0 (can, subst (λ n. n ≤ guid_limit + 1) (plus_none (state_of c.self.inside).next_guid) c.self.invariant.0.guids), c.renew-in-Limit.ensures)
+    (sound_now (state_of c.self.inside) c.self.inside.allocator c.in-Limit.to c.self.invariant.0 (can.0, subst (λ n. n ≤ guid_limit + 1) (plus_none (state_of c.self.inside).next_guid) c.self.invariant.0.guids), can.1)
 
 pub release_all-requires-in-Receive : goal.release_all-requires-in-Receive
 release_all-requires-in-Receive c =

@@ -2,7 +2,7 @@ use Rattle.std.proofs.Common.{sym, subst, ◌∙◌}
 use Rattle.model.specs.Hierarchy.{IsHierarchy}
 use Rattle.world.specs.Tables.{world_of}
 use Rattle.steps.proofs.Foretold.{ledger_alike}
-use Rattle.steps.proofs.limiting.Limiting.over.Goals as goal
+use Rattle.steps.proofs.limiting.refilled.Goals as goal
 
 pub returns-clause-over : goal.returns-clause-over
 returns-clause-over c asked same space =
