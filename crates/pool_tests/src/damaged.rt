@@ -1,9 +1,10 @@
 //! Streams that are cut short, go on or are changed: each is refused, and nothing has changed.
+use crate::pools::{allocated, answers, group};
 use crate::streams::push_named;
 use base::refusal::Refusal;
 use base::text::Bytes;
 use model::reply::{Reply, Value};
-use model::request::{PoolProperty, Request};
+use model::request::Request;
 use name::{SnapName, Target};
 use pool::Pool;
 use std::alloc::{AllocError, Global};
@@ -68,69 +69,56 @@ fn changed(alloc: Global, pool: &mut Pool, bytes: &mut [u8]) -> usize {
     refused
 }
 
-/// A pool that has received X as p/b@s.
-fn pool_with_x(rt: &impl Abort, alloc: Global) -> Pool {
-    let mut pool = Pool::create(alloc, 1, 100).expect(rt, "memory for a pool");
-    let x = stream(rt, alloc, "X");
-    let reply = reply_to(alloc, &mut pool, b"p/b@s", &x);
-    drop(x);
-    let is_done = matches!(reply, Ok(Reply::Done));
-    drop(reply);
-    assert!(rt; is_done);
-    pool
+/// Whether a pool has so many bytes allocated.
+fn has_allocated(alloc: Global, pool: &mut Pool, bytes: u64) -> bool {
+    answers(alloc, pool, allocated(), Reply::Value(Value::Size(bytes)))
 }
 
 /// Whether a pool has what X has and no more, and one group was closed.
 fn has_only_x(alloc: Global, pool: &mut Pool) -> bool {
-    let allocated = Request::PoolGet {
-        property: PoolProperty::Allocated,
-    };
-    let group = Request::PoolGet {
-        property: PoolProperty::Group,
-    };
-    let (size, open) = (pool.apply(alloc, &allocated), pool.apply(alloc, &group));
-    let is_so = size.same(&Reply::Value(Value::Size(3072)))
-        && open.same(&Reply::Value(Value::Number(2)));
-    drop(size);
-    drop(open);
-    is_so
+    has_allocated(alloc, pool, 3072)
+        && answers(alloc, pool, group(), Reply::Value(Value::Number(2)))
 }
 
-/// Whether each damage to a stream is refused as no stream, leaves the pool as it was, and the stream itself is then received.
-fn is_kept_from(rt: &impl Abort, alloc: Global, name: &str) -> bool {
-    let mut pool = pool_with_x(rt, alloc);
-    let mut bytes = stream(rt, alloc, name);
+/// Whether each damage to a stream is refused as no stream, and leaves a pool with X as it was.
+fn is_kept_from(alloc: Global, pool: &mut Pool, bytes: &mut Vec<u8>) -> Result<bool, AllocError> {
     let len = bytes.len();
-    let is_refused = cut(alloc, &mut pool, &bytes) == len && changed(alloc, &mut pool, &mut bytes) == len;
-    bytes.push(0).expect(rt, "memory for a byte");
-    let is_refused = is_refused && is_no_stream(alloc, &mut pool, &bytes) && has_only_x(alloc, &mut pool);
-    let reply = reply_to(alloc, &mut pool, b"p/b@t", &bytes[..len]);
-    let is_received = matches!(reply, Ok(Reply::Done));
-    drop(reply);
-    drop(bytes);
-    drop(pool);
-    is_refused && is_received
+    let is_refused = cut(alloc, pool, bytes) == len && changed(alloc, pool, bytes) == len;
+    bytes.push(0)?;
+    let is_refused = is_refused && is_no_stream(alloc, pool, bytes);
+    bytes.truncate(len);
+    Ok(is_refused && has_only_x(alloc, pool))
+}
+
+/// Whether a pool receives these bytes as a snapshot of this name.
+fn receives(alloc: Global, pool: &mut Pool, name: &[u8], bytes: &[u8]) -> bool {
+    outcome(reply_to(alloc, pool, name, bytes)).0
+}
+
+/// The same of a pool that has received X, which then receives the stream itself.
+fn is_kept_from_all(rt: &impl Abort, alloc: Global, x: &[u8], bytes: &mut Vec<u8>) -> bool {
+    let mut pool = Pool::create(alloc, 1, 100).expect(rt, "memory for a pool");
+    receives(alloc, &mut pool, b"p/b@s", x)
+        && is_kept_from(alloc, &mut pool, bytes) == Ok(true)
+        && receives(alloc, &mut pool, b"p/b@t", bytes)
 }
 
 #[test]
 fn a_stream_of_63_bytes(rt: HostRuntime) {
-    assert!(rt; is_kept_from(&rt, rt.alloc(), "H"));
+    let (x, mut bytes) = (stream(&rt, rt.alloc(), "X"), stream(&rt, rt.alloc(), "H"));
+    let is_kept = is_kept_from_all(&rt, rt.alloc(), &x, &mut bytes);
+    drop(x);
+    drop(bytes);
+    assert!(rt; is_kept);
 }
 
 #[test]
 fn a_stream_of_1024_bytes(rt: HostRuntime) {
-    assert!(rt; is_kept_from(&rt, rt.alloc(), "Y"));
-}
-
-/// Whether a pool has so many bytes allocated.
-fn has_allocated(alloc: Global, pool: &mut Pool, bytes: u64) -> bool {
-    let allocated = Request::PoolGet {
-        property: PoolProperty::Allocated,
-    };
-    let size = pool.apply(alloc, &allocated);
-    let is_so = size.same(&Reply::Value(Value::Size(bytes)));
-    drop(size);
-    is_so
+    let (x, mut bytes) = (stream(&rt, rt.alloc(), "X"), stream(&rt, rt.alloc(), "Y"));
+    let is_kept = is_kept_from_all(&rt, rt.alloc(), &x, &mut bytes);
+    drop(x);
+    drop(bytes);
+    assert!(rt; is_kept);
 }
 
 /// Whether a reply is Done, and whether it is want of memory.
@@ -145,7 +133,8 @@ fn outcome(reply: Result<Reply, Refusal>) -> (bool, bool) {
 /// Whether a pool of 3,072 bytes receives a stream onto p/b@s and has twice as much, or is refused memory and has what it had.
 fn receives_or_stays(alloc: Global, pool: &mut Pool, bytes: &[u8]) -> bool {
     let (is_done, is_refused) = outcome(reply_to(alloc, pool, b"p/b@t", bytes));
-    (is_done && has_allocated(alloc, pool, 6144)) || (is_refused && has_allocated(alloc, pool, 3072))
+    (is_done && has_allocated(alloc, pool, 6144))
+        || (is_refused && has_allocated(alloc, pool, 3072))
 }
 
 /// Whether a fresh pool receives a full stream and then one from its snapshot; or is refused memory, and has what it had.
@@ -177,28 +166,38 @@ fn refused_memory_receives_nothing(rt: HostRuntime) {
 }
 
 /// Whether a pool with X sends it, or is refused memory.
-fn sends_or_is_refused(alloc: Global, pool: &mut Pool, wanted: &[u8]) -> Result<bool, Refusal> {
-    let request = Request::Send {
-        target: Target::read(alloc, b"p/b@s")?,
-        from: None,
+fn sends_or_is_refused(alloc: Global, pool: &mut Pool, wanted: &[u8]) -> bool {
+    let Ok(target) = Target::read(alloc, b"p/b@s") else {
+        return true;
     };
+    let request = Request::Send { target, from: None };
     let reply = pool.apply(alloc, &request);
     drop(request);
-    match reply {
-        Reply::Stream(bytes) => Ok(bytes.as_slice() == wanted),
-        Reply::Refused(refusal) => Err(refusal),
-        _ => Ok(false),
+    let is_right = match &reply {
+        Reply::Stream(bytes) => bytes.as_slice() == wanted,
+        Reply::Refused(refusal) => refusal.same(Refusal::NoMemory),
+        _ => false,
+    };
+    drop(reply);
+    is_right
+}
+
+/// Whether a pool receives a full stream and sends it again, or is refused memory.
+fn is_sent_or_refused(alloc: Global, bytes: &[u8]) -> bool {
+    match Pool::create(alloc, 1, 100) {
+        Ok(mut pool) => {
+            let (is_done, is_refused) = outcome(reply_to(alloc, &mut pool, b"p/b@s", bytes));
+            is_refused || (is_done && sends_or_is_refused(alloc, &mut pool, bytes))
+        }
+        Err(refusal) => refusal.same(Refusal::NoMemory),
     }
 }
 
 /// Run it with each allocation refused in turn: a stream is whole, or memory is all that is wanting.
 #[test]
 fn refused_memory_sends_nothing(rt: HostRuntime) {
-    let alloc = rt.alloc();
-    let mut pool = pool_with_x(&rt, alloc);
-    let x = stream(&rt, alloc, "X");
-    let sent = sends_or_is_refused(alloc, &mut pool, &x);
-    drop(x);
-    drop(pool);
-    assert!(rt; sent == Ok(true) || sent == Err(Refusal::NoMemory));
+    let bytes = stream(&rt, rt.alloc(), "X");
+    let is_right = is_sent_or_refused(rt.alloc(), &bytes);
+    drop(bytes);
+    assert!(rt; is_right);
 }

@@ -25,20 +25,20 @@ fn creation_of(rt: &impl Abort, alloc: Global) -> Request {
     }
 }
 
-fn allocated() -> Request {
+pub fn allocated() -> Request {
     Request::PoolGet {
         property: PoolProperty::Allocated,
     }
 }
 
-fn group() -> Request {
+pub fn group() -> Request {
     Request::PoolGet {
         property: PoolProperty::Group,
     }
 }
 
 /// Whether a pool answers a request so.
-fn answers(alloc: Global, pool: &mut Pool, request: Request, wanted: Reply) -> bool {
+pub fn answers(alloc: Global, pool: &mut Pool, request: Request, wanted: Reply) -> bool {
     let reply = pool.apply(alloc, &request);
     let same = reply.same(&wanted);
     drop(request);
