@@ -403,16 +403,9 @@ impl Request {
                     amount: b,
                 },
             ) => n.same(m) && *l == *k && *a == *b,
-            (
-                Request::Send {
-                    target: t,
-                    from: a,
-                },
-                Request::Send {
-                    target: u,
-                    from: b,
-                },
-            ) => t.same(u) && is_same_source(a, b),
+            (Request::Send { target: t, from: a }, Request::Send { target: u, from: b }) => t.same(
+                u,
+            ) && is_same_source(a, b),
             (
                 Request::Receive {
                     snapshot: n,

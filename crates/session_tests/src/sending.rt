@@ -21,6 +21,7 @@ const WHOLE: [u8; 32] = [
     0xdf, 0x73, 0xa8, 0xaa, 0xf3, 0x0d, 0x62, 0x65, 0x60, 0x46, 0x27, 0xed, 0x0c, 0x64, 0x30, 0xdb,
     0x4b, 0xbe, 0x24, 0x91, 0x2d, 0x33, 0x11, 0x6c, 0x75, 0x31, 0x15, 0xda, 0x79, 0xfe, 0x3a, 0x39,
 ];
+
 const YOUNGER: [u8; 32] = [
     0x70, 0x46, 0x59, 0x67, 0x05, 0xc5, 0x78, 0x69, 0xef, 0xa9, 0x2c, 0x9f, 0x60, 0x2a, 0xb5, 0xd5,
     0x7c, 0x9e, 0x4f, 0xa9, 0x24, 0x26, 0x10, 0x8e, 0x5c, 0xb2, 0x33, 0xed, 0xbd, 0x46, 0x21, 0x72,
@@ -52,11 +53,47 @@ fn prepares<K: Opening, R: Wait + Abort>(
     session: &Session<K>,
     seat: &mut Seat<K>,
 ) -> bool {
-    runs(rt, alloc, session, seat, write_of(alloc, 0x61), 0, Wanted::Done)
-        && runs(rt, alloc, session, seat, snapshot_of(alloc, b"p@s"), 1, Wanted::Done)
-        && runs(rt, alloc, session, seat, bookmark_of(alloc), 2, Wanted::Done)
-        && runs(rt, alloc, session, seat, write_of(alloc, 0x62), 3, Wanted::Done)
-        && runs(rt, alloc, session, seat, snapshot_of(alloc, b"p@t"), 4, Wanted::Done)
+    runs(
+        rt,
+        alloc,
+        session,
+        seat,
+        write_of(alloc, 0x61),
+        0,
+        Wanted::Done,
+    ) && runs(
+        rt,
+        alloc,
+        session,
+        seat,
+        snapshot_of(alloc, b"p@s"),
+        1,
+        Wanted::Done,
+    ) && runs(
+        rt,
+        alloc,
+        session,
+        seat,
+        bookmark_of(alloc),
+        2,
+        Wanted::Done,
+    ) && runs(
+        rt,
+        alloc,
+        session,
+        seat,
+        write_of(alloc, 0x62),
+        3,
+        Wanted::Done,
+    ) && runs(
+        rt,
+        alloc,
+        session,
+        seat,
+        snapshot_of(alloc, b"p@t"),
+        4,
+        Wanted::Done,
+    )
 }
 
 fn view<K: Opening, R: Wait + Abort>(

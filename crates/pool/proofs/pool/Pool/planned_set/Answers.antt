@@ -19,8 +19,8 @@ returns-in-Err-clause-step c =
 pub returns-in-Ok-clause-can : goal.returns-in-Ok-clause-can
 returns-in-Ok-clause-can c = (
   set_can c.args.self.now (state_of c.self.inside) c.self.inside.allocator c.self.view_is c.self.invariant.0 c.args.name.now c.args.limit c.args.amount c.in-Ok.ensures.there
-    (c.in-Ok.ensures.fits c.args.self.now.state (state_with c.args.self.now (state_of c.self.inside) c.self.inside.allocator c.self.view_is c.self.invariant.0 c.space-space.result c.space-space.ensures.size (c.space-space.ensures.freeing ∙ c.len.ensures) c.space-space.ensures.waiting))
-    c.in-Ok.to c.in-Ok.ensures.ok,
+      (c.in-Ok.ensures.fits c.args.self.now.state (state_with c.args.self.now (state_of c.self.inside) c.self.inside.allocator c.self.view_is c.self.invariant.0 c.space-space.result c.space-space.ensures.size (c.space-space.ensures.freeing ∙ c.len.ensures) c.space-space.ensures.waiting))
+      c.in-Ok.to c.in-Ok.ensures.ok,
   c.in-Ok.ensures.ledger,
 )
 
