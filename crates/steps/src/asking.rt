@@ -80,10 +80,10 @@ pub fn ask_change(
     }
 }
 
-/// What is available to the file system of this name, where that is asked for, in blocks; else 0. The pool has these datasets and this
-/// beside them, and so many blocks free (zfsprops(7): available). It costs for each level of the name the logarithm of the number of file
-/// systems, and the length of the name; where no file system has a limit, constant time.
-pub fn room_asked(
+// What is available to the file system of this name, where that is asked for, in blocks; else 0. The pool has these datasets and this
+// beside them, and so many blocks free (zfsprops(7): available). It costs for each level of the name the logarithm of the number of file
+// systems, and the length of the name; where no file system has a limit, constant time.
+pub(crate) fn room_asked(
     limiting: &Option<Limiting>,
     table: &Table,
     space: Space,

@@ -13,6 +13,6 @@ mod naming;
 mod sending;
 
 pub use crate::answering::answer;
-pub use crate::asking::{ask_change, room_asked, with_limit};
+pub use crate::asking::{ask_change, with_limit};
 pub use crate::intake::{Intake, Present, intake_of};
-pub use crate::limiting::{Limiting, kept_ledger, over, renew, settle};
+pub use crate::limiting::{Limiting, over, renew, settle};

@@ -105,8 +105,8 @@ pub(crate) fn found<'a>(
     }
 }
 
-/// The ledger, where one is kept. Constant time.
-pub fn kept_ledger(limiting: &Option<Limiting>) -> Option<&Ledger>
+// The ledger, where one is kept. Constant time.
+pub(crate) fn kept_ledger(limiting: &Option<Limiting>) -> Option<&Ledger>
     ensures { option_copied result ≡ limiting.now }
 {
     match limiting {
