@@ -122,6 +122,14 @@ impl Pair {
         shared == self.plain.as_slice().partition_point(|x| *x < n)
     }
 
+    /// Whether what stands around that number is what the plain list has there, where they rise.
+    fn is_around(&self, n: u32) -> bool {
+        let plain = self.plain.as_slice();
+        let (low, high) = plain.split_at(plain.partition_point(|x| *x < n));
+        let around = self.list.around(|x| *x < n);
+        around.before == low.last() && around.at == high.first() && around.after == high.get(1)
+    }
+
     /// Takes out the elements from that index on, if the list is long enough.
     fn split_off(&mut self, alloc: Global, at: usize) -> Result<Pair, AllocError> {
         if at > self.list.len() || at > self.plain.len() {
@@ -297,13 +305,13 @@ fn pops_come_from_the_end(rt: HostRuntime) {
     }
 }
 
-/// Whether rising numbers, some of which are removed, so that chunks aren't full, part at each number.
+/// Whether rising numbers, some of which are removed, so that chunks aren't full, part at each number, with the same ones around it.
 fn is_parted_everywhere(alloc: Global, len: u32) -> Result<bool, AllocError> {
     let mut pair = Pair::new(alloc);
     pair.push_run(1, len)?;
     pair.remove_run((len / 3) as usize, len / 5)?;
     for n in 0..len.saturating_add(3) {
-        if !pair.is_parted(n) {
+        if !pair.is_parted(n) || !pair.is_around(n) {
             return Ok(false);
         }
     }

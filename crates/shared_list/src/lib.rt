@@ -4,12 +4,14 @@
 //! that differ in little take little more memory than one.
 #![tactic(auto)]
 
+mod around;
 mod chunk;
 pub mod edits;
 mod iter;
 mod list;
 pub mod place;
 
+pub use around::Around;
 pub use chunk::Chunk;
 pub use iter::Iter;
 pub use list::SharedList;

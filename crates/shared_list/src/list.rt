@@ -1,12 +1,14 @@
 //! The list, and how its chunks change.
-ghost use Rattle.std.specs.Prelude.{◌≡◌, ◌-◌, ◌<◌, ◌≤◌, ◌++◌, ◌∷◌, ◌↔◌, [], None, true, false, Bool, length, take, drop, remove, slice_get, slice_set, IfOk, OnOk, OnErr};
+ghost use Rattle.std.specs.Prelude.{◌≡◌, ◌-◌, ◌<◌, ◌≤◌, ◌++◌, ◌∷◌, ◌↔◌, ℕ, [], None, true, false, Bool, length, take, drop, remove, slice_get, slice_set, IfOk, OnOk, OnErr};
 ghost use Rattle.std.specs.Arc.{arc_value};
 ghost use Rattle.std.specs.Fn.{ComputesKey};
 ghost use Rattle.std.specs.List.Sorted.{IsPartitionedBy, IsPartitionPoint};
 ghost use Rattle.std.specs.Option.{option_copied, option_map, option_to_list};
+ghost use Rattle.shared_list.specs.Around.{IsAround};
 ghost use Rattle.shared_list.specs.Elements.{elements};
 ghost use Rattle.shared_list.specs.Left.{left};
 
+use crate::around::{Around, around_place};
 use crate::chunk::Chunk;
 use crate::edits::{copied, join, push_item, remove_item, set_item, take_item};
 use crate::iter::Iter;
@@ -92,6 +94,15 @@ impl<T: Drop> SharedList<T> {
             Some(place) => index_of(&self.chunks, place, self.len),
             None => self.len,
         }
+    }
+
+    /// The first element that doesn't pass a test, where those that pass come first, with the one before it and the one after it; each is
+    /// None where there is none. It costs the logarithm of the number of elements.
+    pub fn around<P: Fn(&T) -> bool>(&self, test: P) -> Around<'_, T>
+        requires { P.IsAlwaysCallable test }
+        ensures { (i : ℕ) × ((p : T → Bool) → ComputesKey P.FnMut p test → IsPartitionedBy p self.now → IsPartitionPoint (λ y. p y ≡ true) (λ y. p y ≡ false) self.now i) × IsAround self.now i result }
+    {
+        around_place(&self.chunks, partition_point(&self.chunks, test))
     }
 
     /// The elements, first to last. Constant time, and constant time for each element.

@@ -1,0 +1,72 @@
+//! What stands around a place of a list.
+ghost use Rattle.std.specs.Prelude.{◌≡◌, ◌+◌, None, length, slice_get, IfSome};
+ghost use Rattle.std.specs.Option.{option_copied};
+ghost use Rattle.shared_list.specs.Around.{IsAround};
+ghost use Rattle.shared_list.specs.Elements.{elements};
+ghost use Rattle.shared_list.specs.Places.{IsItem, place_index};
+
+use crate::chunk::Chunk;
+use crate::place::{Place, item_at, last_place};
+use std::sync::Arc;
+
+/// What stands around a place of a list: the element before it, the one that stands there, and the one after that.
+#[derive(Drop)]
+pub struct Around<'a, T> {
+    pub before: Option<&'a T>,
+    pub at: Option<&'a T>,
+    pub after: Option<&'a T>,
+}
+
+/// What stands around a place, or around the one behind all elements. Constant time.
+pub(crate) fn around_place<T: Drop>(chunks: &[Arc<Chunk<T>>], place: Option<Place>) -> Around<'_, T>
+    requires { IfSome place (λ c. IsItem chunks.now c.k c.at) }
+    ensures { IsAround (elements chunks.now) (place_index chunks.now place) result }
+{
+    Around {
+        before: item_of(chunks, place_before(chunks, place)),
+        at: item_of(chunks, place),
+        after: item_of(chunks, place_after(chunks, place)),
+    }
+}
+
+/// The element at a place, or None at the one behind all elements. Constant time.
+fn item_of<T: Drop>(chunks: &[Arc<Chunk<T>>], place: Option<Place>) -> Option<&T>
+    requires { IfSome place (λ c. IsItem chunks.now c.k c.at) }
+    ensures { option_copied result ≡ slice_get (elements chunks.now) (place_index chunks.now place) }
+{
+    Some(item_at(chunks, place?))
+}
+
+/// Where the element before a place stands, or before the one behind all elements; None where there is none. Constant time.
+fn place_before<T: Drop>(chunks: &[Arc<Chunk<T>>], place: Option<Place>) -> Option<Place>
+    requires { IfSome place (λ c. IsItem chunks.now c.k c.at) }
+    ensures place { IfSome result (λ c. IsItem chunks.now c.k c.at) }
+    ensures before { IfSome result (λ c. place_index chunks.now place ≡ place_index chunks.now (Some c) + 1) }
+    ensures none { result ≡ None → place_index chunks.now place ≡ 0 }
+{
+    let Some(Place { k, at }) = place else {
+        return last_place(chunks);
+    };
+    if at > 0 {
+        return Some(Place { k, at: at - 1 });
+    }
+    let k = k.checked_sub(1)?;
+    let at = chunks[k].len() - 1;
+    Some(Place { k, at })
+}
+
+/// Where the element after the one at a place stands, or None where there is none. Constant time.
+fn place_after<T: Drop>(chunks: &[Arc<Chunk<T>>], place: Option<Place>) -> Option<Place>
+    requires { IfSome place (λ c. IsItem chunks.now c.k c.at) }
+    ensures place { IfSome result (λ c. IsItem chunks.now c.k c.at) }
+    ensures after { IfSome place (λ c. place_index chunks.now result ≡ place_index chunks.now (Some c) + 1) }
+    ensures none { place ≡ None → result ≡ None }
+{
+    let Place { k, at } = place?;
+    if at < chunks[k].len() - 1 {
+        return Some(Place { k, at: at + 1 });
+    }
+    let next: &Chunk<T> = chunks.get(k + 1)?;
+    prove!(next.len() > 0);
+    Some(Place { k: k + 1, at: 0 })
+}
