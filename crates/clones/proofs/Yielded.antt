@@ -9,7 +9,7 @@ use Rattle.std.specs.List.{filter, list_any}
 use Rattle.std.specs.Iterator.{Yields, YieldsFirstRef}
 use Rattle.model.specs.World.{Snap}
 use Rattle.snapshots.specs.declared.kept.Kept.{Kept}
-use Rattle.file_system.specs.Dead.{snaps_in}
+use Rattle.datasets.specs.Dead.{snaps_in}
 use Rattle.base.specs.Surveys.{IsIn}
 use Rattle.world.specs.Worlds.{AreRising}
 use Rattle.world.proofs.Bridge.{rising_above, rising_after}

@@ -7,8 +7,7 @@ ghost use Rattle.world.specs.Tables.{world_of};
 ghost use Rattle.clones.specs.Requests.{cloned, clone_refusal};
 
 use base::refusal::Refusal;
-use datasets::Table;
-use file_systems::Snapshot;
+use datasets::{Snapshot, Table};
 use name::{DsName, Member, Target};
 
 /// A table with a file system more, under this name: a clone of the snapshot that the target names, whose map it has (zfs-clone(8),

@@ -10,14 +10,13 @@ ghost use Rattle.model.specs.requests.Promote.{promotion_of};
 ghost use Rattle.model.specs.requests.Rollback.{snaps_upto};
 ghost use Rattle.world.specs.Tables.{world_of};
 ghost use Rattle.world.specs.Worlds.{AreRising};
-ghost use Rattle.file_system.specs.Promotions.{promotion_between};
+ghost use Rattle.datasets.specs.Promotions.{promotion_between};
 ghost use Rattle.clones.specs.Requests.{promoted, promote_refusal, KeepsPrevious};
 
 use base::meter::SegMeter;
 use base::number::Group;
 use base::refusal::Refusal;
-use datasets::Table;
-use file_systems::FileSystem;
+use datasets::{FileSystem, Table};
 use model::snapshot_id::SnapshotId;
 use name::{Component, DsName};
 use std::alloc::Global;

@@ -14,3 +14,7 @@ pub mod Promoted
 pub mod ClonesOf
 pub mod Changed
 pub mod Bookmarked
+pub use Rattle.file_system.proofs.Accounts
+pub use Rattle.file_system.proofs.Newest
+pub use Rattle.file_systems.proofs.Rows
+pub use Rattle.file_systems.proofs.Sorted

@@ -4,6 +4,8 @@ use Rattle.model.specs.World.{SnapId}
 use Rattle.model.specs.requests.Clone.{with_clone}
 use Rattle.world.specs.Outcomes.{Promotion, after_promotion}
 use Rattle.world.specs.Tables.{Datasets, world_of}
+pub use Rattle.file_systems.specs.Clones.{row_in, below_in}
+pub use Rattle.file_systems.specs.declared.clones.CloneName.{CloneName}
 
 -- a clone of the snapshot of this identity more, under this name (zfs-clone(8))
 abbrev pub with_clone_of : Datasets → SnapId → List ℕ → Datasets

@@ -16,6 +16,7 @@ use Rattle.file_system.specs.Rows.{live_of, with_live}
 use Rattle.world.specs.Sets.{Has}
 use Rattle.world.specs.Dead.{base_of}
 use Rattle.world.specs.Tables.{Datasets, world_of}
+pub use Rattle.file_system.specs.Writes.{newest_group}
 
 -- a block of the live map is its own to change in place where it was born after what stands before it and no earlier than this
 -- group, which the last sync left open (profile)

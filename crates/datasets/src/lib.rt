@@ -4,4 +4,6 @@
 mod parent;
 mod table;
 
+pub use file_system::Alone;
+pub use file_systems::{CloneName, FileSystem, Snapshot};
 pub use table::{FILE_SYSTEM_LIMIT, Table};

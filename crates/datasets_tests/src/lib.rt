@@ -1,4 +1,4 @@
-//! Tests of `file_systems`, `datasets`, `snap`, `clones`, `removals`, `marks` and `sources` from outside.
+//! Tests of `file_systems`, `datasets`, `snap`, `clones`, `removals`, `marks`, `space` and `sources` from outside.
 #![tactic(auto)]
 
 #[cfg(test)]
@@ -23,6 +23,8 @@ mod lists;
 mod marked;
 #[cfg(test)]
 mod now;
+#[cfg(test)]
+mod reached;
 #[cfg(test)]
 mod removing;
 #[cfg(test)]

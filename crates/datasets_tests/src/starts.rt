@@ -13,7 +13,7 @@ use toll::Toll;
 
 /// `p/a` with the snapshots `s`, `t` and `u` of groups 1, 2 and 3, and a bookmark `b` of the first; and its clone `p/c` of the second with a
 /// snapshot `v` of group 4, and a bookmark `w` of that.
-fn with_history(alloc: Global) -> Result<Table, Refusal> {
+pub fn with_history(alloc: Global) -> Result<Table, Refusal> {
     let mut table = with_child(alloc)?;
     take(alloc, &mut table, b"p/a@s", 1)?;
     bookmark_named(alloc, &mut table, b"p/a@s", b"p/a#b")?;

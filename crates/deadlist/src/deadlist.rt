@@ -1,6 +1,7 @@
 //! The dead list of a dataset.
-ghost use Rattle.std.specs.Prelude.{◌≡◌, ◌+◌, ◌^◌, ◌≤◌, ◌<◌, ◌++◌, ◌∷◌, ◌⊎◌, [], length, filter, drop, OnOk, OnErr, IfOk, IfErr, IsOk, nat_le, nat_lt, ◌==◌, if◌then◌else◌, true, false};
+ghost use Rattle.std.specs.Prelude.{◌≡◌, ◌+◌, ◌^◌, ◌≤◌, ◌<◌, ◌++◌, ◌∷◌, ◌⊎◌, [], length, filter, drop, OnOk, OnErr, IfOk, IfErr, IsOk, nat_le, nat_lt, ◌==◌, slice_get, if◌then◌else◌, true, false};
 ghost use Rattle.std.specs.List.{list_any};
+ghost use Rattle.std.specs.Option.{option_map};
 ghost use Rattle.std.specs.List.Sorted.{IsPermutation, IsStrictlyIncreasing};
 ghost use Rattle.base.specs.Counting.{counted};
 ghost use Rattle.base.specs.declared.refusal.Refusal.TheVariants.{NoMemory};
@@ -279,6 +280,14 @@ impl Deadlist {
         ensures rising { IsStrictlyIncreasing self.now.cuts }
     {
         self.parts.closed.len() + 1
+    }
+
+    /// The group of the cut with that index, counted from the lowest, or None where it has no more. Constant time.
+    pub fn cut_at(&self, index: usize) -> Option<Group>
+        ensures { option_map (λ g. g.0) result ≡ slice_get self.now.cuts index }
+    {
+        let segment = self.parts.closed.get(index)?;
+        Some(segment.upper)
     }
 
     /// Sets a cut, where it doesn't stand; the meter then counts the segment that it divides, whose entries are gone through. NoMemory

@@ -1,5 +1,5 @@
 -- The snapshots of a file system, where one of them is changed but for its map.
-use Rattle.std.proofs.Common.{◌≡◌, ◌≤◌, ℕ, zero, suc, cond, List, [], ◌∷◌, map, set, Some, refl, sym, ap, subst, ◌∙◌, arith}
+use Rattle.std.proofs.Common.{◌≡◌, ◌≤◌, ℕ, zero, suc, cond, List, [], ◌∷◌, map, set, Some, refl, sym, ap, subst, ◌∙◌, arith, length}
 use Rattle.std.specs.Arc.{arc_value}
 use Rattle.std.specs.FinSet.{difference}
 use Rattle.std.specs.Option.{option_map}
@@ -75,6 +75,7 @@ it_accounted : (bs : BlockSet) (now next : Kept) → next.snapshot.map ≡ now.s
 it_accounted bs now next map_is dead written a = record {
   dead = subst (λ m. Lists (map dead_block (arc_value next.dead).entries) (difference bs (blocks m))) (sym map_is)
       (subst (λ (h : Held). Lists (map dead_block h.entries) (difference bs (blocks now.snapshot.map))) (sym dead) a.dead);
+  few = subst (λ (h : Held). length h.cuts ≤ 1) (sym dead) a.few;
   written = written ∙ a.written ∙ ap (λ m. size_without (blocks m) bs) (sym map_is);
 }
 

@@ -13,3 +13,4 @@ pub mod Sizes
 pub mod Recounts
 pub mod Counted
 pub mod Alones
+pub mod Segments

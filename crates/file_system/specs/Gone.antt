@@ -72,3 +72,15 @@ entry_count a ks es = sum_by (kept_count a) ks + asked_count a None es
 -- how many blocks have gone (profile)
 abbrev pub gone_size : Asked → List Gone → ℕ
 gone_size a gs = sum_by (λ g. size_on a.side a.cut.0 g.blocks) (filter (λ g. is_asked a g.group) gs)
+
+-- how many segments the dead list of a dataset of this group has, where it is asked for (profile)
+abbrev pub asked_segments : Asked → Option ℕ → List ℕ → ℕ
+asked_segments a group cuts = if is_asked a group then length cuts + 1 else 0
+
+-- and that of a snapshot (profile)
+abbrev pub kept_segments : Asked → Kept → ℕ
+kept_segments a k = asked_segments a (Some k.snapshot.group) (arc_value k.dead).cuts
+
+-- and all these and that of the live map (profile)
+abbrev pub segment_count : Asked → List Kept → List ℕ → ℕ
+segment_count a ks cuts = sum_by (kept_segments a) ks + asked_segments a None cuts

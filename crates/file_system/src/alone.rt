@@ -1,22 +1,22 @@
 //! What one snapshot has alone.
 ghost use Rattle.std.specs.Prelude.{◌≡◌, ◌==◌, ◌<◌, ◌≤◌, IsSome, IfOk, IfErr, OnOk, OnErr, length};
 ghost use Rattle.std.specs.List.{find};
+ghost use Rattle.std.specs.Option.{option_copied};
 ghost use Rattle.std.specs.FinSet.{len, difference};
 ghost use Rattle.base.specs.Map.{Block, blocks};
 ghost use Rattle.base.specs.declared.refusal.Refusal.{Refusal};
 ghost use Rattle.world.specs.Sets.{Has};
-ghost use Rattle.file_system.specs.Alone.{entries_at, HasJust};
+ghost use Rattle.file_system.specs.Alone.{entries_of, HasJust};
 ghost use Rattle.file_system.specs.Splices.{AreAbove, lost_from, oldest_blocks};
 
 use crate::file_system::FileSystem;
 use crate::origin::{base_group, origin_in};
-use crate::splice::{before, place_of};
+use crate::splice::around_of;
 use crate::written::group_of;
 use base::meter::SegMeter;
 use base::number::{Dead, Group};
 use base::refusal::Refusal;
 use deadlist::deadlist::Deadlist;
-use shared_list::SharedList;
 use snapshots::Kept;
 use std::alloc::Global;
 use std::collections::BTreeSet;
@@ -54,12 +54,11 @@ impl Alone {
     }
 }
 
-// The dead list of the snapshot at that place, and this one, of the live map, where there is none. It costs a walk over the chunks before
-// the place.
-fn dead_at<'a>(kept: &'a SharedList<Kept>, place: usize, dead: &'a Deadlist) -> &'a Deadlist
-    ensures { result.now.entries ≡ entries_at kept.now place dead.now.entries }
+// The dead list of a snapshot, and this one, of the live map, where there is none. Constant time.
+fn dead_of<'a>(kept: Option<&'a Kept>, dead: &'a Deadlist) -> &'a Deadlist
+    ensures { result.now.entries ≡ entries_of (option_copied kept.entry) dead.now.entries }
 {
-    match kept.get(place) {
+    match kept {
         Some(kept) => &kept.dead,
         None => dead,
     }
@@ -98,7 +97,7 @@ fn set_of(
 impl FileSystem {
     /// The blocks of the snapshot of this group, which is there, that neither what stands before it has nor what comes after it: those
     /// that are lost where it goes, unless a clone of it has them (zfs-destroy(8): -n). NoMemory where there is none for them. It costs the
-    /// logarithm of the number of snapshots, a walk over their chunks, the segments of the next dead list, where no cut stands at the group
+    /// logarithm of the number of snapshots, the segments of the next dead list, where no cut stands at the group
     /// before it the entries of one of them, and the number of these blocks.
     pub fn alone(
         &self,
@@ -111,10 +110,9 @@ impl FileSystem {
         ensures ok { IfOk result (λ a. a ≡ lost_from (blocks self.now.below) self.now.system.snaps self.now.system.live group.0) }
         ensures err { IfErr result (λ e. e ≡ Refusal.NoMemory) }
     {
-        let kept = self.snapshots.list();
-        let (place, _count) = (place_of(kept, group), kept.len());
-        let since = group_of(before(kept, place), base_group(origin_in(&self.origin)));
-        let mut dead = dead_at(kept, place + 1, &self.dead).copy(segments)?;
+        let around = around_of(self.snapshots.list(), group);
+        let since = group_of(around.before, base_group(origin_in(&self.origin)));
+        let mut dead = dead_of(around.after, &self.dead).copy(segments)?;
         let lost = dead.take_after(since, segments)?;
         let blocks = entries_of(alloc, &lost, segments)?;
         Ok(Alone { blocks, alloc })
@@ -126,10 +124,9 @@ impl FileSystem {
         requires above { AreAbove self.now.below self.now.system }
         ensures { result ≡ len (lost_from (blocks self.now.below) self.now.system.snaps self.now.system.live group.0) }
     {
-        let kept = self.snapshots.list();
-        let (place, _count) = (place_of(kept, group), kept.len());
-        let since = group_of(before(kept, place), base_group(origin_in(&self.origin)));
-        dead_at(kept, place + 1, &self.dead).space_after(since, segments)
+        let around = around_of(self.snapshots.list(), group);
+        let since = group_of(around.before, base_group(origin_in(&self.origin)));
+        dead_of(around.after, &self.dead).space_after(since, segments)
     }
 
     /// Takes those blocks out, which are all the origin's, that the oldest dataset of this clone has (zfs-destroy(8): -n). NoMemory where
@@ -141,7 +138,7 @@ impl FileSystem {
         ensures err { OnErr result (alone.new ≡ alone.old) }
         ensures only { IfErr result (λ e. e ≡ Refusal.NoMemory) }
     {
-        let dead = dead_at(self.snapshots.list(), 0, &self.dead);
+        let dead = dead_of(self.snapshots.list().get(0), &self.dead);
         let gone = set_of(alone.alloc, dead, segments)?;
         alone.blocks.retain(|dead| gone.contains(dead));
         Ok(())

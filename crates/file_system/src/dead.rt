@@ -42,6 +42,7 @@ pub fn put(
     requires { CanPut live.old updates.now group.0 draft }
     ensures ok { IfOk result (HasPut live.old live.new updates.now group.0 draft) }
     ensures dead { OnOk result (HasGained (arc_value dead.old).entries (arc_value dead.new).entries draft.released.items newest.0) }
+    ensures cuts { (arc_value dead.new).cuts ≡ (arc_value dead.old).cuts }
     ensures err { OnErr result (live.new ≡ live.old) }
     ensures dead_err { OnErr result (IsPermutation (arc_value dead.old).entries (arc_value dead.new).entries) }
     ensures only { OnErr result (result ≡ Err Refusal.NoMemory) }
@@ -73,6 +74,7 @@ fn put_onto(
     requires { CanPut live.old updates.now group.0 draft }
     ensures ok { IfOk result (HasPut live.old live.new updates.now group.0 draft) }
     ensures dead { OnOk result (HasGained list.old.entries list.new.entries draft.released.items newest.0) }
+    ensures cuts { list.new.cuts ≡ list.old.cuts }
     ensures err { OnErr result (live.new ≡ live.old) }
     ensures dead_err { OnErr result (IsPermutation list.old.entries list.new.entries) }
     ensures only { OnErr result (result ≡ Err Refusal.NoMemory) }
@@ -93,6 +95,7 @@ fn longer(
     segments: &mut SegMeter,
 ) -> Result<Arc<Deadlist>, Refusal>
     ensures ok { IfOk result (λ d. HasGained dead.now.entries (arc_value d).entries released.now newest.0) }
+    ensures cuts { IfOk result (λ d. (arc_value d).cuts ≡ dead.now.cuts) }
     ensures only { IfErr result (λ e. e ≡ Refusal.NoMemory) }
 {
     let mut list = dead.copy(segments)?;

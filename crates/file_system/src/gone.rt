@@ -1,10 +1,10 @@
 //! What has gone from each dataset of a file system to the one after it, counted from the dead lists.
-ghost use Rattle.std.specs.Prelude.{◌≡◌, ◌+◌, ◌-◌, ◌^◌, min, map};
+ghost use Rattle.std.specs.Prelude.{◌≡◌, ◌≤◌, ◌+◌, ◌-◌, ◌*◌, ◌^◌, min, map, length};
 ghost use Rattle.std.specs.List.{sum_by};
 ghost use Rattle.std.specs.Option.{option_map};
 ghost use Rattle.std.specs.FinSet.{len};
 ghost use Rattle.world.specs.Blocks.{upto, after};
-ghost use Rattle.file_system.specs.Gone.{count_on, is_asked, asked_count, kept_count, entry_count, gone_between};
+ghost use Rattle.file_system.specs.Gone.{count_on, is_asked, asked_count, kept_count, entry_count, gone_between, kept_segments, segment_count};
 
 use crate::file_system::FileSystem;
 use base::meter::SegMeter;
@@ -47,7 +47,8 @@ fn asks_for(asked: Asked, group: Group) -> bool
 
 // How many entries of this dead list stand on the side of the cut. It costs segments of it.
 fn count_on(dead: &Deadlist, asked: Asked, segments: &mut SegMeter) -> u64
-    ensures { result ≡ count_on asked.side asked.cut.0 dead.now.entries }
+    ensures count { result ≡ count_on asked.side asked.cut.0 dead.now.entries }
+    ensures meter { segments.new ≤ segments.old + (length dead.now.cuts + 1) }
 {
     match asked.side {
         Side::Upto => dead.space_upto(asked.cut, segments),
@@ -57,7 +58,8 @@ fn count_on(dead: &Deadlist, asked: Asked, segments: &mut SegMeter) -> u64
 
 // How many entries of a snapshot's dead list count. Where the snapshot is asked for it costs the segments of the list.
 fn count_kept(kept: &Kept, asked: Asked, segments: &mut SegMeter) -> u64
-    ensures { result ≡ kept_count asked kept.now }
+    ensures count { result ≡ kept_count asked kept.now }
+    ensures meter { segments.new ≤ segments.old + kept_segments asked kept.now }
 {
     if asks_for(asked, kept.snapshot.group()) {
         count_on(&kept.dead, asked, segments)
@@ -68,7 +70,8 @@ fn count_kept(kept: &Kept, asked: Asked, segments: &mut SegMeter) -> u64
 
 // How many entries of the dead lists of these snapshots count, and no more than the greatest u64. It costs what `count_gone` does.
 fn count_snapshots(kept: &SharedList<Kept>, asked: Asked, segments: &mut SegMeter) -> u64
-    ensures { result ≡ min (2 ^ 64 - 1) (sum_by (kept_count asked) kept.now) }
+    ensures count { result ≡ min (2 ^ 64 - 1) (sum_by (kept_count asked) kept.now) }
+    ensures meter { segments.new ≤ segments.old + sum_by (kept_segments asked) kept.now }
 {
     let mut total: u64 = 0;
     for kept in kept.iter() {
@@ -85,7 +88,8 @@ pub fn count_gone(
     asked: Asked,
     segments: &mut SegMeter,
 ) -> u64
-    ensures { result ≡ min (2 ^ 64 - 1) (entry_count asked kept.now dead.now.entries) }
+    ensures count { result ≡ min (2 ^ 64 - 1) (entry_count asked kept.now dead.now.entries) }
+    ensures meter { segments.new ≤ segments.old + segment_count asked kept.now dead.now.cuts }
 {
     let total = count_snapshots(kept, asked, segments);
     if asked.until.is_some() {
@@ -97,8 +101,8 @@ pub fn count_gone(
 impl FileSystem {
     /// How many blocks born by the cut have gone from a dataset of this file system to the one after it: with each snapshot whose group is
     /// after `from` and no later than `until`, and with the live map where `until` is none; a block counts with each that it has gone with.
-    /// The count stops at the greatest u64. It costs the number of snapshots, and the segments of the dead lists of those between
-    /// (zfsprops(7): written@snapshot).
+    /// The count stops at the greatest u64. It costs the number of snapshots, and the segments of the dead lists of those between, each
+    /// of which has two at most (zfsprops(7): written@snapshot).
     pub fn gone_upto(
         &self,
         from: Option<Group>,
@@ -106,7 +110,8 @@ impl FileSystem {
         cut: Group,
         segments: &mut SegMeter,
     ) -> u64
-        ensures { result ≡ min (2 ^ 64 - 1) (sum_by (λ g. len (upto cut.0 g.blocks)) (gone_between (option_map (λ g. g.0) from) (option_map (λ g. g.0) until) self.now)) }
+        ensures count { result ≡ min (2 ^ 64 - 1) (sum_by (λ g. len (upto cut.0 g.blocks)) (gone_between (option_map (λ g. g.0) from) (option_map (λ g. g.0) until) self.now)) }
+        ensures meter { segments.new ≤ segments.old + 2 * length (gone_between (option_map (λ g. g.0) from) (option_map (λ g. g.0) until) self.now) }
     {
         let side = Side::Upto;
         let asked = Asked {
@@ -127,7 +132,8 @@ impl FileSystem {
         cut: Group,
         segments: &mut SegMeter,
     ) -> u64
-        ensures { result ≡ min (2 ^ 64 - 1) (sum_by (λ g. len (after cut.0 g.blocks)) (gone_between (option_map (λ g. g.0) from) (option_map (λ g. g.0) until) self.now)) }
+        ensures count { result ≡ min (2 ^ 64 - 1) (sum_by (λ g. len (after cut.0 g.blocks)) (gone_between (option_map (λ g. g.0) from) (option_map (λ g. g.0) until) self.now)) }
+        ensures meter { segments.new ≤ segments.old + 2 * length (gone_between (option_map (λ g. g.0) from) (option_map (λ g. g.0) until) self.now) }
     {
         let side = Side::After;
         let asked = Asked {

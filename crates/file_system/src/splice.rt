@@ -1,11 +1,12 @@
 //! A snapshot that goes from those of a file system.
-ghost use Rattle.std.specs.Prelude.{◌≡◌, ◌+◌, ◌<◌, ◌≤◌, ◌==◌, Some, None, IsSome, IfOk, IfErr, length, take, nat_lt, slice_get};
+ghost use Rattle.std.specs.Prelude.{◌≡◌, ℕ, ◌+◌, ◌<◌, ◌≤◌, ◌==◌, ◌-◌, false, min, Some, None, IsSome, IfOk, IfErr, OnOk, length, take, nat_le, nat_lt, slice_get};
 ghost use Rattle.std.specs.List.{find, last_or};
 ghost use Rattle.std.specs.List.Sorted.{IsPermutation};
-ghost use Rattle.std.specs.Option.{option_copied, option_map};
+ghost use Rattle.std.specs.Option.{option_copied, option_map, option_map_or};
 ghost use Rattle.base.specs.declared.refusal.Refusal.{Refusal};
 ghost use Rattle.model.specs.World.{id_of, same_id};
 ghost use Rattle.model.specs.Ids.{snap_id};
+ghost use Rattle.shared_list.specs.Around.{IsAround};
 ghost use Rattle.world.specs.Worlds.{AreRising};
 ghost use Rattle.file_system.specs.Dead.{snaps_in};
 ghost use Rattle.file_system.specs.Origins.{blocks_below, group_below};
@@ -18,12 +19,12 @@ use base::number::Group;
 use base::refusal::Refusal;
 use deadlist::deadlist::Deadlist;
 use model::snapshot_id::SnapshotId;
-use shared_list::SharedList;
+use shared_list::{Around, SharedList};
 use snapshots::Kept;
 use std::alloc::Global;
 use std::sync::Arc;
 
-/// How many entries a segment has at least, on average, in a dead list that is cut.
+/// How many entries a dead list has at least that is cut.
 const MANY: u64 = 256;
 
 /// A cut stands at most so many snapshots below.
@@ -46,14 +47,22 @@ pub fn place_of(kept: &SharedList<Kept>, group: Group) -> usize
     kept.partition_point(|kept: &Kept| is_before(kept, group))
 }
 
-/// What is kept of the snapshot of this identity, or none. It costs the logarithm of the number of snapshots, and a walk over their
-/// chunks.
+/// What stands around the snapshot of this group, which is there. It costs the logarithm of the number of snapshots.
+pub fn around_of(kept: &SharedList<Kept>, group: Group) -> Around<'_, Kept>
+    requires rising { AreRising 0 (snaps_in kept.now) }
+    requires there { IsSome (find (λ t. t.group == group.0) (snaps_in kept.now)) }
+    ensures { (i : ℕ) × (option_map (λ k. k.snapshot.group) (slice_get kept.now i) ≡ Some group.0) × IsAround kept.now i result }
+{
+    kept.around(|kept: &Kept| is_before(kept, group))
+}
+
+/// What is kept of the snapshot of this identity, or none. It costs the logarithm of the number of snapshots.
 pub fn kept_of(kept: &SharedList<Kept>, id: SnapshotId) -> Option<&Kept>
     requires { AreRising 0 (snaps_in kept.now) }
     ensures { option_map (λ k. k.snapshot) (option_copied result) ≡ find (λ t. same_id (id_of t) (snap_id id)) (snaps_in kept.now) }
 {
-    let place = kept.partition_point(|kept: &Kept| is_before(kept, id.group));
-    let found = kept.get(place)?;
+    let around = kept.around(|kept: &Kept| is_before(kept, id.group));
+    let found = around.at?;
     if found.snapshot.id() == id {
         Some(found)
     } else {
@@ -72,9 +81,19 @@ pub fn before(kept: &SharedList<Kept>, place: usize) -> Option<&Kept>
     kept.get(place - 1)
 }
 
+/// Whether the last cut of a dead list stands at that group or after it. Constant time.
+fn is_cut_from(dead: &Deadlist, group: Group) -> bool
+    ensures { result ≡ option_map_or (nat_le group.0) (slice_get dead.now.cuts (length dead.now.cuts - 1)) false }
+{
+    match dead.cut_at(dead.segments().saturating_sub(2)) {
+        Some(cut) => group.0 <= cut.0,
+        None => false,
+    }
+}
+
 /// Cuts a long dead list at the group of a snapshot not far below that place, so that what the next ones below it lose is found among
-/// the few entries after the cut. A list with few entries a segment is left as it is. It costs the entries of one segment where it cuts,
-/// and else nothing. NoMemory where there is none for the cut; then nothing is changed.
+/// the few entries after the cut. A short list is left as it is, and so is one that has that cut or a later one. It costs the entries of
+/// one segment where it cuts, and else nothing. NoMemory where there is none for the cut; then nothing is changed.
 fn cut_below(
     kept: &SharedList<Kept>,
     base: Group,
@@ -86,16 +105,35 @@ fn cut_below(
     ensures entries { IsPermutation dead.old.entries dead.new.entries }
     ensures err { IfErr result (λ e. e ≡ Refusal.NoMemory) }
 {
-    if dead.len() / MANY < dead.segments() as u64 {
+    let below = place - place % NEAR;
+    let near = group_of(before(kept, below), base);
+    if below == 0 || dead.len() < MANY || is_cut_from(dead, near) {
         return Ok(());
     }
-    let below = place - place % NEAR;
-    dead.cut(group_of(before(kept, below), base), segments)
+    dead.cut(near, segments)
+}
+
+/// Joins the first segments of a dead list until it has no more cuts than that. It costs those segments, and not their entries. NoMemory
+/// where there is none for it; then all entries are there as they were.
+fn keep_cuts(dead: &mut Deadlist, most: usize, segments: &mut SegMeter) -> Result<(), Refusal>
+    ensures entries { dead.new.entries ≡ dead.old.entries }
+    ensures few { OnOk result (length dead.new.cuts ≤ most) }
+    ensures err { IfErr result (λ e. e ≡ Refusal.NoMemory) }
+{
+    let all = dead.segments() - 1;
+    for _joined in most..all {
+        let Some(first) = dead.cut_at(0) else {
+            return Ok(());
+        };
+        dead.join(first, segments)?;
+    }
+    Ok(())
 }
 
 /// The dead list of what comes after the snapshot at that place, once that is gone, and what is lost with it: from the dead list that it
-/// has now, and from the group of what stands below the first of the snapshots. It costs the segments of both lists, and where no cut
-/// stands at the group before the place, the entries of one segment. NoMemory where there is none for it.
+/// has now, and from the group of what stands below the first of the snapshots. It has a cut at most, and none where it is the first. It
+/// costs the segments of both lists, and where no cut stands at the group before the place, the entries of one segment. NoMemory where
+/// there is none for it.
 pub fn joined(
     kept: &SharedList<Kept>,
     base: Group,
@@ -105,6 +143,7 @@ pub fn joined(
 ) -> Result<(Deadlist, Deadlist), Refusal>
     requires { place < length kept.now }
     ensures ok { IfOk result (λ p. AreJoined base.0 kept.now place next.now.entries p.0.entries p.1.entries) }
+    ensures few { IfOk result (λ p. length p.0.cuts ≤ min place 1) }
     ensures err { IfErr result (λ e. e ≡ Refusal.NoMemory) }
 {
     let Some(gone) = kept.get(place) else {
@@ -116,6 +155,7 @@ pub fn joined(
     match all.append(own, segments) {
         Ok(()) => {
             cut_below(kept, base, place, &mut all, segments)?;
+            keep_cuts(&mut all, place.min(1), segments)?;
             Ok((all, lost))
         }
         Err((refusal, _own)) => Err(refusal),

@@ -59,6 +59,19 @@ impl Pair {
         self.cuts.iter().filter(|c| **c <= group).count() as u64
     }
 
+    /// Whether the list's cuts are the plain one's, counted from the lowest.
+    fn has_cuts(&self) -> bool {
+        for i in 0..self.cuts.len() {
+            let Some(cut) = self.list.cut_at(i) else {
+                return false;
+            };
+            if !self.has_cut(cut.0) || self.cuts_upto(cut.0) != (i as u64).wrapping_add(1) {
+                return false;
+            }
+        }
+        self.list.cut_at(self.cuts.len()).is_none()
+    }
+
     /// Notes that the list has reached that many segments.
     fn reach(&mut self, segments: u64) {
         self.reached = self.reached.wrapping_add(segments);
@@ -201,6 +214,7 @@ impl Pair {
                 && self.has_space_after(cut)
                 && self.has_space_upto(cut)
                 && self.list.segments() as u64 == self.segments()
+                && self.has_cuts()
                 && self.meter.count() == self.reached,
         )
     }

@@ -17,7 +17,7 @@ use Rattle.world.proofs.Maps.{same_value, no_value}
 use Rattle.world.proofs.Put.{parent_there}
 use Rattle.accounts.proofs.Names.{is_child, child_is, in_keys}
 use Rattle.limits.specs.Charges.{children_from}
-use Rattle.file_systems.proofs.Sorted.{sorted_at, find_at}
+use Rattle.datasets.proofs.Sorted.{sorted_at, find_at}
 
 -- ---- a parent is below its children
 

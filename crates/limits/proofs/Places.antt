@@ -14,11 +14,11 @@ use Rattle.name.specs.Names.{name_cmp, same_name, parent_of}
 use Rattle.model.specs.Hierarchy.{FileSystems, IsHierarchy}
 use Rattle.world.proofs.Finding.{one_name}
 use Rattle.world.proofs.Maps.{no_value}
-use Rattle.file_system.specs.Rows.{Row, Entry, entry_of, entry_in}
-use Rattle.file_systems.specs.Clones.{row_in}
-use Rattle.file_systems.specs.Places.{IsAt, IsGapFor}
-use Rattle.file_systems.proofs.Rows.{searched, row_of, true_from}
-use Rattle.file_systems.proofs.Sorted.{find_at, find_gap}
+use Rattle.datasets.specs.Rows.{Row, Entry, entry_of, entry_in}
+use Rattle.datasets.specs.Clones.{row_in}
+use Rattle.datasets.specs.Places.{IsAt, IsGapFor}
+use Rattle.datasets.proofs.Rows.{searched, row_of, true_from}
+use Rattle.datasets.proofs.Sorted.{find_at, find_gap}
 use Rattle.accounts.proofs.Names.{in_keys, from_keys, parent_in}
 use Rattle.limits.specs.Places.{IsParentAt}
 use Rattle.limits.proofs.Order.{no_entry, keys_long, key_is, entry_at}

@@ -14,9 +14,9 @@ use Rattle.world.specs.Usage.{IsEntry}
 use Rattle.world.specs.Worlds.{AreFileSystems}
 use Rattle.world.proofs.Bridge.{map_of_live, previous_of_live}
 use Rattle.world.proofs.Maps.{at_entry, same_value, no_value}
-use Rattle.file_system.specs.Dead.{newest_blocks}
-use Rattle.file_system.specs.Rows.{Row, Entry}
-use Rattle.file_systems.specs.Clones.{below_in, row_in}
+use Rattle.datasets.specs.Dead.{newest_blocks}
+use Rattle.datasets.specs.Rows.{Row, Entry}
+use Rattle.datasets.specs.Clones.{below_in, row_in}
 use Rattle.datasets.proofs.Above.{below_is_map, newest_is}
 use Rattle.accounts.specs.Space.{own_of}
 use Rattle.accounts.proofs.Levels.{here_is}

@@ -2,7 +2,7 @@
 use Rattle.std.proofs.Common.{◌≡◌, ℕ, ◌<◌, List, [], length, get_or, ◌∙◌, arith}
 use Rattle.std.specs.FinMap.{entries, keys}
 use Rattle.model.specs.Hierarchy.{FileSystems}
-use Rattle.file_systems.specs.Places.{IsAt}
+use Rattle.datasets.specs.Places.{IsAt}
 use Rattle.limits.proofs.Order.{no_entry, keys_long, key_is}
 
 module _ (m : FileSystems) (name : List ℕ) (i : ℕ) (found : IsAt (entries m) name i) where

@@ -6,9 +6,9 @@ use Rattle.base.specs.Map.{blocks}
 use Rattle.model.specs.World.{blocks_of_all}
 use Rattle.model.specs.Sums.{size_without}
 use Rattle.world.specs.Tables.{Datasets}
-use Rattle.file_system.specs.Dead.{newest_blocks}
-use Rattle.file_system.specs.Rows.{Row}
-use Rattle.file_systems.specs.Clones.{row_in}
+use Rattle.datasets.specs.Dead.{newest_blocks}
+use Rattle.datasets.specs.Rows.{Row}
+use Rattle.datasets.specs.Clones.{row_in}
 use Rattle.limits.specs.declared.account.Account.{Account}
 
 -- a row is that of a file system of this table (profile)

@@ -7,7 +7,7 @@ ghost use Rattle.world.specs.Worlds.{AreFileSystems};
 ghost use Rattle.limits.specs.Ledgers.{account_in, accounts_in};
 ghost use Rattle.limits.specs.Rows.{IsRowOf, own_in, unwritten_in, account_at};
 
-use file_systems::FileSystem;
+use datasets::FileSystem;
 use model::limits::{Limit, Limits};
 
 /// What of a file system its limits are asked of, in blocks, beside what its children use.

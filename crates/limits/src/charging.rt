@@ -12,8 +12,7 @@ use crate::account::account_of;
 use crate::line::Line;
 use crate::near::Near;
 use crate::place::parent_place;
-use datasets::Table;
-use file_systems::FileSystem;
+use datasets::{FileSystem, Table};
 use std::sync::Arc;
 
 /// The lines become those of these file systems, for which there is room, with no child charged. It costs their number.

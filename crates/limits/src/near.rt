@@ -4,8 +4,7 @@ ghost use Rattle.base.specs.declared.refusal.Refusal.{Refusal};
 
 use crate::parent::parent_of;
 use base::refusal::Refusal;
-use datasets::FILE_SYSTEM_LIMIT;
-use file_systems::FileSystem;
+use datasets::{FILE_SYSTEM_LIMIT, FileSystem};
 use std::alloc::Global;
 use std::sync::Arc;
 

@@ -2,7 +2,7 @@
 ghost use Rattle.std.specs.Prelude.{◌≡◌, ◌<◌, [], None, IfSome, IfNone, slice_index_or};
 ghost use Rattle.std.specs.FinMap.{get, entries, keys, len};
 ghost use Rattle.name.specs.Names.{parent_of as parent_name};
-ghost use Rattle.file_systems.specs.Places.{IsAt};
+ghost use Rattle.datasets.specs.Places.{IsAt};
 ghost use Rattle.limits.specs.Places.{IsParentAt};
 
 use crate::parent::parent_of;

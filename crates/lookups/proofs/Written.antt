@@ -7,7 +7,7 @@ use Rattle.name.specs.Names.{same_name}
 use Rattle.model.specs.Sums.{size_without}
 use Rattle.model.specs.World.{Snap}
 use Rattle.model.specs.declared.reply.Value.TheVariants.{Size}
-use Rattle.file_system.specs.Dead.{written_from}
+use Rattle.datasets.specs.Dead.{written_from}
 
 none_written : (bs : BlockSet) (ts : List Snap) (name : List ℕ) → find (λ t. same_name t.name name) ts ≡ None → written_from bs ts name ≡ None
 none_written bs [] name none = refl

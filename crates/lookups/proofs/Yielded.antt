@@ -9,7 +9,7 @@ use Rattle.name.specs.Names.{snap_text, mark_text}
 use Rattle.model.specs.Properties.{bookmarks_in_order, names_of as own_names}
 use Rattle.model.specs.World.{FileSystem}
 use Rattle.snapshots.specs.declared.kept.Kept.{Kept}
-use Rattle.file_system.specs.Dead.{snaps_in}
+use Rattle.datasets.specs.Dead.{snaps_in}
 use Rattle.lookups.specs.Named.{snapshot_names, bookmark_names}
 use Rattle.world.proofs.Finding.{append_none}
 use Rattle.std.specs.Iterator.{Yields, YieldsFirstRef}

@@ -1,5 +1,5 @@
 -- What a name stands for among file systems.
-use Rattle.std.specs.Prelude.{◌≡◌, ◌⊎◌, ◌*◌, ◌-◌, ℕ, List, [], ◌∷◌, Option, None, Some, length, map}
+use Rattle.std.specs.Prelude.{◌≡◌, ◌⊎◌, Bool, true, false, ◌*◌, ◌-◌, ℕ, List, [], ◌∷◌, Option, None, Some, length, map}
 use Rattle.std.specs.List.{find, join_with_byte}
 use Rattle.std.specs.Option.{option_map, option_map_or, option_and_then, unwrap_or}
 use Rattle.std.specs.FinMap.{get, len}
@@ -19,9 +19,9 @@ use Rattle.model.specs.declared.request.Property.TheVariants.{Used, Available, R
 use Rattle.model.specs.declared.reply.Value.{Value}
 use Rattle.model.specs.declared.reply.Value.TheVariants.{Size, Number, Named, Truth, NotApplicable}
 use Rattle.world.specs.Tables.{Datasets, world_of}
-use Rattle.file_systems.specs.Clones.{row_in}
-use Rattle.file_system.specs.Dead.{newest_blocks, written_from}
-use Rattle.file_system.specs.Rows.{Row, Entry}
+use Rattle.datasets.specs.Clones.{row_in}
+use Rattle.datasets.specs.Dead.{newest_blocks, written_from}
+use Rattle.datasets.specs.Rows.{Row, Entry}
 
 -- the map of the dataset of a name: a file system's live map, or a snapshot's (zfs(8))
 abbrev pub map_named : FileSystems → Target → Option Map
@@ -105,3 +105,14 @@ abbrev pub value_named : Datasets → ℕ → Target → Property → Option Val
 value_named t room (OfFileSystem name) property = option_map (λ f. live_value t room (row_in t.file_systems (name, f)) property) (get t.file_systems name)
 value_named t room (OfSnapshot m) property = value_in t m property
 value_named t room (OfBookmark m) property = option_map (λ b. bookmark_value b property) (bookmark_named (world_of t) m)
+
+-- it is asked how much is used (zfsprops(7): used)
+abbrev pub is_used : Property → Bool
+is_used Used = true
+is_used property = false
+
+-- what is asked reads dead lists: what a snapshot uses; every other property is kept (profile)
+abbrev pub reads_lists : Target → Property → Bool
+reads_lists (OfFileSystem name) property = false
+reads_lists (OfSnapshot m) property = is_used property
+reads_lists (OfBookmark m) property = false

@@ -2,13 +2,13 @@
 ghost use Rattle.std.specs.Prelude.{◌≡◌, ◌++◌, ◌∷◌, IfOk, IfErr, OnOk, map};
 ghost use Rattle.std.specs.List.{flat_map};
 ghost use Rattle.base.specs.declared.refusal.Refusal.{Refusal};
-ghost use Rattle.file_system.specs.Rows.{entry_of, entry_in};
+ghost use Rattle.datasets.specs.Rows.{entry_of, entry_in};
 ghost use Rattle.model.specs.Properties.{names_of as own_names};
 ghost use Rattle.lookups.specs.Named.{snapshot_names, bookmark_names};
 
 use base::refusal::Refusal;
 use base::text::Bytes;
-use file_systems::FileSystem;
+use datasets::FileSystem;
 use std::alloc::Global;
 use std::sync::Arc;
 

@@ -9,8 +9,7 @@ ghost use Rattle.name.specs.declared.target.Target.{Target};
 ghost use Rattle.lookups.specs.Named.{map_named, IsNoLive};
 
 use base::refusal::Refusal;
-use datasets::Table;
-use file_systems::{FileSystem, Snapshot};
+use datasets::{FileSystem, Snapshot, Table};
 use model::snapshot_id::SnapshotId;
 use name::{DsName, Member, Target};
 use tree::Tree;

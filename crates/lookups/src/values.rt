@@ -1,5 +1,5 @@
 //! The values of properties of file systems, snapshots and bookmarks.
-ghost use Rattle.std.specs.Prelude.{◌≡◌, ◌<◌, ◌*◌, ◌-◌, ◌^◌, true, Some, IsSome, IfOk, IfErr, map};
+ghost use Rattle.std.specs.Prelude.{◌≡◌, ◌<◌, ◌*◌, ◌-◌, ◌^◌, true, false, Some, IsSome, IfOk, IfErr, map};
 ghost use Rattle.std.specs.Option.{option_copied, option_map, unwrap_or};
 ghost use Rattle.std.specs.List.{join_with_byte};
 ghost use Rattle.std.specs.FinMap.{get};
@@ -7,8 +7,8 @@ ghost use Rattle.std.specs.FinSet.{len};
 ghost use Rattle.base.specs.declared.refusal.Refusal.{Refusal};
 ghost use Rattle.base.specs.Map.{blocks};
 ghost use Rattle.bookmarks.specs.Marks.{bookmark_of};
-ghost use Rattle.file_system.specs.Dead.{newest_blocks, written_from};
-ghost use Rattle.file_systems.specs.CloneNames.{name_of};
+ghost use Rattle.datasets.specs.Dead.{newest_blocks, written_from};
+ghost use Rattle.datasets.specs.CloneNames.{name_of};
 ghost use Rattle.model.specs.Ids.{snap_id};
 ghost use Rattle.model.specs.Properties.{text_of_snap, bookmark_value};
 ghost use Rattle.model.specs.Sums.{size_without, used_of, used_by_children};
@@ -18,7 +18,7 @@ ghost use Rattle.model.specs.declared.request.Property.{Property};
 ghost use Rattle.model.specs.requests.Get.{needs_memory};
 ghost use Rattle.world.specs.Tables.{world_of};
 ghost use Rattle.lookups.specs.Accounted.{IsAccounted};
-ghost use Rattle.lookups.specs.Named.{amount_value, live_value, origin_value, snapshot_value, value_in, value_named};
+ghost use Rattle.lookups.specs.Named.{amount_value, live_value, origin_value, snapshot_value, value_in, value_named, is_used, reads_lists};
 
 use crate::names::member_text;
 use crate::trees::bookmark_named;
@@ -26,8 +26,7 @@ use base::limit::Blocks;
 use base::meter::SegMeter;
 use base::refusal::Refusal;
 use base::text::Bytes;
-use datasets::Table;
-use file_systems::{CloneName, FileSystem};
+use datasets::{CloneName, FileSystem, Table};
 use limits::Ledger;
 use model::limits::Limit;
 use model::reply::Value;
@@ -252,6 +251,7 @@ fn value_of_snapshot(
 ) -> Result<Option<Value>, Refusal>
     ensures ok { IfOk result (λ value. value ≡ value_in table.now member.now property) }
     ensures err { IfErr result (λ e. (needs_memory property ≡ true) × (e ≡ Refusal.NoMemory)) }
+    ensures unread { is_used property ≡ false → segments.new ≡ segments.old }
 {
     if let Property::Used = property {
         return Ok(used_by_snapshot(alloc, table, member, segments)?.map(in_bytes));
@@ -272,6 +272,7 @@ fn value_of_snapshot(
 /// none for a text, or to find what a snapshot alone has. It costs the logarithm of the number of file systems, and for a snapshot that of
 /// the number of its file system's; an origin costs the number of file systems times the logarithm of that of the snapshots of one, clones
 /// their names, what a file system or its children use the number of file systems, and what a snapshot uses what `used_by_snapshot` does.
+/// That one alone reads dead lists.
 pub fn value_named(
     alloc: Global,
     table: &Table,
@@ -286,6 +287,7 @@ pub fn value_named(
     requires small { room < 2 ^ 55 }
     ensures ok { IfOk result (λ value. value ≡ value_named table.now room target.now property) }
     ensures err { IfErr result (λ e. (needs_memory property ≡ true) × (e ≡ Refusal.NoMemory)) }
+    ensures unread { reads_lists target.now property ≡ false → segments.new ≡ segments.old }
 {
     match target {
         Target::FileSystem(name) => match table.find(name) {

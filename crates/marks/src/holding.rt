@@ -12,8 +12,7 @@ ghost use Rattle.marks.specs.Requests.{held_in, hold_refusal, tag_refusal};
 
 use crate::place::placed;
 use base::refusal::Refusal;
-use datasets::Table;
-use file_systems::Snapshot;
+use datasets::{Snapshot, Table};
 use holds::{Holds, TAG_LIMIT};
 use name::{Tag, Target};
 use std::alloc::Global;

@@ -6,8 +6,7 @@ ghost use Rattle.world.specs.Tables.{world_of};
 ghost use Rattle.marks.specs.Requests.{holds_refusal};
 
 use base::refusal::Refusal;
-use datasets::Table;
-use file_systems::Snapshot;
+use datasets::{Snapshot, Table};
 use name::Target;
 
 /// The snapshot that a target names. NotSnapshot where the target isn't the name of a snapshot, else NoDataset where there is no such

@@ -1,8 +1,7 @@
 -- The counts after a change, by what a forecast says and what a row keeps.
 use Rattle.std.proofs.Common.{◌≡◌, ◌+◌, ◌-◌, ◌≤◌, ◌<◌, ◌^◌, ℕ, Bool, cond, List, [], ◌∷◌, map, length, Option, None, Some, refl, sym, ap, ◌∙◌, arith, inl, inr, ⊎_elim}
 use Rattle.std.specs.Prelude.{count_by, nat_lt, ◌&&◌, unwrap_or}
-use Rattle.std.specs.Option.{option_map, option_map_or}
-use Rattle.std.specs.Option.{option_or}
+use Rattle.std.specs.Option.{option_map, option_map_or, option_or}
 use Rattle.std.specs.List.{last_or}
 use Rattle.std.specs.FinMap.{len as map_len}
 use Rattle.std.specs.FinSet.{len}
@@ -22,15 +21,15 @@ use Rattle.world.specs.Dead.{base_of}
 use Rattle.world.specs.Sets.{IsSubset}
 use Rattle.world.specs.Sums.{origin_group as origin_in}
 use Rattle.world.specs.Blocks.{block_order as o}
-use Rattle.file_system.specs.Rows.{Row}
-use Rattle.file_system.specs.Writes.{newest_group}
-use Rattle.file_system.specs.Origins.{origin_group}
+use Rattle.datasets.specs.Rows.{Row}
+use Rattle.datasets.specs.Writes.{newest_group}
+use Rattle.datasets.specs.Origins.{origin_group}
 use Rattle.world.proofs.BlockCounts.{len-blocks}
 use Rattle.world.proofs.Bridge.{in_union_of, previous_of_live, map_of_live}
 use Rattle.world.proofs.SetCounts.{no-empty, from_union, len-difference, len-subset}
 use Rattle.datasets.proofs.Above.{below_is_map, newest_is}
-use Rattle.file_system.specs.Dead.{newest_blocks}
-use Rattle.file_systems.specs.Clones.{below_in}
+use Rattle.datasets.specs.Dead.{newest_blocks}
+use Rattle.datasets.specs.Clones.{below_in}
 use Rattle.accounts.specs.Forecasts.{count_after, count_before, IsOutlook, outlook_here}
 use Rattle.accounts.proofs.Forecasts.{outlook, asked_used_here}
 use Rattle.accounts.proofs.Replaced.{origin_high}

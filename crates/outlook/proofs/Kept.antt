@@ -15,7 +15,7 @@ use Rattle.model.specs.Sums.{used_here, written_of}
 use Rattle.world.specs.Takings.{AreTakable}
 use Rattle.world.specs.Worlds.{AreFileSystems}
 use Rattle.world.proofs.Maps.{same_value}
-use Rattle.file_system.specs.Rows.{Row}
+use Rattle.datasets.specs.Rows.{Row}
 use Rattle.accounts.proofs.Forecasts.{asked_systems, asked_there}
 use Rattle.accounts.proofs.Taken.{taken_here, taken_referenced, taken_reach}
 use Rattle.outlook.specs.Outlooks.{IsAhead, IsTallyOf, IsKeptOutlookOf, ahead, kept_ahead}

@@ -13,8 +13,8 @@ use Rattle.model.specs.Sums.{used_here, referenced_of, written_of}
 use Rattle.model.specs.requests.Snapshot.{with_snapshot}
 use Rattle.name.specs.declared.member.Member.{Member}
 use Rattle.world.specs.Worlds.{IsPoolState}
-use Rattle.file_system.specs.Rows.{Row}
-use Rattle.file_systems.specs.Clones.{below_in}
+use Rattle.datasets.specs.Rows.{Row}
+use Rattle.datasets.specs.Clones.{below_in}
 use Rattle.outlook.specs.declared.outlook.Outlook.{Outlook}
 use Rattle.outlook.specs.declared.outlook.Tally.{Tally}
 

@@ -9,7 +9,7 @@ ghost use Rattle.outlook.specs.Outlooks.{IsAhead, IsOutlookOf, IsKeptOutlookOf, 
 
 use base::number::{Dead, Group};
 use base::refusal::Refusal;
-use file_systems::FileSystem;
+use datasets::FileSystem;
 use model::limits::Limit;
 use tree::Forecast;
 

@@ -24,7 +24,7 @@ use Rattle.steps.proofs.Known.{states_of}
 use Rattle.steps.proofs.Properties.{are_balanced}
 use Rattle.steps.proofs.Putting.{put_none}
 use Rattle.steps.proofs.Setting as setting
-use Rattle.limits.specs.declared.pool_space.Space.{Space}
+use Rattle.steps.specs.Handed.{Space}
 use Rattle.steps.specs.Limiting.{IsStateWith}
 use Rattle.steps.specs.Counted.{IsCountOf}
 use Rattle.pool.specs.Pools.{IsSound}

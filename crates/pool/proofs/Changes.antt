@@ -20,7 +20,7 @@ use Rattle.model.specs.requests.Change.{change_rule}
 use Rattle.model.proofs.Blocks.{not_false}
 use Rattle.steps.proofs.Changing.{change_no_memory, change_no_dataset, change_read_only, change_bad_key}
 use Rattle.pool.specs.Asked.{Asks}
-use Rattle.lookups.specs.Named.{IsNoLive}
+use Rattle.steps.specs.Handed.{IsNoLive}
 use Rattle.pool.specs.Pools.{IsSound}
 use Rattle.pool.specs.Shown.{Shown, shown}
 use Rattle.steps.proofs.Names.{found, absent, is_snapshot}

@@ -24,7 +24,7 @@ use Rattle.model.specs.Rule.{first_of}
 use Rattle.model.specs.requests.Snapshot.{taking_row, guid_by}
 use Rattle.model.specs.State.{State}
 use Rattle.world.specs.Tables.{Datasets}
-use Rattle.file_system.specs.Rows.{live_of}
+use Rattle.datasets.specs.Rows.{live_of}
 use Rattle.datasets.specs.Writes.{young_of, AllowsWrite, HasWritten}
 use Rattle.snap.specs.Taking.{after_taking}
 use Rattle.steps.specs.Edits.{datasets_of, with_datasets, put, StaysUnlimited, CanChange, CanPut}
@@ -40,9 +40,7 @@ use Rattle.pool.proofs.Steps.{snapshot_can, snapshot_stays, snapshot_done}
 use Rattle.model.specs.requests.Change.{limit_row}
 use Rattle.accounts.specs.Limits.{IsUnlimited}
 use Rattle.steps.specs.Asked.{asked_by_snapshot}
-use Rattle.outlook.specs.declared.outlook.Outlook.{Outlook}
-use Rattle.limits.specs.declared.line.Line.{Line}
-use Rattle.lookups.specs.Accounted.{IsAccounted}
+use Rattle.steps.specs.Handed.{Outlook, Line, IsAccounted}
 use Rattle.steps.specs.Limiting.{IsNoChange, MayChange, Foretells, CanSettle}
 use Rattle.steps.proofs.Settled.{can_settle}
 use Rattle.pool.proofs.Limited.{bare_here}

@@ -15,11 +15,10 @@ use Rattle.steps.proofs.Properties.{are_balanced}
 use Rattle.world.specs.Tables.{Datasets, world_of}
 use Rattle.accounts.specs.Limits.{IsUnlimited}
 use Rattle.steps.specs.Edits.{datasets_of, StaysUnlimited}
-use Rattle.lookups.specs.Accounted.{IsAccounted}
+use Rattle.steps.specs.Handed.{IsAccounted, Line}
 use Rattle.steps.specs.Limiting.{IsAsked, IsOver}
 use Rattle.steps.proofs.Balanced as balanced
 use Rattle.steps.proofs.Foretold.{ledger_alike}
-use Rattle.limits.specs.declared.line.Line.{Line}
 use Rattle.pool.specs.Pools.{IsSound}
 use Rattle.pool.specs.Shown.{Shown, shown}
 use Rattle.pool.proofs.Fitting as fitting

@@ -1,7 +1,7 @@
 -- What a prepared step will do.
 use Rattle.std.specs.Prelude.{◌≡◌, ◌+◌, ◌≤◌, false, map}
 use Rattle.base.specs.Surveys.{dead_block}
-use Rattle.limits.specs.Ledgers.{ledger_of}
+use Rattle.steps.specs.Handed.{ledger_of}
 use Rattle.world.specs.Tables.{world_of}
 use Rattle.model.specs.State.{State}
 use Rattle.model.specs.Targets.{guid_limit}

@@ -16,14 +16,12 @@ use crate::pool::{Plan, Pool};
 use base::limit::Blocks;
 use base::refusal::Refusal;
 use datasets::Table;
-use limits::Space;
 use model::limits::Limit;
 use model::reply::Reply;
 use model::request::Request;
 use name::DsName;
-use outlook::Outlook;
 use std::alloc::Global;
-use steps::{answer, ask_change, over, with_limit};
+use steps::{Outlook, Space, answer, ask_change, over, with_limit};
 use tree::Update;
 
 impl Pool {

@@ -21,7 +21,6 @@ use base::number::{Dead, Group};
 use base::refusal::Refusal;
 use datasets::Table;
 use destroyer::{Freeing, Slice};
-use lookups::live_name;
 use model::reply::Reply;
 use model::request::Request;
 use model::snap_names::SnapNames;
@@ -34,7 +33,7 @@ use std::alloc::Global;
 use std::marker::Model;
 use std::slice::from_ref;
 use std::snapshot::Snapshot;
-use steps::{Limiting, renew, settle};
+use steps::{Limiting, live_name, renew, settle};
 use toll::Toll;
 use tree::{Changed, Update, take_all};
 use views::Views;
@@ -62,7 +61,7 @@ pub struct Pool {
 
 impl Model for Pool {
     ghost use Rattle.pool.specs.Shown.{Shown, shown, shown_code};
-    ghost use Rattle.lookups.specs.Accounted.{IsAccounted};
+    ghost use Rattle.steps.specs.Handed.{IsAccounted};
     ghost use Rattle.pool.specs.Pools.{state_of, IsSound};
 
     ghost Value = { Shown };

@@ -9,15 +9,14 @@ ghost use Rattle.pool.specs.Plans.{state_after_plan, CanDo, CanOpen};
 
 use crate::pool::{Plan, Pool};
 use base::refusal::Refusal;
-use lookups::snapshot_named;
 use model::reply::Reply;
 use model::sight::Sight;
 use model::snapshot_id::SnapshotId;
 use name::Target;
 use removals::{Edit, close_view};
-use sources::sources_of;
 use std::alloc::Global;
 use std::sync::Arc;
+use steps::{snapshot_named, sources_of};
 
 impl Pool {
     // The snapshot that the next view shows, where it is opened of this name, and what it shows. NotSnapshot where the name isn't one of a

@@ -18,7 +18,7 @@ use Rattle.world.specs.Sets.{Has, IsSubset}
 use Rattle.world.proofs.Cells.{in_blocks, from_blocks}
 use Rattle.world.proofs.Maps.{no_value}
 use Rattle.world.proofs.SetCounts.{has_some, Has-cases, in_difference, from_difference, in_intersection, from_intersection, no-empty, same_members, len-difference}
-use Rattle.file_system.proofs.Accounts.{count_is}
+use Rattle.datasets.proofs.Accounts.{count_is}
 
 -- ---- the test of two maps
 

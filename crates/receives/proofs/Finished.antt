@@ -14,13 +14,13 @@ use Rattle.model.specs.Hierarchy.{FileSystems}
 use Rattle.model.specs.World.{World, FileSystem}
 use Rattle.model.specs.Edits.{with_next_group}
 use Rattle.model.specs.requests.Snapshot.{with_snapshot, snap_of_live}
-use Rattle.file_system.specs.Rows.{live_of, plain_snap, with_live, with_snap}
+use Rattle.datasets.specs.Rows.{live_of, plain_snap, with_live, with_snap}
 use Rattle.world.specs.Takings.{AreTakable}
 use Rattle.world.specs.Worlds.{AreFileSystems}
 use Rattle.world.specs.Tables.{Datasets, CanSnap, world_of, with_system}
 use Rattle.world.proofs.Put.{put_here}
 use Rattle.datasets.specs.Snapshots.{with_snap_at}
-use Rattle.snap.proofs.Turns.{starts_taking, can_snap}
+use Rattle.removals.proofs.Turns.{starts_taking, can_snap}
 use Rattle.receives.specs.Ends.{CanFinish, HasReceived, finished}
 use Rattle.receives.proofs.Ready.{takable_written}
 

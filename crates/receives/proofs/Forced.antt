@@ -9,8 +9,8 @@ use Rattle.bookmarks.specs.Marks.{without_newer}
 use Rattle.model.specs.World.{World, FileSystem, Snap}
 use Rattle.model.specs.Edits.{with_file_system, with_losses}
 use Rattle.model.specs.requests.Receive.{newest_of, back_to_newest}
-use Rattle.file_system.specs.Losses.{newest_map}
-use Rattle.file_system.specs.Rows.{live_of, snaps_at, with_live}
+use Rattle.datasets.specs.Losses.{newest_map}
+use Rattle.datasets.specs.Rows.{live_of, snaps_at, with_live}
 use Rattle.world.specs.Tables.{Datasets, world_of}
 use Rattle.world.proofs.Maps.{same_value, no_value}
 use Rattle.world.proofs.Put.{put_here}

@@ -8,8 +8,8 @@ use Rattle.base.specs.Map.{Map, Cell, BlockSet, blocks}
 use Rattle.base.specs.Surveys.{IsIn}
 use Rattle.model.specs.World.{FileSystem, Snap, Live, Snapped, id_of}
 use Rattle.snapshots.specs.declared.kept.Kept.{Kept}
-use Rattle.file_system.specs.Dead.{newest_blocks}
-use Rattle.file_system.proofs.Newest.{last_is}
+use Rattle.datasets.specs.Dead.{newest_blocks}
+use Rattle.datasets.proofs.Newest.{last_is}
 use Rattle.world.specs.Worlds.{AreFileSystems}
 use Rattle.world.specs.Tables.{Datasets, world_of}
 use Rattle.world.proofs.Bridge.{map_of_live, map_of_kept, in_middle}

@@ -19,7 +19,7 @@ use Rattle.model.specs.Targets.{snap_limit, has_no_next_group, number_limit}
 use Rattle.model.specs.Edits.{with_file_system, with_losses}
 use Rattle.model.specs.requests.Create.{with_new_file_system}
 use Rattle.model.specs.requests.Receive.{newest_of, back_to_newest, forced_back, is_modified, has_no_room, full_row, incremental_row}
-use Rattle.file_system.specs.Rows.{with_live}
+use Rattle.datasets.specs.Rows.{with_live}
 use Rattle.world.specs.Takings.{AreTakable}
 use Rattle.world.specs.Tables.{Datasets, world_of}
 use Rattle.world.proofs.Finding.{or_none, found_none, name_itself}

@@ -18,10 +18,10 @@ use Rattle.model.specs.Hierarchy.{file_system_limit, has_parent}
 use Rattle.model.specs.Rule.{first_of}
 use Rattle.model.specs.requests.Create.{create_row, create_refusal}
 use Rattle.model.specs.requests.Receive.{same_map, has_no_room, full_row, incremental_row}
-use Rattle.file_system.specs.Rows.{snap_count}
+use Rattle.datasets.specs.Rows.{snap_count}
 use Rattle.world.specs.Tables.{Datasets, world_of}
 use Rattle.world.proofs.Maps.{no_value}
-use Rattle.snap.proofs.Rooms.{snaps_counted}
+use Rattle.removals.proofs.Rooms.{snaps_counted}
 use Rattle.receives.specs.Requests.{receive_refusal}
 use Rattle.receives.proofs.Alike.{decides_map, same_by_counts, counts_of_same}
 

@@ -5,7 +5,7 @@ ghost use Rattle.base.specs.declared.refusal.Refusal.{Refusal};
 ghost use Rattle.tree.specs.Asking.{IsNoSpaceOrNoMemory};
 ghost use Rattle.tree.specs.Change.{HasRoom, LacksRoom, CountsDropped};
 ghost use Rattle.tree.specs.Updates.{changes_of};
-ghost use Rattle.file_system.specs.Rows.{live_of};
+ghost use Rattle.datasets.specs.Rows.{live_of};
 ghost use Rattle.datasets.specs.Writes.{young_of, AllowsWrite};
 ghost use Rattle.world.specs.Tables.{world_of};
 ghost use Rattle.receives.specs.Ends.{CanFinish, HasReceived, finished};

@@ -10,8 +10,7 @@ ghost use Rattle.receives.specs.Requests.{receive_refusal};
 
 use base::number::Guid;
 use base::refusal::Refusal;
-use datasets::Table;
-use file_systems::{FileSystem, Snapshot};
+use datasets::{FileSystem, Snapshot, Table};
 use name::{Component, Member};
 use stream::Stream;
 

@@ -7,7 +7,7 @@ use Rattle.base.specs.Surveys.{IsIn}
 use Rattle.model.specs.World.{FileSystem, Snap, SnapId, id_of, same_id, snap_at, snaps_of}
 use Rattle.model.specs.State.{Views}
 use Rattle.model.specs.Outcome.{is_needed}
-use Rattle.file_system.specs.Rows.{Entry}
+use Rattle.datasets.specs.Rows.{Entry}
 use Rattle.world.specs.Shapes.{Name, name_order}
 use Rattle.world.specs.Worlds.{AreFileSystems}
 use Rattle.world.specs.Tables.{Datasets, world_of, without_system}

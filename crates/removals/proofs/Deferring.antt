@@ -6,13 +6,12 @@ use Rattle.std.specs.FinMap.{get, same_map}
 use Rattle.name.specs.declared.member.Member.{Member}
 use Rattle.name.specs.Names.{same_name}
 use Rattle.base.specs.Surveys.{IsIn}
-use Rattle.model.specs.World.{World, FileSystem, Snap, SnapId, id_of, same_id, snap_named}
+use Rattle.model.specs.World.{World, FileSystem, Snap, SnapId, id_of, same_id, snap_named, maps_of, union_of}
 use Rattle.model.specs.requests.Destroy.{is_one_of, with_deferred}
 use Rattle.world.specs.Shapes.{Name, name_order}
 use Rattle.world.specs.Tables.{Datasets, world_of, deferred_snap}
 use Rattle.world.proofs.Sweep.{get-with_file_systems}
 use Rattle.base.specs.Map.{BlockSet}
-use Rattle.model.specs.World.{maps_of, union_of}
 use Rattle.world.specs.Blocks.{block_order as o}
 use Rattle.world.proofs.Maps.{same_value, no_value}
 use Rattle.world.proofs.SetCounts.{same_members}

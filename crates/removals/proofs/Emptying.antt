@@ -13,8 +13,8 @@ use Rattle.base.specs.Surveys.{IsIn}
 use Rattle.name.specs.declared.member.Member.{Member}
 use Rattle.name.specs.Names.{same_name}
 use Rattle.model.specs.World.{FileSystem, Snap, SnapId, id_of, empty_file_system, snap_named, union_of}
-use Rattle.file_system.specs.Origins.{origin_group}
-use Rattle.file_system.specs.Rows.{Entry, snaps_at}
+use Rattle.datasets.specs.Origins.{origin_group}
+use Rattle.datasets.specs.Rows.{Entry, snaps_at}
 use Rattle.snap.specs.Taking.{is_in_family}
 use Rattle.snap.proofs.Rests.{next_left, none_left}
 use Rattle.world.specs.Sets.{IsSubset, AreDisjoint}

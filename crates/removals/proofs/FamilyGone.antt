@@ -11,7 +11,7 @@ use Rattle.model.specs.requests.Destroy.{file_systems_named}
 use Rattle.std.specs.List.{list_any}
 use Rattle.world.proofs.Families.{from_retained}
 use Rattle.model.specs.World.{union_of}
-use Rattle.file_system.specs.Rows.{Entry}
+use Rattle.datasets.specs.Rows.{Entry}
 use Rattle.snap.specs.Taking.{is_in_family}
 use Rattle.snap.proofs.Families.{ends_component}
 use Rattle.world.specs.Sets.{IsSubset, AreDisjoint}

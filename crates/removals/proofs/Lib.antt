@@ -1,3 +1,5 @@
+pub use Rattle.snap.proofs.Turns
+pub use Rattle.snap.proofs.Rooms
 pub mod Losses
 pub mod Named
 pub mod Yielded

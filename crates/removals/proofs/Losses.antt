@@ -8,8 +8,8 @@ use Rattle.std.specs.FinSet.{union, difference}
 use Rattle.base.specs.Map.{Map, BlockSet}
 use Rattle.base.specs.Surveys.{IsIn}
 use Rattle.model.specs.World.{FileSystem, Snap, SnapId, same_id, id_of, union_of}
-use Rattle.file_system.specs.Losses.{newest_map}
-use Rattle.file_system.specs.Rows.{live_of, snaps_at, with_live}
+use Rattle.datasets.specs.Losses.{newest_map}
+use Rattle.datasets.specs.Rows.{live_of, snaps_at, with_live}
 use Rattle.world.specs.Sets.{Has, IsSubset, AreDisjoint}
 use Rattle.world.specs.Blocks.{block_order as o}
 use Rattle.world.specs.Worlds.{AreFileSystems}

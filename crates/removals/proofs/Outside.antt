@@ -9,7 +9,7 @@ use Rattle.name.specs.Names.{same_name}
 use Rattle.model.specs.World.{FileSystem, Snap, SnapId, id_of, same_id, snap_at, clones_of, family_of}
 use Rattle.model.specs.requests.Destroy.{snaps_within}
 use Rattle.model.specs.requests.Rollback.{has_clone_outside}
-use Rattle.file_system.specs.Rows.{Entry}
+use Rattle.datasets.specs.Rows.{Entry}
 use Rattle.snap.specs.Taking.{is_in_family}
 use Rattle.world.specs.Shapes.{Name, name_order}
 use Rattle.world.specs.Worlds.{AreFileSystems}

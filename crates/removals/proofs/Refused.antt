@@ -14,7 +14,7 @@ use Rattle.model.specs.World.{FileSystem, Snap, SnapId, id_of, children_of, fami
 use Rattle.model.specs.State.{Views}
 use Rattle.model.specs.requests.Destroy.{file_systems_named, snaps_within}
 use Rattle.model.specs.requests.Rollback.{has_clone_outside}
-use Rattle.file_system.specs.Rows.{Entry}
+use Rattle.datasets.specs.Rows.{Entry}
 use Rattle.world.specs.Shapes.{name_order}
 use Rattle.world.specs.Tables.{Datasets, CanRemove, world_of}
 use Rattle.world.specs.Worlds.{AreFileSystems}

@@ -18,10 +18,10 @@ use Rattle.model.specs.World.{World, FileSystem, Snap, SnapId, id_of, snap_named
 use Rattle.model.specs.Edits.{without_snaps, with_file_system}
 use Rattle.model.specs.State.{Views}
 use Rattle.model.specs.requests.Rollback.{snaps_upto, snaps_after, back_at, after_rollback, placed, newer_snaps}
-use Rattle.file_system.specs.Losses.{newest_map}
-use Rattle.file_system.specs.Origins.{origin_group}
-use Rattle.file_system.specs.Writes.{newest_group}
-use Rattle.file_system.specs.Rows.{Entry, live_of, snaps_at, with_live}
+use Rattle.datasets.specs.Losses.{newest_map}
+use Rattle.datasets.specs.Origins.{origin_group}
+use Rattle.datasets.specs.Writes.{newest_group}
+use Rattle.datasets.specs.Rows.{Entry, live_of, snaps_at, with_live}
 use Rattle.world.specs.Shapes.{Name, name_order}
 use Rattle.world.specs.Worlds.{FileSystems, AreRising, AreFileSystems}
 use Rattle.world.specs.Outcomes.{is_one_of}

@@ -6,8 +6,8 @@ use Rattle.std.specs.declared.alloc.Global.{Global}
 use Rattle.std.specs.Option.{option_map}
 use Rattle.std.specs.FinMap.{entries}
 use Rattle.model.specs.World.{FileSystem}
-use Rattle.file_system.specs.Rows.{Row, Entry, entry_of, entry_in}
-use Rattle.file_systems.specs.Clones.{row_in}
+use Rattle.datasets.specs.Rows.{Row, Entry, entry_of, entry_in}
+use Rattle.datasets.specs.Clones.{row_in}
 use Rattle.world.specs.Worlds.{FileSystems}
 use Rattle.world.proofs.Maps.{no_value, same_value}
 

@@ -8,7 +8,7 @@ use Rattle.std.specs.declared.cmp.Ordering.TheVariants.{Equal, Greater}
 use Rattle.base.specs.Surveys.{IsIn}
 use Rattle.name.specs.Names.{name_cmp, same_name, root_name, parent_of}
 use Rattle.model.specs.World.{FileSystem, family_of}
-use Rattle.file_system.specs.Rows.{Entry}
+use Rattle.datasets.specs.Rows.{Entry}
 use Rattle.world.specs.Shapes.{Name, name_order}
 use Rattle.world.specs.Tables.{Datasets, CanRemove, world_of}
 use Rattle.world.proofs.Maps.{some_of, key_cases, entry_of, at_entry, get-remove_same, get-remove_other}

@@ -9,8 +9,8 @@ use Rattle.std.specs.Iterator.{Yields, YieldsFirstRef}
 use Rattle.name.specs.declared.member.Member.{Member}
 use Rattle.model.specs.World.{Snap}
 use Rattle.snapshots.specs.declared.kept.Kept.{Kept}
-use Rattle.file_system.specs.Dead.{snaps_in}
-use Rattle.file_system.specs.Rows.{Entry}
+use Rattle.datasets.specs.Dead.{snaps_in}
+use Rattle.datasets.specs.Rows.{Entry}
 use Rattle.world.specs.Tables.{Datasets}
 use Rattle.base.specs.Surveys.{IsIn}
 use Rattle.world.proofs.Listed.{map_in}

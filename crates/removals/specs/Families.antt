@@ -9,7 +9,7 @@ use Rattle.base.specs.Surveys.{IsIn}
 use Rattle.model.specs.World.{FileSystem, Snap, SnapId, id_of, empty_file_system, snap_at, clones_of}
 use Rattle.model.specs.State.{Views}
 use Rattle.model.specs.Edits.{with_file_systems}
-use Rattle.file_system.specs.Rows.{Entry}
+use Rattle.datasets.specs.Rows.{Entry}
 use Rattle.snap.specs.Taking.{is_in_family}
 use Rattle.world.specs.Tables.{Datasets, world_of, without_snap}
 use Rattle.removals.specs.Named.{is_kept, is_held_after}

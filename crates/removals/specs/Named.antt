@@ -5,7 +5,7 @@ use Rattle.std.specs.Option.{option_map_or}
 use Rattle.name.specs.declared.member.Member.{Member}
 use Rattle.model.specs.World.{Snap, SnapId, id_of, snap_named, clones_of}
 use Rattle.model.specs.State.{Views, is_viewed}
-use Rattle.file_system.specs.Rows.{Entry}
+use Rattle.datasets.specs.Rows.{Entry}
 use Rattle.world.specs.Tables.{Datasets, world_of, without_snap, deferred_snap}
 
 -- the datasets without the snapshot of this name, and the same where there is none (zfs-destroy(8))

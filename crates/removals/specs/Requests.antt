@@ -8,8 +8,8 @@ use Rattle.base.specs.declared.refusal.Refusal.{Refusal}
 use Rattle.base.specs.declared.refusal.Refusal.TheVariants.{NotNewest, Busy, HasClones}
 use Rattle.name.specs.declared.member.Member.{Member}
 use Rattle.name.specs.declared.target.Target.{Target}
-use Rattle.file_system.specs.Origins.{origin_group}
-use Rattle.file_system.specs.Writes.{newest_group}
+use Rattle.datasets.specs.Origins.{origin_group}
+use Rattle.datasets.specs.Writes.{newest_group}
 use Rattle.model.specs.World.{FileSystem, Snap, snap_at}
 use Rattle.model.specs.State.{Views}
 use Rattle.model.specs.Edits.{with_file_system, without_snaps}

@@ -2,16 +2,15 @@
 ghost use Rattle.std.specs.Prelude.{◌≡◌, ◌&&◌, not};
 ghost use Rattle.std.specs.List.{list_any};
 ghost use Rattle.std.specs.FinMap.{entries};
-ghost use Rattle.file_system.specs.Rows.{entry_in};
-ghost use Rattle.file_systems.specs.CloneNames.{name_of};
+ghost use Rattle.datasets.specs.Rows.{entry_in};
+ghost use Rattle.datasets.specs.CloneNames.{name_of};
 ghost use Rattle.snap.specs.Taking.{is_in_family};
 ghost use Rattle.removals.specs.Families.{is_cloned_outside, is_outside_clone};
 ghost use Rattle.removals.specs.Named.{is_named_cloned, is_named_kept, is_cloned_after};
 
 use crate::held::is_named_held;
 use base::number::Group;
-use datasets::Table;
-use file_systems::{CloneName, FileSystem, Snapshot};
+use datasets::{CloneName, FileSystem, Snapshot, Table};
 use name::{Component, DsName};
 use snap::{Named, is_in_family};
 use std::sync::Arc;

@@ -12,9 +12,8 @@ ghost use Rattle.removals.specs.Requests.{swept, gone_with, IsSweptBy};
 use crate::edit::Edit;
 use base::meter::SegMeter;
 use base::refusal::Refusal;
-use datasets::Table;
+use datasets::{FileSystem, Snapshot, Table};
 use destroyer::Freeing;
-use file_systems::{FileSystem, Snapshot};
 use std::alloc::Global;
 use views::Views;
 

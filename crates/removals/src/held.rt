@@ -2,13 +2,12 @@
 ghost use Rattle.std.specs.Prelude.{◌≡◌, ◌&&◌};
 ghost use Rattle.std.specs.List.{list_any};
 ghost use Rattle.std.specs.FinMap.{entries};
-ghost use Rattle.file_system.specs.Rows.{entry_in};
+ghost use Rattle.datasets.specs.Rows.{entry_in};
 ghost use Rattle.snap.specs.Taking.{is_in_family};
 ghost use Rattle.removals.specs.Named.{is_held, is_named_held, is_held_after};
 
 use base::number::Group;
-use datasets::Table;
-use file_systems::{FileSystem, Snapshot};
+use datasets::{FileSystem, Snapshot, Table};
 use name::{Component, DsName};
 use snap::{Named, is_in_family};
 use std::sync::Arc;

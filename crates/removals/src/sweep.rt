@@ -2,7 +2,7 @@
 ghost use Rattle.std.specs.Prelude.{◌≡◌, IfErr, OnOk};
 ghost use Rattle.std.specs.Option.{option_map};
 ghost use Rattle.base.specs.declared.refusal.Refusal.{Refusal};
-ghost use Rattle.file_system.specs.Rows.{entry_of};
+ghost use Rattle.datasets.specs.Rows.{entry_of};
 ghost use Rattle.model.specs.Ids.{snap_id};
 ghost use Rattle.model.specs.World.{union_of};
 ghost use Rattle.world.specs.Sets.{AreDisjoint};
@@ -14,8 +14,7 @@ ghost use Rattle.removals.specs.Requests.{swept, IsSweptBy};
 use crate::edit::{Edit, member};
 use base::meter::SegMeter;
 use base::refusal::Refusal;
-use datasets::Table;
-use file_systems::{FileSystem, Snapshot};
+use datasets::{FileSystem, Snapshot, Table};
 use model::snapshot_id::SnapshotId;
 use std::alloc::Global;
 use views::Views;

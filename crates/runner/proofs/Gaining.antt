@@ -14,9 +14,7 @@ use Rattle.model.specs.declared.request.Request.{Request}
 use Rattle.model.specs.declared.request.Request.TheVariants.{OpenView, CloseView}
 use Rattle.model.specs.declared.reply.Reply.{Reply}
 use Rattle.model.specs.declared.reply.Reply.TheVariants.{Done, Refused, Opened}
-use Rattle.book.specs.Calls.{Ran, IsFullOrNoMemory}
-use Rattle.book.specs.Entered.{is_opened}
-use Rattle.book.specs.Receipts.{Placed, Kept}
+use Rattle.session.specs.Handed.{Ran, IsFullOrNoMemory, is_opened, Placed, Kept}
 use Rattle.session.specs.ViewCalls.{is_of_views}
 use Rattle.session.specs.Views.{Viewed}
 use Rattle.runner.specs.Beside.{Gains, where_opened, where_done, opened_by, closed_by}

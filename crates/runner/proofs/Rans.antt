@@ -1,7 +1,7 @@
 -- Runs, from one value of a caller to another.
 use Rattle.std.proofs.Common.{◌≡◌, ◌∷◌, [], ℕ, List, Bool, Option}
 use Rattle.model.specs.State.{State}
-use Rattle.book.specs.Receipts.{Kept}
+use Rattle.session.specs.Handed.{Kept}
 use Rattle.script.specs.Run.{Relation}
 use Rattle.runner.specs.Beside.{Gains, HasHistory, RanBeside}
 use Rattle.runner.specs.Sitting.{Sitting}

@@ -10,10 +10,7 @@ use Rattle.model.specs.declared.reply.Reply.{Reply}
 use Rattle.model.specs.declared.reply.Reply.TheVariants.{Done, Refused, Data, Value, Group, Names, Count, Opened, Stream}
 use Rattle.model.specs.declared.entry.Entry.{Entry}
 use Rattle.model.specs.State.{State}
-use Rattle.book.specs.Calls.{Ran, IsFullOrNoMemory}
-use Rattle.book.specs.History.{IsLegal}
-use Rattle.book.specs.Receipts.{Placed, Kept}
-use Rattle.book.specs.Whole.{IsAnswered}
+use Rattle.session.specs.Handed.{Ran, IsFullOrNoMemory, IsLegal, Placed, Kept, IsAnswered}
 use Rattle.runner.specs.Sitting.{Sitting}
 use Rattle.runner.specs.Status.{RanAs}
 

@@ -1,7 +1,7 @@
 -- A seat that holds views.
 use Rattle.std.specs.Prelude.{ℕ, List, refl}
 use Rattle.std.specs.Coded.{Coded, code_by, coded×, coded_ℕ, coded_list}
-use Rattle.book.specs.Receipts.{Kept, kept_code}
+use Rattle.session.specs.Handed.{Kept, kept_code}
 
 -- a seat, with the numbers of the views that it opened and didn't close (profile)
 pub record Sitting : Type 0 where

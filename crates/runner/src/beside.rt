@@ -1,7 +1,6 @@
 //! A script that runs beside workers.
 ghost use Rattle.std.specs.Prelude.{◌≡◌, ◌<◌, ◌≤◌, ℕ, List, [], ◌∷◌, IfSome};
-ghost use Rattle.book.specs.declared.book.TheConstants.{CALL_LIMIT};
-ghost use Rattle.book.specs.Receipts.{Kept};
+ghost use Rattle.session.specs.Handed.{CALL_LIMIT, Kept};
 ghost use Rattle.runner.specs.Beside.{Gains, HasHistory, RanBeside};
 ghost use Rattle.runner.specs.Status.{RanTo};
 
@@ -9,9 +8,8 @@ use crate::run::{print_fault, run_on};
 use crate::seated::{Seated, Shared};
 use crate::turns::{Lines, Turns};
 use base::failing::Failing;
-use book::{Book, CALL_LIMIT, Opening, Pool, Seat};
 use script::run::{Caller, ScriptFault};
-use session::Session;
+use session::{Book, CALL_LIMIT, Opening, Pool, Seat, Session};
 use std::alloc::Global;
 use std::io::{BufRead, Write};
 use std::mem;

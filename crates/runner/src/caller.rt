@@ -1,10 +1,10 @@
 //! The pool as a caller.
 ghost use Rattle.runner.specs.Serving.{Serves};
 
-use book::Pool;
 use model::reply::Reply;
 use model::request::Request;
 use script::run::Caller;
+use session::Pool;
 use std::alloc::Global;
 use std::marker::Model;
 

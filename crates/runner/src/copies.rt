@@ -2,9 +2,9 @@
 ghost use Rattle.std.specs.Prelude.{◌≡◌, IfSome};
 
 use base::text::Bytes;
-use book::Receipt;
 use model::names::Names;
 use model::reply::{Reply, Value};
+use session::Receipt;
 use std::alloc::Global;
 
 /// A copy of a receipt's reply. None where there is no memory for it.

@@ -3,3 +3,4 @@ pub mod Calls
 pub mod Views
 pub mod ViewCalls
 pub mod Works
+pub mod Handed

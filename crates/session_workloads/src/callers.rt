@@ -3,9 +3,8 @@ ghost use Rattle.std.specs.Prelude.{◌≡◌};
 
 use crate::writes::write_of;
 use base::refusal::Refusal;
-use book::{Opening, Pool, Seat};
 use model::reply::Reply;
-use session::Session;
+use session::{Opening, Pool, Seat, Session};
 use std::alloc::Global;
 use std::mem;
 use std::sync::Wait;

@@ -9,7 +9,7 @@ mod viewers;
 mod writes;
 
 use base::refusal::Refusal;
-use book::Pool;
+use session::Pool;
 use std::alloc::Global;
 use std::env;
 use std::marker::Brand;

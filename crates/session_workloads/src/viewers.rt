@@ -1,14 +1,13 @@
 //! Readers of a view, alone and beside a writer.
 ghost use Rattle.std.specs.Prelude.{◌≡◌};
-ghost use Rattle.book.specs.declared.book.TheConstants.{CALL_LIMIT};
+ghost use Rattle.session.specs.Handed.{CALL_LIMIT};
 
 use crate::writes::{place_of, write_of};
 use base::refusal::Refusal;
-use book::{CALL_LIMIT, Opening, Pool, Seat};
 use model::request::Request;
 use model::snap_names::SnapNames;
 use name::{SnapName, Target};
-use session::{OpenedView, Session, View};
+use session::{CALL_LIMIT, OpenedView, Opening, Pool, Seat, Session, View};
 use std::alloc::Global;
 use std::mem;
 use std::sync::Wait;

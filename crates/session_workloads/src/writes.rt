@@ -1,10 +1,10 @@
 //! Writes all over the root.
 use base::data::Data;
 use base::refusal::Refusal;
-use book::Pool;
 use model::reply::Reply;
 use model::request::Request;
 use name::Target;
+use session::Pool;
 use std::alloc::Global;
 use std::mem;
 

@@ -6,7 +6,7 @@ use Rattle.std.specs.List.{filter, starts_with}
 use Rattle.std.specs.Cmp.Lexicographic.{pointwise}
 use Rattle.name.specs.Names.{same_name, slash}
 use Rattle.name.specs.declared.member.Member.{Member}
-use Rattle.file_system.specs.Rows.{Row}
+use Rattle.datasets.specs.Rows.{Row}
 use Rattle.model.specs.requests.Snapshot.{named_with}
 use Rattle.world.specs.Tables.{Datasets, world_of}
 use Rattle.snap.specs.Taking.{all_of, is_in_family}

@@ -8,7 +8,7 @@ use Rattle.std.proofs.lemmas.List.{length-map, length-append}
 use Rattle.model.specs.World.{World, FileSystem, Snap, snaps_of}
 use Rattle.model.specs.Targets.{snap_limit, guid_limit, number_limit, has_no_next_group}
 use Rattle.model.specs.requests.Snapshot.{has_no_room_for}
-use Rattle.file_system.specs.Rows.{snap_count}
+use Rattle.datasets.specs.Rows.{snap_count}
 
 counted : (es : List (List ℕ × FileSystem)) → length {A = List ℕ × Snap} (flat_map (λ (e : List ℕ × FileSystem). map (λ (s : Snap). (e.0, s)) e.1.snaps) es) ≡ length (flat_map (λ (e : List ℕ × FileSystem). e.1.snaps) es)
 counted [] = refl

@@ -8,7 +8,7 @@ use Rattle.name.specs.declared.member.Member.{Member}
 use Rattle.base.specs.Surveys.{IsIn}
 use Rattle.model.specs.World.{World, FileSystem, Live, id_of}
 use Rattle.model.specs.requests.Snapshot.{snap_of_live, with_snapshot, with_snapshots}
-use Rattle.file_system.specs.Rows.{live_of, plain_snap, with_snap}
+use Rattle.datasets.specs.Rows.{live_of, plain_snap, with_snap}
 use Rattle.datasets.specs.Snapshots.{with_snap_at}
 use Rattle.world.specs.Shapes.{Name}
 use Rattle.world.specs.Worlds.{FileSystems, snap_shape, shape_of, shapes, AreFileSystems}

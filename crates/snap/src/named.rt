@@ -2,12 +2,11 @@
 ghost use Rattle.std.specs.Prelude.{◌≡◌, ◌++◌, IfOk, IfErr, OnOk, map};
 ghost use Rattle.std.specs.Arc.{arc_value};
 ghost use Rattle.std.specs.List.{filter};
-ghost use Rattle.file_system.specs.Rows.{Row};
+ghost use Rattle.datasets.specs.Rows.{Row};
 ghost use Rattle.snap.specs.Taking.{all_of, is_in_family};
 
 use base::refusal::Refusal;
-use datasets::Table;
-use file_systems::FileSystem;
+use datasets::{FileSystem, Table};
 use name::{Component, DsName, Member, SnapName};
 use std::alloc::Global;
 use std::marker::Model;

@@ -8,8 +8,8 @@ use Rattle.world.specs.Shapes.{Name}
 use Rattle.world.specs.Tables.{Datasets, world_of}
 use Rattle.world.proofs.Bridge.{from_snap_at}
 use Rattle.world.proofs.Maps.{same_value, no_value}
-use Rattle.file_system.specs.Rows.{Row}
-use Rattle.file_systems.specs.Clones.{row_in}
+use Rattle.datasets.specs.Rows.{Row}
+use Rattle.datasets.specs.Clones.{row_in}
 use Rattle.space.specs.Places.{IsPlace}
 use Rattle.space.proofs.Families.{found_place}
 

@@ -17,8 +17,8 @@ use Rattle.model.specs.Sights.{Seen}
 use Rattle.model.specs.requests.Send.{Start, sight_of, sources_of, start_of, start_named, send_row}
 use Rattle.world.specs.Tables.{Datasets, world_of}
 use Rattle.world.proofs.Maps.{no_value}
-use Rattle.file_system.specs.Rows.{Row}
-use Rattle.file_systems.specs.Clones.{row_in}
+use Rattle.datasets.specs.Rows.{Row}
+use Rattle.datasets.specs.Clones.{row_in}
 use Rattle.space.specs.Places.{snapshot_place}
 use Rattle.space.proofs.Places.{IsSnapshot}
 

@@ -27,8 +27,8 @@ use Rattle.world.proofs.Finding.{filter_front, filter_join, append_none, in_left
 use Rattle.world.proofs.Listed.{in_map, map_in}
 use Rattle.world.proofs.Maps.{no_value, entry_from_find, at_entry}
 use Rattle.world.proofs.Promotions.{split_at}
-use Rattle.file_system.specs.Origins.{origin_group}
-use Rattle.file_system.specs.Rows.{Row}
+use Rattle.datasets.specs.Origins.{origin_group}
+use Rattle.datasets.specs.Rows.{Row}
 use Rattle.datasets.specs.Table.{IsTable}
 use Rattle.datasets.proofs.Removed.{are_above}
 use Rattle.accounts.proofs.Next.{newest_last, next_there, next_previous}

@@ -24,7 +24,7 @@ use Rattle.world.proofs.Finding.{from_find, find_only, find_none, found_none, in
 use Rattle.world.proofs.Listed.{map_in}
 use Rattle.world.proofs.Maps.{same_value, no_value, entry_of}
 use Rattle.world.proofs.WithoutSnaps.{any_in, any_from}
-use Rattle.file_system.specs.Rows.{Row}
+use Rattle.datasets.specs.Rows.{Row}
 use Rattle.datasets.specs.Table.{IsTable}
 use Rattle.space.specs.Places.{IsPlace}
 use Rattle.space.specs.Since.{is_before}

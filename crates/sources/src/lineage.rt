@@ -6,8 +6,7 @@ ghost use Rattle.space.specs.Places.{IsPlace, IsHome};
 ghost use Rattle.space.specs.Since.{is_before};
 
 use crate::place::{is_named, snapshot_of};
-use datasets::Table;
-use file_systems::{FileSystem, Snapshot};
+use datasets::{FileSystem, Snapshot, Table};
 use model::snapshot_id::SnapshotId;
 use name::DsName;
 

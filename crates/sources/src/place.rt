@@ -7,8 +7,7 @@ ghost use Rattle.model.specs.World.{id_of, snap_at};
 ghost use Rattle.space.specs.Places.{snapshot_place, IsPlace};
 ghost use Rattle.world.specs.Tables.{world_of};
 
-use datasets::Table;
-use file_systems::{FileSystem, Snapshot};
+use datasets::{FileSystem, Snapshot, Table};
 use model::snapshot_id::SnapshotId;
 use name::{DsName, Member};
 

@@ -6,7 +6,7 @@ ghost use Rattle.sources.specs.Sources.{snapshot_in, bookmark_in};
 
 use base::refusal::Refusal;
 use bookmarks::Mark;
-use file_systems::{FileSystem, Snapshot};
+use datasets::{FileSystem, Snapshot};
 use model::source::Source;
 use name::{MarkName, Member, SnapName, Target};
 

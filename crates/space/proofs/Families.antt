@@ -12,8 +12,8 @@ use Rattle.world.specs.Tables.{Datasets, world_of}
 use Rattle.world.specs.Trees.{total}
 use Rattle.world.specs.Worlds.{AreFileSystems}
 use Rattle.world.proofs.Maps.{same_value, no_value}
-use Rattle.file_system.specs.Rows.{Row, Entry}
-use Rattle.file_systems.specs.Clones.{row_in}
+use Rattle.datasets.specs.Rows.{Row, Entry}
+use Rattle.datasets.specs.Clones.{row_in}
 use Rattle.snap.specs.Taking.{is_in_family}
 use Rattle.snap.proofs.Rests.{next_left}
 use Rattle.datasets.proofs.Above.{below_is_map}

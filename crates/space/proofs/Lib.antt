@@ -1,3 +1,4 @@
+pub use Rattle.snap.proofs.Rests
 pub mod Families
 pub mod Walks
 pub mod Between

@@ -1,5 +1,5 @@
 -- The walk down a lineage, a file system at a time.
-use Rattle.std.proofs.Common.{◌≡◌, ℕ, ◌+◌, ◌<◌, ◌≤◌, ◌^◌, ◌||◌, true, false, List, [], ◌∷◌, ◌++◌, Option, Some, None, map, refl, sym, ap, subst, ◌∙◌, true≢false, inl, inr, ⊎_elim, append_assoc, append-nil, arith}
+use Rattle.std.proofs.Common.{◌≡◌, ℕ, ◌+◌, ◌<◌, ◌≤◌, ◌^◌, ◌||◌, true, false, List, [], ◌∷◌, ◌++◌, Option, Some, None, map, refl, sym, ap, subst, ◌∙◌, true≢false, inl, inr, ⊎_elim, append_assoc, append-nil, length, ◌*◌, arith}
 use Rattle.std.specs.Prelude.{min, nat_lt, IfNone, ◌-◌}
 use Rattle.std.specs.List.{list_any, sum_by}
 use Rattle.std.specs.Option.{option_map, option_map_or}
@@ -18,10 +18,10 @@ use Rattle.world.proofs.Bridge.{in_middle, rising_above, rising_below, rising_af
 use Rattle.world.proofs.Finding.{same_id_is, name_itself, one_name, in_left, in_either}
 use Rattle.world.proofs.Maps.{same_value, no_value}
 use Rattle.world.proofs.Promotions.{split_at}
-use Rattle.file_system.specs.Gone.{Gone, gone_between}
-use Rattle.file_system.specs.Origins.{origin_group}
-use Rattle.file_system.specs.Rows.{Row}
-use Rattle.file_systems.specs.Clones.{row_in}
+use Rattle.datasets.specs.Gone.{Gone, gone_between}
+use Rattle.datasets.specs.Origins.{origin_group}
+use Rattle.datasets.specs.Rows.{Row}
+use Rattle.datasets.specs.Clones.{row_in}
 use Rattle.datasets.specs.Table.{IsTable, AreSnapshotsClosed}
 use Rattle.datasets.proofs.Removed.{are_above}
 use Rattle.accounts.specs.Space.{IsPath, on_path, with_next}
@@ -29,8 +29,8 @@ use Rattle.accounts.proofs.Older.{previous_there, not_older_low}
 use Rattle.accounts.proofs.Next.{newest_last, next_there, next_previous}
 use Rattle.accounts.proofs.Walks.{path_join, on_path_join, on_path_range, path_in, older_in}
 use Rattle.space.specs.Places.{dataset_at, IsPlace, IsHome, IsHolder}
-use Rattle.space.specs.Since.{is_before, HasGone}
-use Rattle.space.proofs.Between.{IsStretch, first_group, stretch_until, gone_by}
+use Rattle.space.specs.Since.{is_before, HasGone, HasReached}
+use Rattle.space.proofs.Between.{IsStretch, first_group, stretch_until, gone_by, gone_many}
 
 pub if_none : {A P : Type 0} (x : Option A) → P → IfNone x P
 if_none None p = p
@@ -48,8 +48,9 @@ abbrev pub top : ℕ
 top = 2 ^ 64 - 1
 
 -- A walk down from a dataset in search of a snapshot stands at the one that comes next after the older snapshots of this file system: what is
--- older than that is what is left to search, and the dead lists of those that were passed have so many entries
-pub record IsAt (t : Datasets) (from : Dataset) (id : SnapId) (r : Row) (until : Option ℕ) (gone : ℕ) : Type 0 where
+-- older than that is what is left to search, and the dead lists of those that were passed have so many entries, and two segments at most
+-- that were reached
+pub record IsAt (t : Datasets) (from : Dataset) (id : SnapId) (r : Row) (until : Option ℕ) (gone reached : ℕ) : Type 0 where
   pub row : r ≡ row_in t.file_systems (r.name, r.system)
   pub at : get t.file_systems r.name ≡ Some r.system
   pub older : List Snap
@@ -59,13 +60,26 @@ pub record IsAt (t : Datasets) (from : Dataset) (id : SnapId) (r : Row) (until :
   pub same : list_any (same_id id) (older_of (world_of t) from) ≡ list_any (same_id id) (older_of (world_of t) (next_in r.name newer))
   pub sum : ℕ
   pub gone_is : gone ≡ min top sum
+  pub passed : ℕ
+  pub few : reached ≤ 2 * passed
   pub joins :
       (ids : List SnapId) → IsPath (world_of t) id ids (next_in r.name newer)
       → (all : List SnapId) × IsPath (world_of t) id all from × (dead_by (world_of t) id.group (on_path all from) ≡ dead_by (world_of t) id.group (on_path ids (next_in r.name newer)) + sum)
+      × (length (on_path all from) ≡ length (on_path ids (next_in r.name newer)) + passed)
+
+-- what is told of a dataset whose lineage has the snapshot
+pub record IsFound (t : Datasets) (from : Dataset) (id : SnapId) (total all : ℕ) : Type 0 where
+  pub gone : HasGone t from id total
+  pub reached : HasReached t from id all
+
+-- the lengths of two paths, one after the other
+on_path_length : (ids : List SnapId) (j : SnapId) (js : List SnapId) (d : Dataset) → length (on_path (ids ++ j ∷ js) d) ≡ length (on_path ids (Snapped j)) + length (on_path js d)
+on_path_length [] j js d = omega arith
+on_path_length (i ∷ is) j js d = let rest = on_path_length is j js d in omega arith
 
 -- it begins at the dataset itself
-pub begins : (t : Datasets) (r : Row) (u : Option Snap) (id : SnapId) → IsPlace t r u → IsAt t (dataset_at r u) id r (option_map (λ (s : Snap). s.group) u) 0
-begins t r None id place = record {
+pub begins : (t : Datasets) (r : Row) (u : Option Snap) (id : SnapId) (none : ℕ) → none ≤ 0 → IsPlace t r u → IsAt t (dataset_at r u) id r (option_map (λ (s : Snap). s.group) u) 0 none
+begins t r None id none least place = record {
   row = place.row;
   at = place.at;
   older = r.system.snaps;
@@ -75,9 +89,11 @@ begins t r None id place = record {
   same = refl;
   sum = 0;
   gone_is = refl;
-  joins = λ ids p. (ids, p, omega arith);
+  passed = 0;
+  few = omega (arith, least);
+  joins = λ ids p. (ids, p, omega arith, omega arith);
 }
-begins t r (Some u) id place =
+begins t r (Some u) id none least place =
     let parts = split_at r.system.snaps u place.snap in
     record {
       row = place.row;
@@ -89,10 +105,12 @@ begins t r (Some u) id place =
       same = refl;
       sum = 0;
       gone_is = refl;
-      joins = λ ids p. (ids, p, omega arith);
+      passed = 0;
+      few = omega (arith, least);
+      joins = λ ids p. (ids, p, omega arith, omega arith);
     }
 
-module _ (t : Datasets) (sound : IsTable t) (from : Dataset) (id : SnapId) (owner : List ℕ) (home : IsHome t owner id) (r : Row) (until : Option ℕ) (gone : ℕ) (now : IsAt t from id r until gone) where
+module _ (t : Datasets) (sound : IsTable t) (from : Dataset) (id : SnapId) (owner : List ℕ) (home : IsHome t owner id) (r : Row) (until : Option ℕ) (gone reached : ℕ) (now : IsAt t from id r until gone reached) where
   abbrev w : World
   w = world_of t
 
@@ -107,14 +125,21 @@ module _ (t : Datasets) (sound : IsTable t) (from : Dataset) (id : SnapId) (owne
 
   -- where the walk has come, and what the stretch before it counts
   found_at : (mid : List Snap) (o : SnapId) (rest : ℕ) → o ≡ id → (past : List Snap) → r.system.snaps ≡ past ++ (mid ++ now.newer) → newest_or_origin r.system past ≡ Some o
-      → rest ≡ min top (dead_by (world_of t) id.group (with_next r.name mid now.newer)) → (total : ℕ) → total ≡ min (gone + rest) top → HasGone t from id total
-  found_at mid o rest is past snaps_are newest rest_is total total_is =
+      → rest ≡ min top (dead_by (world_of t) id.group (with_next r.name mid now.newer)) → (total : ℕ) → total ≡ min (gone + rest) top
+      → (all : ℕ) → all ≤ reached + 2 * length (with_next r.name mid now.newer) → IsFound t from id total all
+  found_at mid o rest is past snaps_are newest rest_is total total_is all few =
       let p = subst (λ i. IsPath (world_of t) i (map id_of mid) (next_in r.name now.newer)) is (path_in (world_of t) sound.systems r.name r.system now.at past mid now.newer snaps_are o newest) in
       let j = now.joins (map id_of mid) p in
       let e = j.2 in
+      let many = j.3 in
       let s = ap (dead_by (world_of t) id.group) (on_path_range r.name mid now.newer) in
+      let n = ap (λ (l : List Dataset). length l) (on_path_range r.name mid now.newer) in
       let g = now.gone_is in
-      record { ids = j.0; path = j.1; counted = omega (arith, e, s, g, rest_is, total_is) }
+      let was = now.few in
+      record {
+        gone = record { ids = j.0; path = j.1; counted = omega (arith, e, s, g, rest_is, total_is) };
+        reached = record { ids = j.0; path = j.1; few = omega (arith, few, was, many, n) };
+      }
 
   -- ---- the snapshot is of another file system
 
@@ -162,9 +187,14 @@ module _ (t : Datasets) (sound : IsTable t) (from : Dataset) (id : SnapId) (owne
           at : IsThere (world_of t) (Snapped o) → ⊥
           at (name, f, u, f_at, i, is) = no_value (name, u) (sym e ∙ snap_is_at (world_of t) t.group sound.systems.lines name f u o f_at i is)
 
+      -- as many dead lists were read as there are datasets here
+      list_count : length (gone_between None until r) ≡ length (with_next r.name now.older now.newer)
+      list_count = ap (λ x. length (gone_between None until x)) now.row ∙ gone_many t sound r.name r.system now.at None until [] now.older now.newer now.snaps_are whole
+
       -- the origin is it
-      pub found_below : o ≡ id → (total : ℕ) → total ≡ min (gone + rest) top → HasGone t from id total
-      found_below is total total_is = found_at now.older o rest is [] now.snaps_are origin rest_counts total total_is
+      pub found_below : o ≡ id → (total : ℕ) → total ≡ min (gone + rest) top → (all : ℕ) → all ≤ reached + 2 * length (gone_between None until r) → IsFound t from id total all
+      found_below is total total_is all few =
+          found_at now.older o rest is [] now.snaps_are origin rest_counts total total_is all (let n = list_count in omega (arith, few, n))
 
       -- the origin is another one, and no newer
       pub passed_by : (o ≡ id → ⊥) → o.group ≤ id.group → is_before t from id ≡ false
@@ -176,8 +206,9 @@ module _ (t : Datasets) (sound : IsTable t) (from : Dataset) (id : SnapId) (owne
           other_id = false_from_ne_true _ (λ e. differ (sym (same_id_is id o e)))
 
       -- the walk goes on from the origin, which is newer
-      pub goes_on : id.group < o.group → (next : Row) → IsHolder t next o → (total : ℕ) → total ≡ min (gone + rest) top → IsAt t from id next (Some o.group) total
-      goes_on high next holder total total_is =
+      pub goes_on : id.group < o.group → (next : Row) → IsHolder t next o → (total : ℕ) → total ≡ min (gone + rest) top
+          → (all : ℕ) → all ≤ reached + 2 * length (gone_between None until r) → IsAt t from id next (Some o.group) total all
+      goes_on high next holder total total_is all few =
           let parts = split_at next.system.snaps holder.snap holder.there in
           let g = now.gone_is in
           let c = rest_counts in
@@ -191,14 +222,20 @@ module _ (t : Datasets) (sound : IsTable t) (from : Dataset) (id : SnapId) (owne
             same = at_origin ∙ ap (λ b. b || list_any (same_id id) (older_of (world_of t) (Snapped o))) other_id ∙ ap (λ i. list_any (same_id id) (older_of (world_of t) (Snapped i))) (sym holder.is);
             sum = dead_by (world_of t) id.group (with_next r.name now.older now.newer) + now.sum;
             gone_is = omega (arith, g, c, total_is);
+            passed = length (with_next r.name now.older now.newer) + now.passed;
+            few = let n = list_count in let was = now.few in omega (arith, few, n, was);
             joins = λ ids p.
                 let q = subst (λ i. IsPath (world_of t) id ids (Snapped i)) holder.is p in
                 let j = now.joins (ids ++ o ∷ map id_of now.older) (path_join (world_of t) id ids o (map id_of now.older) (next_in r.name now.newer) q origin_path) in
                 let e = j.2 in
+                let many = j.3 in
                 let a = on_path_join (world_of t) id.group ids o (map id_of now.older) (next_in r.name now.newer) in
                 let d = ap (dead_by (world_of t) id.group) (on_path_range r.name now.older now.newer) in
                 let h = ap (λ i. dead_by (world_of t) id.group (on_path ids (Snapped i))) holder.is in
-                (j.0, j.1, omega (arith, e, a, d, h));
+                let l = on_path_length ids o (map id_of now.older) (next_in r.name now.newer) in
+                let m = ap (λ (x : List Dataset). length x) (on_path_range r.name now.older now.newer) in
+                let k = ap (λ i. length (on_path ids (Snapped i))) holder.is in
+                (j.0, j.1, omega (arith, e, a, d, h), omega (arith, many, l, m, k));
           }
         where
           other_id : same_id id o ≡ false
@@ -287,9 +324,10 @@ module _ (t : Datasets) (sound : IsTable t) (from : Dataset) (id : SnapId) (owne
           lt-ltb id.group x.group (omega (arith, l, e)))
 
       pub found_here : (rest : ℕ) → rest ≡ min top (sum_by (λ (g : Gone). len (upto id.group g.blocks)) (gone_between (Some id.group) until r))
-          → (total : ℕ) → total ≡ min (gone + rest) top → HasGone t from id total
-      found_here rest rest_is total total_is =
+          → (total : ℕ) → total ≡ min (gone + rest) top → (all : ℕ) → all ≤ reached + 2 * length (gone_between (Some id.group) until r) → IsFound t from id total all
+      found_here rest rest_is total total_is all few =
           found_at parts.1 (id_of home.snap) rest home.is past parted (newest_last r.system parts.0 home.snap)
           (rest_is ∙ ap (min top) (ap (λ x. sum_by (λ (g : Gone). len (upto id.group g.blocks)) (gone_between (Some id.group) until x)) now.row
           ∙ gone_by t sound r.name r.system now.at id.group (Some id.group) until past parts.1 now.newer parted cut_stretch))
-          total total_is
+          total total_is all
+          (let n = ap (λ x. length (gone_between (Some id.group) until x)) now.row ∙ gone_many t sound r.name r.system now.at (Some id.group) until past parts.1 now.newer parted cut_stretch in omega (arith, few, n))

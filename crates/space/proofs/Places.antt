@@ -23,9 +23,9 @@ use Rattle.world.proofs.Bridge.{from_snap_at, map_of_live, map_of_kept}
 use Rattle.world.proofs.Finding.{from_find}
 use Rattle.world.proofs.Maps.{same_value, no_value}
 use Rattle.world.proofs.SetCounts.{len-difference}
-use Rattle.file_system.specs.Rows.{Row}
-use Rattle.file_systems.specs.Clones.{row_in, below_in}
-use Rattle.file_system.specs.Splices.{AreAbove}
+use Rattle.datasets.specs.Rows.{Row}
+use Rattle.datasets.specs.Clones.{row_in, below_in}
+use Rattle.datasets.specs.Splices.{AreAbove}
 use Rattle.datasets.specs.Table.{IsTable}
 use Rattle.datasets.proofs.Removed.{are_above}
 use Rattle.accounts.proofs.Older.{older_has}

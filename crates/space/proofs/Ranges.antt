@@ -1,5 +1,5 @@
 -- A range of the snapshots of a file system, as a stretch of them.
-use Rattle.std.proofs.Common.{◌≡◌, ℕ, ◌<◌, ◌≤◌, ◌&&◌, ◌||◌, Bool, true, false, cond, List, [], ◌∷◌, ◌++◌, Option, Some, None, map, length, refl, sym, ap, subst, ◌∙◌, true≢false, inl, inr, ⊎_elim, arith}
+use Rattle.std.proofs.Common.{◌≡◌, ℕ, ◌+◌, ◌<◌, ◌≤◌, ◌&&◌, ◌||◌, Bool, true, false, cond, List, [], ◌∷◌, ◌++◌, Option, Some, None, map, length, refl, sym, ap, subst, ◌∙◌, true≢false, inl, inr, ⊎_elim, arith}
 use Rattle.std.specs.Prelude.{not, is_some, nat_lt}
 use Rattle.std.specs.List.{filter, find, list_any, sum_by}
 use Rattle.std.specs.Option.{option_map, option_map_or, option_and_then}
@@ -21,17 +21,17 @@ use Rattle.world.specs.Tables.{Datasets, world_of}
 use Rattle.world.specs.Worlds.{AreRising}
 use Rattle.world.proofs.Bridge.{rising_above}
 use Rattle.world.proofs.Maps.{same_value, no_value}
-use Rattle.file_system.specs.Gone.{Gone, gone_between}
-use Rattle.file_system.specs.Origins.{origin_group}
-use Rattle.file_system.specs.Rows.{Row}
-use Rattle.file_systems.specs.Clones.{row_in}
+use Rattle.datasets.specs.Gone.{Gone, gone_between}
+use Rattle.datasets.specs.Origins.{origin_group}
+use Rattle.datasets.specs.Rows.{Row}
+use Rattle.datasets.specs.Clones.{row_in}
 use Rattle.datasets.specs.Table.{IsTable}
 use Rattle.datasets.proofs.ClonesOf.{none_counted}
 use Rattle.datasets.proofs.Removed.{are_above}
 use Rattle.accounts.specs.Space.{newest_group, with_next}
 use Rattle.accounts.proofs.Ranges.{three_parts, would_free_is}
 use Rattle.space.specs.Ranges.{group_at, lacks, is_in_range, range_ids, range_refusal, is_cloned, is_cloned_between, group_after, older_than, IsRange}
-use Rattle.space.proofs.Between.{IsStretch, first, first_group, stretch_until, gone_since}
+use Rattle.space.proofs.Between.{IsStretch, first, first_group, stretch_until, gone_many, gone_since}
 
 -- ---- rising snapshots, parted by two groups
 
@@ -245,17 +245,34 @@ module _ (t : Datasets) (sound : IsTable t) (name fst lst : List ℕ) (r : Row) 
       ap (λ x. option_map_or (λ (f : FileSystem). map id_of (filter (is_in_range (group_at t name fst) (group_at t name lst)) f.snaps)) x []) is.at
       ∙ (λ i. map id_of (filter (is_in_range (is.from i) (is.to i)) r.system.snaps))
 
+  stretch_is : (low : ℕ) (next : Option ℕ) → low ≡ newest_group (origin_group r.system.origin) (older_than a r.system.snaps) → next ≡ group_after b r.system.snaps
+      → IsStretch (Some low) next (older_than a r.system.snaps) (filter (is_in_range a b) r.system.snaps) (filter (λ (u : Snap). nat_lt b u.group) r.system.snaps)
+  stretch_is low next low_is next_is =
+      subst (λ x. IsStretch (Some x) next (older_than a snaps) (filter (is_in_range a b) snaps) (filter (λ (u : Snap). nat_lt b u.group) snaps)) (sym low_is)
+      (subst (λ x. IsStretch (Some (newest_group (origin_group r.system.origin) (older_than a snaps))) x (older_than a snaps) (filter (is_in_range a b) snaps) (filter (λ (u : Snap). nat_lt b u.group) snaps)) (sym next_is)
+      (is_stretch (origin_group r.system.origin) r.system.snaps ups a b is.order))
+
+  -- how many dead lists are asked for
+  pub lists_are : (before : ℕ) (next : Option ℕ) → before ≡ newest_group (origin_group r.system.origin) (older_than a r.system.snaps) → next ≡ group_after b r.system.snaps
+      → length (gone_between (Some before) next r) ≡ length (range_ids t name fst lst) + 1
+  lists_are before next before_is next_is =
+      let cut = three_parts a b is.order (origin_group r.system.origin) snaps ups in
+      ap (λ x. length (gone_between (Some before) next x)) is.row
+      ∙ gone_many t sound name r.system is.at (Some before) next (older_than a snaps) (filter (is_in_range a b) snaps) (filter (λ (u : Snap). nat_lt b u.group) snaps) cut (stretch_is before next before_is next_is)
+      ∙ one_more (filter (is_in_range a b) snaps) (filter (λ (u : Snap). nat_lt b u.group) snaps)
+      ∙ ap (λ ids. length ids + 1) (sym ranged_ids)
+    where
+      one_more : (range newer : List Snap) → length (with_next name range newer) ≡ length (map id_of range) + 1
+      one_more [] newer = refl
+      one_more (x ∷ xs) newer = let rest = one_more xs newer in omega arith
+
   -- what the dead lists count is what would be freed
   pub freed_is : (before : ℕ) (next : Option ℕ) → before ≡ newest_group (origin_group r.system.origin) (older_than a r.system.snaps) → next ≡ group_after b r.system.snaps
       → sum_by (λ (g : Gone). len (after before g.blocks)) (gone_between (Some before) next r) ≡ would_free (world_of t) (range_ids t name fst lst)
   freed_is before next before_is next_is =
-      let st = is_stretch (origin_group r.system.origin) r.system.snaps ups a b is.order in
-      let st' : IsStretch (Some before) next (older_than a snaps) (filter (is_in_range a b) snaps) (filter (λ (u : Snap). nat_lt b u.group) snaps) =
-      subst (λ x. IsStretch (Some x) next (older_than a snaps) (filter (is_in_range a b) snaps) (filter (λ (u : Snap). nat_lt b u.group) snaps)) (sym before_is)
-      (subst (λ x. IsStretch (Some (newest_group (origin_group r.system.origin) (older_than a snaps))) x (older_than a snaps) (filter (is_in_range a b) snaps) (filter (λ (u : Snap). nat_lt b u.group) snaps)) (sym next_is) st) in
       let cut = three_parts a b is.order (origin_group r.system.origin) snaps ups in
       ap (λ x. sum_by (λ (g : Gone). len (after before g.blocks)) (gone_between (Some before) next x)) is.row
-      ∙ gone_since t sound name r.system is.at before (Some before) next (older_than a snaps) (filter (is_in_range a b) snaps) (filter (λ (u : Snap). nat_lt b u.group) snaps) cut st'
+      ∙ gone_since t sound name r.system is.at before (Some before) next (older_than a snaps) (filter (is_in_range a b) snaps) (filter (λ (u : Snap). nat_lt b u.group) snaps) cut (stretch_is before next before_is next_is)
       ∙ ap (λ x. dead_since (world_of t) x (with_next name (filter (is_in_range a b) snaps) (filter (λ (u : Snap). nat_lt b u.group) snaps))) before_is
       ∙ sym (would_free_is (world_of t) sound.systems name r.system (older_than a snaps) (filter (is_in_range a b) snaps) (filter (λ (u : Snap). nat_lt b u.group) snaps) is.at cut uncloned)
       ∙ ap (would_free (world_of t)) (sym ranged_ids)

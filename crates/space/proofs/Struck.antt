@@ -24,10 +24,10 @@ use Rattle.world.proofs.Maps.{same_value, no_value, at_entry}
 use Rattle.world.proofs.Lineage.{in_after, from_after}
 use Rattle.world.proofs.Promotions.{split_at}
 use Rattle.world.proofs.SetCounts.{len-difference, same_members, in_difference, from_difference}
-use Rattle.file_system.specs.Dead.{newest_blocks}
-use Rattle.file_system.specs.Rows.{Row}
-use Rattle.file_system.specs.Splices.{lost_from, oldest_blocks}
-use Rattle.file_systems.specs.Clones.{below_in, row_in}
+use Rattle.datasets.specs.Dead.{newest_blocks}
+use Rattle.datasets.specs.Rows.{Row}
+use Rattle.datasets.specs.Splices.{lost_from, oldest_blocks}
+use Rattle.datasets.specs.Clones.{below_in, row_in}
 use Rattle.datasets.specs.Table.{IsTable}
 use Rattle.datasets.proofs.Above.{below_is, below_is_map}
 use Rattle.datasets.proofs.Removed.{rising_at, older_differ}

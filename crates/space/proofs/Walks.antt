@@ -9,7 +9,7 @@ use Rattle.std.specs.Iterator.{Yields, YieldsFirstRef}
 use Rattle.base.specs.declared.number.Group.{Group}
 use Rattle.model.specs.World.{Snap}
 use Rattle.snapshots.specs.declared.kept.Kept.{Kept}
-use Rattle.file_system.specs.Dead.{snaps_in}
+use Rattle.datasets.specs.Dead.{snaps_in}
 use Rattle.world.proofs.Finding.{append_none, filter_join}
 use Rattle.accounts.specs.Space.{newest_group}
 use Rattle.space.specs.Ranges.{group_after}

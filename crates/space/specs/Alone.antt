@@ -5,7 +5,7 @@ use Rattle.base.specs.Map.{Block, BlockSet, blocks}
 use Rattle.model.specs.World.{FileSystem}
 use Rattle.world.specs.Sets.{Has}
 use Rattle.world.specs.Tables.{Datasets, world_of}
-use Rattle.file_systems.specs.Clones.{below_in}
+use Rattle.datasets.specs.Clones.{below_in}
 use Rattle.accounts.specs.Space.{oldest_in, without_each}
 
 -- a file system whose origin has all these blocks (zfs-clone(8))

@@ -11,8 +11,8 @@ use Rattle.name.specs.declared.target.Target.{Target}
 use Rattle.name.specs.declared.target.Target.TheVariants.{FileSystem as OfFileSystem, Snapshot as OfSnapshot, Bookmark as OfBookmark}
 use Rattle.model.specs.World.{FileSystem, Snap, SnapId, Dataset, Live, Snapped, id_of}
 use Rattle.world.specs.Tables.{Datasets}
-use Rattle.file_system.specs.Rows.{Row}
-use Rattle.file_systems.specs.Clones.{row_in}
+use Rattle.datasets.specs.Rows.{Row}
+use Rattle.datasets.specs.Clones.{row_in}
 
 -- a snapshot with its file system, by its name (zfs(8))
 abbrev pub snapshot_place : Datasets → Member → Option (Row × Snap)

@@ -10,8 +10,8 @@ use Rattle.model.specs.Rule.{first_of}
 use Rattle.model.specs.requests.Rollback.{has_clone_outside}
 use Rattle.model.specs.requests.WouldFree.{within}
 use Rattle.world.specs.Tables.{Datasets, world_of}
-use Rattle.file_system.specs.Rows.{Row}
-use Rattle.file_systems.specs.Clones.{row_in}
+use Rattle.datasets.specs.Rows.{Row}
+use Rattle.datasets.specs.Clones.{row_in}
 
 -- the creation group of the snapshot of this name within a file system (zfsprops(7): createtxg)
 abbrev pub group_at : Datasets → List ℕ → List ℕ → ℕ

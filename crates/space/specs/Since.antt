@@ -1,5 +1,5 @@
 -- A dataset and a snapshot of its lineage.
-use Rattle.std.specs.Prelude.{◌≡◌, ℕ, Bool, not, false, ◌||◌, List, [], ◌∷◌, Option, None, is_some, min, ◌-◌, ◌^◌}
+use Rattle.std.specs.Prelude.{◌≡◌, ◌≤◌, ℕ, Bool, not, false, ◌||◌, List, [], ◌∷◌, Option, None, Some, is_some, length, min, ◌-◌, ◌*◌, ◌^◌}
 use Rattle.std.specs.List.{list_any}
 use Rattle.std.specs.Option.{option_map, option_map_or, option_and_then}
 use Rattle.std.specs.FinMap.{get}
@@ -8,7 +8,7 @@ use Rattle.base.specs.declared.refusal.Refusal.TheVariants.{NoDataset, NotAncest
 use Rattle.name.specs.declared.member.Member.{Member}
 use Rattle.name.specs.declared.target.Target.{Target}
 use Rattle.name.specs.declared.target.Target.TheVariants.{FileSystem as OfFileSystem, Snapshot as OfSnapshot, Bookmark as OfBookmark}
-use Rattle.model.specs.World.{SnapId, Dataset, Live, Snapped, id_of, same_id, snap_named, older_of}
+use Rattle.model.specs.World.{Snap, SnapId, Dataset, Live, Snapped, id_of, same_id, snap_named, older_of}
 use Rattle.model.specs.Sums.{written_since}
 use Rattle.model.specs.Rule.{first_of}
 use Rattle.world.specs.Sums.{dead_by}
@@ -49,3 +49,18 @@ pub record HasGone (t : Datasets) (d : Dataset) (id : SnapId) (gone : ℕ) : Typ
   pub ids : List SnapId
   pub path : IsPath (world_of t) id ids d
   pub counted : gone ≡ min (2 ^ 64 - 1) (dead_by (world_of t) id.group (on_path ids d))
+
+-- The snapshot is of the dataset's lineage; and no more segments were reached than two for each dead list of the datasets after it up to
+-- this one (On-Disk Specification, chapter 4: ds_deadlist_obj; segments are profile)
+pub record HasReached (t : Datasets) (d : Dataset) (id : SnapId) (reached : ℕ) : Type 0 where
+  pub ids : List SnapId
+  pub path : IsPath (world_of t) id ids d
+  pub few : reached ≤ 2 * length (on_path ids d)
+
+-- the same of the dataset and the snapshot of these names (zfsprops(7): written@snapshot; segments are profile)
+pub record HasReachedNamed (t : Datasets) (target : Target) (since : Member) (reached : ℕ) : Type 0 where
+  pub dataset : Dataset
+  pub dataset_is : dataset_named t target ≡ Some dataset
+  pub snapshot : Snap
+  pub snapshot_is : snap_named (world_of t) since ≡ Some snapshot
+  pub lists : HasReached t dataset (id_of snapshot) reached

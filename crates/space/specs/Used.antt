@@ -3,7 +3,7 @@ use Rattle.std.specs.Prelude.{◌+◌, ℕ, List, ◌∷◌, [], cond, map}
 use Rattle.base.specs.Map.{blocks}
 use Rattle.model.specs.Sums.{size_without}
 use Rattle.model.specs.World.{blocks_of_all}
-use Rattle.file_system.specs.Rows.{Row}
+use Rattle.datasets.specs.Rows.{Row}
 use Rattle.snap.specs.Taking.{is_in_family}
 
 -- how many blocks a file system has that its origin hasn't (zfsprops(7): usedbydataset, usedbysnapshots)

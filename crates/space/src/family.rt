@@ -10,8 +10,7 @@ ghost use Rattle.world.specs.Trees.{total};
 ghost use Rattle.accounts.specs.Limits.{IsUnlimited};
 ghost use Rattle.space.specs.Used.{own_in, own_within};
 
-use datasets::Table;
-use file_systems::FileSystem;
+use datasets::{FileSystem, Table};
 use name::DsName;
 use snap::is_in_family;
 use std::sync::Arc;

@@ -3,8 +3,7 @@ ghost use Rattle.std.specs.Prelude.{◌≡◌};
 ghost use Rattle.std.specs.Option.{option_map, option_copied};
 ghost use Rattle.space.specs.Places.{snapshot_place, place_named};
 
-use datasets::Table;
-use file_systems::{FileSystem, Snapshot};
+use datasets::{FileSystem, Snapshot, Table};
 use name::{Member, Target};
 
 /// The snapshot of this name with its file system, or none. It costs the logarithms of the numbers of file systems and of its snapshots.

@@ -1,5 +1,5 @@
 //! What a range of snapshots alone has.
-ghost use Rattle.std.specs.Prelude.{◌≡◌, ◌<◌, ◌^◌, ◌&&◌, if◌then◌else◌, Some, None, IfSome, IfOk, IfErr, OnOk, nat_lt};
+ghost use Rattle.std.specs.Prelude.{◌≡◌, ◌<◌, ◌≤◌, ◌+◌, ◌*◌, ◌^◌, length, OnErr, ◌&&◌, if◌then◌else◌, Some, None, IfSome, IfOk, IfErr, OnOk, nat_lt};
 ghost use Rattle.std.specs.List.{find, list_any};
 ghost use Rattle.std.specs.Option.{option_map, option_or};
 ghost use Rattle.std.specs.FinSet.{len};
@@ -7,22 +7,21 @@ ghost use Rattle.name.specs.Names.{same_name};
 ghost use Rattle.model.specs.World.{union_of};
 ghost use Rattle.model.specs.Sums.{would_free};
 ghost use Rattle.world.specs.Tables.{world_of};
-ghost use Rattle.file_system.specs.Origins.{origin_group};
+ghost use Rattle.datasets.specs.Origins.{origin_group};
 ghost use Rattle.accounts.specs.Space.{newest_group};
 ghost use Rattle.space.specs.Ranges.{IsRange, range_ids, range_refusal, is_cloned_between, group_after, older_than};
 
 use base::meter::SegMeter;
 use base::number::Group;
 use base::refusal::Refusal;
-use datasets::Table;
-use file_systems::{FileSystem, Snapshot};
+use datasets::{FileSystem, Snapshot, Table};
 use name::{Component, DsName};
 
 /// How many blocks all datasets together would lose with these snapshots of a file system, the first, the last and those between, of which
 /// nothing is changed (zfs-destroy(8), -nv). NoDataset exactly where one of the two isn't there, else NotAncestor exactly where the first is
 /// newer than the last, else HasClones exactly where one of the range has a clone (the order is profile). It costs the logarithm of the
 /// number of file systems, the number of this one's snapshots, for each of the range the logarithm of the number of clones, and the
-/// segments of the dead lists of the range and of what comes after it.
+/// segments of the dead lists of the range and of what comes after it, each of which has two at most and is read once.
 pub fn would_free(
     table: &Table,
     name: &DsName,
@@ -35,6 +34,8 @@ pub fn would_free(
     ensures can { OnOk result (range_refusal table.now name.now first.now last.now ≡ None) }
     ensures refused { IfSome (range_refusal table.now name.now first.now last.now) (λ e. result ≡ Err e) }
     ensures only { IfErr result (λ e. range_refusal table.now name.now first.now last.now ≡ Some e) }
+    ensures meter { OnOk result (segments.new ≤ segments.old + 2 * (length (range_ids table.now name.now first.now last.now) + 1)) }
+    ensures unread { OnErr result (segments.new ≡ segments.old) }
 {
     // It tells what holds of the file systems.
     let _count = table.len();

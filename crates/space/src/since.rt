@@ -1,12 +1,12 @@
 //! What a dataset has written since a snapshot of its lineage.
-ghost use Rattle.std.specs.Prelude.{◌≡◌, Some, None, IfSome, IfNone, IfOk, IfErr, OnOk, nat_lt, true, false};
+ghost use Rattle.std.specs.Prelude.{◌≡◌, ◌-◌, Some, None, IfSome, IfNone, IfOk, IfErr, OnOk, nat_lt, true, false};
 ghost use Rattle.std.specs.Option.{option_map, option_map_or, option_copied};
 ghost use Rattle.std.specs.FinSet.{len};
 ghost use Rattle.base.specs.Map.{blocks};
 ghost use Rattle.name.specs.Names.{same_name};
 ghost use Rattle.model.specs.Ids.{snap_id};
 ghost use Rattle.space.specs.Places.{dataset_at, map_at, IsPlace, IsHome, IsHolder};
-ghost use Rattle.space.specs.Since.{since_refusal, written_named, is_before, HasGone};
+ghost use Rattle.space.specs.Since.{since_refusal, written_named, is_before, HasGone, HasReached, HasReachedNamed};
 ghost use Rattle.model.specs.World.{same_id, snap_at};
 ghost use Rattle.world.specs.Tables.{world_of};
 
@@ -14,8 +14,7 @@ use crate::place::{dataset_named, snapshot_named};
 use base::meter::SegMeter;
 use base::number::Group;
 use base::refusal::Refusal;
-use datasets::Table;
-use file_systems::{FileSystem, Snapshot};
+use datasets::{FileSystem, Snapshot, Table};
 use model::snapshot_id::SnapshotId;
 use name::{DsName, Member, Target};
 
@@ -23,7 +22,7 @@ use name::{DsName, Member, Target};
 /// target isn't a dataset that is there or there is no such snapshot; else NotAncestor exactly where the snapshot isn't an older one of the
 /// dataset's lineage (the order is profile). It costs the logarithms of the numbers of file systems and of the snapshots of one; and for
 /// each file system that the lineage passes down to the snapshot's that of looking its origin up, the number of its snapshots, and the
-/// segments of the dead lists of those of the lineage.
+/// segments of the dead lists of those of the lineage, each of which has two at most and is read once.
 pub fn written_since(
     table: &Table,
     target: &Target,
@@ -34,6 +33,7 @@ pub fn written_since(
     ensures can { OnOk result (since_refusal table.now target.now since.now ≡ None) }
     ensures refused { IfSome (since_refusal table.now target.now since.now) (λ e. result ≡ Err e) }
     ensures only { IfErr result (λ e. since_refusal table.now target.now since.now ≡ Some e) }
+    ensures meter { IfOk result (λ n. HasReachedNamed table.now target.now since.now (segments.new - segments.old)) }
 {
     // It tells what holds of the file systems.
     let _count = table.len();
@@ -113,6 +113,7 @@ fn gone_since(
     requires home { IsHome table.now owner.now (snap_id since) }
     ensures some { IfSome result (HasGone table.now (dataset_at file_system.now (option_copied dataset.entry)) (snap_id since)) }
     ensures none { IfNone result (is_before table.now (dataset_at file_system.now (option_copied dataset.entry)) (snap_id since) ≡ false) }
+    ensures meter { IfSome result (λ n. HasReached table.now (dataset_at file_system.now (option_copied dataset.entry)) (snap_id since) (segments.new - segments.old)) }
 {
     // It tells what holds of the file systems.
     let _count = table.len();

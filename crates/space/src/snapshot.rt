@@ -6,16 +6,14 @@ ghost use Rattle.base.specs.Surveys.{IsIn};
 ghost use Rattle.model.specs.Sums.{used_by_snap};
 ghost use Rattle.model.specs.World.{id_of, snap_named};
 ghost use Rattle.world.specs.Tables.{world_of};
-ghost use Rattle.file_systems.specs.CloneNames.{name_of};
+ghost use Rattle.datasets.specs.CloneNames.{name_of};
 ghost use Rattle.space.specs.Places.{IsPlace};
 ghost use Rattle.space.specs.Alone.{IsCloneAbove, struck};
 
 use crate::place::snapshot_named;
 use base::meter::SegMeter;
 use base::refusal::Refusal;
-use datasets::Table;
-use file_system::Alone;
-use file_systems::{CloneName, FileSystem, Snapshot};
+use datasets::{Alone, CloneName, FileSystem, Snapshot, Table};
 use name::Member;
 use std::alloc::Global;
 

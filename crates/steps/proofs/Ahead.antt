@@ -16,8 +16,8 @@ use Rattle.name.specs.declared.member.Member.{Member}
 use Rattle.stream.specs.Records.{changes_of as changes_of_records}
 use Rattle.stream.specs.Spelling.{Sending}
 use Rattle.zalloc.specs.States.{is_waiting}
-use Rattle.file_system.specs.Rows.{Row}
-use Rattle.file_systems.specs.Clones.{row_in}
+use Rattle.datasets.specs.Rows.{Row}
+use Rattle.datasets.specs.Clones.{row_in}
 use Rattle.model.specs.World.{World, FileSystem, Live, reach_of, union_of}
 use Rattle.model.specs.State.{State, waiting_of}
 use Rattle.model.specs.Edits.{with_now, with_next_group, after_change}

@@ -24,8 +24,8 @@ use Rattle.world.proofs.Kept.{union-fields}
 use Rattle.accounts.specs.Limits.{IsUnlimited, AreQuotasMet}
 use Rattle.accounts.proofs.AskedChanges.{change_frees_none}
 use Rattle.accounts.proofs.Rooms.{room_free}
-use Rattle.file_system.specs.Rows.{Row}
-use Rattle.file_systems.specs.Clones.{row_in}
+use Rattle.datasets.specs.Rows.{Row}
+use Rattle.datasets.specs.Clones.{row_in}
 use Rattle.datasets.specs.Limits.{with_limit_of}
 use Rattle.steps.specs.Asked.{asked_by_change, asked_by_set}
 use Rattle.steps.specs.Edits.{datasets_of}

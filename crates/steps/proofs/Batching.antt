@@ -20,7 +20,7 @@ use Rattle.batch.specs.declared.update.Update.{Update}
 use Rattle.batch.specs.Updates.{IsBatch}
 use Rattle.tree.specs.declared.change.Changed.{Changed}
 use Rattle.tree.specs.Change.{Shown, IsChange, young_count}
-use Rattle.file_system.specs.Rows.{live_of}
+use Rattle.datasets.specs.Rows.{live_of}
 use Rattle.datasets.specs.Writes.{young_of, AllowsWrite, HasWritten}
 use Rattle.model.specs.World.{World, FileSystem, Live, union_of, reach_of}
 use Rattle.model.specs.State.{State, block_state}
@@ -32,8 +32,7 @@ use Rattle.model.specs.Refusals.{fresh_number}
 use Rattle.world.specs.Sets.{Has, AreDisjoint}
 use Rattle.world.specs.Blocks.{block_order as o}
 use Rattle.world.specs.Shapes.{Name}
-use Rattle.world.specs.Plans.{IsSettling}
-use Rattle.world.specs.Plans.{AreTakable as AreTakableOf}
+use Rattle.world.specs.Plans.{IsSettling, AreTakable as AreTakableOf}
 use Rattle.world.specs.Tables.{Datasets}
 use Rattle.world.specs.Worlds.{AreFileSystems, IsPoolState, IsSwept}
 use Rattle.world.specs.Dead.{base_of}

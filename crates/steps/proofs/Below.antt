@@ -5,8 +5,8 @@ use Rattle.base.specs.Map.{blocks}
 use Rattle.base.specs.Surveys.{IsIn}
 use Rattle.model.specs.World.{World, FileSystem, Snap, Live, Snapped, id_of, previous_of, map_of, map_of_snap}
 use Rattle.model.specs.Sums.{written_of, size_without}
-use Rattle.file_systems.specs.Clones.{below_in}
-use Rattle.file_system.specs.Dead.{newest_blocks}
+use Rattle.datasets.specs.Clones.{below_in}
+use Rattle.datasets.specs.Dead.{newest_blocks}
 use Rattle.world.specs.Shapes.{Name}
 use Rattle.world.specs.Worlds.{AreFileSystems}
 use Rattle.world.proofs.Bridge.{in_middle, map_of_live, map_of_kept, previous_of_live, previous_of_kept}

@@ -13,9 +13,8 @@ use Rattle.zalloc.specs.declared.BlockState.TheVariants.{Free, Allocated, Waitin
 use Rattle.zalloc.specs.States.{is_free, is_allocated, is_waiting}
 use Rattle.model.specs.State.{is_number_of}
 use Rattle.world.specs.Sets.{Has}
-use Rattle.steps.specs.Settles.{state_at}
+use Rattle.steps.specs.Settles.{state_at, AreStatesOf}
 use Rattle.world.specs.Worlds.{AreReached}
-use Rattle.steps.specs.Settles.{AreStatesOf}
 use Rattle.world.specs.Blocks.{block_order as o}
 use Rattle.world.proofs.SetCounts.{in_union_left, in_union_right, in_difference, from_difference, in_retain, from_retain, same_members}
 use Rattle.world.proofs.Cells.{from_number}

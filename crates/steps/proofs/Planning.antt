@@ -19,7 +19,7 @@ use Rattle.zalloc.specs.declared.BlockState.{BlockState}
 use Rattle.zalloc.specs.declared.BlockState.TheVariants.{Free}
 use Rattle.zalloc.specs.States.{is_free}
 use Rattle.tree.specs.Change.{Shown, IsChange, young_count}
-use Rattle.file_system.specs.Rows.{with_live}
+use Rattle.datasets.specs.Rows.{with_live}
 use Rattle.model.specs.World.{World, FileSystem, Live, union_of, reach_of}
 use Rattle.model.specs.State.{State}
 use Rattle.model.specs.Hierarchy.{FileSystems}
@@ -33,8 +33,7 @@ use Rattle.model.specs.Refusals.{fresh_number, state_asked, refusal_of}
 use Rattle.world.specs.Sets.{Has, AreDisjoint}
 use Rattle.world.specs.Blocks.{block_order as o}
 use Rattle.world.specs.Shapes.{Name}
-use Rattle.world.specs.Plans.{IsSettling}
-use Rattle.world.specs.Plans.{AreTakable as AreTakableOf}
+use Rattle.world.specs.Plans.{IsSettling, AreTakable as AreTakableOf}
 use Rattle.world.specs.Tables.{Datasets}
 use Rattle.world.specs.Worlds.{AreFileSystems, IsPoolState, IsSwept}
 use Rattle.world.specs.Dead.{base_of}

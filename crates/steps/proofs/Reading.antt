@@ -16,7 +16,7 @@ use Rattle.model.specs.Step.{Step}
 use Rattle.model.specs.requests.Rollback.{placed}
 use Rattle.model.proofs.Blocks.{not_false, block_tells}
 use Rattle.world.specs.Tables.{Datasets, world_of}
-use Rattle.file_system.specs.Rows.{Entry}
+use Rattle.datasets.specs.Rows.{Entry}
 use Rattle.marks.specs.Requests.{holds_refusal}
 use Rattle.steps.specs.Edits.{datasets_of}
 use Rattle.steps.specs.Listed.{own_names}

@@ -21,7 +21,7 @@ use Rattle.zalloc.specs.States.{is_free}
 use Rattle.tree.specs.declared.change.Changed.{Changed}
 use Rattle.tree.specs.Change.{HasRoom, LacksRoom, young_count}
 use Rattle.tree.specs.Taking.{takes, AllFree}
-use Rattle.file_system.specs.Rows.{live_of, with_snap}
+use Rattle.datasets.specs.Rows.{live_of, with_snap}
 use Rattle.datasets.specs.Snapshots.{with_snap_at}
 use Rattle.datasets.specs.Writes.{young_of, HasWritten}
 use Rattle.model.specs.declared.request.Request.TheVariants.{Receive}
@@ -55,8 +55,7 @@ use Rattle.accounts.proofs.Rows.{limits_asked}
 use Rattle.accounts.proofs.Taken.{taken_is, taken_systems, taken_union, taken_freeing, taken_reach}
 use Rattle.accounts.proofs.TakenAlike.{taken_holds}
 use Rattle.accounts.proofs.Unlimited.{quotas_unlimited, refquotas_unlimited}
-use Rattle.steps.specs.Settles.{AreStatesOf, releases, AllAllocated}
-use Rattle.steps.specs.Settles.{AreTakable as AreTakableNumbers}
+use Rattle.steps.specs.Settles.{AreStatesOf, releases, AllAllocated, AreTakable as AreTakableNumbers}
 use Rattle.steps.specs.Steady.{IsSteady}
 use Rattle.steps.specs.Edits.{datasets_of, with_datasets}
 use Rattle.steps.specs.Received.{asked_by_receive, put_freeing, CanReceive}

@@ -12,8 +12,7 @@ use Rattle.base.specs.Surveys.{IsIn, IsDropped, IsSurvey}
 use Rattle.world.specs.Sets.{Has}
 use Rattle.world.specs.Numbering.{ChangesKeys}
 use Rattle.steps.specs.Room.{GivesWay, AreKeysOne}
-use Rattle.world.specs.Blocks.{block_order as o}
-use Rattle.world.specs.Blocks.{after}
+use Rattle.world.specs.Blocks.{block_order as o, after}
 use Rattle.world.proofs.Lineage.{in_after, from_after}
 use Rattle.world.proofs.SetCounts.{in_union_left, in_union_right, Has-cases}
 use Rattle.world.proofs.Cells.{in_blocks, from_blocks, from_new_blocks}

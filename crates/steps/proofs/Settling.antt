@@ -11,10 +11,9 @@ use Rattle.zalloc.specs.declared.BlockState.{BlockState}
 use Rattle.zalloc.specs.declared.BlockState.TheVariants.{Free, Allocated, Waiting}
 use Rattle.tree.specs.Taking.{takes, AllFree}
 use Rattle.world.specs.Sets.{Has}
-use Rattle.steps.specs.Settles.{state_at, released_state, releases, AllAllocated}
+use Rattle.steps.specs.Settles.{state_at, released_state, releases, AllAllocated, AreStatesOf, AreTakable}
 use Rattle.world.specs.Plans.{IsSettling}
 use Rattle.world.specs.Worlds.{AreReached}
-use Rattle.steps.specs.Settles.{AreStatesOf, AreTakable}
 use Rattle.world.specs.Blocks.{block_order as o}
 use Rattle.world.proofs.SetCounts.{in_union_left, in_union_right, from_union, in_difference, from_difference}
 use Rattle.steps.proofs.Surveys.{in_list, from_in_list}

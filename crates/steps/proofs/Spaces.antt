@@ -19,7 +19,7 @@ use Rattle.model.specs.Sums.{size_without, used_of, room_of, used_by_snap, used_
 use Rattle.model.specs.Properties.{file_system_value, snap_value, limit_value}
 use Rattle.model.specs.State.{State}
 use Rattle.model.specs.Step.{Step}
-use Rattle.file_systems.specs.Clones.{below_in}
+use Rattle.datasets.specs.Clones.{below_in}
 use Rattle.datasets.proofs.Above.{below_is_map}
 use Rattle.steps.specs.Spaces.{is_limit, is_of_live, property_of}
 use Rattle.steps.specs.Steady.{IsSteady, snap_in}

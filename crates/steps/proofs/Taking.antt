@@ -13,7 +13,7 @@ use Rattle.stream.specs.declared.record.Record.{Record}
 use Rattle.tree.specs.declared.change.Changed.{Changed}
 use Rattle.tree.specs.Asking.{IsNoSpaceOrNoMemory}
 use Rattle.tree.specs.Change.{HasRoom, LacksRoom}
-use Rattle.file_system.specs.Rows.{live_of}
+use Rattle.datasets.specs.Rows.{live_of}
 use Rattle.datasets.specs.Writes.{young_of, AllowsWrite, HasWritten}
 use Rattle.model.specs.declared.request.Request.TheVariants.{Receive}
 use Rattle.model.specs.declared.reply.Reply.TheVariants.{Refused}

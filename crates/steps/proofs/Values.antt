@@ -3,8 +3,7 @@ use Rattle.std.proofs.Common.{◌≡◌, ℕ, ◌*◌, List, Option, Some, None,
 use Rattle.std.specs.List.{find, join_with_byte}
 use Rattle.std.specs.Prelude.{length, is_some, IsSome}
 use Rattle.std.specs.Option.{option_map_or, option_and_then, unwrap_or}
-use Rattle.std.specs.FinMap.{get}
-use Rattle.std.specs.FinMap.{len as map_len}
+use Rattle.std.specs.FinMap.{get, len as map_len}
 use Rattle.base.specs.Map.{blocks}
 use Rattle.name.specs.Names.{same_name}
 use Rattle.name.specs.declared.member.Member.{Member}
@@ -23,8 +22,8 @@ use Rattle.model.specs.State.{State}
 use Rattle.model.specs.Step.{Step}
 use Rattle.world.proofs.Maps.{same_value, no_value}
 use Rattle.world.specs.Tables.{Datasets, world_of}
-use Rattle.file_systems.specs.Clones.{row_in, below_in}
-use Rattle.file_system.specs.Dead.{newest_blocks}
+use Rattle.datasets.specs.Clones.{row_in, below_in}
+use Rattle.datasets.specs.Dead.{newest_blocks}
 use Rattle.steps.specs.Edits.{datasets_of}
 use Rattle.steps.specs.Spaces.{is_of_live}
 use Rattle.steps.specs.Steady.{IsSteady, IsAbsent, snap_in, bookmark_in}

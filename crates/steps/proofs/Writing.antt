@@ -22,7 +22,7 @@ use Rattle.batch.specs.declared.update.Update.{Update}
 use Rattle.batch.specs.Updates.{IsBatch}
 use Rattle.tree.specs.declared.change.Changed.{Changed}
 use Rattle.tree.specs.Change.{IsChange, HasRoom, LacksRoom, young_count}
-use Rattle.file_system.specs.Rows.{live_of, with_live}
+use Rattle.datasets.specs.Rows.{live_of, with_live}
 use Rattle.datasets.specs.Writes.{young_of, AllowsWrite, HasWritten}
 use Rattle.model.specs.declared.request.Request.{Request}
 use Rattle.model.specs.declared.reply.Reply.TheVariants.{Done, Refused}

@@ -15,8 +15,8 @@ use Rattle.model.specs.Sums.{size_without}
 use Rattle.model.specs.State.{State}
 use Rattle.model.specs.Step.{Step}
 use Rattle.world.proofs.Maps.{same_value, no_value}
-use Rattle.file_systems.specs.Clones.{below_in}
-use Rattle.file_system.specs.Dead.{newest_blocks, written_from}
+use Rattle.datasets.specs.Clones.{below_in}
+use Rattle.datasets.specs.Dead.{newest_blocks, written_from}
 use Rattle.steps.specs.Steady.{IsSteady}
 use Rattle.steps.proofs.Named.{snap_there}
 use Rattle.steps.proofs.Identities.{get_written_of_live, get_written_of_snap}

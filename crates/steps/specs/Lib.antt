@@ -11,3 +11,5 @@ pub mod Limiting
 pub mod Counted
 pub mod Received
 pub mod Intakes
+pub mod Reached
+pub mod Handed

@@ -1,5 +1,5 @@
 //! The reply to a request that only reads.
-ghost use Rattle.std.specs.Prelude.{◌≡◌, ◌<◌, ◌^◌, None, true};
+ghost use Rattle.std.specs.Prelude.{◌≡◌, ◌<◌, ◌^◌, None, true, false};
 ghost use Rattle.std.specs.FinSet as set;
 ghost use Rattle.model.specs.State.{State};
 ghost use Rattle.model.specs.Step.{Step};
@@ -9,6 +9,7 @@ ghost use Rattle.world.specs.Tables.{world_of};
 ghost use Rattle.lookups.specs.Accounted.{IsAccounted};
 ghost use Rattle.steps.specs.Limiting.{IsStateWith};
 ghost use Rattle.steps.specs.Counted.{IsCountOf};
+ghost use Rattle.steps.specs.Reached.{reaches_nodes, HasRead};
 
 use crate::counting::{get, pool_get, would_free, written_since};
 use crate::limiting::Limiting;
@@ -42,7 +43,9 @@ pub fn answer(
     requires reads { (rule_of request.now None).only_reads ≡ true }
     requires own { IsAccounted table.now limiting.now }
     requires few { set.len (union_of (world_of table.now)) < 2 ^ 32 }
-    ensures { (s : State) → IsStateWith s table.now space → IsCountOf s counts → Step s request.now result s }
+    ensures step { (s : State) → IsStateWith s table.now space → IsCountOf s counts → Step s request.now result s }
+    ensures nodes { reaches_nodes request.now ≡ false → meter.new ≡ meter.old }
+    ensures segments { HasRead table.now request.now result segments.old segments.new }
 {
     match request {
         Request::Read {

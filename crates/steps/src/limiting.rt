@@ -10,14 +10,13 @@ ghost use Rattle.model.specs.World.{union_of};
 ghost use Rattle.model.specs.requests.Change.{limit_row};
 ghost use Rattle.world.specs.Tables.{Datasets, world_of};
 ghost use Rattle.accounts.specs.Limits.{IsUnlimited};
-ghost use Rattle.file_systems.specs.Clones.{row_in};
+ghost use Rattle.datasets.specs.Clones.{row_in};
 ghost use Rattle.limits.specs.Ledgers.{IsSpaceOf, ledger_of};
 ghost use Rattle.lookups.specs.Accounted.{IsAccounted};
 ghost use Rattle.steps.specs.Limiting.{IsOver, CanSettle};
 
 use base::refusal::Refusal;
-use datasets::Table;
-use file_systems::FileSystem;
+use datasets::{FileSystem, Table};
 use limits::{Ledger, Space};
 use name::DsName;
 use outlook::Outlook;

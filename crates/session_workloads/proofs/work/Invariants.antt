@@ -1,4 +1,4 @@
-use Rattle.book.specs.declared.book.TheConstants.{CALL_LIMIT}
+use Rattle.session.specs.Handed.{CALL_LIMIT}
 use Rattle.session_workloads.proofs.work.Given as goal
 
 -- the session begins at the pool that it is handed, and takes as many calls as are asked

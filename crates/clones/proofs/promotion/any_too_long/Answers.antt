@@ -5,7 +5,7 @@ use Rattle.model.specs.Targets.{name_limit}
 use Rattle.model.specs.World.{Snap}
 use Rattle.snapshots.specs.declared.kept.Kept.{Kept}
 use Rattle.shared_list.specs.Left.{left}
-use Rattle.file_system.specs.Dead.{snaps_in}
+use Rattle.datasets.specs.Dead.{snaps_in}
 use Rattle.clones.proofs.Yielded.{gt_is, yielded_all, yielded_front, none_early, none_left, one_early, still_none}
 use Rattle.clones.proofs.promotion.any_too_long.Goals as goal
 

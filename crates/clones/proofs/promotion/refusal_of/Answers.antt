@@ -1,7 +1,7 @@
 use Rattle.std.proofs.Common.{sym}
 use Rattle.model.specs.Ids.{snap_id}
 use Rattle.world.specs.Tables.{world_of}
-use Rattle.file_system.specs.Promotions.{promotion_between}
+use Rattle.datasets.specs.Promotions.{promotion_between}
 use Rattle.world.proofs.Promotions.{promotion_is}
 use Rattle.datasets.proofs.Removed.{rising_at}
 use Rattle.clones.proofs.promotion.refusal_of.Goals as goal

@@ -12,8 +12,8 @@ use Rattle.file_system.proofs.Stacks.{base_is}
 use Rattle.file_system.proofs.splice.joined.Goals as goal
 
 -- what was born by the group before joins the snapshot's own entries
-pub returns-in_ok-cut_below-in-Ok-clause-ok : goal.returns-in_ok-cut_below-in-Ok-clause-ok
-returns-in_ok-cut_below-in-Ok-clause-ok c =
+pub returns-in_ok-keep_cuts-in-Ok-clause-ok : goal.returns-in_ok-keep_cuts-in-Ok-clause-ok
+returns-in_ok-keep_cuts-in-Ok-clause-ok c =
     let ks = c.args.kept.now in
     let next = c.args.next.now.entries in
     let base : c.group_of.result.0 ≡ newest_group c.args.base.0 (snaps_in (take c.args.place ks)) =
@@ -25,6 +25,7 @@ returns-in_ok-cut_below-in-Ok-clause-ok c =
     record {
       gone = c.in-Some.gone.now;
       there = sym c.in-Some.ensures;
-      joined = IsPermutation-trans _ _ _ (subst (λ (l : List Dead). IsPermutation l c.append.new.self.entries) both c.in-Ok.ensures.entries) c.in_ok-cut_below-in-Ok.ensures.entries;
+      joined = subst (IsPermutation ((arc_value c.in-Some.gone.now.dead).entries ++ filter (is_upto (newest_group c.args.base.0 (snaps_in (take c.args.place ks)))) next)) (sym c.in_ok-keep_cuts-in-Ok.ensures.entries)
+          (IsPermutation-trans _ _ _ (subst (λ (l : List Dead). IsPermutation l c.append.new.self.entries) both c.in-Ok.ensures.entries) c.in_ok-cut_below-in-Ok.ensures.entries);
       rest = c.in_ok-lost.ensures.taken ∙ ap (filter (is_after c.group_of.result.0)) c.in_ok-own.ensures.entries ∙ ap (λ n. filter (is_after n) next) base;
     }

@@ -1,4 +1,4 @@
-use Rattle.std.proofs.Common.{◌≡◌, ◌+◌, is_some, map, ap, sym, subst, ◌∙◌, true≢false}
+use Rattle.std.proofs.Common.{◌≡◌, ◌+◌, is_some, map, ap, sym, subst, ◌∙◌, true≢false, ◌≤◌, length, arith}
 use Rattle.std.specs.FinSet.{difference}
 use Rattle.std.specs.Option.{option_copied}
 use Rattle.base.specs.Map.{Map, BlockSet, blocks}
@@ -56,6 +56,7 @@ returns-clause-ok c =
       accounted = record {
         dead = subst (λ (h : Held). Lists (map dead_block h.entries) (difference (blocks_before bs ks c.args.place) (blocks c.in_ok-snapshot.snapshot.map))) (sym c.in_ok-dead-2.ensures.ok)
             (subst (λ (t : Snap). Lists (map dead_block c.in_ok-dead.dead.entries) (difference (blocks_before bs ks c.args.place) (blocks t.map))) (sym snap) dead);
+        few = subst (λ (h : Held). length h.cuts ≤ 1) (sym c.in_ok-dead-2.ensures.ok) (let f = c.in_ok-dead.ensures.few in omega arith);
         written = c.written_over-written.ensures ∙ ap (λ (m : Map). size_without (blocks m) (blocks_kept bs (option_copied c.before-2.result))) c.tree.ensures ∙ ap (size_without (blocks c.in_ok-snapshot.snapshot.map)) before;
       };
       lost_is = between_lost bs (group_below (option_copied c.args.origin)) ks c.args.place c.requires n (sym c.in-Some.ensures) c.deref.result.now.entries c.in_ok-dead.dead.entries c.in_ok-dead.lost.entries is j;

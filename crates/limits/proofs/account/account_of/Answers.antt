@@ -1,7 +1,7 @@
 use Rattle.std.proofs.Common.{◌+◌, sym, ap, ◌∙◌}
 use Rattle.std.specs.FinSet.{len}
 use Rattle.base.specs.Map.{blocks}
-use Rattle.file_system.proofs.Accounts.{count_is}
+use Rattle.datasets.proofs.Accounts.{count_is}
 use Rattle.limits.proofs.Rows.{row_account}
 use Rattle.limits.proofs.account.account_of.Goals as goal
 

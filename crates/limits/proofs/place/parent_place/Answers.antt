@@ -3,7 +3,7 @@ use Rattle.std.specs.Prelude.{IfNone}
 use Rattle.std.specs.FinMap.{keys}
 use Rattle.std.specs.Option.{option_copied}
 use Rattle.name.specs.Names.{parent_of as parent_name}
-use Rattle.file_system.specs.Rows.{Row}
+use Rattle.datasets.specs.Rows.{Row}
 use Rattle.limits.proofs.Places.{row_within, name_at, parent_found}
 use Rattle.limits.proofs.place.parent_place.Goals as goal
 

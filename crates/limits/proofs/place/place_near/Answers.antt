@@ -1,6 +1,6 @@
 use Rattle.std.proofs.Common.{sym, ap, ◌∙◌}
 use Rattle.name.specs.Names.{same_name}
-use Rattle.file_system.specs.Rows.{Row}
+use Rattle.datasets.specs.Rows.{Row}
 use Rattle.limits.proofs.Places.{near_at}
 use Rattle.limits.proofs.place.place_near.Goals as goal
 

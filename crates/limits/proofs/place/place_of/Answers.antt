@@ -1,7 +1,7 @@
 use Rattle.std.proofs.Common.{rules}
 use Rattle.std.proofs.lemmas.Fn.{always_returns_same}
 use Rattle.name.specs.Names.{name_cmp}
-use Rattle.file_system.specs.Rows.{entry_in}
+use Rattle.datasets.specs.Rows.{entry_in}
 use Rattle.limits.proofs.Places.{placed}
 use Rattle.limits.proofs.place.place_of.Goals as goal
 

@@ -1,6 +1,6 @@
 use Rattle.std.proofs.Common.{◌≡◌, map, take}
 use Rattle.std.specs.List.{flat_map}
-use Rattle.file_system.specs.Rows.{entry_in}
+use Rattle.datasets.specs.Rows.{entry_in}
 use Rattle.model.specs.Properties.{names_of as own_names}
 use Rattle.lookups.proofs.names.names_of.Given as goal
 

@@ -1,7 +1,7 @@
 use Rattle.std.proofs.Common.{ap, ◌∙◌, arith}
 use Rattle.bookmarks.specs.Marks.{Marks, alone}
 use Rattle.model.specs.Properties.{bookmarks_in_order}
-use Rattle.file_system.specs.Rows.{entry_of}
+use Rattle.datasets.specs.Rows.{entry_of}
 use Rattle.lookups.proofs.Yielded.{bookmarks_are}
 use Rattle.lookups.proofs.names.push_bookmarks.Goals as goal
 

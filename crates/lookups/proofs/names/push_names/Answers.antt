@@ -1,5 +1,5 @@
 use Rattle.std.proofs.Common.{◌∙◌}
-use Rattle.file_system.specs.Rows.{entry_of}
+use Rattle.datasets.specs.Rows.{entry_of}
 use Rattle.lookups.proofs.Yielded.{own_are}
 use Rattle.lookups.proofs.names.push_names.Goals as goal
 

@@ -1,7 +1,7 @@
 use Rattle.std.proofs.Common.{◌∙◌, sym, ap}
 use Rattle.shared_list.specs.Left.{left}
-use Rattle.file_system.specs.Dead.{snaps_in}
-use Rattle.file_system.specs.Rows.{entry_of}
+use Rattle.datasets.specs.Dead.{snaps_in}
+use Rattle.datasets.specs.Rows.{entry_of}
 use Rattle.lookups.proofs.Yielded.{yielded_all, snapshots_are}
 use Rattle.lookups.proofs.names.push_snapshots.Goals as goal
 

@@ -1,6 +1,6 @@
 use Rattle.std.proofs.Common.{◌≡◌, ◌++◌, map, drop}
 use Rattle.std.specs.List.{join_with_byte}
-use Rattle.file_systems.specs.CloneNames.{name_of}
+use Rattle.datasets.specs.CloneNames.{name_of}
 use Rattle.lookups.proofs.Joined.{each_after}
 use Rattle.lookups.proofs.values.joined_names.Given as goal
 

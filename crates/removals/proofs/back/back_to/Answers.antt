@@ -2,11 +2,11 @@ use Rattle.std.proofs.Common.{rules, ◌≡◌, Err, length, sym, ap, subst, ◌
 use Rattle.base.specs.Map.{BlockSet}
 use Rattle.bookmarks.specs.Marks.{without_newer}
 use Rattle.base.specs.declared.refusal.Refusal.TheVariants.{NoMemory}
-use Rattle.file_system.specs.Losses.{newest_map}
+use Rattle.datasets.specs.Losses.{newest_map}
 use Rattle.std.specs.List.{list_any}
 use Rattle.model.specs.World.{union_of}
 use Rattle.world.specs.Sets.{AreDisjoint}
-use Rattle.file_system.specs.Rows.{entry_of, live_of, snaps_at, with_live}
+use Rattle.datasets.specs.Rows.{entry_of, live_of, snaps_at, with_live}
 use Rattle.world.specs.Tables.{Datasets, world_of}
 use Rattle.removals.specs.Edits.{HasLost}
 use Rattle.removals.specs.Named.{without_all, is_named_cloned, newer_members}

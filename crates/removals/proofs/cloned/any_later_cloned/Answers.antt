@@ -4,7 +4,7 @@ use Rattle.std.specs.List.{list_any}
 use Rattle.model.specs.World.{id_of}
 use Rattle.snapshots.specs.declared.kept.Kept.{Kept}
 use Rattle.shared_list.specs.Left.{left}
-use Rattle.file_system.specs.Dead.{snaps_in}
+use Rattle.datasets.specs.Dead.{snaps_in}
 use Rattle.removals.specs.Named.{has_clone, is_cloned_after}
 use Rattle.removals.proofs.Yielded.{gt_is, yielded_all, yielded_front, snaps_yielded}
 use Rattle.removals.proofs.Seen.{any_pushed, any_here, any_value}

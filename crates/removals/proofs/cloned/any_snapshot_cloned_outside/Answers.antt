@@ -2,7 +2,7 @@ use Rattle.std.proofs.Common.{◌≡◌, Bor, true, List, ◌∷◌, ◌++◌, m
 use Rattle.std.specs.List.{list_any}
 use Rattle.snapshots.specs.declared.kept.Kept.{Kept}
 use Rattle.shared_list.specs.Left.{left}
-use Rattle.file_system.specs.Dead.{snaps_in}
+use Rattle.datasets.specs.Dead.{snaps_in}
 use Rattle.removals.specs.Families.{is_cloned_outside}
 use Rattle.removals.proofs.Yielded.{yielded_all, yielded_front, snaps_yielded}
 use Rattle.removals.proofs.Seen.{any_pushed, any_here, any_value}

@@ -1,6 +1,6 @@
 use Rattle.std.proofs.Common.{ℕ, List, Bool, not, ap, ◌∙◌}
 use Rattle.std.specs.List.{list_any}
-use Rattle.file_systems.specs.CloneNames.{name_of}
+use Rattle.datasets.specs.CloneNames.{name_of}
 use Rattle.model.specs.World.{clones_of}
 use Rattle.snap.specs.Taking.{is_in_family}
 use Rattle.world.specs.Tables.{world_of}

@@ -1,5 +1,5 @@
 use Rattle.std.proofs.Common.{◌≡◌, Bor, map, drop, length, subst, ◌∙◌, arith}
-use Rattle.file_system.specs.Rows.{Row, Entry, entry_of}
+use Rattle.datasets.specs.Rows.{Row, Entry, entry_of}
 use Rattle.removals.proofs.Losses.{lost_none, lost_then}
 use Rattle.removals.proofs.Emptying.{IsStage, init_stage, end_stage, turn_as, turn_uncloned, turn_stage}
 use Rattle.removals.proofs.emptied.empty_family.Goals as goal

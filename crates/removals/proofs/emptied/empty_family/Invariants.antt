@@ -1,5 +1,5 @@
 use Rattle.std.proofs.Common.{◌≤◌, Bor, drop, map, length}
-use Rattle.file_system.specs.Rows.{Row, entry_of}
+use Rattle.datasets.specs.Rows.{Row, entry_of}
 use Rattle.removals.specs.Edits.{HasLost}
 use Rattle.removals.proofs.Emptying.{IsStage}
 use Rattle.removals.proofs.emptied.empty_family.Given as goal

@@ -1,7 +1,7 @@
 use Rattle.std.proofs.Common.{Result, Ok, Err, ap, ◌∙◌}
 use Rattle.std.specs.Prelude.{OnOk, is_some}
 use Rattle.std.specs.FinMap.{get}
-use Rattle.file_system.specs.Rows.{entry_of, snaps_at}
+use Rattle.datasets.specs.Rows.{entry_of, snaps_at}
 use Rattle.model.specs.World.{empty_file_system}
 use Rattle.world.specs.Tables.{with_system}
 use Rattle.removals.proofs.Losses.{lost_then}

@@ -1,8 +1,8 @@
 use Rattle.std.proofs.Common.{Bor, List, map, subst, rules}
 use Rattle.std.specs.List.Sorted.{IsPermutation}
 use Rattle.std.proofs.lemmas.List.Sorted.{IsNonDecreasingBy-from_sort_by_key, IsPermutation-map}
-use Rattle.file_system.specs.Origins.{origin_group}
-use Rattle.file_system.specs.Rows.{Row, Entry, entry_of}
+use Rattle.datasets.specs.Origins.{origin_group}
+use Rattle.datasets.specs.Rows.{Row, Entry, entry_of}
 use Rattle.removals.proofs.emptied.rows_in_order.Goals as goal
 
 pub returns-clause-ok : goal.returns-clause-ok

@@ -1,5 +1,5 @@
 use Rattle.std.proofs.Common.{◌≡◌, sym, ap, subst, ◌∙◌, drop, map, length, arith}
-use Rattle.file_system.specs.Rows.{entry_in, entry_of}
+use Rattle.datasets.specs.Rows.{entry_in, entry_of}
 use Rattle.snap.specs.Taking.{is_in_family}
 use Rattle.world.proofs.Listed.{length-mapped}
 use Rattle.world.specs.Tables.{CanRemove, without_system}

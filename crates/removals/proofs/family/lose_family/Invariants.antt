@@ -1,5 +1,5 @@
 use Rattle.std.proofs.Common.{◌≡◌, ◌≤◌, drop, map, length}
-use Rattle.file_system.specs.Rows.{entry_in}
+use Rattle.datasets.specs.Rows.{entry_in}
 use Rattle.removals.specs.Edits.{HasLost}
 use Rattle.removals.proofs.SystemsGone.{left_by}
 use Rattle.removals.proofs.family.lose_family.Given as goal

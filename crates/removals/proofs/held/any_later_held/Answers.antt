@@ -3,7 +3,7 @@ use Rattle.std.specs.Prelude.{nat_lt}
 use Rattle.std.specs.List.{list_any}
 use Rattle.snapshots.specs.declared.kept.Kept.{Kept}
 use Rattle.shared_list.specs.Left.{left}
-use Rattle.file_system.specs.Dead.{snaps_in}
+use Rattle.datasets.specs.Dead.{snaps_in}
 use Rattle.removals.specs.Named.{is_held, is_held_after}
 use Rattle.removals.proofs.Yielded.{gt_is, yielded_all, yielded_front, snaps_yielded}
 use Rattle.removals.proofs.Seen.{any_pushed, any_here, any_value}

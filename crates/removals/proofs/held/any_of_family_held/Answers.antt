@@ -1,6 +1,6 @@
 use Rattle.std.proofs.Common.{◌&&◌, Bool, ap, ◌∙◌}
 use Rattle.std.specs.List.{list_any}
-use Rattle.file_system.specs.Rows.{Entry, entry_in}
+use Rattle.datasets.specs.Rows.{Entry, entry_in}
 use Rattle.snap.specs.Taking.{is_in_family}
 use Rattle.removals.specs.Named.{is_held_after}
 use Rattle.removals.proofs.Shared.{shared_are}

@@ -1,5 +1,5 @@
 use Rattle.std.proofs.Common.{◌+◌, map, drop, sym, ap, ◌∙◌, arith}
-use Rattle.file_system.specs.Rows.{entry_in, entry_of}
+use Rattle.datasets.specs.Rows.{entry_in, entry_of}
 use Rattle.snap.proofs.Rests.{next_left, none_left}
 use Rattle.removals.specs.Families.{without_origin, without_origins}
 use Rattle.removals.proofs.Shared.{shared_are}

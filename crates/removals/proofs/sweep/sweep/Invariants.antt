@@ -1,6 +1,6 @@
 use Rattle.std.proofs.Common.{◌≡◌, drop, map}
 use Rattle.std.specs.FinMap.{entries}
-use Rattle.file_system.specs.Rows.{entry_in}
+use Rattle.datasets.specs.Rows.{entry_in}
 use Rattle.removals.specs.Edits.{HasLost}
 use Rattle.removals.specs.Families.{without_origins}
 use Rattle.removals.proofs.sweep.sweep.Given as goal

@@ -1,7 +1,6 @@
 use Rattle.std.proofs.Common.{◌≡◌, ◌∷◌, [], List, map, subst}
 use Rattle.std.specs.Arc.{arc_value}
-use Rattle.book.specs.Receipts.{Kept}
-use Rattle.book.specs.Whole.{IsAnswered}
+use Rattle.session.specs.Handed.{Kept, IsAnswered}
 use Rattle.runner.proofs.beside.close.Goals as goal
 
 pub returns-in-Ok-close-clause-history : goal.returns-in-Ok-close-clause-history

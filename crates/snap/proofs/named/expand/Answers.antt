@@ -3,7 +3,7 @@ use Rattle.std.specs.List.{filter}
 use Rattle.std.specs.FinMap.{entries}
 use Rattle.name.specs.declared.member.Member.{Member}
 use Rattle.model.specs.requests.Snapshot.{named_with}
-use Rattle.file_system.specs.Rows.{Row}
+use Rattle.datasets.specs.Rows.{Row}
 use Rattle.world.specs.Tables.{world_of}
 use Rattle.datasets.proofs.Children.{names_are}
 use Rattle.snap.specs.Taking.{is_in_family}

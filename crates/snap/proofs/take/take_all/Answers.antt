@@ -1,7 +1,7 @@
 use Rattle.std.proofs.Common.{◌≡◌, ◌+◌, ℕ, drop, sym, ap, ◌∙◌, subst, add-zero, add_assoc, arith, refl}
 use Rattle.name.specs.declared.member.Member.{Member}
 use Rattle.model.specs.requests.Snapshot.{guid_by, with_snapshots}
-use Rattle.file_system.specs.Rows.{live_of, plain_snap}
+use Rattle.datasets.specs.Rows.{live_of, plain_snap}
 use Rattle.datasets.specs.Snapshots.{with_snap_at}
 use Rattle.world.specs.Tables.{Datasets, CanSnap, world_of}
 use Rattle.snap.proofs.Rests.{next_left}

@@ -1,6 +1,6 @@
 use Rattle.std.proofs.Common.{◌≡◌, ◌+◌, ℕ, [], ◌∷◌, refl, sym, ap, subst, ◌∙◌, add-zero}
 use Rattle.model.specs.requests.Snapshot.{guid_by}
-use Rattle.file_system.specs.Rows.{live_of, plain_snap}
+use Rattle.datasets.specs.Rows.{live_of, plain_snap}
 use Rattle.world.specs.Tables.{CanSnap, world_of}
 use Rattle.snap.proofs.Turns.{starts_taking, can_snap}
 use Rattle.snap.proofs.take.take_one.Goals as goal

@@ -3,7 +3,7 @@ use Rattle.std.specs.Prelude.{nat_lt, reverse}
 use Rattle.std.specs.List.{filter}
 use Rattle.std.proofs.lemmas.Bool.{lt-ltb, le-ltb}
 use Rattle.shared_list.specs.Left.{left}
-use Rattle.file_system.specs.Dead.{snaps_in}
+use Rattle.datasets.specs.Dead.{snaps_in}
 use Rattle.space.proofs.Walks.{passed, passed_more, walked_all}
 use Rattle.sources.specs.Sources.{snapshot_in}
 use Rattle.sources.proofs.Sources.{kept_one, kept_none, map_reverse}

@@ -1,6 +1,5 @@
-use Rattle.std.proofs.Common.{ap, ◌∙◌, arith}
+use Rattle.std.proofs.Common.{ap, ◌∙◌, arith, map}
 use Rattle.std.specs.Arc.{arc_value}
-use Rattle.std.proofs.Common.{map}
 use Rattle.space.specs.Used.{own_in}
 use Rattle.space.proofs.Families.{total_item, within_less}
 use Rattle.space.proofs.family.own_together.Goals as goal

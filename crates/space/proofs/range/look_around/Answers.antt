@@ -6,8 +6,8 @@ use Rattle.std.proofs.Math.Bool.{or-false}
 use Rattle.std.proofs.lemmas.List.Folds.{list_any-append}
 use Rattle.model.specs.World.{Snap}
 use Rattle.shared_list.specs.Left.{left}
-use Rattle.file_system.specs.Dead.{snaps_in}
-use Rattle.file_system.specs.Origins.{origin_group}
+use Rattle.datasets.specs.Dead.{snaps_in}
+use Rattle.datasets.specs.Origins.{origin_group}
 use Rattle.accounts.specs.Space.{newest_group}
 use Rattle.space.specs.Ranges.{is_cloned_between, group_after, older_than}
 use Rattle.space.proofs.Walks.{passed, passed_more, walked_all, newest_joined, after_joined}

@@ -1,7 +1,7 @@
 use Rattle.std.proofs.Common.{◌≡◌}
 use Rattle.std.specs.List.{list_any}
 use Rattle.std.specs.Option.{option_map}
-use Rattle.file_system.specs.Origins.{origin_group}
+use Rattle.datasets.specs.Origins.{origin_group}
 use Rattle.accounts.specs.Space.{newest_group}
 use Rattle.space.specs.Ranges.{is_cloned_between, group_after, older_than}
 use Rattle.space.proofs.Walks.{passed}

@@ -2,7 +2,7 @@ use Rattle.std.proofs.Common.{sym, ap, ◌∙◌}
 use Rattle.std.specs.FinSet.{len}
 use Rattle.std.specs.Option.{option_copied}
 use Rattle.base.specs.Map.{blocks}
-use Rattle.file_system.proofs.Accounts.{count_is}
+use Rattle.datasets.proofs.Accounts.{count_is}
 use Rattle.space.specs.Places.{map_at}
 use Rattle.space.proofs.since.count_of.Goals as goal
 

@@ -1,8 +1,10 @@
-use Rattle.std.proofs.Common.{Some, sym, ap, ◌+◌, ◌∙◌, arith}
+use Rattle.std.proofs.Common.{Some, sym, ap, subst, ◌+◌, ◌∙◌, arith}
 use Rattle.std.specs.Prelude.{◌-◌}
 use Rattle.std.specs.Option.{option_map, option_copied}
 use Rattle.model.specs.Ids.{snap_id}
 use Rattle.datasets.specs.Table.{IsTable}
+use Rattle.space.specs.Places.{dataset_at}
+use Rattle.space.specs.Since.{HasReached}
 use Rattle.space.proofs.Places.{snapshot_is, snapshot_home, dataset_is, if_nothing, sum_is, low, answer_is, none_refuses}
 use Rattle.space.proofs.since.written_since.Goals as goal
 
@@ -90,3 +92,18 @@ returns-clause-refused c =
     c.in-Some-snapshot_named.owner.now c.in-Some-snapshot_named.snapshot.now (ap (option_map (λ p. (p.0.now, p.1.now))) (sym c.in-Some-snapshot_named.is) ∙ c.snapshot_named.ensures)
     (snap_id c.id-id.result) c.id-id.ensures c.in-Some-gone_since.gone c.in-Some-gone_since.ensures.some
     c.count_of-count.result c.count_of-since.result c.count_of-count.ensures c.count_of-since.ensures c.count_of-since.type_inv)
+
+-- what was reached to find what has gone
+pub returns-clause-meter : goal.returns-clause-meter
+returns-clause-meter c =
+    let found = dataset_is c.args.table.now c.args.target.now c.in-Some.file_system.now (option_copied c.in-Some.dataset)
+    (ap (option_map (λ p. (p.0.now, option_copied p.1))) (sym c.in-Some.is) ∙ c.dataset_named.ensures) in
+    let snapshot = snapshot_is c.args.table.now c.args.since.now c.in-Some-snapshot_named.owner.now c.in-Some-snapshot_named.snapshot.now
+    (ap (option_map (λ p. (p.0.now, p.1.now))) (sym c.in-Some-snapshot_named.is) ∙ c.snapshot_named.ensures) in
+    record {
+      dataset = dataset_at c.in-Some.file_system.now (option_copied c.in-Some.dataset);
+      dataset_is = found.1;
+      snapshot = c.in-Some-snapshot_named.snapshot.now;
+      snapshot_is = snapshot.named;
+      lists = subst (λ i. HasReached c.args.table.now (dataset_at c.in-Some.file_system.now (option_copied c.in-Some.dataset)) i (c.gone_since.new.segments - c.args.segments.now)) c.id-id.ensures c.in-Some-gone_since.ensures.meter;
+    }

@@ -5,9 +5,9 @@ use Rattle.model.specs.Ids.{snap_id}
 use Rattle.model.specs.World.{Snap}
 use Rattle.datasets.specs.Table.{IsTable}
 use Rattle.base.specs.Map.{blocks}
-use Rattle.file_system.specs.Splices.{lost_from}
-use Rattle.file_systems.specs.CloneNames.{name_of}
-use Rattle.file_systems.specs.declared.clones.CloneName.{CloneName}
+use Rattle.datasets.specs.Splices.{lost_from}
+use Rattle.datasets.specs.CloneNames.{name_of}
+use Rattle.datasets.specs.Clones.{CloneName}
 use Rattle.space.specs.Alone.{struck}
 use Rattle.space.proofs.Places.{stands_above}
 use Rattle.space.proofs.Struck.{group_there, alone_counted, above_all}

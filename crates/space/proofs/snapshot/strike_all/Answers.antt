@@ -5,8 +5,8 @@ use Rattle.world.specs.Sets.{Has}
 use Rattle.world.specs.Blocks.{block_order as o}
 use Rattle.world.proofs.SetCounts.{from_difference}
 use Rattle.datasets.specs.Table.{IsTable}
-use Rattle.file_system.specs.Splices.{oldest_blocks}
-use Rattle.file_systems.specs.CloneNames.{name_of}
+use Rattle.datasets.specs.Splices.{oldest_blocks}
+use Rattle.datasets.specs.CloneNames.{name_of}
 use Rattle.space.proofs.Families.{found_place}
 use Rattle.space.specs.Alone.{struck}
 use Rattle.space.proofs.Struck.{item_in, strikes, clone_below, clone_there}

@@ -1,7 +1,7 @@
 use Rattle.std.proofs.Common.{◌≡◌, map, drop}
 use Rattle.base.specs.Map.{Block}
 use Rattle.world.specs.Sets.{Has}
-use Rattle.file_systems.specs.CloneNames.{name_of}
+use Rattle.datasets.specs.CloneNames.{name_of}
 use Rattle.space.specs.Alone.{struck}
 use Rattle.space.proofs.snapshot.strike_all.Given as goal
 

@@ -5,7 +5,7 @@ use Rattle.base.specs.Map.{blocks}
 use Rattle.model.specs.World.{id_of}
 use Rattle.world.specs.Tables.{world_of}
 use Rattle.datasets.specs.Table.{IsTable}
-use Rattle.file_system.proofs.Accounts.{count_is}
+use Rattle.datasets.proofs.Accounts.{count_is}
 use Rattle.space.proofs.Places.{snapshot_is, snapshot_stands, referenced_is}
 use Rattle.space.proofs.Struck.{used_low}
 use Rattle.space.proofs.snapshot.used_by_snapshot.Goals as goal

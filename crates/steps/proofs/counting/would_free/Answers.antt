@@ -12,11 +12,11 @@ overflow_cast-blocks c =
     let k = c.requires.few in
     omega (arith, l, k, c.in-Ok.ensures.ok)
 
-pub returns-in-Ok : goal.returns-in-Ok
-returns-in-Ok c s steady is =
+pub returns-in-Ok-clause-step : goal.returns-in-Ok-clause-step
+returns-in-Ok-clause-step c s steady is =
     free_told s steady c.args.table.now is c.args.name.now c.args.first.now c.args.last.now
     c.in-Ok.ensures.can c.in-Ok.blocks c.in-Ok.ensures.ok c.in_bytes.result c.in_bytes.ensures
 
-pub returns-in-Err : goal.returns-in-Err
-returns-in-Err c s steady is =
+pub returns-in-Err-clause-step : goal.returns-in-Err-clause-step
+returns-in-Err-clause-step c s steady is =
     free_refused s steady c.args.table.now is c.args.name.now c.args.first.now c.args.last.now c.in-Err.refusal c.in-Err.ensures.only

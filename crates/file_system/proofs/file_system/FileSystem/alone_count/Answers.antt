@@ -10,7 +10,7 @@ use Rattle.deadlist.specs.Entries.{is_after}
 use Rattle.snapshots.specs.declared.kept.Kept.{Kept}
 use Rattle.world.specs.Worlds.{AreRising}
 use Rattle.world.proofs.Deadlists.{dead_counts}
-use Rattle.file_system.specs.Alone.{entries_at}
+use Rattle.file_system.specs.Alone.{entries_of, entries_at}
 use Rattle.file_system.specs.Dead.{snaps_in, group_kept, IsAbove}
 use Rattle.file_system.specs.Origins.{origin_group, blocks_below, group_below}
 use Rattle.file_system.specs.Rows.{Row}
@@ -21,10 +21,10 @@ use Rattle.file_system.proofs.Stacks.{base_is, rising_from}
 use Rattle.file_system.proofs.file_system.FileSystem.alone_count.Goals as goal
 
 -- the snapshots of a clone rise above 0 too
-pub place_of-place-requires-clause-rising : goal.place_of-place-requires-clause-rising
-place_of-place-requires-clause-rising c =
+pub around_of-around-requires-clause-rising : goal.around_of-around-requires-clause-rising
+around_of-around-requires-clause-rising c =
     let ks = arc_value c.self.inside.snapshots in
-    let kept : c.list-kept.result.now ≡ ks = c.list-kept.ensures ∙ c.deref.ensures in
+    let kept : c.list.result.now ≡ ks = c.list.ensures ∙ c.deref.ensures in
     let base = group_below (option_map arc_value c.self.inside.origin) in
     let rising : AreRising base (snaps_in ks) = subst (λ (r : Row). AreRising (origin_group r.system.origin) r.system.snaps) (sym c.self.view_is) c.requires.above.rising in
     subst (λ l. AreRising 0 (snaps_in l)) (sym kept) (rising_from 0 base (snaps_in ks) (omega arith) rising)
@@ -36,20 +36,20 @@ returns c =
     let es = (arc_value c.self.inside.dead).entries in
     let live = c.self.inside.live in
     let g = c.args.group.0 in
-    let i = c.place_of-place.result in
+    let i = c.around_of-around.ensures.0 in
     let o = option_map arc_value c.self.inside.origin in
     let bs = blocks_below o in
     let base = group_below o in
-    let kept : c.list-kept.result.now ≡ ks = c.list-kept.ensures ∙ c.deref.ensures in
+    let kept : c.list.result.now ≡ ks = c.list.ensures ∙ c.deref.ensures in
     let rising : AreRising base (snaps_in ks) = subst (λ (r : Row). AreRising (origin_group r.system.origin) r.system.snaps) (sym c.self.view_is) c.requires.above.rising in
     let each : AreStacked bs base (snaps_in ks) = subst (λ (r : Row). AreStacked (blocks r.below) (origin_group r.system.origin) r.system.snaps) (sym c.self.view_is) c.requires.above.each in
     let above : IsAbove bs base live (snaps_in ks) =
     subst (λ (r : Row). IsAbove (blocks r.below) (origin_group r.system.origin) r.system.live r.system.snaps) (sym c.self.view_is) c.requires.above.live in
-    let at : option_map (λ (k : Kept). k.snapshot.group) (slice_get ks i) ≡ Some g = ap (λ l. option_map (λ (k : Kept). k.snapshot.group) (slice_get l i)) (sym kept) ∙ c.place_of-place.ensures.is in
+    let at : option_map (λ (k : Kept). k.snapshot.group) (slice_get ks i) ≡ Some g = ap (λ l. option_map (λ (k : Kept). k.snapshot.group) (slice_get l i)) (sym kept) ∙ c.around_of-around.ensures.1 in
     let bottom : c.base_group.result.0 ≡ base = c.base_group.ensures ∙ ap group_below c.origin_in.ensures in
     let since : c.group_of-since.result.0 ≡ newest_group base (snaps_in (take i ks)) =
-    c.group_of-since.ensures ∙ (λ j. group_kept (bottom j) (c.before-2.ensures j)) ∙ base_is base (take i c.list-kept.result.now) ∙ ap (λ l. newest_group base (snaps_in (take i l))) kept in
-    let next : c.dead_at.result.now.entries ≡ entries_at ks (i + 1) es = c.dead_at.ensures ∙ (λ j. entries_at (kept j) (i + 1) ((c.deref-2.ensures j).entries)) in
+    c.group_of-since.ensures ∙ (λ j. group_kept (bottom j) (c.around_of-around.ensures.2.before j)) ∙ base_is base (take i c.list.result.now) ∙ ap (λ l. newest_group base (snaps_in (take i l))) kept in
+    let next : c.dead_of.result.now.entries ≡ entries_at ks (i + 1) es = c.dead_of.ensures ∙ (λ j. entries_of (c.around_of-around.ensures.2.after j) ((c.deref-2.ensures j).entries)) ∙ ap (λ l. entries_at l (i + 1) es) kept in
     let listed = alone_listed bs base ks i g live es c.self.invariant.accounted c.self.invariant.dead rising each above at in
     let is : lost_from bs (snaps_in ks) live g ≡ lost_from (blocks c.args.self.now.below) c.args.self.now.system.snaps c.args.self.now.system.live g =
     ap (λ (r : Row). lost_from (blocks r.below) r.system.snaps r.system.live g) c.self.view_is in

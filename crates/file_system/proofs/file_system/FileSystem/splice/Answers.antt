@@ -1,4 +1,4 @@
-use Rattle.std.proofs.Common.{◌≡◌, ◌<◌, ◌-◌, suc, Some, length, map, set, slice_get, ap, sym, subst, ◌∙◌, arith}
+use Rattle.std.proofs.Common.{◌≡◌, ◌<◌, ◌-◌, suc, Some, length, map, set, slice_get, ap, sym, subst, ◌∙◌, arith, ◌≤◌}
 use Rattle.std.specs.Prelude.{remove}
 use Rattle.std.specs.Arc.{arc_value}
 use Rattle.std.specs.FinSet.{difference}
@@ -64,6 +64,7 @@ invariant_of-self-then-place-count c =
       accounted = subst (AreAccounted bs) (sym spliced) (next_accounted bs base ks i g live next lost is rising at c.self.invariant.accounted);
       dead = subst (λ l. Lists (map dead_block (arc_value c.self.inside.dead).entries) (difference (newest_blocks bs (snaps_in l)) (blocks live))) (sym spliced)
           (next_dead bs base ks i g live next lost is rising at (arc_value c.self.inside.dead).entries c.self.invariant.dead);
+      few = c.self.invariant.few;
       counted = subst (λ l. IsCounted (map_below o) l live (record c.self.inside.counts { by_snapshots = c.self.inside.counts.by_snapshots - c.len.result })) (sym snaps)
           (record { by_dataset = c.self.invariant.counted.by_dataset; by_snapshots = omega (arith, c.len.ensures) });
     }
@@ -171,6 +172,7 @@ invariant_of-self-2 c =
       dead = subst (λ (h : Held). Lists (map dead_block h.entries) (difference (newest_blocks bs (snaps_in (arc_value c.remove_from.new.line))) (blocks live))) (sym c.in_ok-dead-2.ensures.ok)
           (subst (λ l. Lists (map dead_block new) (difference (newest_blocks bs (snaps_in l)) (blocks live))) (sym removed)
           (last_dead bs base ks i g live old new lost j c.self.invariant.accounted c.self.invariant.dead rising each above at last));
+      few = subst (λ (h : Held). length h.cuts ≤ 1) (sym c.in_ok-dead-2.ensures.ok) (let f = c.in_ok-dead.ensures.few in omega arith);
       counted = subst (λ l. IsCounted (map_below o) l live (record c.self.inside.counts { by_snapshots = c.self.inside.counts.by_snapshots - c.len-2.result })) (sym snaps)
           (record { by_dataset = c.self.invariant.counted.by_dataset; by_snapshots = omega (arith, c.len-2.ensures) });
     }

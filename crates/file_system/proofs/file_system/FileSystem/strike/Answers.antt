@@ -8,7 +8,7 @@ use Rattle.base.specs.Map.{Block, BlockSet, blocks}
 use Rattle.base.specs.Surveys.{AreDifferent, dead_block}
 use Rattle.base.specs.declared.number.Dead.{Dead}
 use Rattle.world.specs.Sets.{Has}
-use Rattle.file_system.specs.Alone.{entries_at, dead_cmp, HasJust}
+use Rattle.file_system.specs.Alone.{entries_of, entries_at, dead_cmp, HasJust}
 use Rattle.file_system.specs.Dead.{snaps_in}
 use Rattle.file_system.specs.Origins.{blocks_below}
 use Rattle.file_system.specs.Rows.{Row}
@@ -32,7 +32,7 @@ returns-clause-ok c =
     let live = c.self.inside.live in
     let bs = blocks_below (option_map arc_value c.self.inside.origin) in
     let list : c.list.result.now ≡ ks = c.list.ensures ∙ c.deref.ensures in
-    let first : c.dead_at-dead.result.now.entries ≡ entries_at ks 0 es = c.dead_at-dead.ensures ∙ (λ j. entries_at (list j) 0 ((c.deref-2.ensures j).entries)) in
+    let first : c.dead_of-dead.result.now.entries ≡ entries_at ks 0 es = c.dead_of-dead.ensures ∙ (λ j. entries_of (c.get.ensures j) ((c.deref-2.ensures j).entries)) ∙ ap (λ l. entries_at l 0 es) list in
     let just : HasJust c.in_ok-gone.gone (entries_at ks 0 es) = subst (HasJust c.in_ok-gone.gone) first c.in_ok-gone.ensures.ok in
     let within : (b : Block) → Has (from_list (map dead_block c.alone.inside.blocks.items)) b → Has bs b =
     λ b h. subst (λ (r : Row). Has (blocks r.below) b) (sym c.self.view_is) (c.requires b (subst (λ (s : BlockSet). Has s b) c.alone.view_is h)) in

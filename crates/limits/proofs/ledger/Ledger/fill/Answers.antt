@@ -7,7 +7,7 @@ use Rattle.std.proofs.lemmas.List.{length-map, get_or-map, take_at}
 use Rattle.limits.specs.Changes.{IsModest}
 use Rattle.limits.specs.Lines.{IsSmall}
 use Rattle.limits.specs.declared.account.Account.{Account}
-use Rattle.file_systems.specs.Clones.{row_in}
+use Rattle.datasets.specs.Clones.{row_in}
 use Rattle.world.specs.Tables.{world_of}
 use Rattle.limits.specs.Charges.{fresh, IsCharged}
 use Rattle.limits.specs.Rows.{account_at}

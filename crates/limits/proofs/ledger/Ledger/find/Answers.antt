@@ -1,6 +1,6 @@
 use Rattle.std.proofs.Common.{subst}
 use Rattle.std.specs.FinMap.{entries}
-use Rattle.file_systems.specs.Places.{IsAt}
+use Rattle.datasets.specs.Places.{IsAt}
 use Rattle.limits.proofs.Places.{row_at}
 use Rattle.limits.proofs.ledger.Ledger.find.Goals as goal
 

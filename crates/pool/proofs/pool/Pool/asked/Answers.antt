@@ -9,6 +9,6 @@ answer-requires-clause-few c = few_sound (state_of c.self.inside) c.self.inside.
 
 pub returns-clause-step : goal.returns-clause-step
 returns-clause-step c =
-    c.answer.ensures c.args.self.now.state
+    c.answer.ensures.step c.args.self.now.state
     (state_with c.args.self.now (state_of c.self.inside) c.self.inside.allocator c.self.view_is c.self.invariant.0 c.space-space.result c.space-space.ensures.size (c.space-space.ensures.freeing ∙ c.len.ensures) c.space-space.ensures.waiting)
     (count_with c.args.self.now (state_of c.self.inside) c.self.inside.allocator c.self.view_is c.self.invariant.0 c.counts.result c.counts.ensures.allocated c.counts.ensures.free c.counts.ensures.waiting)

@@ -1,4 +1,4 @@
-use Rattle.file_systems.specs.Clones.{row_in}
+use Rattle.datasets.specs.Clones.{row_in}
 use Rattle.model.specs.World.{FileSystem}
 use Rattle.pool.specs.Pools.{state_of}
 use Rattle.steps.proofs.Names.{mapped, unmapped}

@@ -1,7 +1,7 @@
 use Rattle.std.proofs.Common.{◌≡◌, Bor, true, List, ◌∷◌, ◌++◌, map, refl, sym, ap, ◌∙◌, is_gt, nat_cmp}
 use Rattle.shared_list.specs.Left.{left}
-use Rattle.file_system.specs.Dead.{snaps_in}
-use Rattle.file_system.specs.Rows.{entry_of}
+use Rattle.datasets.specs.Dead.{snaps_in}
+use Rattle.datasets.specs.Rows.{entry_of}
 use Rattle.snapshots.specs.declared.kept.Kept.{Kept}
 use Rattle.std.specs.Prelude.{nat_lt}
 use Rattle.world.proofs.Finding.{any_none}

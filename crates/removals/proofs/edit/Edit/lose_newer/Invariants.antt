@@ -1,5 +1,5 @@
 use Rattle.std.proofs.Common.{◌≡◌}
-use Rattle.file_system.specs.Rows.{entry_of}
+use Rattle.datasets.specs.Rows.{entry_of}
 use Rattle.removals.specs.Edits.{HasLost}
 use Rattle.removals.specs.Named.{without_all}
 use Rattle.removals.proofs.Clones.{IsLeftOf}

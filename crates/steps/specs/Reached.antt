@@ -1,0 +1,31 @@
+-- What the reply to a request reaches of trees and of dead lists.
+use Rattle.std.specs.Prelude.{◌≡◌, ◌≤◌, ◌+◌, ◌-◌, ◌*◌, ℕ, Bool, true, false, length}
+use Rattle.model.specs.declared.request.Request.{Request}
+use Rattle.model.specs.declared.request.Request.TheVariants.{Read, Send, Get, WrittenSince, WouldFree}
+use Rattle.model.specs.declared.reply.Reply.{Reply}
+use Rattle.model.specs.declared.reply.Reply.TheVariants.{Value}
+use Rattle.world.specs.Tables.{Datasets}
+use Rattle.space.specs.Ranges.{range_ids}
+use Rattle.space.specs.Since.{HasReachedNamed}
+use Rattle.lookups.specs.Named.{reads_lists}
+
+-- the reply may reach a node of a tree: what a block holds, and a stream (profile)
+abbrev pub reaches_nodes : Request → Bool
+reaches_nodes (Read target object block) = true
+reaches_nodes (Send target from) = true
+reaches_nodes request = false
+
+-- this holds where the reply is a value (profile)
+abbrev pub WithValue : Type 0 → Reply → Type 0
+WithValue p (Value v) = p
+WithValue p reply = Unit {0}
+
+-- How far the count of segments rises with a reply: of what a dataset has written since a snapshot, and of what a range of snapshots would
+-- free, by no more than two for each of the dead lists between, which are that of each dataset of the lineage after the snapshot, and that of
+-- each snapshot of the range and of what comes after it; what a snapshot uses may read more; and nothing else reads a dead list (zfsprops(7):
+-- used, written, written@snapshot; zfs-destroy(8): -nv; segments are profile)
+abbrev pub HasRead : Datasets → Request → Reply → ℕ → ℕ → Type 0
+HasRead t (WrittenSince target since) reply old new = WithValue (HasReachedNamed t target since (new - old)) reply
+HasRead t (WouldFree name first last) reply old new = WithValue (new ≤ old + 2 * (length (range_ids t name first last) + 1)) reply
+HasRead t (Get target property) reply old new = reads_lists target property ≡ false → new ≡ old
+HasRead t request reply old new = new ≡ old
