@@ -1,8 +1,8 @@
 -- How many segments a count of what has gone reaches.
-use Rattle.std.proofs.Common.{◌≡◌, ◌≤◌, ◌+◌, ◌*◌, ℕ, Bool, true, false, cond, List, [], ◌∷◌, Some, None, length, nat_le, slice_get, nat_lt, eqb, not, ap, subst, sym, ◌∙◌, arith}
+use Rattle.std.proofs.Common.{◌≡◌, ◌≤◌, ◌+◌, ◌*◌, ℕ, Bool, true, false, cond, List, [], ◌∷◌, Some, None, length, nat_le, slice_get, nat_lt, eqb, not, ap, sym, ◌∙◌, arith}
 use Rattle.std.proofs.lemmas.List.Sums.{sum_by-cons}
 use Rattle.std.specs.Arc.{arc_value}
-use Rattle.std.specs.List.{filter, sum_by, list_any}
+use Rattle.std.specs.List.{filter, list_any}
 use Rattle.std.specs.FinSet.{difference}
 use Rattle.base.specs.Counting.{counted, most}
 use Rattle.base.specs.Map.{Map, BlockSet, blocks}
