@@ -17,7 +17,7 @@ use Rattle.base.specs.Map.{Map}
 use Rattle.model.specs.World.{World, FileSystem, Snap, SnapId, id_of, snap_named}
 use Rattle.model.specs.Edits.{without_snaps, with_file_system}
 use Rattle.model.specs.State.{Views}
-use Rattle.model.specs.requests.Rollback.{snaps_upto, snaps_after, back_at, after_rollback, placed, newer_snaps}
+use Rattle.model.specs.requests.Rollback.{snaps_after, back_at, after_rollback, placed, newer_snaps}
 use Rattle.datasets.specs.Losses.{newest_map}
 use Rattle.datasets.specs.Origins.{origin_group}
 use Rattle.datasets.specs.Writes.{newest_group}

@@ -10,14 +10,13 @@ use Rattle.name.specs.declared.member.Member.{Member}
 use Rattle.name.specs.declared.target.Target.{Target}
 use Rattle.datasets.specs.Origins.{origin_group}
 use Rattle.datasets.specs.Writes.{newest_group}
-use Rattle.model.specs.World.{FileSystem, Snap, snap_at}
+use Rattle.model.specs.World.{FileSystem, Snap}
 use Rattle.model.specs.State.{Views}
 use Rattle.model.specs.Edits.{with_file_system, without_snaps}
 use Rattle.model.specs.Outcome.{is_needed}
 use Rattle.model.specs.Rule.{first_of}
 use Rattle.model.specs.requests.Rollback.{rolled_back, back_row}
 use Rattle.model.specs.requests.Destroy.{file_systems_named, without_file_systems, after_destroy, destroy_row}
-use Rattle.world.specs.Worlds.{FileSystems}
 use Rattle.world.specs.Tables.{Datasets, world_of}
 use Rattle.bookmarks.specs.Marks.{Marks, has_newer}
 use Rattle.removals.specs.Named.{is_held_after, is_cloned_after}

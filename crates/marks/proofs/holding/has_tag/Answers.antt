@@ -1,4 +1,4 @@
-use Rattle.std.proofs.Common.{List, ℕ, sym, ap, ◌∙◌}
+use Rattle.std.proofs.Common.{List, ℕ, ap, ◌∙◌}
 use Rattle.holds.specs.Tags.{has_tag}
 use Rattle.holds.proofs.Lists.{any_text}
 use Rattle.marks.proofs.holding.has_tag.Goals as goal
