@@ -1,6 +1,7 @@
 //! What the steps of a pool are made of, told of datasets and numbers and not of a pool: what is kept of limits and what they say of a request
 //! before anything is changed (zfsprops(7): quota, refquota, reservation, refreservation, available), the replies to requests that only read, and
-//! what a receive makes of a pool; it hands on what a pool asks of limits, names and sources beside. Its `proofs/` has the lemmas on each request's step, which the pool's own proofs cite.
+//! what a receive makes of a pool; it hands on what a pool asks of limits, names and sources beside. Its `proofs/` has the lemmas on each
+//! request's step, which the pool's own proofs cite.
 #![tactic(auto)]
 
 mod answering;
