@@ -6,6 +6,7 @@ use Rattle.std.specs.List.{filter, list_any}
 use Rattle.std.specs.FinSet.{difference}
 use Rattle.base.specs.Counting.{counted, most}
 use Rattle.base.specs.Map.{Map, BlockSet, blocks}
+use Rattle.deadlist.proofs.Filters.{filter_le}
 use Rattle.deadlist.specs.Segments.{reached_upto, reached_after, without_cut}
 use Rattle.world.proofs.Maps.{same_value, no_value}
 use Rattle.snapshots.specs.declared.kept.Kept.{Kept}
@@ -16,14 +17,6 @@ use Rattle.file_system.proofs.Stacks.{is_it}
 
 -- ---- of one dead list
 
-kept_few : (p : ℕ → Bool) (cs : List ℕ) → length (filter p cs) ≤ length cs
-kept_few p [] = omega arith
-kept_few p (c ∷ cs) = by (p c) (kept_few p cs)
-  where
-    by : (b : Bool) → length (filter p cs) ≤ length cs → length (cond b (c ∷ filter p cs) (filter p cs)) ≤ length (c ∷ cs)
-    by true few = omega arith
-    by false few = omega arith
-
 few_reached : (a n m : ℕ) → n ≤ m → counted a n ≤ a + m
 unfolding counted most
 few_reached a n m le = omega arith
@@ -31,7 +24,7 @@ few_reached a n m le = omega arith
 -- a sum of what was born by a cut reaches no segment twice
 pub upto_reached : (a now cut : ℕ) (cs : List ℕ) → now ≡ counted a (reached_upto cut cs) → now ≤ a + (length cs + 1)
 upto_reached a now cut cs is =
-    let few = kept_few (λ c. nat_le c cut) cs in
+    let few = filter_le (λ c. nat_le c cut) cs in
     let all = few_reached a (reached_upto cut cs) (length cs + 1) (by (list_any (λ c. eqb c cut) cs) few) in
     omega (arith, is)
   where
@@ -42,7 +35,7 @@ upto_reached a now cut cs is =
 -- nor does one of what was born after it
 pub after_reached : (a now cut : ℕ) (cs : List ℕ) → now ≡ counted a (reached_after cut cs) → now ≤ a + (length cs + 1)
 after_reached a now cut cs is =
-    let few = kept_few (λ c. nat_lt cut c) cs in
+    let few = filter_le (λ c. nat_lt cut c) cs in
     let all = few_reached a (reached_after cut cs) (length cs + 1) (omega arith) in
     omega (arith, is)
 
@@ -53,7 +46,7 @@ first_joined g (c ∷ cs) new there is =
     let same = same_value g c there in
     let gone : without_cut g (c ∷ cs) ≡ filter (λ x. not (eqb x g)) cs = ap (λ b. cond (not b) (c ∷ filter (λ x. not (eqb x g)) cs) (filter (λ x. not (eqb x g)) cs)) (is_it c g (sym same)) in
     let many = ap (λ (l : List ℕ). length l) (is ∙ gone) in
-    let few = kept_few (λ x. not (eqb x g)) cs in
+    let few = filter_le (λ x. not (eqb x g)) cs in
     omega (arith, many, few)
 
 -- ---- of all that are asked for

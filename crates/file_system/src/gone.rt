@@ -4,7 +4,7 @@ ghost use Rattle.std.specs.List.{sum_by};
 ghost use Rattle.std.specs.Option.{option_map};
 ghost use Rattle.std.specs.FinSet.{len};
 ghost use Rattle.world.specs.Blocks.{upto, after};
-ghost use Rattle.file_system.specs.Gone.{count_on, is_asked, asked_count, kept_count, entry_count, gone_between, kept_segments, segment_count};
+ghost use Rattle.file_system.specs.Gone.{count_on, is_asked, asked_count, kept_count, entry_count, gone_between, size_on, kept_segments, segment_count};
 
 use crate::file_system::FileSystem;
 use base::meter::SegMeter;
@@ -99,6 +99,14 @@ pub fn count_gone(
 }
 
 impl FileSystem {
+    // How many blocks on the side of the cut have gone with the datasets that are asked for, counted as by `gone_upto`, at the same cost.
+    fn gone_with(&self, asked: Asked, segments: &mut SegMeter) -> u64
+        ensures count { result ≡ min (2 ^ 64 - 1) (sum_by (λ g. size_on asked.side asked.cut.0 g.blocks) (gone_between (option_map (λ g. g.0) asked.from) (option_map (λ g. g.0) asked.until) self.now)) }
+        ensures meter { segments.new ≤ segments.old + 2 * length (gone_between (option_map (λ g. g.0) asked.from) (option_map (λ g. g.0) asked.until) self.now) }
+    {
+        count_gone(self.snapshots.list(), &self.dead, asked, segments)
+    }
+
     /// How many blocks born by the cut have gone from a dataset of this file system to the one after it: with each snapshot whose group is
     /// after `from` and no later than `until`, and with the live map where `until` is none; a block counts with each that it has gone with.
     /// The count stops at the greatest u64. It costs the number of snapshots, and the segments of the dead lists of those between, each
@@ -120,7 +128,7 @@ impl FileSystem {
             side,
             cut,
         };
-        count_gone(self.snapshots.list(), &self.dead, asked, segments)
+        self.gone_with(asked, segments)
     }
 
     /// How many blocks born after the cut have gone so, counted as by `gone_upto`, at the same cost (zfsprops(7): used;
@@ -142,6 +150,6 @@ impl FileSystem {
             side,
             cut,
         };
-        count_gone(self.snapshots.list(), &self.dead, asked, segments)
+        self.gone_with(asked, segments)
     }
 }

@@ -15,17 +15,13 @@ reaches_nodes (Read target object block) = true
 reaches_nodes (Send target from) = true
 reaches_nodes request = false
 
--- this holds where the reply is a value (profile)
-abbrev pub WithValue : Type 0 → Reply → Type 0
-WithValue p (Value v) = p
-WithValue p reply = Unit {0}
-
 -- How far the count of segments rises with a reply: of what a dataset has written since a snapshot, and of what a range of snapshots would
 -- free, by no more than two for each of the dead lists between, which are that of each dataset of the lineage after the snapshot, and that of
--- each snapshot of the range and of what comes after it; what a snapshot uses may read more; and nothing else reads a dead list (zfsprops(7):
--- used, written, written@snapshot; zfs-destroy(8): -nv; segments are profile)
+-- each snapshot of the range and of what comes after it; where the first is refused, and of what a snapshot uses, it isn't told; and nothing
+-- else reads a dead list (zfsprops(7): used, written, written@snapshot; zfs-destroy(8): -nv; segments are profile)
 abbrev pub HasRead : Datasets → Request → Reply → ℕ → ℕ → Type 0
-HasRead t (WrittenSince target since) reply old new = WithValue (HasReachedNamed t target since (new - old)) reply
-HasRead t (WouldFree name first last) reply old new = WithValue (new ≤ old + 2 * (length (range_ids t name first last) + 1)) reply
+HasRead t (WrittenSince target since) (Value v) old new = HasReachedNamed t target since (new - old)
+HasRead t (WrittenSince target since) reply old new = Unit {0}
+HasRead t (WouldFree name first last) (Value v) old new = new ≤ old + 2 * (length (range_ids t name first last) + 1)
 HasRead t (Get target property) reply old new = reads_lists target property ≡ false → new ≡ old
 HasRead t request reply old new = new ≡ old

@@ -1,5 +1,5 @@
 //! Properties of datasets and of the pool, and questions on the space of datasets.
-ghost use Rattle.std.specs.Prelude.{◌≡◌, ◌<◌, ◌≤◌, ◌+◌, ◌-◌, ◌*◌, ◌^◌, false, length};
+ghost use Rattle.std.specs.Prelude.{◌≡◌, ◌<◌, ◌≤◌, ◌^◌};
 ghost use Rattle.std.specs.FinSet as set;
 ghost use Rattle.model.specs.State.{State};
 ghost use Rattle.model.specs.Step.{Step};
@@ -9,11 +9,8 @@ ghost use Rattle.model.specs.declared.request.Request.{Request};
 ghost use Rattle.world.specs.Tables.{world_of};
 ghost use Rattle.steps.specs.Edits.{datasets_of};
 ghost use Rattle.steps.specs.Steady.{IsSteady};
-ghost use Rattle.space.specs.Ranges.{range_ids};
-ghost use Rattle.space.specs.Since.{HasReachedNamed};
 ghost use Rattle.lookups.specs.Accounted.{IsAccounted};
-ghost use Rattle.lookups.specs.Named.{reads_lists};
-ghost use Rattle.steps.specs.Reached.{WithValue};
+ghost use Rattle.steps.specs.Reached.{HasRead};
 ghost use Rattle.steps.specs.Limiting.{IsStateWith};
 ghost use Rattle.steps.specs.Counted.{IsCountOf};
 
@@ -44,7 +41,7 @@ pub(crate) fn get(
     requires own { IsAccounted table.now limiting.now }
     requires few { set.len (union_of (world_of table.now)) < 2 ^ 32 }
     ensures step { (s : State) → IsStateWith s table.now space → free ≡ free_of s → Step s (Request.Get target.now property) result s }
-    ensures unread { reads_lists target.now property ≡ false → segments.new ≡ segments.old }
+    ensures segments { HasRead table.now (Request.Get target.now property) result segments.old segments.new }
 {
     let room = room_asked(limiting, table, space, free, target, property);
     let value = value_named(
@@ -71,7 +68,7 @@ pub(crate) fn written_since(
     segments: &mut SegMeter,
 ) -> Reply
     ensures step { (s : State) → IsSteady s → datasets_of s ≡ table.now → Step s (Request.WrittenSince target.now since.now) result s }
-    ensures meter { WithValue (HasReachedNamed table.now target.now since.now (segments.new - segments.old)) result }
+    ensures segments { HasRead table.now (Request.WrittenSince target.now since.now) result segments.old segments.new }
 {
     let written = space::written_since(table, target, since.member(), segments);
     match written {
@@ -90,7 +87,7 @@ pub(crate) fn would_free(
 ) -> Reply
     requires few { set.len (union_of (world_of table.now)) < 2 ^ 32 }
     ensures step { (s : State) → IsSteady s → datasets_of s ≡ table.now → Step s (Request.WouldFree name.now first.now last.now) result s }
-    ensures meter { WithValue (segments.new ≤ segments.old + 2 * (length (range_ids table.now name.now first.now last.now) + 1)) result }
+    ensures segments { HasRead table.now (Request.WouldFree name.now first.now last.now) result segments.old segments.new }
 {
     let freed = space::would_free(table, name, first, last, segments);
     match freed {

@@ -7,20 +7,19 @@ use Rattle.file_system.specs.Gone.{Gone, gone_in, gone_between, is_asked, entry_
 use Rattle.file_system.specs.Origins.{blocks_below}
 use Rattle.file_system.specs.Rows.{Row}
 use Rattle.file_system.specs.declared.gone.Asked.{Asked}
-use Rattle.file_system.specs.declared.gone.Side.TheVariants.{Upto}
 use Rattle.base.specs.Map.{blocks}
 use Rattle.base.specs.declared.number.Group.{Group}
 use Rattle.file_system.specs.Dead.{snaps_in}
 use Rattle.file_system.proofs.Sizes.{gone_counted}
 use Rattle.file_system.proofs.Segments.{segments_counted}
-use Rattle.file_system.proofs.file_system.FileSystem.gone_upto.Goals as goal
+use Rattle.file_system.proofs.file_system.FileSystem.gone_with.Goals as goal
 
 -- what the dead lists count is what has gone
 pub returns-clause-count : goal.returns-clause-count
 returns-clause-count c =
     let ks = arc_value c.self.inside.snapshots in
     let es = (arc_value c.self.inside.dead).entries in
-    let a : Asked = record { from = c.args.from; until = c.args.until; side = Upto; cut = c.args.cut } in
+    let a : Asked = c.args.asked in
     let kept : c.list.result.now ≡ ks = c.list.ensures ∙ c.deref.ensures in
     let dead : c.deref-2.result.now.entries ≡ es = ap (λ (h : Held). h.entries) c.deref-2.ensures in
     c.count_gone.ensures.count
@@ -33,12 +32,12 @@ pub returns-clause-meter : goal.returns-clause-meter
 returns-clause-meter c =
     let ks = arc_value c.self.inside.snapshots in
     let cuts = (arc_value c.self.inside.dead).cuts in
-    let a : Asked = record { from = c.args.from; until = c.args.until; side = Upto; cut = c.args.cut } in
+    let a : Asked = c.args.asked in
     let kept : c.list.result.now ≡ ks = c.list.ensures ∙ c.deref.ensures in
     let dead : c.deref-2.result.now.cuts ≡ cuts = ap (λ (h : Held). h.cuts) c.deref-2.ensures in
     let few = segments_counted a (blocks_below (option_map arc_value c.self.inside.origin)) ks cuts c.self.inside.live c.self.invariant.accounted c.self.invariant.few in
-    let named : length (filter (λ (g : Gone). is_asked a g.group) (gone_in (blocks_below (option_map arc_value c.self.inside.origin)) (snaps_in ks) c.self.inside.live)) ≡ length (gone_between (option_map (λ (g : Group). g.0) c.args.from) (option_map (λ (g : Group). g.0) c.args.until) c.args.self.now) =
-    ap (λ (r : Row). length (gone_between (option_map (λ (g : Group). g.0) c.args.from) (option_map (λ (g : Group). g.0) c.args.until) r)) c.self.view_is in
+    let named : length (filter (λ (g : Gone). is_asked a g.group) (gone_in (blocks_below (option_map arc_value c.self.inside.origin)) (snaps_in ks) c.self.inside.live)) ≡ length (gone_between (option_map (λ (g : Group). g.0) c.args.asked.from) (option_map (λ (g : Group). g.0) c.args.asked.until) c.args.self.now) =
+    ap (λ (r : Row). length (gone_between (option_map (λ (g : Group). g.0) c.args.asked.from) (option_map (λ (g : Group). g.0) c.args.asked.until) r)) c.self.view_is in
     let reached : segment_count a c.list.result.now c.deref-2.result.now.cuts ≡ segment_count a ks cuts = λ i. segment_count a (kept i) (dead i) in
     let went = c.count_gone.ensures.meter in
     omega arith
