@@ -1,48 +1,111 @@
 #!/usr/bin/env python3
-"""Runs each example that has its replies beside it, and compares.
+"""Runs each example through a pipe, a line at a time, and compares what comes with the replies beside it.
 
     python3 bench/examples.py ZFSP
 
-For each examples/NAME.replies the program runs examples/NAME.script, with the blocks and the id that the script's first line names, as
-`zfsp 1000 1`. It prints a line for each that answers otherwise, and then how many agree; the exit status is 1 where one doesn't.
+For each examples/NAME.script the program is started on a pipe, with the blocks and the id that the script's first line names, as
+`zfsp 1000 1`. A line is written only once the one before has its answer, as at a terminal; an answer that doesn't come within ten seconds
+is a fault. Each is run once more beside workers (-w), where each line is answered too. Then the examples in Python run. It prints a line for
+each that goes wrong, and at the end how many agree; the exit status is 1 where one doesn't.
 """
 
 import argparse
 import re
+import select
 import subprocess
+import sys
 from pathlib import Path
 
 EXAMPLES = Path(__file__).resolve().parent.parent / "examples"
+PATIENCE = 10
+REQUESTS = (
+    "bookmark clone create destroy get hold holds list pget promote punch read receive release rmobj rollback send set "
+    "slice snapshot sync unview view wouldfree write"
+).split()
 
 
-def first_difference(replies, wanted):
-    """The number of the first line that differs, from 1, or None."""
-    longer = max(len(replies), len(wanted))
-    pairs = zip(replies + [None] * (longer - len(replies)), wanted + [None] * (longer - len(wanted)))
-    return next((place for place, (one, other) in enumerate(pairs, 1) if one != other), None)
+class Silence(Exception):
+    """No answer came in time."""
 
 
-def run(program, script):
-    """The reply lines of a script, from a pool of the size and the id that its first line names."""
-    words = re.search(r"`zfsp ([0-9]+) ([0-9]+)`", script.read_text().splitlines()[0])
-    done = subprocess.run([program, words[1], words[2], script], capture_output=True, text=True, check=True)
-    return done.stdout.splitlines()
+class Program:
+    """A running zfsp, which is asked a line and answers it."""
+
+    def __init__(self, program, *words):
+        self.process = subprocess.Popen([program, *words], stdin=subprocess.PIPE, stdout=subprocess.PIPE, bufsize=0)
+        self.come = b""
+
+    def ask(self, line):
+        """The answer to a line that has one."""
+        self.process.stdin.write(line.encode() + b"\n")
+        while b"\n" not in self.come:
+            if not select.select([self.process.stdout], [], [], PATIENCE)[0]:
+                raise Silence(line)
+            more = self.process.stdout.read(65536)
+            if not more:
+                raise Silence(line)
+            self.come += more
+        answer, _, self.come = self.come.partition(b"\n")
+        return answer.decode()
+
+    def end(self):
+        """Closes its input, and tells whether it then ends by itself and says no more."""
+        self.process.stdin.close()
+        rest = self.process.stdout.read()
+        return self.process.wait(PATIENCE) == 0 and not rest and not self.come
+
+    def stop(self):
+        self.process.kill()
+        self.process.wait()
+
+
+def lines_of(script):
+    """The lines that have an answer."""
+    return [it for it in script.read_text().splitlines() if it and not it.startswith("#")]
+
+
+def sizes_of(script):
+    """BLOCKS and POOLID, which the first line names."""
+    return re.search(r"`zfsp ([0-9]+) ([0-9]+)`", script.read_text().splitlines()[0]).groups()
+
+
+def fault_of(program, script, wanted):
+    """What is wrong with the answers to a script, where something is. Beside workers the answers are open, and wanted is None."""
+    live = Program(program, *["-w"] * (wanted is None), *sizes_of(script))
+    try:
+        for place, line in enumerate(lines_of(script)):
+            answer = live.ask(line)
+            if wanted is not None and wanted[place : place + 1] != [answer]:
+                return f"{line[:60]} is answered {answer[:60]}, and not {' '.join(wanted[place : place + 1])[:60]}"
+        return None if live.end() and (wanted is None or len(wanted) == len(lines_of(script))) else "it doesn't end as it should"
+    except (Silence, BrokenPipeError) as silence:
+        return f"no answer to {silence}"
+    finally:
+        live.stop()
 
 
 def main():
     options = argparse.ArgumentParser(description=__doc__, formatter_class=argparse.RawDescriptionHelpFormatter)
     options.add_argument("program", type=Path)
     program = options.parse_args().program.resolve()
-    differ = []
-    files = sorted(EXAMPLES.glob("*.replies"))
-    for file in files:
-        place = first_difference(run(program, file.with_suffix(".script")), file.read_text().splitlines())
-        if place is not None:
-            differ.append(file.stem)
-            print(f"{file.stem}: reply {place} differs")
-    print(f"{len(files) - len(differ)} of {len(files)} agree")
-    raise SystemExit(1 if differ else 0)
+    faults, count, asked = [], 0, set()
+    for script in sorted(EXAMPLES.glob("*.script")):
+        replies = script.with_suffix(".replies")
+        asked |= {it.split()[0] for it in lines_of(script)}
+        for wanted in (replies.read_text().splitlines() if replies.is_file() else [], None):
+            count += 1
+            fault = fault_of(program, script, wanted)
+            faults += [f"{script.stem}{' beside workers' * (wanted is None)}: {fault}"] * bool(fault)
+    for story in sorted(EXAMPLES.glob("*.py")):
+        count += 1
+        ran = subprocess.run([sys.executable, story, program], capture_output=True, text=True, timeout=60)
+        wanted = story.with_suffix(".replies").read_text()
+        faults += [f"{story.stem}: {ran.stderr[-200:] or 'it tells another story'}"] * (ran.returncode != 0 or ran.stdout != wanted)
+    unasked = [it for it in REQUESTS if it not in asked]
+    faults += [f"no example asks {' '.join(unasked)}"] * bool(unasked)
+    print("".join(f"{it}\n" for it in faults) + f"{count - len([it for it in faults if not it.startswith('no example')])} of {count} agree")
+    return 1 if faults else 0
 
 
 if __name__ == "__main__":
-    main()
+    sys.exit(main())

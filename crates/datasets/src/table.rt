@@ -54,10 +54,17 @@ pub const FILE_SYSTEM_LIMIT: usize = 1024;
 
 /// The datasets of a pool: its file systems with their snapshots, and the group that is open. The root `p` is always there, and so is
 /// the parent of every other file system. Copies share the file systems that none of them changed.
-#[derive(Drop)]
 pub struct Table {
     systems: FileSystems,
     group: Group,
+}
+
+// Written by hand, so that it is proved once: a derived one would be laid out anew in each crate that drops a table.
+impl Drop for Table {
+    fn drop(self) {
+        let Table { systems, group: _ } = self;
+        drop(systems);
+    }
 }
 
 impl Model for Table {

@@ -1,4 +1,3 @@
 pub mod Apart
 pub mod Going
 pub mod Sweeping
-pub mod Blockless

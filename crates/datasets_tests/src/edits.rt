@@ -11,7 +11,6 @@ use name::SnapName;
 use removals::Edit;
 use snap::{Guids, snapshot_one};
 use std::alloc::Global;
-use std::process::Abort;
 use toll::Toll;
 
 /// The root with a snapshot `s`.
@@ -49,23 +48,6 @@ fn left_back(alloc: Global, table: &Table, bytes: &[u8]) -> Result<(usize, u64),
     let mut segments = SegMeter::new(Toll::new());
     edit.lose_live(alloc, &name.member().file_system, &mut segments)?;
     Ok((edit.to.snapshot_count(), edit.freeing.len()))
-}
-
-#[test]
-fn what_is_there_goes(rt: HostRuntime) {
-    let alloc = rt.alloc();
-    let table = with_one(alloc).expect(&rt, "a table");
-    let gone = left_without(alloc, &table, b"p@s");
-    let missing = left_without(alloc, &table, b"p@t");
-    let back = left_back(alloc, &table, b"p@s");
-    let nowhere = left_back(alloc, &table, b"p/a@s");
-    let count = table.snapshot_count();
-    drop(table);
-    assert!(rt; gone == Ok((0, 0)));
-    assert!(rt; missing == Err(Refusal::NoDataset));
-    assert!(rt; back == Ok((1, 0)));
-    assert!(rt; nowhere == Err(Refusal::NoDataset));
-    assert!(rt; count == 1);
 }
 
 /// Run it with each allocation refused in turn: the table stays as it was.

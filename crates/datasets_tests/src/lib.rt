@@ -2,8 +2,6 @@
 #![tactic(auto)]
 
 #[cfg(test)]
-mod bare;
-#[cfg(test)]
 mod cloned;
 #[cfg(test)]
 mod edits;
@@ -11,8 +9,6 @@ mod edits;
 mod free;
 #[cfg(test)]
 mod gone;
-#[cfg(test)]
-mod held;
 #[cfg(test)]
 mod in_place;
 #[cfg(test)]

@@ -1,14 +1,11 @@
 //! Limits of a table's file systems.
-use crate::now::{cloned, take, with_child};
+use crate::now::with_child;
 use base::limit::Blocks;
-use base::meter::SegMeter;
 use base::refusal::Refusal;
-use clones::promote;
 use datasets::Table;
 use model::limits::{Limit, Limits};
 use name::DsName;
 use std::alloc::Global;
-use toll::Toll;
 
 /// This limit in blocks, 0 for none.
 fn amount_of(limits: Limits, limit: Limit) -> u64 {
@@ -110,44 +107,9 @@ fn are_set(alloc: Global) -> Result<bool, Refusal> {
     Ok(are_set_alone(alloc, &mut alone) && are_set_beside(alloc, &mut shared)?)
 }
 
-#[test]
-fn limits_are_set(rt: HostRuntime) {
-    assert!(rt; are_set(rt.alloc()) == Ok(true));
-}
-
 /// Run it with each allocation refused in turn: the table has the limit, or stays as it was.
 #[test]
 fn refused_memory_sets_no_limit(rt: HostRuntime) {
     let is_right = are_set(rt.alloc());
     assert!(rt; is_right == Ok(true) || is_right == Err(Refusal::NoMemory));
-}
-
-/// Why a limit of a file system that isn't there can't be set.
-fn set_elsewhere(alloc: Global) -> Result<(), Refusal> {
-    let mut table = with_child(alloc)?;
-    set(alloc, &mut table, b"p/b", Limit::Quota, 1)
-}
-
-#[test]
-fn no_dataset_has_no_limit(rt: HostRuntime) {
-    assert!(rt; set_elsewhere(rt.alloc()) == Err(Refusal::NoDataset));
-}
-
-/// Whether a snapshot and a promote leave a file system its limits, and a clone begins with none.
-fn are_kept(alloc: Global) -> Result<bool, Refusal> {
-    let mut table = with_child(alloc)?;
-    set(alloc, &mut table, b"p/a", Limit::Quota, 10)?;
-    take(alloc, &mut table, b"p/a@s", 1)?;
-    let mut with_clone = cloned(alloc, &table, b"p/a@s")?;
-    let is_bare = limits_at(&with_clone, 2) == [0; 4];
-    set(alloc, &mut with_clone, b"p/c", Limit::RefQuota, 5)?;
-    let clone = DsName::read(alloc, b"p/c")?;
-    let mut segments = SegMeter::new(Toll::new());
-    let to = promote(alloc, &with_clone, &clone, &mut segments)?;
-    Ok(is_bare && limits_at(&to, 1) == [10, 0, 0, 0] && limits_at(&to, 2) == [0, 5, 0, 0])
-}
-
-#[test]
-fn a_promote_leaves_limits(rt: HostRuntime) {
-    assert!(rt; are_kept(rt.alloc()) == Ok(true));
 }

@@ -1,10 +1,8 @@
 //! Tags and bookmarks in a table.
-use crate::now::{cloned, take, with_child};
+use crate::now::{take, with_child};
 use crate::removing::{destroy_named, release_named};
-use base::meter::SegMeter;
 use base::refusal::Refusal;
 use bookmarks::Bookmarks;
-use clones::promote;
 use datasets::Table;
 use file_systems::FileSystem;
 use holds::Holds;
@@ -12,7 +10,6 @@ use marks::{bookmark_now, hold_now};
 use name::{DsName, MarkName, SnapName, Tag, Target};
 use std::alloc::Global;
 use std::sync::Arc;
-use toll::Toll;
 use views::Views;
 
 /// Gives this snapshot a tag more.
@@ -163,38 +160,9 @@ fn are_changed(alloc: Global) -> Result<bool, Refusal> {
     Ok(are_made_beside(alloc, &mut table, &views)? && are_made_alone(alloc, &mut table, &views))
 }
 
-#[test]
-fn tags_and_bookmarks_change(rt: HostRuntime) {
-    assert!(rt; are_changed(rt.alloc()) == Ok(true));
-}
-
 /// Run it with each allocation refused in turn: the table has the change, or stays as it was.
 #[test]
 fn refused_memory_changes_no_mark(rt: HostRuntime) {
     let is_right = are_changed(rt.alloc());
     assert!(rt; is_right == Ok(true) || is_right == Err(Refusal::NoMemory));
-}
-
-/// `p/a` with a snapshot that has a tag and a bookmark, and a clone `p/c`.
-fn with_marked_clone(alloc: Global) -> Result<Table, Refusal> {
-    let mut table = with_child(alloc)?;
-    take(alloc, &mut table, b"p/a@s", 1)?;
-    hold_named(alloc, &mut table, b"p/a@s", b"x")?;
-    bookmark_named(alloc, &mut table, b"p/a@s", b"p/a#b")?;
-    cloned(alloc, &table, b"p/a@s")
-}
-
-/// Whether the tag comes to the clone with the snapshot, and the bookmark stays.
-fn is_promoted(alloc: Global) -> Result<bool, Refusal> {
-    let table = with_marked_clone(alloc)?;
-    let clone = DsName::read(alloc, b"p/c")?;
-    let mut segments = SegMeter::new(Toll::new());
-    let to = promote(alloc, &table, &clone, &mut segments)?;
-    let after = marks_at(&to, 1) == (0, 1) && marks_at(&to, 2) == (1, 0);
-    Ok(after && marks_at(&table, 1) == (1, 1) && marks_at(&table, 2) == (0, 0))
-}
-
-#[test]
-fn a_promote_takes_tags_and_leaves_bookmarks(rt: HostRuntime) {
-    assert!(rt; is_promoted(rt.alloc()) == Ok(true));
 }

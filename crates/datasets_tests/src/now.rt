@@ -29,47 +29,9 @@ pub fn cloned(alloc: Global, table: &Table, bytes: &[u8]) -> Result<Table, Refus
     clone_snapshot(table, &origin, &clone)
 }
 
-/// How many file systems are left of the root and `p/a` without this one, and how many blocks are to be freed.
-fn left_without(alloc: Global, bytes: &[u8]) -> Result<(usize, u64), Refusal> {
-    let mut table = with_child(alloc)?;
-    let views = Views::new(alloc)?;
-    let freed = destroy_named(alloc, &mut table, &views, bytes, false, false)?;
-    Ok((table.len(), freed))
-}
-
-#[test]
-fn a_file_system_goes_in_place(rt: HostRuntime) {
-    let alloc = rt.alloc();
-    assert!(rt; left_without(alloc, b"p/a") == Ok((1, 0)));
-    assert!(rt; left_without(alloc, b"p") == Err(Refusal::IsRoot));
-    assert!(rt; left_without(alloc, b"p/b") == Err(Refusal::NoDataset));
-}
-
 /// How many file systems and snapshots there are.
 pub fn counts(table: &Table) -> (usize, usize) {
     (table.len(), table.snapshot_count())
-}
-
-/// The root, `p/a` with a snapshot `s`, and its clone `p/c`.
-fn with_clone(alloc: Global) -> Result<Table, Refusal> {
-    let mut table = with_child(alloc)?;
-    take(alloc, &mut table, b"p/a@s", 1)?;
-    cloned(alloc, &table, b"p/a@s")
-}
-
-/// How many are left once the destroy of an origin is deferred, and then once its clone is destroyed.
-fn left_in_turn(alloc: Global) -> Result<((usize, usize), (usize, usize)), Refusal> {
-    let mut table = with_clone(alloc)?;
-    let views = Views::new(alloc)?;
-    destroy_named(alloc, &mut table, &views, b"p/a@s", false, true)?;
-    let waiting = counts(&table);
-    destroy_named(alloc, &mut table, &views, b"p/c", false, false)?;
-    Ok((waiting, counts(&table)))
-}
-
-#[test]
-fn its_deferred_origin_goes_too(rt: HostRuntime) {
-    assert!(rt; left_in_turn(rt.alloc()) == Ok(((3, 1), (2, 0))));
 }
 
 /// Whether `p/a` goes from two and leaves one, or memory is all that is wanting, and the table and what it has to free are as they were.

@@ -72,22 +72,6 @@ fn lists(alloc: Global, table: &Table, bytes: &[u8], wanted: &[u8]) -> Result<bo
     Ok(text.as_slice() == wanted)
 }
 
-fn lists_three(alloc: Global) -> Result<bool, Refusal> {
-    let table = with_history(alloc)?;
-    Ok(
-        lists(alloc, &table, b"p/a@u", b"p/a@t2 p/a@s1 p/a#b1 ")?
-            && lists(alloc, &table, b"p/c@v", b"p/a@t2 p/a@s1 ")?
-            && lists(alloc, &table, b"p/a@s", b"")?,
-    )
-}
-
-/// Run it with each allocation refused in turn: the list is whole, or memory is all that is wanting.
-#[test]
-fn sources_stand_in_order(rt: HostRuntime) {
-    let is_right = lists_three(rt.alloc());
-    assert!(rt; is_right == Ok(true) || is_right == Err(Refusal::NoMemory));
-}
-
 fn lists_promoted(alloc: Global) -> Result<bool, Refusal> {
     let table = with_promoted(alloc)?;
     Ok(

@@ -1,7 +1,6 @@
 //! A table of datasets.
-use base::number::Group;
 use base::refusal::Refusal;
-use datasets::{FILE_SYSTEM_LIMIT, Table};
+use datasets::Table;
 use name::DsName;
 use std::alloc::Global;
 use std::process::Abort;
@@ -30,32 +29,9 @@ pub fn create(rt: &impl Abort, alloc: Global, table: &mut Table, bytes: &[u8]) {
     *table = created(rt, alloc, table, bytes);
 }
 
-fn refuses(table: &Table, name: &DsName, why: Refusal) -> bool {
-    table.create_refusal(name) == Some(why) && table.create(name).err() == Some(why)
-}
-
-fn is_refused(rt: &impl Abort, alloc: Global, table: &Table, bytes: &[u8], why: Refusal) -> bool {
-    let named = name(rt, alloc, bytes);
-    refuses(table, &named, why)
-}
-
 fn has(rt: &impl Abort, alloc: Global, table: &Table, bytes: &[u8]) -> bool {
     let named = name(rt, alloc, bytes);
     table.find(&named).is_some()
-}
-
-/// Whether the root is there alone.
-fn is_new(rt: &impl Abort, alloc: Global, table: &Table) -> bool {
-    table.len() == 1 && has(rt, alloc, table, b"p") && !has(rt, alloc, table, b"p/a")
-}
-
-#[test]
-fn new_table_has_the_root(rt: HostRuntime) {
-    let alloc = rt.alloc();
-    let table = fresh(&rt, alloc);
-    let is_new = is_new(&rt, alloc, &table);
-    drop(table);
-    assert!(rt; is_new);
 }
 
 /// The names of a family, in byte order.
@@ -80,94 +56,6 @@ fn has_rows(table: &Table, wanted: &[&[u8]]) -> bool {
 }
 
 #[test]
-fn rows_in_byte_order(rt: HostRuntime) {
-    let table = family(&rt, rt.alloc());
-    let has_all = has_rows(&table, &FAMILY);
-    drop(table);
-    assert!(rt; has_all);
-}
-
-fn is_parent(rt: &impl Abort, alloc: Global, table: &Table, bytes: &[u8]) -> bool {
-    let named = name(rt, alloc, bytes);
-    table.has_child(&named)
-}
-
-/// Whether two of the family are parents, and no other name is one's.
-fn has_two_parents(rt: &impl Abort, alloc: Global, table: &Table) -> bool {
-    is_parent(rt, alloc, table, b"p")
-        && is_parent(rt, alloc, table, b"p/a")
-        && !is_parent(rt, alloc, table, b"p/a-x")
-        && !is_parent(rt, alloc, table, b"p/a/x")
-        && !is_parent(rt, alloc, table, b"p/a/x/y")
-}
-
-#[test]
-fn parents_have_children(rt: HostRuntime) {
-    let alloc = rt.alloc();
-    let table = family(&rt, alloc);
-    let is_right = has_two_parents(&rt, alloc, &table);
-    drop(table);
-    assert!(rt; is_right);
-}
-
-/// Whether a family refuses what is there, and what has no parent.
-fn refuses_five(rt: &impl Abort, alloc: Global, table: &Table) -> bool {
-    is_refused(rt, alloc, table, b"p/a", Refusal::Exists)
-        && is_refused(rt, alloc, table, b"p", Refusal::Exists)
-        && is_refused(rt, alloc, table, b"q/a", Refusal::NoParent)
-        && is_refused(rt, alloc, table, b"q", Refusal::NoParent)
-        && is_refused(rt, alloc, table, b"p/c/d", Refusal::NoParent)
-}
-
-#[test]
-fn refusals_in_order(rt: HostRuntime) {
-    let alloc = rt.alloc();
-    let table = family(&rt, alloc);
-    let is_right = refuses_five(&rt, alloc, &table);
-    drop(table);
-    assert!(rt; is_right);
-}
-
-/// The name `p/NNNN` of a number below ten thousand.
-fn numbered(n: u32) -> [u8; 6] {
-    let digit = |d: u32| b'0' + (d % 10) as u8;
-    [
-        b'p',
-        b'/',
-        digit(n / 1000),
-        digit(n / 100),
-        digit(n / 10),
-        digit(n),
-    ]
-}
-
-/// A table with as many file systems as may be.
-fn full(rt: &impl Abort, alloc: Global) -> Table {
-    let mut table = fresh(rt, alloc);
-    for n in 1..1024u32 {
-        create(rt, alloc, &mut table, &numbered(n));
-    }
-    table
-}
-
-/// Whether as many file systems are there as may be, and one more is refused, for what comes first.
-fn is_full(rt: &impl Abort, alloc: Global, table: &Table) -> bool {
-    table.len() == FILE_SYSTEM_LIMIT
-        && is_refused(rt, alloc, table, b"p/a", Refusal::TooMany)
-        && is_refused(rt, alloc, table, b"p/0007", Refusal::Exists)
-        && is_refused(rt, alloc, table, b"q/a", Refusal::NoParent)
-}
-
-#[test]
-fn as_many_as_may_be(rt: HostRuntime) {
-    let alloc = rt.alloc();
-    let table = full(&rt, alloc);
-    let is_full = is_full(&rt, alloc, &table);
-    drop(table);
-    assert!(rt; is_full);
-}
-
-#[test]
 fn copy_stays_as_it_was(rt: HostRuntime) {
     let alloc = rt.alloc();
     let mut table = family(&rt, alloc);
@@ -178,17 +66,6 @@ fn copy_stays_as_it_was(rt: HostRuntime) {
     drop(copy);
     drop(table);
     assert!(rt; is_created && is_as_it_was);
-}
-
-#[test]
-fn create_leaves_the_table(rt: HostRuntime) {
-    let alloc = rt.alloc();
-    let table = fresh(&rt, alloc);
-    let created = created(&rt, alloc, &table, b"p/a");
-    let (before, after) = (table.len(), created.len());
-    drop(created);
-    drop(table);
-    assert!(rt; before == 1 && after == 2);
 }
 
 /// Whether memory was all that could be wanting.
@@ -219,12 +96,4 @@ fn refused_memory_changes_nothing(rt: HostRuntime) {
     let is_right = is_made_or_refused(alloc, &made);
     drop(made);
     assert!(rt; is_right);
-}
-
-#[test]
-fn groups_and_counts(rt: HostRuntime) {
-    let table = fresh(&rt, rt.alloc());
-    let (group, snapshots) = (table.group(), table.snapshot_count());
-    drop(table);
-    assert!(rt; group == Group(1) && snapshots == 0);
 }

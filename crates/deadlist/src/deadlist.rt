@@ -27,13 +27,27 @@ const FEW: usize = 64;
 ///
 /// New entries stand behind the segments until a `reserve`, or an `append` of the list, sorts them in. A copy shares the
 /// segments' full chunks, so that it costs the segments and the few entries that aren't in a full chunk.
-#[derive(Drop)]
 pub struct Deadlist {
     parts: Parts,
     fresh: Vec<Dead>,
     count: u64,
     limit: usize,
     alloc: Global,
+}
+
+// By hand, so that it is proved once: a derived one is laid out anew in each crate that drops the type.
+impl Drop for Deadlist {
+    fn drop(self) {
+        let Deadlist {
+            parts,
+            fresh,
+            count: _,
+            limit: _,
+            alloc: _,
+        } = self;
+        drop(parts);
+        drop(fresh);
+    }
 }
 
 impl Model for Deadlist {

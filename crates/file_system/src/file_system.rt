@@ -57,7 +57,6 @@ use zalloc::Allocator;
 /// and its bookmarks (On-Disk Specification, chapter 4; zfs-bookmark(8)). Contracts see its name, what a world has under that name, and the map of
 /// the origin, which is the empty one where there is none. Copies share the name, the tree, the dead lists, the snapshots, the origin and
 /// the bookmarks. It keeps two counts of blocks: of its live map without its origin's, and of its snapshots without those of either.
-#[derive(Drop)]
 pub struct FileSystem {
     pub(crate) name: Arc<DsName>,
     pub(crate) live: Tree,
@@ -67,6 +66,28 @@ pub struct FileSystem {
     pub(crate) limits: Limits,
     pub(crate) bookmarks: Arc<Bookmarks>,
     pub(crate) counts: Counts,
+}
+
+// By hand, so that it is proved once: a derived one is laid out anew in each crate that drops the type.
+impl Drop for FileSystem {
+    fn drop(self) {
+        let FileSystem {
+            name,
+            live,
+            dead,
+            snapshots,
+            origin,
+            limits: _,
+            bookmarks,
+            counts: _,
+        } = self;
+        drop(name);
+        drop(live);
+        drop(dead);
+        drop(snapshots);
+        drop(origin);
+        drop(bookmarks);
+    }
 }
 
 impl Model for FileSystem {

@@ -10,9 +10,16 @@ use std::alloc::Global;
 use std::marker::Model;
 
 /// A reply as a history keeps it: in a word where it is Done, and else in memory of its own. Contracts see the reply.
-#[derive(Drop)]
 pub struct KeptReply {
     other: Option<Box<Reply>>,
+}
+
+// By hand, so that it is proved once: a derived one is laid out anew in each crate that drops the type.
+impl Drop for KeptReply {
+    fn drop(self) {
+        let KeptReply { other } = self;
+        drop(other);
+    }
 }
 
 impl Model for KeptReply {
@@ -78,11 +85,23 @@ impl KeptReply {
 }
 
 /// One request of a seat, with its reply.
-#[derive(Drop)]
 pub struct Entry {
     pub seat: u32,
     pub request: Request,
     pub reply: KeptReply,
+}
+
+// By hand, so that it is proved once: a derived one is laid out anew in each crate that drops the type.
+impl Drop for Entry {
+    fn drop(self) {
+        let Entry {
+            seat: _,
+            request,
+            reply,
+        } = self;
+        drop(request);
+        drop(reply);
+    }
 }
 
 impl Entry {

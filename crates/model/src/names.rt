@@ -5,9 +5,17 @@ use base::text::Bytes;
 use std::marker::Model;
 
 /// Printed names, in their order. Contracts see the list of their bytes.
-#[derive(Drop, Debug)]
+#[derive(Debug)]
 pub struct Names {
     items: Vec<Bytes>,
+}
+
+// By hand, so that it is proved once: a derived one is laid out anew in each crate that drops the type.
+impl Drop for Names {
+    fn drop(self) {
+        let Names { items } = self;
+        drop(items);
+    }
 }
 
 impl Model for Names {

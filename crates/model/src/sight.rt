@@ -11,12 +11,25 @@ use tree::Tree;
 
 /// A snapshot as it was when a view of it was opened: its map, its guid and its creation group, and what a send of it may start from
 /// (zfs-send(8), -i; that a view has them is profile). Other owners may have its tree too, and the list of sources: neither ever changes.
-#[derive(Drop)]
 pub struct Sight {
     tree: Tree,
     guid: Guid,
     group: Group,
     sources: Arc<Vec<Source>>,
+}
+
+// By hand, so that it is proved once: a derived one is laid out anew in each crate that drops the type.
+impl Drop for Sight {
+    fn drop(self) {
+        let Sight {
+            tree,
+            guid: _,
+            group: _,
+            sources,
+        } = self;
+        drop(tree);
+        drop(sources);
+    }
 }
 
 impl Model for Sight {

@@ -5,9 +5,17 @@ use name::SnapName;
 use std::marker::Model;
 
 /// Names of snapshots to be made, in their order (zfs-snapshot(8)). Contracts see the list of their parts.
-#[derive(Drop, Debug)]
+#[derive(Debug)]
 pub struct SnapNames {
     items: Vec<SnapName>,
+}
+
+// By hand, so that it is proved once: a derived one is laid out anew in each crate that drops the type.
+impl Drop for SnapNames {
+    fn drop(self) {
+        let SnapNames { items } = self;
+        drop(items);
+    }
 }
 
 impl Model for SnapNames {

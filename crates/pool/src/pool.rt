@@ -43,7 +43,6 @@ use zalloc::{Allocator, MOST_BLOCKS};
 const LAST_GROUP: u64 = 9223372036854775807;
 
 /// A pool of blocks with its file systems and snapshots. Contracts see its state, and the state of each block number.
-#[derive(Drop)]
 pub struct Pool {
     pub(crate) present: Table,
     pub(crate) freeing: Freeing,
@@ -57,6 +56,35 @@ pub struct Pool {
     pub(crate) limiting: Option<Limiting>,
     pub(crate) meter: Meter,
     pub(crate) segments: SegMeter,
+}
+
+// By hand, so that it is proved once: a derived one is laid out anew in each crate that drops the type.
+impl Drop for Pool {
+    fn drop(self) {
+        let Pool {
+            present,
+            freeing,
+            last,
+            last_freeing,
+            views,
+            next_guid: _,
+            size: _,
+            id: _,
+            allocator,
+            limiting,
+            meter,
+            segments,
+        } = self;
+        drop(present);
+        drop(freeing);
+        drop(last);
+        drop(last_freeing);
+        drop(views);
+        drop(allocator);
+        drop(limiting);
+        drop(meter);
+        drop(segments);
+    }
 }
 
 impl Model for Pool {

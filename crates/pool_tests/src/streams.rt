@@ -1,5 +1,4 @@
-//! Streams with names, as rows have them: `{X}` stands for the hexadecimal digits of X. Each was worked out by hand from the format, and its
-//! digest by another program.
+//! Streams with names, as the rows have them. Each was worked out by hand from the format, and its digest by another program.
 use std::alloc::AllocError;
 
 /// A stream of a pool of id 1 whose contents have at most one leaf, 0 of object 0.
@@ -39,20 +38,6 @@ const NAMED: [Named; 4] = [
         digest: "50fed7b6eeab8585615f1a7bbd4891f18f387321be0d41a66f6966a798ba22bd",
     },
 ];
-
-/// Adds a text, with the digits of the stream X where it has `{X}`.
-pub fn push_text(to: &mut Vec<u8>, text: &str) -> Result<(), AllocError> {
-    for part in text.split('{') {
-        match part.split_once('}') {
-            Some((name, tail)) => {
-                push_named(to, name)?;
-                to.extend_from_slice(tail.as_bytes())?;
-            }
-            None => to.extend_from_slice(part.as_bytes())?,
-        }
-    }
-    Ok(())
-}
 
 /// Adds the digits of the stream of this name.
 pub fn push_named(to: &mut Vec<u8>, name: &str) -> Result<(), AllocError> {

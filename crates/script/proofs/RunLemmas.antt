@@ -3,7 +3,7 @@ use Rattle.std.proofs.Common.{◌≡◌, ◌≢◌, ℕ, suc, ◌+◌, ◌<◌, 
 use Rattle.std.proofs.lemmas.Bool.{cases_lt, lt-ltb}
 use Rattle.std.proofs.Common.{MatchBool, ◌&&◌, ◌||◌, IsTrue, IfOk, IfErr, Result, Ok, Err}
 use Rattle.std.specs.Io.KnownBytes.{Keeps, Appends}
-use Rattle.std.proofs.KnownBytes.{Appends-nil, Appends-trans}
+use Rattle.std.proofs.KnownBytes.{Appends-nil, Appends-trans, Appends-kept}
 use Rattle.base.specs.Failing.{HasRisen}
 use Rattle.base.specs.declared.refusal.Refusal.{Refusal}
 use Rattle.base.specs.declared.refusal.Refusal.TheVariants.{BadLine, NoMemory as WantsMemory}
@@ -167,6 +167,15 @@ module _ {C : Type 0} (asks : Relation C) (stop : Bool) where
         let b = going.ran left kept in
         record { script = b.script; front = b.front; refused = refused; read = b.read; parts = b.parts; run = b.run; going = going.goes }
 
+    -- what the writer held was written out
+    pub going-flushed : (held' : Option (List ℕ)) → Keeps held held' → IsGoing asks stop told0 held0 s0 told held' s refused
+    going-flushed held' keeps = record {
+      written = going.written;
+      appended = Appends-kept held0 held held' going.written going.appended keeps;
+      goes = going.goes;
+      ran = going.ran;
+    }
+
     -- nothing was left
     pub going-end : GivesNone told → HasRun asks stop told0 held0 held s0 s refused
     going-end none =
@@ -190,7 +199,19 @@ module _ {C : Type 0} (asks : Relation C) (stop : Bool) where
             begun = s;
             left = left.0;
             front = begun left.0 left.1;
-            ended = inl (record { same = refl; written = going.appended; kind = kind });
+            ended = inl (inl (record { same = refl; written = going.appended; kind = kind }));
+          }
+
+      -- the writer failed before a read
+      pub going-unflushed : (fault : ScriptFault) → IsFaultOf write_risen fault → HasFailed asks stop told0 held0 held s0 s read_risen write_risen fault
+      going-unflushed fault kind =
+          let left = some_rest told in
+          record {
+            out = going.written;
+            begun = s;
+            left = left.0;
+            front = begun left.0 left.1;
+            ended = inl (inr (record { same = refl; written = going.appended; kind = kind }));
           }
 
       -- there was no memory for a line

@@ -84,8 +84,8 @@ abbrev pub IsFaultOf : Type 0 → ScriptFault → Type 0
 IsFaultOf risen Device = risen
 IsFaultOf risen NoMemory = ¬ risen
 
--- the reader failed: all that was asked is answered, and all replies are written (profile)
-pub record CannotRead {C : Type 0} (held held' : Option (List ℕ)) (out : List ℕ) (u t : C) (risen : Type 0) (fault : ScriptFault) : Type 0 where
+-- the reader failed, or the writer before a read: all that was asked is answered, and all replies are written (profile)
+pub record CannotGoOn {C : Type 0} (held held' : Option (List ℕ)) (out : List ℕ) (u t : C) (risen : Type 0) (fault : ScriptFault) : Type 0 where
   pub same : t ≡ u
   pub written : Appends held held' out
   pub kind : IsFaultOf risen fault
@@ -106,10 +106,10 @@ pub record CannotWrite {C : Type 0} (asks : Relation C) (u t : C) (left : List �
   pub answered : Answers asks (meaning line) u (Some reply) t
   pub kind : IsFaultOf risen fault
 
--- a run that a fault ended: a beginning was run, and then one of the three came (profile)
+-- a run that a fault ended: a beginning was run, and then the reader failed or the writer before a read, or one of the other two came (profile)
 pub record HasFailed {C : Type 0} (asks : Relation C) (stop : Bool) (told held held' : Option (List ℕ)) (s t : C) (read_risen write_risen : Type 0) (fault : ScriptFault) : Type 0 where
   pub out : List ℕ
   pub begun : C
   pub left : List ℕ
   pub front : HasBegun asks stop told s out begun left
-  pub ended : CannotRead held held' out begun t read_risen fault ⊎ (LacksMemory asks held held' out begun t left fault ⊎ CannotWrite asks begun t left write_risen fault)
+  pub ended : (CannotGoOn held held' out begun t read_risen fault ⊎ CannotGoOn held held' out begun t write_risen fault) ⊎ (LacksMemory asks held held' out begun t left fault ⊎ CannotWrite asks begun t left write_risen fault)

@@ -1,9 +1,10 @@
 //! The lines of a script.
-ghost use Rattle.std.specs.Prelude.{◌≡◌, ◌≤◌, ◌+◌, ◌++◌, vec_len, IfOk, OnOk, MatchBool};
+ghost use Rattle.std.specs.Prelude.{◌≡◌, ◌≤◌, ◌+◌, ◌++◌, vec_len, Err, IfOk, OnOk, OnErr, MatchBool};
+ghost use Rattle.std.specs.Io.KnownBytes.{Keeps};
 ghost use Rattle.script.specs.Lines.{kept_of, line_limit, Looks, GivesLine, GivesNone, HasMore};
 
 use memchr::memchr;
-use std::io::{BufRead, ErrorKind};
+use std::io::{BufRead, ErrorKind, Write};
 
 /// A line has at most this many bytes, its line feed aside (profile).
 pub const LINE_LIMIT: usize = 4_194_304;
@@ -13,6 +14,8 @@ pub const LINE_LIMIT: usize = 4_194_304;
 pub(crate) enum ReadFault {
     NoMemory,
     Failed,
+    /// What had been written before could not be written out.
+    Unflushed,
 }
 
 /// What one look at a reader's buffer found.
@@ -24,15 +27,25 @@ pub(crate) enum Step {
 }
 
 /// Reads the next line. Of a line that is too long no more is kept than shows it. False where there is none.
-pub(crate) fn next_line<R: BufRead>(reader: &mut R, kept: &mut Vec<u8>) -> Result<bool, ReadFault>
+///
+/// A read may wait, at a terminal or a pipe, until whoever writes there has seen the replies. So once the reader's buffer is drained, what
+/// the writer holds is written out before the next read: of a script from a file that is once for each filled buffer.
+pub(crate) fn next_line<R: BufRead, W: Write>(
+    reader: &mut R,
+    writer: &mut W,
+    kept: &mut Vec<u8>,
+    is_drained: &mut bool,
+) -> Result<bool, ReadFault>
     ensures ok { IfOk result (λ found. MatchBool found
         (GivesLine (R.remaining reader.old) (R.remaining reader.new) kept.new.items)
         (GivesNone (R.remaining reader.old))) }
     ensures no_memory { result ≡ Err ReadFault.NoMemory → HasMore (R.remaining reader.old) }
+    ensures written { Keeps (W.contents writer.old) (W.contents writer.new) }
 {
     kept.clear();
     'looks: for _ in 0..u64::MAX {
-        match look(reader, kept)? {
+        flush_before(writer, *is_drained)?;
+        match look(reader, kept, is_drained)? {
             Step::More => {}
             Step::Feed => return Ok(true),
             Step::End => return Ok(!kept.is_empty()),
@@ -41,8 +54,23 @@ pub(crate) fn next_line<R: BufRead>(reader: &mut R, kept: &mut Vec<u8>) -> Resul
     Err(ReadFault::Failed)
 }
 
-/// Takes what the reader's buffer has of the line.
-fn look<R: BufRead>(reader: &mut R, kept: &mut Vec<u8>) -> Result<Step, ReadFault>
+/// Writes out what the writer holds before a read, which comes where the reader's buffer is drained.
+fn flush_before<W: Write>(writer: &mut W, is_drained: bool) -> Result<(), ReadFault>
+    ensures written { Keeps (W.contents writer.old) (W.contents writer.new) }
+    ensures err { OnErr result (result ≡ Err ReadFault.Unflushed) }
+{
+    if is_drained && writer.flush().is_err() {
+        return Err(ReadFault::Unflushed);
+    }
+    Ok(())
+}
+
+/// Takes what the reader's buffer has of the line, and tells whether the buffer has nothing more.
+fn look<R: BufRead>(
+    reader: &mut R,
+    kept: &mut Vec<u8>,
+    is_drained: &mut bool,
+) -> Result<Step, ReadFault>
     requires { vec_len kept.old ≤ line_limit + 1 }
     ensures looks { IfOk result (Looks (R.remaining reader.old) (R.remaining reader.new) kept.old.items kept.new.items) }
     ensures short { OnOk result (vec_len kept.new ≤ line_limit + 1) }
@@ -64,12 +92,14 @@ fn look<R: BufRead>(reader: &mut R, kept: &mut Vec<u8>) -> Result<Step, ReadFaul
     match memchr(b'\n', shown) {
         Some(end) => {
             keep(kept, &shown[..end])?;
+            *is_drained = end + 1 == shown.len();
             reader.consume(end + 1);
             Ok(Step::Feed)
         }
         None => {
             let len = shown.len();
             keep(kept, shown)?;
+            *is_drained = true;
             reader.consume(len);
             Ok(Step::More)
         }

@@ -65,7 +65,8 @@ pub(crate) enum LineFault {
 
 /// Asks the requests of a script's lines of a caller, in order, and writes their reply lines. Says whether a line was refused;
 /// with `stop` it ends at the first such line. The cost is linear in the script, beside the caller's; the memory is that of one
-/// line, of which a little more than 4 MiB are kept at most (profile).
+/// line, of which a little more than 4 MiB are kept at most (profile). Whoever writes a line and waits for its reply gets it: what the
+/// writer holds is written out before each read that may wait.
 ///
 /// After a fault all that was asked is answered and written, but for one line: its reply may be missing for want of memory, or
 /// be written in part where the writer failed.
@@ -87,11 +88,16 @@ pub fn run_script<C: Caller, R: BufRead + Failing, W: Write + Failing>(
     let (reads, writes) = (reader.failures(), writer.failures());
     let mut line = Vec::new(alloc);
     let mut refused = false;
+    let mut is_drained = false;
     'lines: for _ in 0..u64::MAX {
-        let found = match next_line(reader, &mut line) {
+        let found = match next_line(reader, writer, &mut line, &mut is_drained) {
             Ok(found) => found,
             Err(ReadFault::NoMemory) => return Err(ScriptFault::NoMemory),
             Err(ReadFault::Failed) => return Err(ScriptFault::of_counts(reads, reader.failures())),
+            Err(ReadFault::Unflushed) => return Err(ScriptFault::of_counts(
+                writes,
+                writer.failures(),
+            )),
         };
         if !found {
             return Ok(refused);

@@ -28,11 +28,22 @@ use toll::Toll;
 /// A view of a snapshot: what it was when the view was opened. It is read without the session, by any thread that has it, while others
 /// go on. As long as it is open, a destroy or a rollback that would remove the snapshot answers Busy, and one that is deferred waits for
 /// it (zfs-destroy(8), -d). Contracts see its number and what it shows.
-#[derive(Drop)]
 pub struct View<K: Opening> {
     number: u64,
     entry: Arc<Entry>,
     of: PhantomData<K>,
+}
+
+// By hand, so that it is proved once: a derived one is laid out anew in each crate that drops the type.
+impl<K: Opening> Drop for View<K> {
+    fn drop(self) {
+        let View {
+            number: _,
+            entry,
+            of: _,
+        } = self;
+        drop(entry);
+    }
 }
 
 impl<K: Opening> Model for View<K> {

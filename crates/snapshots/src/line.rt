@@ -22,10 +22,18 @@ use std::sync::Arc;
 ///
 /// They are found by name in an index over them. Where memory for the index is refused, a snapshot is put in all the same, and from then
 /// on there is no index: they are then found by a walk.
-#[derive(Drop)]
 pub struct Line {
     pub(crate) kept: SharedList<Kept>,
     pub(crate) by_name: Option<ByName>,
+}
+
+// By hand, so that it is proved once: a derived one is laid out anew in each crate that drops the type.
+impl Drop for Line {
+    fn drop(self) {
+        let Line { kept, by_name } = self;
+        drop(kept);
+        drop(by_name);
+    }
 }
 
 impl Model for Line {

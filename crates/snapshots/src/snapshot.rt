@@ -20,7 +20,6 @@ use tree::Tree;
 
 /// A snapshot: its name within its file system, its map, its guid, its creation group, its tags, and whether its destroy is deferred
 /// (On-Disk Specification, chapter 4; zfs-hold(8); zfs-destroy(8), -d). Its map never changes. Copies share the map and the tags.
-#[derive(Drop)]
 pub struct Snapshot {
     name: Component,
     tree: Tree,
@@ -28,6 +27,23 @@ pub struct Snapshot {
     group: Group,
     deferred: bool,
     tags: Option<Arc<Holds>>,
+}
+
+// By hand, so that it is proved once: a derived one is laid out anew in each crate that drops the type.
+impl Drop for Snapshot {
+    fn drop(self) {
+        let Snapshot {
+            name,
+            tree,
+            guid: _,
+            group: _,
+            deferred: _,
+            tags,
+        } = self;
+        drop(name);
+        drop(tree);
+        drop(tags);
+    }
 }
 
 impl Model for Snapshot {

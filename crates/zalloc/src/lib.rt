@@ -46,12 +46,25 @@ pub struct Counts {
 ///
 /// It takes about five bytes for each number: one for its state, and four of room for the list of numbers that wait. Only
 /// `new` and `copy` take memory.
-#[derive(Drop)]
 pub struct Allocator {
     states: StateMap,
     waiting: Vec<u32>,
     free: u32,
     hint: u32,
+}
+
+// By hand, so that it is proved once: a derived one is laid out anew in each crate that drops the type.
+impl Drop for Allocator {
+    fn drop(self) {
+        let Allocator {
+            states,
+            waiting,
+            free: _,
+            hint: _,
+        } = self;
+        drop(states);
+        drop(waiting);
+    }
 }
 
 impl Model for Allocator {

@@ -1,4 +1,5 @@
 use Rattle.std.proofs.Common.{◌≡◌, ap, subst, ◌∙◌, arith, eqb, length, vec_len, rules}
+use Rattle.std.proofs.KnownBytes.{Keeps-refl, Keeps-trans}
 use Rattle.script.specs.Lines.{Looks}
 use Rattle.script.proofs.LinesLemmas.{TakesMore-more, GivesLine-feed, GivesLine-end, GivesNone-end, MatchBool-nonempty, HasMore-before}
 use Rattle.script.proofs.lines.next_line.Goals as goal
@@ -6,7 +7,7 @@ use Rattle.script.proofs.lines.next_line.Goals as goal
 pub looks-preserved : goal.looks-preserved
 looks-preserved g c =
     let look = subst (Looks _ _ _ _) c.in-More.is c.in_ok-look.ensures.looks in
-    (TakesMore-more _ _ _ _ _ c.looks.invariant.0 look, omega (arith, c.in_ok-look.ensures.short))
+    (TakesMore-more _ _ _ _ _ c.looks.invariant.0 look, omega (arith, c.in_ok-look.ensures.short), Keeps-trans _ _ _ c.looks.invariant.2 c.in_ok-flush_before.ensures.written)
 
 pub returns-in-Feed-clause-ok : goal.returns-in-Feed-clause-ok
 returns-in-Feed-clause-ok g c =

@@ -1,0 +1,75 @@
+//! A pool that is asked script lines, in one of its two ways.
+use base::failing::Counted;
+use model::reply::Reply;
+use model::request::Request;
+use pool::Pool;
+use script::run::{Caller, run_script};
+use std::alloc::Global;
+
+/// How a request is answered.
+#[derive(Clone, Copy)]
+pub enum Way {
+    /// By `apply`.
+    AtOnce,
+    /// By `prepare`, and then `commit`.
+    InTwo,
+}
+
+impl Way {
+    /// What a message says of it.
+    pub fn text(&self) -> &'static str {
+        match self {
+            Way::AtOnce => "at once",
+            Way::InTwo => "in two",
+        }
+    }
+}
+
+/// A pool, and how it is asked.
+#[derive(Drop)]
+pub struct Asked {
+    alloc: Global,
+    pool: Pool,
+    way: Way,
+}
+
+impl Asked {
+    /// A fresh pool of so many blocks with this id; None where it can't be made.
+    pub fn new(alloc: Global, blocks: u32, id: u32, way: Way) -> Option<Asked> {
+        let pool = Pool::create(alloc, id, blocks).ok()?;
+        Some(Asked { alloc, pool, way })
+    }
+
+    pub fn way(&self) -> Way {
+        self.way
+    }
+
+    /// What is printed for a line; None for want of memory.
+    pub fn printed(&mut self, line: &[u8]) -> Option<Vec<u8>> {
+        let alloc = self.alloc;
+        let mut reader = Counted::new(line);
+        let mut writer = Counted::new(Vec::new(alloc));
+        run_script(alloc, self, &mut reader, &mut writer, false).ok()?;
+        Some(writer.inner)
+    }
+}
+
+/// The reply to a request that is prepared, and then committed.
+fn reply_in_two(alloc: Global, pool: &mut Pool, request: &Request) -> Reply {
+    let (reply, ready) = pool.prepare(alloc, request);
+    pool.commit(ready);
+    reply
+}
+
+impl Caller for Asked {
+    ghost asks = { λ _ _ _ _. Unit {0} };
+
+    fn ask(&mut self, request: Request) -> Option<Reply> {
+        let reply = match self.way {
+            Way::AtOnce => self.pool.apply(self.alloc, &request),
+            Way::InTwo => reply_in_two(self.alloc, &mut self.pool, &request),
+        };
+        drop(request);
+        Some(reply)
+    }
+}
