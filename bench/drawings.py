@@ -134,7 +134,34 @@ def block_states():
     return p
 
 
-PICTURES = {"lineage": lineage, "dead-lists": dead_lists, "block-states": block_states}
+def layers():
+    """The layers, and the ways of a write, a destroy and a receive through them."""
+    p = Picture(860, 560)
+    bands = ["program", "session", "pool", "requests", "datasets", "blocks and trees", "ground"]
+    for row, band in enumerate(bands):
+        p.parts.append(f'<rect x="10" y="{44 + 70 * row}" width="840" height="62" rx="5" fill="{KINDS["quiet"]}" stroke="#bbb"/>')
+        p.words(22, 80 + 70 * row, band, style='font-weight="bold"')
+    ways = [
+        ("write", 160, "live", ["script", "", "pool: change", "limits, outlook", "datasets: the row", "batch, tree, zalloc", "node"]),
+        ("destroy", 400, "gone", ["script", "", "pool: destroy", "removals, destroyer", "datasets, snapshots", "deadlist", "shared_list"]),
+        ("receive", 640, "shared", ["script", "", "pool: receive", "receives, removals", "datasets, snapshots", "batch, tree, zalloc", "stream"]),
+    ]
+    for name, x, kind, steps in ways:
+        p.words(x + 95, 32, name, "middle", 'font-weight="bold"')
+        last = None
+        for row, step in enumerate(steps):
+            if step:
+                y = 57 + 70 * row
+                if last is not None:
+                    p.arrow(x + 95, last + 36, x + 95, y)
+                p.box(x, y, 190, 36, step, kind)
+                last = y
+    p.words(375, 150, "under a lock: session, book", "middle")
+    p.words(14, 556, "Beside the layers stands what it all means: model, world, accounts, laws, records.")
+    return p
+
+
+PICTURES = {"layers": layers, "lineage": lineage, "dead-lists": dead_lists, "block-states": block_states}
 
 
 def main():
