@@ -206,6 +206,7 @@ class Trial:
             self.tell(edit, *self.said[edit])
         if any(it.build_rlib(["--jobs", "1"], anew=False) for it in self.crate.below()):
             return False
+        os.makedirs(f"{self.crate.folder}/out", exist_ok=True)
         with tempfile.TemporaryDirectory(prefix="wrong-bodies-", dir=f"{self.crate.folder}/out") as room:
             seed = f"{room}/seed"
             if os.path.isdir(f"{self.crate.folder}/out/incremental"):
