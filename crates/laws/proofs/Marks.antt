@@ -1,5 +1,5 @@
 -- What a bookmark promises in every run.
-use Rattle.std.proofs.Common.{◌≡◌, ◌<◌, List, [], ◌∷◌, Bool, true, false, not, ◌&&◌, Option, Some, None, refl, sym, ap, subst, ◌∙◌, inl, inr, true≢false}
+use Rattle.std.proofs.Common.{◌≡◌, ◌<◌, ℕ, List, [], ◌∷◌, Bool, true, false, not, ◌&&◌, Option, Some, None, refl, sym, ap, subst, ◌∙◌, ⊎_elim, inl, inr, true≢false, arith}
 use Rattle.std.specs.List.{filter, find}
 use Rattle.std.specs.Option.{option_map, option_map_or, option_and_then}
 use Rattle.std.specs.FinMap.{get, insert}
@@ -14,27 +14,33 @@ use Rattle.model.specs.declared.request.Request.{Request}
 use Rattle.model.specs.declared.request.Request.TheVariants.{Bookmark as ToBookmark}
 use Rattle.model.specs.declared.reply.Reply.{Reply}
 use Rattle.model.specs.declared.reply.Reply.TheVariants.{Done, Refused}
-use Rattle.model.specs.World.{World, FileSystem, Snap, Bookmark, snap_named, bookmark_named}
+use Rattle.model.specs.World.{World, FileSystem, Snap, SnapId, Bookmark, Snapped, id_of, map_of, snap_named, bookmark_named}
 use Rattle.model.specs.State.{State}
 use Rattle.model.specs.Edits.{with_file_system, with_now}
 use Rattle.model.specs.Outcome.{is_needed, state_after_sweep, state_after}
 use Rattle.model.specs.Refusals.{refusal_of}
 use Rattle.model.specs.Step.{Step, IsDone, Follows, done, refused, out_of_memory}
+use Rattle.model.specs.Run.{Run}
 use Rattle.model.specs.requests.Bookmark.{bookmarked, bookmark_of_snap, bookmark_row, bookmark_rule, is_beside}
 use Rattle.model.specs.requests.Rollback.{placed}
+use Rattle.world.specs.Dead.{IsThere}
+use Rattle.world.specs.RunLaws.{HasSnap}
 use Rattle.world.specs.Shapes.{name_order}
-use Rattle.world.specs.Worlds.{IsPoolState}
-use Rattle.world.proofs.Finding.{from_find, one_name}
+use Rattle.world.proofs.Finding.{append_none, from_find, one_name}
 use Rattle.world.proofs.Maps.{no_value, get-insert_same}
 use Rattle.world.proofs.Put.{put_here}
-use Rattle.world.proofs.States.{sweep_keeps}
 use Rattle.world.proofs.ViewedRequests.{row_false}
 use Rattle.world.proofs.WithoutSnaps.{without_at}
-use Rattle.laws.specs.Bookmarks.{IsSource, IsRunWithin, IsMarkedBy, BookmarkMade, BookmarkStands}
-use Rattle.laws.proofs.Making.{snap_closed, snap_source, noted_keeps}
-use Rattle.laws.proofs.Stepping.{became_source, step_became}
+use Rattle.laws.specs.Lineages.{HasLineages}
+use Rattle.laws.specs.Bookmarks.{IsSource, IsRunWithin, IsMarkedBy, BookmarkMade, BookmarkStands, BookmarkLasts}
+use Rattle.laws.proofs.Groups.{step_group}
+use Rattle.laws.proofs.Lineages.{kept_map, reach_older, line_source}
+use Rattle.laws.proofs.OrderedSteps.{step_ordered}
+use Rattle.laws.proofs.Lasting.{step_lineages}
+use Rattle.laws.proofs.Marking.{HasMark, step_marks}
+use Rattle.laws.proofs.Stepping.{Became, became_kept, became_source, step_became}
 
--- ---- it stands
+-- ---- a bookmark stands
 
 -- where it stands
 marked_at : (w : World) (mark : Member) (b : Bookmark) → bookmark_named w mark ≡ Some b
@@ -48,14 +54,13 @@ marked_at w mark b e = by_system (get w.file_systems mark.file_system) refl e
     by_system (Some f) i k = (f, i, k)
 
 -- one step
-step_source : (q : Request) (r : Reply) (s t : State) (mark : Member) (b : Bookmark) (held : Map) → IsMarkedBy mark b s
-    → IsMarkedBy mark b t → Step s q r t
-    → IsSource s.now mark.file_system b.group held → IsSource t.now mark.file_system b.group held
-step_source q r s t mark b held was now step =
-    let f = marked_at s.now mark b was.1 in
-    let e = marked_at t.now mark b now.1 in
-    became_source s.now t.now was.0.now.systems.lines now.0.now.systems.lines mark.file_system f.0 e.0 f.1 e.1 mark.component b e.2
-    ((was.0.now.systems.tidy mark.file_system f.0 f.1).bookmarks mark.component b f.2) held (step_became q r s t was.0 step)
+step_source : (q : Request) (r : Reply) (s t : State) (mark : Member) (b : Bookmark) (held : Map) → HasLineages s.now → IsMarkedBy mark b s
+    → IsMarkedBy mark b t → Step s q r t → IsSource s.now mark.file_system b.group held → IsSource t.now mark.file_system b.group held
+step_source q r s t mark b held lines was now step =
+    let f = marked_at s.now mark b was in
+    let e = marked_at t.now mark b now in
+    became_source s.now t.now lines.order (step_ordered q r s t lines.order step) mark.file_system f.0 e.0 f.1 e.1 mark.component b e.2
+    (lines.order.marks mark.file_system mark.component f.0 b f.1 f.2) held (step_became q r s t lines.order step)
 
 -- it holds in the first state
 first_holds : (Holds : State → Type 0) (s u : State) (qs : List Request) (rs : List Reply) → IsRunWithin Holds s qs rs u → Holds s
@@ -65,11 +70,12 @@ first_holds Holds s u (q ∷ qs) [] run = absurd run
 first_holds Holds s u (q ∷ qs) (r ∷ rs) run = run.0
 
 pub bookmark_stands : BookmarkStands
-bookmark_stands s u [] [] mark b held run source = subst (λ (x : State). IsSource x.now mark.file_system b.group held) run.1 source
-bookmark_stands s u [] (r ∷ rs) mark b held run source = absurd run
-bookmark_stands s u (q ∷ qs) [] mark b held run source = absurd run
-bookmark_stands s u (q ∷ qs) (r ∷ rs) mark b held (was, (t, step, rest)) source =
-    bookmark_stands t u qs rs mark b held rest (step_source q r s t mark b held was (first_holds (IsMarkedBy mark b) t u qs rs rest) step source)
+bookmark_stands s u [] [] mark b held lines run source = subst (λ (x : State). IsSource x.now mark.file_system b.group held) run.1 source
+bookmark_stands s u [] (r ∷ rs) mark b held lines run source = absurd run
+bookmark_stands s u (q ∷ qs) [] mark b held lines run source = absurd run
+bookmark_stands s u (q ∷ qs) (r ∷ rs) mark b held lines (was, (t, step, rest)) source =
+    bookmark_stands t u qs rs mark b held (step_lineages q r s t lines step) rest
+    (step_source q r s t mark b held lines was (first_holds (IsMarkedBy mark b) t u qs rs rest) step source)
 
 -- ---- it is made
 
@@ -89,7 +95,7 @@ found_at w name t e = by_system (get w.file_systems name.file_system) refl e
       ap (option_and_then (λ (f : FileSystem). option_map (λ (t : Snap). (f, t)) (snap_named w name))) i ∙ ap (option_map (λ (t : Snap). (f, t))) e,
     )
 
-module _ (s : State) (good : IsPoolState s) (name mark : Member) (t : Snap) (f : FileSystem) (at : get s.now.file_systems mark.file_system ≡ Some f) (there : IsIn f.snaps t)
+module _ (s : State) (lines : HasLineages s.now) (name mark : Member) (t : Snap) (f : FileSystem) (at : get s.now.file_systems mark.file_system ≡ Some f) (there : IsIn f.snaps t)
     (found : placed s.now (OfSnapshot name) ≡ Some (f, t)) (u : State) (step : Step s (ToBookmark (OfSnapshot name) mark) Done u)
     (is : u ≡ state_after_sweep (with_now s (bookmarked s.now (OfSnapshot name) mark))) where
   -- a file system with the bookmark
@@ -117,13 +123,6 @@ module _ (s : State) (good : IsPoolState s) (name mark : Member) (t : Snap) (f :
   unfolding mid
   leads = is ∙ ap (λ x. state_after_sweep (with_now s x)) noted_is
 
-  closed : t.group < s.now.group
-  closed = snap_closed s good mark.file_system f at t there
-
-  good_after : IsPoolState u
-  unfolding mid
-  good_after = subst IsPoolState (sym leads) (sweep_keeps mid (noted_keeps s good mark.file_system f at mark.component (bookmark_of_snap t) closed))
-
   after_at : get u.now.file_systems mark.file_system ≡ Some (record noted { snaps = filter (λ v. not (goes v)) noted.snaps })
   unfolding mid state_after_sweep
   after_at = ap (λ (x : State). get x.now.file_systems mark.file_system) leads
@@ -132,12 +131,20 @@ module _ (s : State) (good : IsPoolState s) (name mark : Member) (t : Snap) (f :
   marked : get noted.bookmarks mark.component ≡ Some (bookmark_of_snap t)
   marked = get-insert_same name_order f.bookmarks mark.component (bookmark_of_snap t)
 
+  -- what the snapshot has serves its file system
+  source : IsSource s.now mark.file_system t.group t.map
+  source =
+      let k = reach_older s.now lines.order mark.file_system f at f.snaps [] (sym (append_none f.snaps)) t there in
+      subst (IsSource s.now mark.file_system t.group) (kept_map s.now lines.order mark.file_system f t (id_of t) at there refl)
+      (line_source s.now lines mark.file_system f at k.0 (id_of t) k.1)
+
   made : IsMarkedBy mark (bookmark_of_snap t) u × IsSource u.now mark.file_system t.group t.map
   made = (
-    (good_after, ap (option_and_then (λ (x : FileSystem). get x.bookmarks mark.component)) after_at ∙ marked),
-    became_source s.now u.now good.now.systems.lines good_after.now.systems.lines mark.file_system f (record noted { snaps = filter (λ v. not (goes v)) noted.snaps }) at after_at
-        mark.component (bookmark_of_snap t) marked closed t.map (step_became (ToBookmark (OfSnapshot name) mark) Done s u good step)
-        (snap_source s good mark.file_system f at t there),
+    ap (option_and_then (λ (x : FileSystem). get x.bookmarks mark.component)) after_at ∙ marked,
+    became_source s.now u.now lines.order (step_ordered (ToBookmark (OfSnapshot name) mark) Done s u lines.order step)
+        mark.file_system f (record noted { snaps = filter (λ v. not (goes v)) noted.snaps }) at after_at
+        mark.component (bookmark_of_snap t) marked (lines.order.closed mark.file_system t (f, at, there)) t.map
+        (step_became (ToBookmark (OfSnapshot name) mark) Done s u lines.order step) source,
   )
 
 -- it is of the bookmark's file system, since the request isn't refused
@@ -160,12 +167,83 @@ unfolding state_after
 ended s u name mark h = h.new_is
 
 pub bookmark_made : BookmarkMade
-bookmark_made s u name mark t good named step = by_end step.follows
+bookmark_made s u name mark t lines named step = by_end step.follows
   where
     by_end : Follows s (bookmark_rule (OfSnapshot name) mark) Done u
         → IsMarkedBy mark (bookmark_of_snap t) u × IsSource u.now mark.file_system t.group t.map
     by_end (done h) =
         let f = found_at s.now name t named in
-        made s good name mark t f.0 (ap (get s.now.file_systems) (sym (beside s name mark h.not_refused)) ∙ f.1) f.2 f.3 u step (ended s u name mark h)
+        made s lines name mark t f.0 (ap (get s.now.file_systems) (sym (beside s name mark h.not_refused)) ∙ f.1) f.2 f.3 u step (ended s u name mark h)
     by_end (refused h) = absurd (not_done h.why h.reply_is)
     by_end (out_of_memory h) = absurd (not_done NoMemory h.reply_is)
+
+-- ---- a bookmark lasts
+
+-- What holds after a bookmark was made of a snapshot of this identity, which held this map: of the file system of this name
+record IsKept (id : SnapId) (held : Map) (a : List ℕ) (s : State) : Type 0 where
+  lines : HasLineages s.now
+  closed : id.group < s.now.group
+  map : IsThere s.now (Snapped id) → map_of s.now (Snapped id) ≡ held
+  source : (at : List ℕ) → HasMark s.now a at (record { guid = id.guid; group = id.group }) → IsSource s.now a id.group held
+
+-- it holds after each step: a bookmark that stands stood before, or is made of that very snapshot
+step_kept : (id : SnapId) (held : Map) (a : List ℕ) (q : Request) (r : Reply) (s t : State) → IsKept id held a s → Step s q r t → IsKept id held a t
+step_kept id held a q r s t kept step = record {
+  lines = lines';
+  closed = let c = kept.closed in let g = step_group q r s t step in omega arith;
+  map = λ there. let was = became_kept s.now t.now kept.lines.order lines'.order became id kept.closed there in was.1 ∙ kept.map was.0;
+  source = λ at h. on at h (⊎_elim (λ k. (k.0, k.1, kept.source at k)) (λ k. (k.1.0, k.1.1, anew k.0 k.1 k.2)) (step_marks q r s t step a at b h));
+}
+  where
+    b : Bookmark
+    b = record { guid = id.guid; group = id.group }
+
+    lines' : HasLineages t.now
+    lines' = step_lineages q r s t kept.lines step
+
+    became : Became s.now t.now
+    became = step_became q r s t kept.lines.order step
+
+    anew : (u : Snap) → HasSnap s.now a u → b ≡ bookmark_of_snap u → IsSource s.now a id.group held
+    anew u (f, at, h) is =
+        let k = reach_older s.now kept.lines.order a f at f.snaps [] (sym (append_none f.snaps)) u h in
+        let ids : id_of u ≡ id = λ i. record { group = (sym is i).group; guid = (sym is i).guid } in
+        let source = subst (λ y. IsSource s.now a y.group (map_of s.now (Snapped y))) ids (line_source s.now kept.lines a f at k.0 (id_of u) k.1) in
+        subst (IsSource s.now a id.group) (kept.map (a, f, u, at, h, ids)) source
+
+    on : (at : List ℕ) → HasMark t.now a at b → (f : FileSystem) × (get s.now.file_systems a ≡ Some f) × IsSource s.now a id.group held → IsSource t.now a id.group held
+    on at (f', is', marked) (f, is, source) =
+        became_source s.now t.now kept.lines.order lines'.order a f f' is is' at b marked kept.closed held became source
+
+run_kept : (id : SnapId) (held : Map) (a : List ℕ) (s u : State) (qs : List Request) (rs : List Reply) → IsKept id held a s → Run s qs rs u → IsKept id held a u
+run_kept id held a s u [] [] kept e = subst (IsKept id held a) e kept
+run_kept id held a s u [] (r ∷ rs) kept e = absurd e
+run_kept id held a s u (q ∷ qs) [] kept e = absurd e
+run_kept id held a s u (q ∷ qs) (r ∷ rs) kept (t, first, rest) = run_kept id held a t u qs rs (step_kept id held a q r s t kept first) rest
+
+pub bookmark_lasts : BookmarkLasts
+bookmark_lasts s v u name mark t qs rs lines named step run stands =
+    let m = marked_at u.now mark (bookmark_of_snap t) stands in
+    (run_kept (id_of t) t.map mark.file_system v u qs rs made_kept run).source mark.component m
+  where
+    q : Request
+    q = ToBookmark (OfSnapshot name) mark
+
+    f : (f : FileSystem) × (get s.now.file_systems name.file_system ≡ Some f) × IsIn f.snaps t × (placed s.now (OfSnapshot name) ≡ Some (f, t))
+    f = found_at s.now name t named
+
+    closed : t.group < s.now.group
+    closed = lines.order.closed name.file_system t (f.0, f.1, f.2)
+
+    lines' : HasLineages v.now
+    lines' = step_lineages (ToBookmark (OfSnapshot name) mark) Done s v lines step
+
+    made_kept : IsKept (id_of t) t.map mark.file_system v
+    made_kept = record {
+      lines = lines';
+      closed = let c = closed in let g = step_group (ToBookmark (OfSnapshot name) mark) Done s v step in omega arith;
+      map = λ there.
+          (became_kept s.now v.now lines.order lines'.order (step_became (ToBookmark (OfSnapshot name) mark) Done s v lines.order step) (id_of t) closed there).1
+          ∙ kept_map s.now lines.order name.file_system f.0 t (id_of t) f.1 f.2 refl;
+      source = λ at h. (bookmark_made s v name mark t lines named step).1;
+    }

@@ -1,14 +1,12 @@
 -- What served as a source for a file system serves so after a step, whatever was asked for.
-use Rattle.std.proofs.Common.{◌≡◌, ◌<◌, ℕ, Option, Some, None, Bool, true, false, not, ◌&&◌, List, [], ◌∷◌, ◌++◌, refl, sym, ap, subst, ◌∙◌, inl, inr, true≢false}
+use Rattle.std.proofs.Common.{◌≡◌, ◌<◌, ◌≤◌, ℕ, Option, Some, None, Bool, true, false, not, ◌&&◌, List, [], ◌∷◌, ◌++◌, refl, sym, ap, subst, ◌∙◌, inl, inr, true≢false, arith}
 use Rattle.std.specs.Prelude.{if◌then◌else◌, is_some}
-use Rattle.std.specs.List.{list_any}
 use Rattle.std.specs.Option.{option_map_or}
 use Rattle.std.specs.FinMap.{get, insert, remove, contains_key}
-use Rattle.base.specs.declared.refusal.Refusal.TheVariants.{Exists, NameClash}
+use Rattle.base.specs.declared.refusal.Refusal.TheVariants.{Exists}
 use Rattle.base.specs.Map.{Map}
 use Rattle.base.specs.Rewrite.{Changes, rewrite}
 use Rattle.base.specs.Surveys.{IsIn}
-use Rattle.name.specs.Names.{same_name}
 use Rattle.name.specs.declared.member.Member.{Member}
 use Rattle.name.specs.declared.target.Target.{Target}
 use Rattle.name.specs.declared.target.Target.TheVariants.{FileSystem as OfFileSystem, Snapshot as OfSnapshot, Bookmark as OfBookmark}
@@ -17,64 +15,96 @@ use Rattle.model.specs.declared.limits.Limit.{Limit}
 use Rattle.model.specs.declared.request.Request.{Request}
 use Rattle.model.specs.declared.request.Request.TheVariants.{Create as ToCreate, Write as ToWrite, Punch as ToPunch, FreeObject as ToFreeObject, Snapshot as ToSnapshot, Read as ToRead, Get as ToGet, PoolGet as ToPoolGet, List as ToList, Rollback as ToRollback, Destroy as ToDestroy, Slice as ToSlice, Sync as ToSync, OpenView as ToOpenView, CloseView as ToCloseView, Clone as ToClone, Promote as ToPromote, Hold as ToHold, Release as ToRelease, Holds as ToHolds, Bookmark as ToBookmark, WrittenSince as ToWrittenSince, WouldFree as ToWouldFree, Set as ToSet, Send as ToSend, Receive as ToReceive}
 use Rattle.model.specs.declared.reply.Reply.{Reply}
-use Rattle.model.specs.World.{World, FileSystem, Snap, Bookmark, id_of, empty_file_system, map_of_snap}
+use Rattle.model.specs.World.{World, FileSystem, Snap, SnapId, Bookmark, Snapped, id_of, empty_file_system, map_of, map_of_snap}
 use Rattle.model.specs.State.{State}
 use Rattle.model.specs.Rule.{Choice, Rule}
 use Rattle.model.specs.Edits.{with_file_system, with_tags, without_snaps, with_now}
 use Rattle.model.specs.Outcome.{is_needed, state_after_sweep, state_after}
-use Rattle.model.specs.Refusals.{state_asked, refusal_of}
+use Rattle.model.specs.Refusals.{refusal_of}
 use Rattle.model.specs.Step.{Step, Follows, done, refused, out_of_memory}
 use Rattle.model.specs.requests.{rule_of}
 use Rattle.model.specs.requests.Bookmark.{bookmarked, bookmark_of_snap}
-use Rattle.model.specs.requests.Change.{limit_row, state_after_change}
+use Rattle.model.specs.requests.Change.{state_after_change}
 use Rattle.model.specs.requests.Clone.{with_clone, clone_row, clone_rule}
 use Rattle.model.specs.requests.Create.{with_new_file_system, create_row, create_rule}
 use Rattle.model.specs.requests.Destroy.{file_systems_named, snaps_named, is_one_of, after_destroy}
 use Rattle.model.specs.requests.OpenView.{with_view}
-use Rattle.model.specs.requests.Promote.{Promotion, promotion_of, promoted_snaps, after_promotion, has_clash, promotion_row, promote_rule}
+use Rattle.model.specs.requests.Promote.{Promotion, promotion_of, after_promotion}
 use Rattle.model.specs.requests.Release.{without_tag}
 use Rattle.model.specs.requests.Rollback.{placed, back_at, after_rollback, rolled_back}
 use Rattle.model.specs.requests.Set.{after_set}
 use Rattle.model.specs.requests.Snapshot.{snapshots_taken, snapshot_names, guid_by}
-use Rattle.world.specs.Shapes.{Name, IsGood}
-use Rattle.world.specs.Worlds.{shapes, IsPoolState}
-use Rattle.world.proofs.Bridge.{snap_is_at}
-use Rattle.world.proofs.Finding.{any_none, name_itself}
-use Rattle.world.proofs.Maps.{same_value}
-use Rattle.world.proofs.Promotions.{promote_systems}
+use Rattle.world.specs.Dead.{IsThere}
+use Rattle.world.specs.Shapes.{Name}
+use Rattle.world.proofs.Maps.{same_value, no_value}
 use Rattle.world.proofs.ViewedRequests.{row_false, from_placed}
+use Rattle.laws.specs.Lineages.{IsOrdered, HasLineages, HasBirths}
 use Rattle.laws.specs.Bookmarks.{IsSource}
-use Rattle.laws.proofs.Edits.{went_same, went_written, went_back, same_later, one_later, without_later, deferred_later, tagged_later, added_later, left_later, taken_later}
+use Rattle.laws.proofs.Edits.{went_same, went_written, went_back, same_later, one_later, without_later, deferred_later, tagged_later, added_later, empty_later, left_later, taken_later}
 use Rattle.laws.proofs.Receiving.{got}
-use Rattle.laws.proofs.Sources.{IsLater, source_stays}
-use Rattle.laws.proofs.Turning.{live_turned, turned_source}
+use Rattle.laws.proofs.Lineages.{found}
+use Rattle.laws.proofs.Sources.{of_kept, was_there, source_stays, lineages_go_on}
+use Rattle.laws.proofs.Turning.{live_turned, turned_source, turned_ordered, turned_lineages, turned_births, turned_kept}
+use Rattle.laws.proofs.Births.{births_go_on}
+use Rattle.laws.proofs.Walking.{IsLater}
 
 -- each file system is there, and what served it as a source serves it so
-abbrev IsTurned : World → World → Type 0
+abbrev pub IsTurned : World → World → Type 0
 IsTurned w v =
     (name : Name) (f : FileSystem) → get w.file_systems name ≡ Some f
     → (e : FileSystem) × (get v.file_systems name ≡ Some e) × ((group : ℕ) (held : Map) → IsSource w name group held → IsSource v name group held)
 
+-- what a promote leaves in a world
+pub record IsPromoted (w v : World) : Type 0 where
+  pub order : IsOrdered v
+  pub lineages : HasLineages w → HasLineages v
+  pub births : HasBirths w → HasBirths v
+  pub group : v.group ≡ w.group
+  pub sources : IsTurned w v
+  pub kept : (id : SnapId) → IsThere v (Snapped id) → IsThere w (Snapped id) × (map_of v (Snapped id) ≡ map_of w (Snapped id))
+
 -- its file systems went on; or those of a world did that a promote led to
 pub data Became (w new : World) : Type 0 where
   went : IsLater w new → Became w new
-  turned : (v : World) → IsGood (shapes v.file_systems) v.group → v.group ≡ w.group → IsTurned w v → IsLater v new → Became w new
+  turned : (v : World) → IsPromoted w v → IsLater v new → Became w new
 
-module _ (w new : World) (good : IsGood (shapes w.file_systems) w.group) (good' : IsGood (shapes new.file_systems) new.group)
-    (name : Name) (f f' : FileSystem) (is : get w.file_systems name ≡ Some f) (is' : get new.file_systems name ≡ Some f')
+-- so lineages go on
+pub became_lineages : (w new : World) → HasLineages w → IsOrdered new → Became w new → HasLineages new
+became_lineages w new lines o' (went later) = lineages_go_on w new lines o' later
+became_lineages w new lines o' (turned v turn later) = lineages_go_on v new (turn.lineages lines) o' later
+
+-- and births are where they are to be
+pub became_births : (w new : World) → IsOrdered w → HasBirths w → w.group ≤ new.group → Became w new → HasBirths new
+became_births w new o births up (went later) = births_go_on w new o later births up
+became_births w new o births up (turned v turn later) = let g = turn.group in births_go_on v new turn.order later (turn.births births) (omega arith)
+
+-- a snapshot of a closed group was there, with its map
+pub became_kept : (w new : World) → IsOrdered w → IsOrdered new → Became w new → (id : SnapId) → id.group < w.group → IsThere new (Snapped id)
+    → IsThere w (Snapped id) × (map_of new (Snapped id) ≡ map_of w (Snapped id))
+became_kept w new o o' (went later) id low there = let was = was_there w new o o' later id low there in (was, of_kept w new o o' later id was there)
+became_kept w new o o' (turned v turn later) id low there =
+    let g = turn.group in
+    let mid = was_there v new turn.order o' later id (omega arith) there in
+    let was = turn.kept id mid in
+    (was.0, of_kept v new turn.order o' later id mid there ∙ was.1)
+
+-- and what served as a source in a bookmark's group serves so
+module _ (w new : World) (o : IsOrdered w) (o' : IsOrdered new) (name : Name) (f f' : FileSystem) (is : get w.file_systems name ≡ Some f) (is' : get new.file_systems name ≡ Some f')
     (at : List ℕ) (b : Bookmark) (marked : get f'.bookmarks at ≡ Some b) (closed : b.group < w.group) (held : Map) where
   pub became_source : Became w new → IsSource w name b.group held → IsSource new name b.group held
-  became_source (went later) source = source_stays w new good good' later name f f' is is' at b marked closed held source
-  became_source (turned v good_v group turn later) source =
-      let k = turn name f is in
-      source_stays v new good_v good' later name k.0 f' k.1 is' at b marked (subst (λ y. b.group < y) (sym group) closed) held (k.2 b.group held source)
+  became_source (went later) source =
+      source_stays w new o o' later name f f' is is' b.group closed (λ v h newest. newest.marks at b marked) held source
+  became_source (turned v turn later) source =
+      let k = turn.sources name f is in
+      source_stays v new turn.order o' later name k.0 f' k.1 is' b.group (subst (λ y. b.group < y) (sym turn.group) closed)
+      (λ u h newest. newest.marks at b marked) held (k.2 b.group held source)
 
 -- ---- the sweep
 
 became_swept : (w : World) (s : State) → Became w s.now → Became w (state_after_sweep s).now
 unfolding state_after_sweep
 became_swept w s (went later) = went (without_later w s.now (λ t. t.deferred && not (is_needed s.now s.views t)) later)
-became_swept w s (turned v good group turn later) = turned v good group turn (without_later v s.now (λ t. t.deferred && not (is_needed s.now s.views t)) later)
+became_swept w s (turned v turn later) = turned v turn (without_later v s.now (λ t. t.deferred && not (is_needed s.now s.views t)) later)
 
 -- ---- requests
 
@@ -94,22 +124,28 @@ took s (m ∷ ms) = taken_later s.now (guid_by s.pool s.next_guid) (m ∷ ms) s.
 
 created : (s : State) (name : Name) → refusal_of s (create_rule name) ≡ None → IsLater s.now (with_new_file_system s.now name)
 unfolding refusal_of
-created s name none = added_later s.now name empty_file_system refl
+created s name none = empty_later s.now name
     (absent (get s.now.file_systems name) (row_false (create_row s.now.file_systems name) none (contains_key s.now.file_systems name, Exists) (inl refl)))
 
 cloned : (s : State) (target : Target) (name : Name) → refusal_of s (clone_rule target name) ≡ None
     → IsLater s.now (option_map_or (λ p. with_now s (with_clone s.now (id_of p.1) name)) (placed s.now target) s).now
 unfolding refusal_of
-cloned s target name none = by_place (placed s.now target)
+cloned s target name none = by_place (placed s.now target) refl
   where
-    by_place : (x : Option (FileSystem × Snap))
+    by_place : (x : Option (FileSystem × Snap)) → placed s.now target ≡ x
         → IsLater s.now (option_map_or (λ (p : FileSystem × Snap). with_now s (with_clone s.now (id_of p.1) name)) x s).now
-    by_place None = same_later s.now
-    by_place (Some p) = added_later s.now name (record empty_file_system { live = map_of_snap s.now (Some (id_of p.1)); origin = Some (id_of p.1) }) refl
+    by_place None e = same_later s.now
+    by_place (Some p) e =
+        let k = from_placed s.now target p e in
+        added_later s.now name (record empty_file_system { live = map_of_snap s.now (Some (id_of p.1)); origin = Some (id_of p.1) }) refl
+        (λ id i.
+        let same = same_value (id_of p.1) id i in
+        ((k.0, p.0, p.1, k.1, k.2, same), ap (λ y. map_of s.now (Snapped y)) same))
+        (λ e. absurd (no_value (id_of p.1) (sym e)))
         (absent (get s.now.file_systems name) (row_false (clone_row s.now target name) none (contains_key s.now.file_systems name, Exists) (inr (inr (inr (inl refl))))))
 
-went_to_snap : (w : World) (good : IsGood (shapes w.file_systems) w.group) (target : Target) → IsLater w (rolled_back w target)
-went_to_snap w good target = by_place (placed w target) refl
+went_to_snap : (w : World) → IsOrdered w → (target : Target) → IsLater w (rolled_back w target)
+went_to_snap w o target = by_place (placed w target) refl
   where
     by_place : (x : Option (FileSystem × Snap)) → placed w target ≡ x
         → IsLater w (option_map_or (λ (p : FileSystem × Snap). after_rollback w (id_of p.1)) x w)
@@ -117,7 +153,7 @@ went_to_snap w good target = by_place (placed w target) refl
     by_place (Some p) e =
         let k = from_placed w target p e in
         subst (λ x. IsLater w (option_map_or (λ (p : Name × Snap). with_file_system w p.0 (λ f. back_at f p.1)) x w))
-        (sym (snap_is_at w w.group good k.0 p.0 p.1 (id_of p.1) k.1 k.2 refl))
+        (sym (found w o k.0 p.0 p.1 (id_of p.1) k.1 k.2 refl))
         (one_later w k.0 (λ f. back_at f p.1) (λ f at. went_back w.group f p.1 (subst (λ (x : FileSystem). IsIn x.snaps p.1) (same_value p.0 f (sym k.1 ∙ at)) k.2)))
 
 destroyed : (w : World) (needed : Snap → Bool) (target : Target) (recursive : Bool) → IsLater w (after_destroy w needed target recursive)
@@ -156,27 +192,22 @@ opened s target = by_place (placed s.now target)
     by_place None = same_later s.now
     by_place (Some p) = same_later s.now
 
--- a promote: no name clashes, since it isn't refused
-turned_over : (s : State) → IsPoolState s → (name : Name) → refusal_of s (promote_rule name) ≡ None
-    → Became s.now (option_map_or (λ p. with_now s (after_promotion s.now name p)) (promotion_of s.now name) s).now
-unfolding refusal_of
-turned_over s good name none = by_promotion (promotion_of s.now name) refl
-    (row_false (promotion_row s.now name ++ limit_row (state_asked s (promote_rule name))) none (option_map_or has_clash (promotion_of s.now name) false, NameClash) (inr (inr (inr (inl refl)))))
+-- a promote
+turned_over : (s : State) → IsOrdered s.now → (name : Name) → Became s.now (option_map_or (λ p. with_now s (after_promotion s.now name p)) (promotion_of s.now name) s).now
+turned_over s o name = by_promotion (promotion_of s.now name) refl
   where
-    apart : (p : Promotion) → has_clash p ≡ false → (t u : Snap) → IsIn (promoted_snaps p) t → IsIn p.clone.snaps u → t.name ≡ u.name → ⊥
-    apart p e t u h k same = true≢false (
-        sym (ap (same_name u.name) same ∙ name_itself u.name)
-        ∙ any_none (λ (v : Snap). same_name v.name t.name) p.clone.snaps
-        (any_none (λ (t : Snap). list_any (λ (v : Snap). same_name v.name t.name) p.clone.snaps) (promoted_snaps p) e t h) u k)
-
-    by_promotion : (x : Option Promotion) → promotion_of s.now name ≡ x → option_map_or has_clash x false ≡ false
-        → Became s.now (option_map_or (λ p. with_now s (after_promotion s.now name p)) x s).now
-    by_promotion None e free = went (same_later s.now)
-    by_promotion (Some p) e free = turned (after_promotion s.now name p) (promote_systems s.now good.now.systems name p e (apart p free)).lines refl
-        (λ q f at.
-        let k = live_turned s.now good.now.systems name p e (apart p free) q f at in
-        (k.0, k.1, turned_source s.now good.now.systems name p e (apart p free) q f at))
-        (same_later (after_promotion s.now name p))
+    by_promotion : (x : Option Promotion) → promotion_of s.now name ≡ x → Became s.now (option_map_or (λ p. with_now s (after_promotion s.now name p)) x s).now
+    by_promotion None e = went (same_later s.now)
+    by_promotion (Some p) e = turned (after_promotion s.now name p) (record {
+      order = turned_ordered s.now o name p e;
+      lineages = turned_lineages s.now o name p e;
+      births = turned_births s.now o name p e;
+      group = refl;
+      sources = λ q f at.
+          let k = live_turned s.now o name p e q f at in
+          (k.0, k.1, turned_source s.now o name p e q f at);
+      kept = turned_kept s.now o name p e;
+    }) (same_later (after_promotion s.now name p))
 
 -- ---- steps
 
@@ -192,8 +223,8 @@ followed s new r rule became (done h) = subst (λ (x : State). Became s.now x.no
 followed s new r rule became (refused h) = subst (λ (x : State). Became s.now x.now) (sym h.unchanged) (went (same_later s.now))
 followed s new r rule became (out_of_memory h) = subst (λ (x : State). Became s.now x.now) (sym h.unchanged) (went (same_later s.now))
 
-pub step_became : (q : Request) (r : Reply) (s new : State) → IsPoolState s → Step s q r new → Became s.now new.now
-step_became q r s new good step = followed s new r (rule_of q step.reading) (by_request q) step.follows
+pub step_became : (q : Request) (r : Reply) (s new : State) → IsOrdered s.now → Step s q r new → Became s.now new.now
+step_became q r s new o step = followed s new r (rule_of q step.reading) (by_request q) step.follows
   where
     by_request : (q : Request) (c : Choice) → refusal_of s (rule_of q step.reading) ≡ None
         → Became s.now ((rule_of q step.reading).after s c).now
@@ -206,14 +237,14 @@ step_became q r s new good step = followed s new r (rule_of q step.reading) (by_
     by_request (ToGet target property) c none = went (same_later s.now)
     by_request (ToPoolGet property) c none = went (same_later s.now)
     by_request ToList c none = went (same_later s.now)
-    by_request (ToRollback target later) c none = went (went_to_snap s.now good.now.systems.lines target)
+    by_request (ToRollback target later) c none = went (went_to_snap s.now o target)
     by_request (ToDestroy target recursive defer) c none = went (destroyed s.now (λ t. defer && is_needed s.now s.views t) target recursive)
     by_request (ToSlice count) c none = went (same_later s.now)
     by_request ToSync c none = went (same_later s.now)
     by_request (ToOpenView target) c none = went (opened s target)
     by_request (ToCloseView view) c none = went (same_later s.now)
     by_request (ToClone target name) c none = went (cloned s target name none)
-    by_request (ToPromote name) c none = turned_over s good name none
+    by_request (ToPromote name) c none = turned_over s o name
     by_request (ToHold tag target) c none = went (tagged s target (λ t. t.tags ++ tag ∷ []))
     by_request (ToRelease tag target) c none = went (tagged s target (λ t. without_tag t.tags tag))
     by_request (ToHolds target) c none = went (same_later s.now)
@@ -222,4 +253,4 @@ step_became q r s new good step = followed s new r (rule_of q step.reading) (by_
     by_request (ToWouldFree name first last) c none = went (same_later s.now)
     by_request (ToSet name limit amount) c none = went (set_one s.now name limit amount)
     by_request (ToSend target from) c none = went (same_later s.now)
-    by_request (ToReceive m bytes force) c none = went (got s m step.reading force c.number none)
+    by_request (ToReceive m bytes force) c none = went (got s o m step.reading force c.number none)

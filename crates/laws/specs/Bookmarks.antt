@@ -1,47 +1,34 @@
 -- What a bookmark promises in every run: the map that its snapshot had serves as a source for each later dataset of the lineage.
-use Rattle.std.specs.Prelude.{◌≡◌, ◌≤◌, ℕ, zero, suc, List, [], ◌∷◌, Some, IsTrue}
-use Rattle.std.specs.FinMap.{get}
-use Rattle.base.specs.declared.number.Key.{Key}
-use Rattle.base.specs.Key.{is_at_or_below}
-use Rattle.base.specs.Map.{Map, Cell}
+use Rattle.std.specs.Prelude.{◌≡◌, ◌≤◌, ℕ, List, [], ◌∷◌, Some}
+use Rattle.base.specs.Map.{Map}
 use Rattle.name.specs.declared.member.Member.{Member}
 use Rattle.name.specs.declared.target.Target.TheVariants.{Snapshot as OfSnapshot}
 use Rattle.model.specs.declared.request.Request.{Request}
 use Rattle.model.specs.declared.request.Request.TheVariants.{Bookmark as ToBookmark}
 use Rattle.model.specs.declared.reply.Reply.{Reply}
 use Rattle.model.specs.declared.reply.Reply.TheVariants.{Done}
-use Rattle.model.specs.World.{World, Snap, SnapId, Bookmark, Dataset, Live, Snapped, previous_of, map_of, snap_named, bookmark_named}
+use Rattle.model.specs.World.{World, Snap, Bookmark, Dataset, Live, map_of, snap_named, bookmark_named}
 use Rattle.model.specs.State.{State}
 use Rattle.model.specs.Step.{Step}
+use Rattle.model.specs.Run.{Run}
 use Rattle.model.specs.requests.Bookmark.{bookmark_of_snap}
 use Rattle.world.specs.Dead.{group_of}
-use Rattle.world.specs.Worlds.{IsPoolState}
-
--- e stands so many places before d in its lineage (On-Disk Specification, chapter 4: ds_prev_snap_obj)
-abbrev pub IsBefore : World → ℕ → Dataset → Dataset → Type 0
-IsBefore w zero d e = d ≡ e
-IsBefore w (suc k) d e = (id : SnapId) × (previous_of w d ≡ Some id) × IsBefore w k (Snapped id) e
-
--- what the map has and was born by this group, the held one has at the same key, in the same block and with the same bytes, and below it both
--- are the same (zfs-send(8), -i; On-Disk Specification, chapters 2 and 3)
-abbrev pub SharesUntil : ℕ → Map → Map → Type 0
-SharesUntil group held m =
-    (key below : Key) (c : Cell) → get m key ≡ Some c → c.birth ≤ group → IsTrue (is_at_or_below key below) → get held below ≡ get m below
+use Rattle.laws.specs.Lineages.{IsBefore, SharesUntil, HasLineages}
 
 -- What was held in this group serves as a source for a file system: it shares with its live map, and with each dataset before that whose
 -- group is not below this one, what they have from this group and before (zfs-send(8), -i with a bookmark; On-Disk Specification, chapter 4)
 abbrev pub IsSource : World → List ℕ → ℕ → Map → Type 0
 IsSource w name group held = (k : ℕ) (d : Dataset) → IsBefore w k (Live name) d → group ≤ group_of w d → SharesUntil group held (map_of w d)
 
--- a pool's state, in which the bookmark stands (zfs-bookmark(8); profile)
+-- a state in which the bookmark stands (zfs-bookmark(8))
 abbrev pub IsMarkedBy : Member → Bookmark → State → Type 0
-IsMarkedBy mark b s = IsPoolState s × (bookmark_named s.now mark ≡ Some b)
+IsMarkedBy mark b s = bookmark_named s.now mark ≡ Some b
 
--- A bookmark that is made of a snapshot has its guid and group, and what the snapshot has serves as a source for the file system; from a
--- pool's state this leads to one (zfs-bookmark(8); zfs-send(8), -i with a bookmark)
+-- a bookmark that is made of a snapshot has its guid and group, and what the snapshot has serves as a source for the file system
+-- (zfs-bookmark(8); zfs-send(8), -i with a bookmark)
 abbrev pub BookmarkMade : Type 0
 BookmarkMade =
-    (s u : State) (name mark : Member) (t : Snap) → IsPoolState s → snap_named s.now name ≡ Some t
+    (s u : State) (name mark : Member) (t : Snap) → HasLineages s.now → snap_named s.now name ≡ Some t
     → Step s (ToBookmark (OfSnapshot name) mark) Done u
     → IsMarkedBy mark (bookmark_of_snap t) u × IsSource u.now mark.file_system t.group t.map
 
@@ -52,10 +39,18 @@ IsRunWithin Holds s (q ∷ qs) (r ∷ rs) u = Holds s × ((t : State) × Step s 
 IsRunWithin Holds s _ _ u = ⊥
 
 -- What serves as a source in a bookmark's group serves so after each run in which the bookmark stands: whatever is written, received,
--- snapped, rolled back, cloned, promoted or destroyed meanwhile, its snapshot too. The states are a pool's: a step alone may give a new
--- block the number that another file system's new block of the same bytes has (zfs-send(8), -i with a bookmark; profile)
+-- snapped, rolled back, cloned, promoted or destroyed meanwhile, its snapshot too, and whatever numbers the steps choose (zfs-send(8), -i
+-- with a bookmark)
 abbrev pub BookmarkStands : Type 0
 BookmarkStands =
     (s u : State) (qs : List Request) (rs : List Reply) (mark : Member) (b : Bookmark) (held : Map)
-    → IsRunWithin (IsMarkedBy mark b) s qs rs u → IsSource s.now mark.file_system b.group held
+    → HasLineages s.now → IsRunWithin (IsMarkedBy mark b) s qs rs u → IsSource s.now mark.file_system b.group held
     → IsSource u.now mark.file_system b.group held
+
+-- So does what a snapshot had, once a bookmark is made of it, after each run at whose end the bookmark is there: also where it was destroyed
+-- meanwhile and made again, which only that very snapshot allows (zfs-bookmark(8); zfs-send(8), -i with a bookmark)
+abbrev pub BookmarkLasts : Type 0
+BookmarkLasts =
+    (s v u : State) (name mark : Member) (t : Snap) (qs : List Request) (rs : List Reply) → HasLineages s.now → snap_named s.now name ≡ Some t
+    → Step s (ToBookmark (OfSnapshot name) mark) Done v → Run v qs rs u → IsMarkedBy mark (bookmark_of_snap t) u
+    → IsSource u.now mark.file_system t.group t.map

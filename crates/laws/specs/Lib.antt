@@ -1,1 +1,4 @@
+pub mod Lineages
+pub mod Runs
 pub mod Bookmarks
+pub mod Views

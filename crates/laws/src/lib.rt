@@ -5,4 +5,4 @@
 
 mod runs;
 
-pub use runs::run_laws;
+pub use runs::{lineage_laws, run_laws};

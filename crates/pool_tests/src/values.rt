@@ -2,7 +2,7 @@
 use base::data::Data;
 use base::refusal::Refusal;
 use base::text::Bytes;
-use laws::run_laws;
+use laws::{lineage_laws, run_laws};
 use model::entry::{Entry, KeptReply};
 use model::names::Names;
 use model::reply::{Reply, Value};
@@ -156,6 +156,7 @@ fn properties_and_values_compared(rt: HostRuntime) {
             && !Value::Size(3).same(&Value::Number(3))
     );
     run_laws();
+    lineage_laws();
 }
 
 fn names(rt: &impl Abort, alloc: Global, first: &[u8]) -> Names {

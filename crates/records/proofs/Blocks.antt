@@ -10,14 +10,30 @@ use Rattle.base.specs.declared.number.Key.{Key}
 use Rattle.base.specs.Key.{is_at_or_below, parent, first_leaf}
 use Rattle.base.specs.Map.{Map, Cell, Block, block_of, IsTree}
 use Rattle.records.specs.Records.{SharesBlocks, AreBirthsRising, SharesUntil}
-use Rattle.records.specs.Laws.{BlocksAreEnough}
+use Rattle.records.specs.Laws.{BlocksAreEnough, OldBlocksAreEnough, SourcesBecomeSnapshots}
+use Rattle.records.proofs.Applied.{sends_difference}
 use Rattle.records.proofs.Keys.{over, covers_from, key_over, next_over, power_positive}
-use Rattle.world.proofs.Maps.{some_of}
+use Rattle.world.proofs.Maps.{same_value, no_value, some_of}
 use Rattle.records.proofs.Sent.{some_there}
 
 no_block : (o : Option Cell) → option_map block_of o ≡ None → o ≡ None
 no_block None e = refl
 no_block (Some c) e = cc
+
+module _ (g : ℕ) (s t : Map) (shares : SharesBlocks g s t) where
+  -- what is absent below a shared block is absent in the source
+  none_below : (k q : Key) (c : Cell) → get t k ≡ Some c → c.birth ≤ g → IsTrue (is_at_or_below k q) → get t q ≡ None → get s q ≡ get t q
+  none_below k q c there low at e = no_block (get s q) ((shares k c there low).below q at ∙ ap (option_map block_of) e) ∙ sym e
+
+  -- a shared block is the source's, bytes and all
+  one_cell : (q : Key) (y : Cell) → get t q ≡ Some y → y.birth ≤ g → get s q ≡ get t q
+  one_cell q y e old =
+      let r = shares q y e old in
+      let number = ap (λ (b : Block). b.number) r.block in
+      let birth = ap (λ (b : Block). b.birth) r.block in
+      let bytes = r.bytes in
+      let same : r.cell ≡ y = λ i. record { number = number i; birth = birth i; bytes = bytes i } in
+      r.there ∙ ap Some same ∙ sym e
 
 module _ (n : ℕ) (t : Map) (tree : IsTree n t) (rise : AreBirthsRising t) where
   births_up : (x l j : ℕ) (y : Cell) → l + j ≤ 5 → get t (over x l) ≡ Some y → (p : Cell) × (get t (over x (l + j)) ≡ Some p) × (y.birth ≤ p.birth)
@@ -53,15 +69,27 @@ module _ (n : ℕ) (t : Map) (tree : IsTree n t) (rise : AreBirthsRising t) wher
   below_same g s shares k q c there low at = by_cell (get t q) refl
     where
       by_cell : (o : Option Cell) → get t q ≡ o → get s q ≡ get t q
-      by_cell None e = no_block (get s q) ((shares k c there low).below q at ∙ ap (option_map block_of) e) ∙ sym e
-      by_cell (Some y) e =
-          let old = older_below k q c y at there e in
-          let r = shares q y e (omega (arith, old, low)) in
-          let number = ap (λ (b : Block). b.number) r.block in
-          let birth = ap (λ (b : Block). b.birth) r.block in
-          let bytes = r.bytes in
-          let same : r.cell ≡ y = λ i. record { number = number i; birth = birth i; bytes = bytes i } in
-          r.there ∙ ap Some same ∙ sym e
+      by_cell None e = none_below g s t shares k q c there low at e
+      by_cell (Some y) e = let old = older_below k q c y at there e in one_cell g s t shares q y e (omega (arith, old, low))
 
 pub blocks_are_enough : BlocksAreEnough
 blocks_are_enough n g s t tree rise shares = below_same n t tree rise g s shares
+
+-- what is below a block that was born by g is in the source the same block, so it was born by g too
+pub old_blocks_are_enough : OldBlocksAreEnough
+old_blocks_are_enough g s t born shares k q c there low at = by_cell (get t q) refl
+  where
+    by_source : (y : Cell) (o : Option Cell) → get s q ≡ o → option_map block_of o ≡ Some (block_of y) → y.birth ≤ g
+    by_source y None i e = absurd (no_value (block_of y) e)
+    by_source y (Some z) i e =
+        let old = born q z i in
+        let same = ap (λ (b : Block). b.birth) (same_value (block_of z) (block_of y) e) in
+        omega (arith, old, same)
+
+    by_cell : (o : Option Cell) → get t q ≡ o → get s q ≡ get t q
+    by_cell None e = none_below g s t shares k q c there low at e
+    by_cell (Some y) e =
+        one_cell g s t shares q y e (by_source y (get s q) refl ((shares k c there low).below q at ∙ ap (option_map block_of) e))
+
+pub sources_become_snapshots : SourcesBecomeSnapshots
+sources_become_snapshots n m g s t source tree born shares = sends_difference n m g s t source tree (old_blocks_are_enough g s t born shares)

@@ -6,7 +6,7 @@ use Rattle.base.specs.Map.{Map, IsTree, contents}
 use Rattle.base.specs.Rewrite.{Changes, changed_contents, rewrite, IsRewrite}
 use Rattle.stream.specs.Records.{records_since, apply_records, changes_of}
 use Rattle.stream.specs.Spelling.{Sending, AreGuids, IsStream, spell}
-use Rattle.records.specs.Records.{SharesUntil, SharesBlocks, AreBirthsRising, AreBorn}
+use Rattle.records.specs.Records.{SharesUntil, SharesBlocks, AreBirthsRising, AreBornBy, AreBorn}
 
 -- the records since group g, applied to what s holds, give what t holds, where s has what t has from that group and before (zfs-send(8), -i)
 abbrev pub SendsDifference : Type 0
@@ -19,6 +19,16 @@ FullSends = (n : ℕ) (t : Map) → IsTree n t → AreBorn t → apply_records (
 -- where the blocks are shared, what is below them is too (On-Disk Specification, chapters 2 and 3)
 abbrev pub BlocksAreEnough : Type 0
 BlocksAreEnough = (n g : ℕ) (s t : Map) → IsTree n t → AreBirthsRising t → SharesBlocks g s t → SharesUntil g s t
+
+-- and so it is where the source has no block that was born later (On-Disk Specification, chapters 2 and 3)
+abbrev pub OldBlocksAreEnough : Type 0
+OldBlocksAreEnough = (g : ℕ) (s t : Map) → AreBornBy g s → SharesBlocks g s t → SharesUntil g s t
+
+-- A snapshot is what its records make of a source: of every map with births up to group g, in which each block of the snapshot that was born
+-- by g is a block at the same key, with the same bytes and the same blocks below (zfs-send(8), -i)
+abbrev pub SourcesBecomeSnapshots : Type 0
+SourcesBecomeSnapshots =
+    (n m g : ℕ) (s t : Map) → IsTree n s → IsTree m t → AreBornBy g s → SharesBlocks g s t → apply_records (records_since t g) (contents s) ≡ contents t
 
 -- what a send says (zfs-send(8))
 abbrev pub sending_of : ℕ → ℕ → Map → ℕ → Sending

@@ -8,7 +8,7 @@ use Rattle.base.specs.Map.{Map, Cell, block_of}
 use Rattle.stream.specs.declared.record.Record.{Record}
 use Rattle.stream.specs.declared.record.Record.TheVariants.{Write, Free}
 use Rattle.stream.specs.Records.{start_of, end_of}
-pub use Rattle.laws.specs.Bookmarks.{SharesUntil}
+pub use Rattle.laws.specs.Lineages.{SharesUntil, AreBirthsRising}
 
 -- the key of a leaf (On-Disk Specification, chapter 3)
 abbrev pub leaf_key : ℕ → Key
@@ -59,9 +59,9 @@ pub record IsBlockOf (s t : Map) (k : Key) (c : Cell) : Type 0 where
 abbrev pub SharesBlocks : ℕ → Map → Map → Type 0
 SharesBlocks g s t = (k : Key) (c : Cell) → get t k ≡ Some c → c.birth ≤ g → IsBlockOf s t k c
 
--- no block is older than one below it, since a changed block is written anew with all that point to it (On-Disk Specification, chapter 3)
-abbrev pub AreBirthsRising : Map → Type 0
-AreBirthsRising t = (k : Key) (c p : Cell) → get t k ≡ Some c → get t (parent k) ≡ Some p → c.birth ≤ p.birth
+-- each block was born by this group (On-Disk Specification, chapter 2)
+abbrev pub AreBornBy : ℕ → Map → Type 0
+AreBornBy g s = (k : Key) (c : Cell) → get s k ≡ Some c → c.birth ≤ g
 
 -- each block was born in a group, and groups begin at 1 (On-Disk Specification, chapter 2)
 abbrev pub AreBorn : Map → Type 0

@@ -1,14 +1,17 @@
 //! What a send and a receive come to, as the contracts of functions without bodies.
-ghost use Rattle.records.specs.Laws.{SendsDifference, FullSends, BlocksAreEnough, SendsAreStreams, RewriteChangesContents, ReceivesDifference, FullReceives};
-ghost use Rattle.records.specs.Sends.{FullSendOf, SourceSends, SnapshotSends, BookmarkSends};
+ghost use Rattle.records.specs.Laws.{SendsDifference, FullSends, BlocksAreEnough, OldBlocksAreEnough, SourcesBecomeSnapshots, SendsAreStreams, RewriteChangesContents, ReceivesDifference, FullReceives};
+ghost use Rattle.records.specs.Sends.{FullSendOf, FullSendAfter, SourceSends, SnapshotSends, BookmarkSends, HistorySends};
 
 /// The records of an incremental send carry what the source holds to what the sent map holds, where the source has all that the sent map has
-/// from the source's group and before; that is so where it has the same blocks (zfs-send(8), -i). The records of a full send carry nothing to
-/// what the sent map holds. What a send spells is a stream, which says its records.
+/// from the source's group and before (zfs-send(8), -i). That is so where it has the same blocks, at the same keys, with the same bytes and the
+/// same blocks below, and itself no block that was born later; or where births rise in the sent map. The records of a full send carry nothing
+/// to what the sent map holds. What a send spells is a stream, which says its records.
 pub fn send_laws()
     ensures difference { SendsDifference }
     ensures full { FullSends }
     ensures blocks { BlocksAreEnough }
+    ensures old_blocks { OldBlocksAreEnough }
+    ensures sources { SourcesBecomeSnapshots }
     ensures streams { SendsAreStreams }
 {}
 
@@ -20,13 +23,17 @@ pub fn receive_laws()
     ensures full { FullReceives }
 {}
 
-/// In every state of a pool a full send of a dataset gives what it holds; and the records since the group of a source carry what the source
-/// held to what each dataset holds that is as late or later in the source's lineage. A snapshot of the lineage is such a source, the origin of a clone
-/// and those before it too, and so is the snapshot that a bookmark was made of, in each later state of a run in which the bookmark stands, even
-/// where the snapshot was destroyed (zfs-send(8), -i).
+/// In every state of a pool, and in each that a run leads to from a new one (`lineage_laws` of `laws`: births and numbers last), a full send of a
+/// dataset gives what it holds. In a state with lineages (each of a pool, and each that a run leads to from one with lineages), whose numbers each
+/// name one block, the records since the group of a source carry what the source held to what each dataset holds that is as late or later in the
+/// source's lineage. A snapshot of the lineage is such a source, the origin of a clone and those before it too, and so is the snapshot that a
+/// bookmark was made of, after each run at whose end the bookmark is there, even where the snapshot was destroyed (zfs-send(8), -i). So it is in a history that has a
+/// bookmark made: of a snapshot that was there then.
 pub fn dataset_send_laws()
     ensures full { FullSendOf }
+    ensures full_after { FullSendAfter }
     ensures sources { SourceSends }
     ensures snapshots { SnapshotSends }
     ensures bookmarks { BookmarkSends }
+    ensures histories { HistorySends }
 {}

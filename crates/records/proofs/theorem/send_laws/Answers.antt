@@ -1,5 +1,5 @@
 use Rattle.records.proofs.Applied.{sends_difference, full_sends}
-use Rattle.records.proofs.Blocks.{blocks_are_enough}
+use Rattle.records.proofs.Blocks.{blocks_are_enough, old_blocks_are_enough, sources_become_snapshots}
 use Rattle.records.proofs.Ordered.{sends_are_streams}
 use Rattle.records.proofs.theorem.send_laws.Goals as goal
 
@@ -11,6 +11,12 @@ returns-clause-full c = full_sends
 
 pub returns-clause-blocks : goal.returns-clause-blocks
 returns-clause-blocks c = blocks_are_enough
+
+pub returns-clause-old_blocks : goal.returns-clause-old_blocks
+returns-clause-old_blocks c = old_blocks_are_enough
+
+pub returns-clause-sources : goal.returns-clause-sources
+returns-clause-sources c = sources_become_snapshots
 
 pub returns-clause-streams : goal.returns-clause-streams
 returns-clause-streams c = sends_are_streams

@@ -1,0 +1,319 @@
+-- Where bookmarks come from: each that stands after a step stood before, or is made in it of a snapshot of its file system.
+use Rattle.std.proofs.Common.{◌≡◌, ℕ, ◌+◌, Bool, true, false, not, ◌&&◌, ◌||◌, List, [], ◌∷◌, ◌++◌, Option, Some, None, refl, sym, ap, subst, ◌∙◌, ◌⊎◌, inl, inr, ⊎_elim, map}
+use Rattle.std.specs.Prelude.{if◌then◌else◌, ◌==◌}
+use Rattle.std.specs.List.{filter, find, list_any}
+use Rattle.std.specs.Option.{option_map, option_map_or, option_and_then}
+use Rattle.std.specs.FinMap.{get, insert, remove, get-empty}
+use Rattle.base.specs.declared.number.Key.{Key}
+use Rattle.base.specs.declared.refusal.Refusal.TheVariants.{NotAncestor}
+use Rattle.base.specs.Rewrite.{Changes, rewrite}
+use Rattle.base.specs.Surveys.{IsIn}
+use Rattle.name.specs.Names.{name_cmp, same_name}
+use Rattle.name.specs.declared.member.Member.{Member}
+use Rattle.name.specs.declared.target.Target.{Target}
+use Rattle.name.specs.declared.target.Target.TheVariants.{FileSystem as OfFileSystem, Snapshot as OfSnapshot, Bookmark as OfBookmark}
+use Rattle.stream.specs.Records.{changes_of}
+use Rattle.stream.specs.Spelling.{Sending}
+use Rattle.model.specs.Limits.{limited}
+use Rattle.model.specs.declared.request.Request.{Request}
+use Rattle.model.specs.declared.request.Request.TheVariants.{Create as ToCreate, Write as ToWrite, Punch as ToPunch, FreeObject as ToFreeObject, Snapshot as ToSnapshot, Read as ToRead, Get as ToGet, PoolGet as ToPoolGet, List as ToList, Rollback as ToRollback, Destroy as ToDestroy, Slice as ToSlice, Sync as ToSync, OpenView as ToOpenView, CloseView as ToCloseView, Clone as ToClone, Promote as ToPromote, Hold as ToHold, Release as ToRelease, Holds as ToHolds, Bookmark as ToBookmark, WrittenSince as ToWrittenSince, WouldFree as ToWouldFree, Set as ToSet, Send as ToSend, Receive as ToReceive}
+use Rattle.model.specs.declared.reply.Reply.{Reply}
+use Rattle.model.specs.World.{World, FileSystem, Snap, SnapId, Bookmark, id_of, same_id, snap_at, empty_file_system, map_of_snap}
+use Rattle.model.specs.State.{State}
+use Rattle.model.specs.Rule.{Choice, Rule}
+use Rattle.model.specs.Edits.{with_file_system, with_file_systems, with_losses, with_tags, with_now, after_change, without_snaps}
+use Rattle.model.specs.Outcome.{is_needed, state_after_sweep, state_after}
+use Rattle.model.specs.Refusals.{refusal_of}
+use Rattle.model.specs.Step.{Step, Follows, done, refused, out_of_memory}
+use Rattle.model.specs.requests.{rule_of}
+use Rattle.model.specs.requests.Bookmark.{bookmarked, bookmark_of_snap, bookmark_row, bookmark_rule, is_beside}
+use Rattle.model.specs.requests.Change.{state_after_change}
+use Rattle.model.specs.requests.Clone.{with_clone}
+use Rattle.model.specs.requests.Create.{with_new_file_system}
+use Rattle.model.specs.requests.Destroy.{file_systems_named, snaps_named, is_one_of, with_deferred, after_destroy}
+use Rattle.model.specs.requests.OpenView.{with_view}
+use Rattle.model.specs.requests.Promote.{Promotion, promotion_of, promoted, demoted, after_promotion}
+use Rattle.model.specs.requests.Receive.{newest_of, back_to_newest, forced_back, before_receive, received, state_received}
+use Rattle.model.specs.requests.Release.{without_tag}
+use Rattle.model.specs.requests.Rollback.{placed, back_at, after_rollback, rolled_back}
+use Rattle.model.specs.requests.Snapshot.{snap_of_live, with_snapshots, snapshots_taken, snapshot_names, guid_by}
+use Rattle.world.specs.RunLaws.{HasSnap}
+use Rattle.world.specs.Shapes.{Name, name_order}
+use Rattle.world.proofs.Families.{from_retained}
+use Rattle.world.proofs.Finding.{from_find, one_name}
+use Rattle.world.proofs.Maps.{same_value, no_value, key_cases, get-insert_same, get-insert_other, get-remove_same, get-remove_other}
+use Rattle.world.proofs.Promotions.{IsPromotion, promotion_is}
+use Rattle.world.proofs.Put.{put_cases}
+use Rattle.world.proofs.Sweep.{get-with_file_systems}
+use Rattle.world.proofs.ViewedRequests.{row_false}
+use Rattle.laws.proofs.Edits.{marks_left}
+
+-- the file system of that name has the bookmark, under this name
+abbrev pub HasMark : World → Name → List ℕ → Bookmark → Type 0
+HasMark w a at b = (f : FileSystem) × (get w.file_systems a ≡ Some f) × (get f.bookmarks at ≡ Some b)
+
+-- no bookmark is new
+abbrev MarksKept : World → World → Type 0
+MarksKept w new = (a : Name) (at : List ℕ) (b : Bookmark) → HasMark new a at b → HasMark w a at b
+
+-- each is an earlier one, or is made of a snapshot of its file system
+abbrev pub MarksFrom : World → World → Type 0
+MarksFrom w new = (a : Name) (at : List ℕ) (b : Bookmark) → HasMark new a at b → HasMark w a at b ⊎ ((t : Snap) × HasSnap w a t × (b ≡ bookmark_of_snap t))
+
+-- ---- edits
+
+put_kept : (w : World) (name : Name) (x : FileSystem) → ((at : List ℕ) (b : Bookmark) → get x.bookmarks at ≡ Some b → HasMark w name at b)
+    → MarksKept w (record w { file_systems = insert w.file_systems name x })
+put_kept w name x each a at b (f, is, h) = ⊎_elim
+    (λ k. subst (λ n. HasMark w n at b) (sym k.0) (each at b (ap (λ (y : FileSystem). get y.bookmarks at) (sym k.1) ∙ h)))
+    (λ k. (f, k.1, h))
+    (put_cases w.file_systems name x a f is)
+
+one_kept : (w : World) (name : Name) (change : FileSystem → FileSystem)
+    → ((f : FileSystem) (at : List ℕ) (b : Bookmark) → get (change f).bookmarks at ≡ Some b → get f.bookmarks at ≡ Some b) → MarksKept w (with_file_system w name change)
+one_kept w name change each = by_system (get w.file_systems name) refl
+  where
+    by_system : (x : Option FileSystem) → get w.file_systems name ≡ x
+        → MarksKept w (option_map_or (λ s. record w { file_systems = insert w.file_systems name (change s) }) x w)
+    by_system None e = λ a at b h. h
+    by_system (Some s) e = put_kept w name (change s) (λ at b h. (s, e, each s at b h))
+
+all_kept : (w : World) (change : List ℕ → FileSystem → FileSystem) → ((a : Name) (f : FileSystem) → (change a f).bookmarks ≡ f.bookmarks)
+    → MarksKept w (with_file_systems w change)
+all_kept w change same a at b (later, is, h) = by_old (get w.file_systems a) refl (sym (get-with_file_systems w change a) ∙ is)
+  where
+    by_old : (x : Option FileSystem) → get w.file_systems a ≡ x → option_map (change a) x ≡ Some later → HasMark w a at b
+    by_old None e k = absurd (no_value later k)
+    by_old (Some f) e k =
+        (f, e, ap (λ m. get m at) (sym (same a f)) ∙ ap (λ (x : FileSystem). get x.bookmarks at) (same_value (change a f) later k) ∙ h)
+
+empty_kept : (w : World) (name : Name) (f : FileSystem) → f.bookmarks ≡ empty_file_system.bookmarks → MarksKept w (record w { file_systems = insert w.file_systems name f })
+empty_kept w name f bare = put_kept w name f (λ at b h. absurd (no_value b (sym (get-empty name_cmp at) ∙ ap (λ m. get m at) (sym bare) ∙ h)))
+
+without_kept : (w : World) (goes : Snap → Bool) → MarksKept w (without_snaps w goes)
+without_kept w goes = all_kept w (λ _ s. record s { snaps = filter (λ t. not (goes t)) s.snaps }) (λ a f. refl)
+
+deferred_kept : (w : World) (some : Snap → Bool) → MarksKept w (with_deferred w some)
+deferred_kept w some = all_kept w (λ _ f. record f { snaps = map {A = Snap} (λ t. record t { deferred = t.deferred || some t }) f.snaps }) (λ a f. refl)
+
+tags_kept : (w : World) (id : SnapId) (tags : List (List ℕ)) → MarksKept w (with_tags w id tags)
+tags_kept w id tags = all_kept w (λ _ f. record f { snaps = map {A = Snap} (λ t. if same_id (id_of t) id then record t { tags = tags } else t) f.snaps }) (λ a f. refl)
+
+written_kept : (w : World) (name : Name) (ch : Changes) (number : Key → ℕ) → MarksKept w (after_change w name ch number)
+written_kept w name ch number = one_kept w name (λ f. record f { live = rewrite f.live ch w.group number }) (λ f at b h. h)
+
+taken_kept : (ms : List Member) (w : World) (guid : ℕ) → MarksKept w (with_snapshots w guid ms)
+taken_kept [] w guid a at b h = h
+taken_kept (m ∷ ms) w guid a at b h =
+    one_kept w m.file_system (λ s. record s { snaps = s.snaps ++ snap_of_live w s m.component guid ∷ [] }) (λ f mark c k. k) a at b
+    (taken_kept ms (with_file_system w m.file_system (λ s. record s { snaps = s.snaps ++ snap_of_live w s m.component guid ∷ [] })) (guid + 1) a at b h)
+
+rolled_kept : (w : World) (target : Target) → MarksKept w (rolled_back w target)
+rolled_kept w target = by_place (placed w target)
+  where
+    by_snap : (x : Option (Name × Snap)) → MarksKept w (option_map_or (λ (p : Name × Snap). with_file_system w p.0 (λ f. back_at f p.1)) x w)
+    by_snap None = λ a at b h. h
+    by_snap (Some p) = one_kept w p.0 (λ f. back_at f p.1) (λ f at b h. (marks_left f.bookmarks p.1.group at b h).0)
+
+    by_place : (x : Option (FileSystem × Snap)) → MarksKept w (option_map_or (λ (p : FileSystem × Snap). after_rollback w (id_of p.1)) x w)
+    by_place None = λ a at b h. h
+    by_place (Some p) = by_snap (snap_at w (id_of p.1))
+
+removed_kept : (w : World) (m : Member) → MarksKept w (with_file_system w m.file_system (λ f. record f { bookmarks = remove f.bookmarks m.component }))
+removed_kept w m = one_kept w m.file_system (λ f. record f { bookmarks = remove f.bookmarks m.component }) (λ f at b h. ⊎_elim
+    (λ (same : at ≡ m.component).
+    absurd (no_value b (sym (get-remove_same name_order f.bookmarks m.component) ∙ ap (get (remove f.bookmarks m.component)) (sym same) ∙ h)))
+    (λ (ne : ¬ (at ≡ m.component)). sym (get-remove_other name_order f.bookmarks m.component at ne) ∙ h)
+    (key_cases name_order at m.component))
+
+destroyed_kept : (w : World) (needed : Snap → Bool) (target : Target) (recursive : Bool) → MarksKept w (after_destroy w needed target recursive)
+destroyed_kept w needed (OfFileSystem name) recursive = λ a at b (f, is, h).
+    (f, (from_retained w.file_systems (λ n. not (list_any (same_name n) (file_systems_named w name recursive))) a f is).1, h)
+destroyed_kept w needed (OfSnapshot m) recursive = λ a at b h.
+    let goes = λ (t : Snap). is_one_of (snaps_named w m recursive) t && not (needed t) in
+    without_kept w goes a at b (deferred_kept (without_snaps w goes) (λ t. is_one_of (snaps_named w m recursive) t && needed t) a at b h)
+destroyed_kept w needed (OfBookmark m) recursive = removed_kept w m
+
+promoted_kept : (w : World) (name : Name) (p : Promotion) → promotion_of w name ≡ Some p → MarksKept w (after_promotion w name p)
+promoted_kept w name p is a at b (f, here, h) =
+    let P : IsPromotion w name p = promotion_is w name p is in
+    ⊎_elim
+    (λ (k : (a ≡ name) × (f ≡ promoted p)). (p.clone, ap (get w.file_systems) k.0 ∙ P.clone_at, ap (λ (x : FileSystem). get x.bookmarks at) (sym k.1) ∙ h))
+    (λ (k : (¬ (a ≡ name)) × (get (insert w.file_systems p.owner (demoted p)) a ≡ Some f)). ⊎_elim
+    (λ (l : (a ≡ p.owner) × (f ≡ demoted p)). (p.system, ap (get w.file_systems) l.0 ∙ P.owner_at, ap (λ (x : FileSystem). get x.bookmarks at) (sym l.1) ∙ h))
+    (λ (l : (¬ (a ≡ p.owner)) × (get w.file_systems a ≡ Some f)). (f, l.1, h))
+    (put_cases w.file_systems p.owner (demoted p) a f k.1))
+    (put_cases (insert w.file_systems p.owner (demoted p)) name (promoted p) a f here)
+
+before_kept : (w : World) (m : Member) (sent : Sending) (force : Bool) → MarksKept w (before_receive w m.file_system sent force)
+before_kept w m sent force = by_source (sent.source == 0) force
+  where
+    forced : (x : Option Snap) → MarksKept w (option_map_or (λ t. with_losses w (with_file_system w m.file_system (back_to_newest t))) x w)
+    forced None = λ a at b h. h
+    forced (Some t) = one_kept w m.file_system (back_to_newest t) (λ f at b h. (marks_left f.bookmarks t.group at b h).0)
+
+    by_source : (c f : Bool) → MarksKept w (if c then with_new_file_system w m.file_system else if f then forced_back w m.file_system else w)
+    by_source true f = empty_kept w m.file_system empty_file_system refl
+    by_source false true = forced (newest_of w m.file_system)
+    by_source false false = λ a at b h. h
+
+received_kept : (w : World) (m : Member) (sent : Sending) (force : Bool) (number : Key → ℕ) → MarksKept w (received w m sent force number)
+unfolding received
+received_kept w m sent force number a at b h =
+    let v = before_receive w m.file_system sent force in
+    let u = after_change v m.file_system (changes_of sent.records) number in
+    before_kept w m sent force a at b (written_kept v m.file_system (changes_of sent.records) number a at b (taken_kept (m ∷ []) u sent.target a at b h))
+
+-- ---- a bookmark made
+
+-- the snapshot of a name is its file system's
+named_there : (w : World) (m : Member) (p : FileSystem × Snap) → placed w (OfSnapshot m) ≡ Some p → HasSnap w m.file_system p.1
+named_there w m p e = by_system (get w.file_systems m.file_system) refl e
+  where
+    by_snap : (f : FileSystem) → get w.file_systems m.file_system ≡ Some f → (y : Option Snap) → find (λ (t : Snap). same_name t.name m.component) f.snaps ≡ y
+        → option_map (λ t. (f, t)) y ≡ Some p → HasSnap w m.file_system p.1
+    by_snap f at None i k = absurd (no_value p k)
+    by_snap f at (Some t) i k =
+        (f, at, subst (IsIn f.snaps) (ap (λ (x : FileSystem × Snap). x.1) (same_value (f, t) p k)) (from_find (λ (t : Snap). same_name t.name m.component) f.snaps t i).0)
+
+    by_system : (x : Option FileSystem) → get w.file_systems m.file_system ≡ x
+        → option_and_then (λ f. option_map (λ t. (f, t)) (option_and_then (λ (s : FileSystem). find (λ (t : Snap). same_name t.name m.component) s.snaps) x)) x ≡ Some p
+        → HasSnap w m.file_system p.1
+    by_system None i k = absurd (no_value p k)
+    by_system (Some f) i k = by_snap f i (find (λ (t : Snap). same_name t.name m.component) f.snaps) refl k
+
+made_from : (s : State) (target : Target) (mark : Member) → refusal_of s (bookmark_rule target mark) ≡ None → MarksFrom s.now (bookmarked s.now target mark)
+unfolding refusal_of
+made_from s target mark none = by_target target (row_false (bookmark_row s.now target mark) none (not (is_beside target mark), NotAncestor) (inr (inr (inl refl))))
+  where
+    is_true : (b : Bool) → not b ≡ false → b ≡ true
+    is_true true e = refl
+    is_true false e = cc
+
+    by_place : (m : Member) → m.file_system ≡ mark.file_system → (x : Option (FileSystem × Snap)) → placed s.now (OfSnapshot m) ≡ x
+        → MarksFrom s.now (option_map_or (λ (p : FileSystem × Snap). with_file_system s.now mark.file_system (λ f. record f { bookmarks = insert f.bookmarks mark.component (bookmark_of_snap p.1) })) x s.now)
+    by_place m same None e = λ a at b h. inl h
+    by_place m same (Some p) e = by_system (get s.now.file_systems mark.file_system) refl
+      where
+        noted : FileSystem → FileSystem
+        noted f = record f { bookmarks = insert f.bookmarks mark.component (bookmark_of_snap p.1) }
+
+        snap : HasSnap s.now mark.file_system p.1
+        snap = subst (λ n. HasSnap s.now n p.1) same (named_there s.now m p e)
+
+        by_system : (x : Option FileSystem) → get s.now.file_systems mark.file_system ≡ x
+            → MarksFrom s.now (option_map_or (λ f. record s.now { file_systems = insert s.now.file_systems mark.file_system (noted f) }) x s.now)
+        by_system None i = λ a at b h. inl h
+        by_system (Some f) i = λ a at b (later, is, h). ⊎_elim
+            (λ (k : (a ≡ mark.file_system) × (later ≡ noted f)).
+            let here = ap (λ (x : FileSystem). get x.bookmarks at) (sym k.1) ∙ h in
+            ⊎_elim
+            (λ (q : at ≡ mark.component).
+            let one = same_value (bookmark_of_snap p.1) b
+            (sym (get-insert_same name_order f.bookmarks mark.component (bookmark_of_snap p.1)) ∙ ap (get (insert f.bookmarks mark.component (bookmark_of_snap p.1))) (sym q) ∙ here) in
+            inr (p.1, subst (λ n. HasSnap s.now n p.1) (sym k.0) snap, sym one))
+            (λ (ne : ¬ (at ≡ mark.component)).
+            inl (f, ap (get s.now.file_systems) k.0 ∙ i, sym (get-insert_other name_order f.bookmarks mark.component (bookmark_of_snap p.1) at ne) ∙ here))
+            (key_cases name_order at mark.component))
+            (λ (k : (¬ (a ≡ mark.file_system)) × (get s.now.file_systems a ≡ Some later)). inl (later, k.1, h))
+            (put_cases s.now.file_systems mark.file_system (noted f) a later is)
+
+    by_target : (target : Target) → not (is_beside target mark) ≡ false → MarksFrom s.now (bookmarked s.now target mark)
+    by_target (OfFileSystem name) e = λ a at b h. inl h
+    by_target (OfBookmark m) e = λ a at b h. inl h
+    by_target (OfSnapshot m) e = by_place m (one_name m.file_system mark.file_system (is_true (same_name m.file_system mark.file_system) e)) (placed s.now (OfSnapshot m)) refl
+
+-- ---- requests
+
+changed : (s : State) (target : Target) (changes : Changes) (c : Choice) → MarksKept s.now (state_after_change s target changes c).now
+changed s (OfFileSystem name) changes c = written_kept s.now name changes c.number
+changed s (OfSnapshot m) changes c = λ a at b h. h
+changed s (OfBookmark m) changes c = λ a at b h. h
+
+took : (s : State) (ms : List Member) → MarksKept s.now (snapshots_taken s ms).now
+took s [] = λ a at b h. h
+took s (m ∷ ms) = taken_kept (m ∷ ms) s.now (guid_by s.pool s.next_guid)
+
+opened : (s : State) (target : Target) → MarksKept s.now (option_map_or (λ p. with_view s p.1) (placed s.now target) s).now
+opened s target = by_place (placed s.now target)
+  where
+    by_place : (x : Option (FileSystem × Snap)) → MarksKept s.now (option_map_or (λ (p : FileSystem × Snap). with_view s p.1) x s).now
+    by_place None = λ a at b h. h
+    by_place (Some p) = λ a at b h. h
+
+cloned : (s : State) (target : Target) (name : Name) → MarksKept s.now (option_map_or (λ p. with_now s (with_clone s.now (id_of p.1) name)) (placed s.now target) s).now
+cloned s target name = by_place (placed s.now target)
+  where
+    by_place : (x : Option (FileSystem × Snap)) → MarksKept s.now (option_map_or (λ (p : FileSystem × Snap). with_now s (with_clone s.now (id_of p.1) name)) x s).now
+    by_place None = λ a at b h. h
+    by_place (Some p) = empty_kept s.now name (record empty_file_system { live = map_of_snap s.now (Some (id_of p.1)); origin = Some (id_of p.1) }) refl
+
+turned : (s : State) (name : Name) → MarksKept s.now (option_map_or (λ p. with_now s (after_promotion s.now name p)) (promotion_of s.now name) s).now
+turned s name = by_promotion (promotion_of s.now name) refl
+  where
+    by_promotion : (x : Option Promotion) → promotion_of s.now name ≡ x → MarksKept s.now (option_map_or (λ p. with_now s (after_promotion s.now name p)) x s).now
+    by_promotion None e = λ a at b h. h
+    by_promotion (Some p) e = promoted_kept s.now name p e
+
+tagged : (w : World) (target : Target) (tags : Snap → List (List ℕ)) → MarksKept w (option_map_or (λ (p : FileSystem × Snap). with_tags w (id_of p.1) (tags p.1)) (placed w target) w)
+tagged w target tags = by_place (placed w target)
+  where
+    by_place : (x : Option (FileSystem × Snap)) → MarksKept w (option_map_or (λ (p : FileSystem × Snap). with_tags w (id_of p.1) (tags p.1)) x w)
+    by_place None = λ a at b h. h
+    by_place (Some p) = tags_kept w (id_of p.1) (tags p.1)
+
+got : (s : State) (m : Member) (reading : Option Sending) (force : Bool) (number : Key → ℕ) → MarksKept s.now (state_received s m reading force number).now
+got s m None force number = λ a at b h. h
+got s m (Some sent) force number = received_kept s.now m sent force number
+
+-- ---- steps
+
+followed : (s new : State) (r : Reply) (rule : Rule) → ((c : Choice) → refusal_of s rule ≡ None → MarksFrom s.now (rule.after s c).now) → Follows s rule r new
+    → MarksFrom s.now new.now
+unfolding state_after state_after_sweep
+followed s new r rule after (done h) = subst (λ (x : State). MarksFrom s.now x.now) (sym h.new_is) (by_reading rule.only_reads)
+  where
+    swept : MarksFrom s.now (state_after_sweep (rule.after s h.choice)).now
+    swept a at b k =
+        let x = rule.after s h.choice in
+        after h.choice h.not_refused a at b (without_kept x.now (λ t. t.deferred && not (is_needed x.now x.views t)) a at b k)
+
+    by_reading : (c : Bool) → MarksFrom s.now (if c then s else state_after_sweep (rule.after s h.choice)).now
+    by_reading true = λ a at b k. inl k
+    by_reading false = swept
+followed s new r rule after (refused h) = subst (λ (x : State). MarksFrom s.now x.now) (sym h.unchanged) (λ a at b k. inl k)
+followed s new r rule after (out_of_memory h) = subst (λ (x : State). MarksFrom s.now x.now) (sym h.unchanged) (λ a at b k. inl k)
+
+pub step_marks : (q : Request) (r : Reply) (s new : State) → Step s q r new → MarksFrom s.now new.now
+step_marks q r s new step = followed s new r (rule_of q step.reading) (by_request q) step.follows
+  where
+    same : MarksFrom s.now s.now
+    same a at b h = inl h
+
+    by_request : (q : Request) (c : Choice) → refusal_of s (rule_of q step.reading) ≡ None → MarksFrom s.now ((rule_of q step.reading).after s c).now
+    by_request (ToCreate name) c none = λ a at b h. inl (empty_kept s.now name empty_file_system refl a at b h)
+    by_request (ToWrite target object block bytes) c none = λ a at b h. inl (changed s target _ c a at b h)
+    by_request (ToPunch target object block) c none = λ a at b h. inl (changed s target _ c a at b h)
+    by_request (ToFreeObject target object) c none = λ a at b h. inl (changed s target _ c a at b h)
+    by_request (ToSnapshot names recursive) c none = λ a at b h. inl (took s (snapshot_names s.now names recursive) a at b h)
+    by_request (ToRead target object block) c none = same
+    by_request (ToGet target property) c none = same
+    by_request (ToPoolGet property) c none = same
+    by_request ToList c none = same
+    by_request (ToRollback target later) c none = λ a at b h. inl (rolled_kept s.now target a at b h)
+    by_request (ToDestroy target recursive defer) c none = λ a at b h. inl (destroyed_kept s.now (λ t. defer && is_needed s.now s.views t) target recursive a at b h)
+    by_request (ToSlice count) c none = same
+    by_request ToSync c none = same
+    by_request (ToOpenView target) c none = λ a at b h. inl (opened s target a at b h)
+    by_request (ToCloseView view) c none = same
+    by_request (ToClone target name) c none = λ a at b h. inl (cloned s target name a at b h)
+    by_request (ToPromote name) c none = λ a at b h. inl (turned s name a at b h)
+    by_request (ToHold tag target) c none = λ a at b h. inl (tagged s.now target (λ t. t.tags ++ tag ∷ []) a at b h)
+    by_request (ToRelease tag target) c none = λ a at b h. inl (tagged s.now target (λ t. without_tag t.tags tag) a at b h)
+    by_request (ToHolds target) c none = same
+    by_request (ToBookmark target mark) c none = made_from s target mark none
+    by_request (ToWrittenSince target since) c none = same
+    by_request (ToWouldFree name first last) c none = same
+    by_request (ToSet name limit amount) c none = λ a at b h. inl (one_kept s.now name (λ f. limited f limit amount) (λ f at b h. h) a at b h)
+    by_request (ToSend target from) c none = same
+    by_request (ToReceive m bytes force) c none = λ a at b h. inl (got s m step.reading force c.number a at b h)
