@@ -8,14 +8,19 @@ use session::Pool;
 use std::alloc::Global;
 use std::marker::Model;
 
-/// A pool, and the allocator that its requests take memory from. Contracts see the pool's state.
+/// A pool that answers a script, with the allocator that its requests take memory from. It owns the pool for that time: put yours in, lend
+/// this to `script::run::run_script`, and take the pool out again, as it is after the last request. Contracts see the pool's state; each
+/// request has a reply, which is that of a step of the pool, NoMemory where memory was wanting. Both fields are a caller's own, and
+/// making it or taking it apart costs nothing.
 #[derive(Drop)]
-pub(crate) struct Served {
-    pub(crate) alloc: Global,
-    pub(crate) pool: Pool,
+pub struct PoolCaller {
+    /// Where the requests take memory from.
+    pub alloc: Global,
+    /// The pool that answers.
+    pub pool: Pool,
 }
 
-impl Model for Served {
+impl Model for PoolCaller {
     ghost use Rattle.model.specs.State.{State};
     ghost use Rattle.model.specs.Codes.{state_code};
 
@@ -26,7 +31,7 @@ impl Model for Served {
     ghost view = { λ s. s.pool.state };
 }
 
-impl Caller for Served {
+impl Caller for PoolCaller {
     ghost asks = { Serves };
 
     fn ask(&mut self, request: Request) -> Option<Reply> {

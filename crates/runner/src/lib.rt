@@ -1,4 +1,4 @@
-//! The program's command line, and runs of a script on a fresh pool with their exit status.
+//! The program's command line, and runs of a script on a fresh pool with their exit status; and any pool as what answers a script.
 #![tactic(auto)]
 
 mod args;
@@ -10,4 +10,6 @@ mod seated;
 mod turns;
 
 pub use args::{Args, read_args};
+pub use caller::PoolCaller;
 pub use run::{print_fault, print_usage, run_args};
+pub use session::Pool;

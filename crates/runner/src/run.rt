@@ -9,7 +9,7 @@ ghost use Rattle.runner.specs.Status.{RanAs, RanTo};
 
 use crate::args::Args;
 use crate::beside::run_beside;
-use crate::caller::Served;
+use crate::caller::PoolCaller;
 use base::failing::Failing;
 use base::refusal::Refusal;
 use script::run::{Caller, ScriptFault, run_script};
@@ -98,7 +98,7 @@ fn run_alone<R: BufRead + Failing, W: Write + Failing, E: Write>(
     ensures ran { result < 2 → RanAs Serves stop (R.remaining reader.old) (W.contents writer.old) (W.contents writer.new) pool.state result }
     ensures fault { 2 ≤ result → result ≡ 3 }
 {
-    let mut caller = Served { alloc, pool };
+    let mut caller = PoolCaller { alloc, pool };
     let status = run_on(alloc, &mut caller, stop, reader, writer, errors);
     mem::forget(caller);
     status

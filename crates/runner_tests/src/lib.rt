@@ -8,6 +8,8 @@ mod faults;
 #[cfg(test)]
 mod lines;
 #[cfg(test)]
+mod pools;
+#[cfg(test)]
 mod rig;
 #[cfg(test)]
 mod words;

@@ -1,13 +1,14 @@
 -- How a worker's requests add up.
-use Rattle.std.proofs.Common.{◌≡◌, ◌+◌, ◌<◌, ◌^◌, ◌∷◌, ◌++◌, [], ℕ, zero, suc, List, length, refl, sym, ap, arith, length-append, Option, Some, inl, inr}
+use Rattle.std.proofs.Common.{◌≡◌, ◌+◌, ◌<◌, ◌^◌, ◌∷◌, ◌++◌, [], ℕ, zero, suc, List, length, refl, sym, ap, arith, length-append, Bool, true, false, Some, None, inl, inr}
 use Rattle.std.specs.Prelude.{All}
 use Rattle.std.proofs.lemmas.List.{append-nil}
 use Rattle.std.proofs.lemmas.List.Elements.{All-append}
 use Rattle.base.specs.declared.refusal.Refusal.{Refusal}
 use Rattle.base.specs.declared.refusal.Refusal.TheVariants.{NoMemory}
 use Rattle.model.specs.declared.request.Request.{Request}
+use Rattle.model.specs.declared.reply.Reply.TheVariants.{Refused}
 use Rattle.book.specs.Receipts.{Placed, Kept}
-use Rattle.book.specs.Calls.{Ran}
+use Rattle.book.specs.Calls.{Ran, IsFullOrNoMemory}
 use Rattle.book.proofs.Alls.{all_none, all_one}
 use Rattle.session.specs.Calls.{IsAdded}
 use Rattle.session.specs.Works.{HadMemory, IsWork}
@@ -43,17 +44,35 @@ more_work seat now after request n r w ran had =
       memory = All-append HadMemory w.receipts (r ∷ []) w.memory (all_one HadMemory r had);
     }
 
-pub steady_work : (seat now : Kept) (request : Request) (n : ℕ) (end : Option Refusal) → IsSteady seat request n now → IsWork seat request n end now
-steady_work seat now request n end w = record { receipts = w.receipts; added = w.added; counted = w.counted; asked = w.asked; memory = inl w.memory }
+-- the gate said no
+pub stopped_work : (seat now : Kept) (request : Request) (before n left : ℕ) (stopped : Bool) → IsSteady seat request n now → before ≡ left + n → stopped ≡ true
+    → IsWork seat request before n None left stopped now
+stopped_work seat now request before n left stopped w turns answer =
+    record { receipts = w.receipts; added = w.added; counted = w.counted; asked = w.asked; ended = (answer, omega (arith, turns, w.counted), w.memory) }
 
-pub last_work : (seat now after : Kept) (request : Request) (n : ℕ) (r : Placed) → IsSteady seat request n now → Ran now request r after → IsWork seat request (n + 1) (Some NoMemory) after
-last_work seat now after request n r w ran =
+-- the gate said yes, and the next request got no entry
+pub unentered_work : (seat now : Kept) (request : Request) (before n left : ℕ) (stopped : Bool) (r : Refusal) → IsSteady seat request n now
+    → before ≡ left + n + 1 → stopped ≡ false → IsFullOrNoMemory r → IsWork seat request before n (Some r) left stopped now
+unentered_work seat now request before n left stopped r w turns answer why =
+    record {
+      receipts = w.receipts;
+      added = w.added;
+      counted = w.counted;
+      asked = w.asked;
+      ended = (answer, inl (omega (arith, turns, w.counted), why, w.memory));
+    }
+
+-- the last one that ran was refused for want of memory
+pub starved_work : (seat now after : Kept) (request : Request) (before n left : ℕ) (stopped : Bool) (r : Placed) → IsSteady seat request n now → Ran now request r after
+    → before ≡ left + (n + 1) → stopped ≡ false → r.entry.reply ≡ Refused NoMemory → IsWork seat request before (n + 1) (Some NoMemory) left stopped after
+starved_work seat now after request before n left stopped r w ran turns answer lacked =
+    let one : length (w.receipts ++ r ∷ []) ≡ n + 1 = omega (arith, length-append w.receipts (r ∷ []), w.counted) in
     record {
       receipts = w.receipts ++ r ∷ [];
       added = one_more seat now after request w.receipts r w.added ran;
-      counted = omega (arith, length-append w.receipts (r ∷ []), w.counted);
+      counted = one;
       asked = All-append (IsFor request) w.receipts (r ∷ []) w.asked (all_one (IsFor request) r ran.1);
-      memory = inr (refl, (w.receipts, r, refl, w.memory));
+      ended = (answer, inr (omega (arith, turns, one), refl, record { front = w.receipts; last = r; split = refl; had = w.memory; lacked = lacked }));
     }
 
 -- the turns that there were fit, as those that are left before the first do

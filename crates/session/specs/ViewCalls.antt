@@ -7,7 +7,7 @@ use Rattle.model.specs.declared.reply.Reply.TheVariants.{Opened as TheOpened, Do
 use Rattle.book.specs.Calls.{Ran, IsFullOrNoMemory}
 use Rattle.book.specs.Entered.{is_opened}
 use Rattle.book.specs.Receipts.{Kept, Placed}
-use Rattle.session.specs.Views.{Viewed}
+use Rattle.session.specs.Views.{Viewed, opened_name}
 use Rattle.session.specs.declared.view.OpenedView.{OpenedView}
 use Rattle.session.specs.declared.view.OpenedView.TheVariants.{Opened, Refused}
 use Rattle.session.specs.declared.view.ClosedView.{ClosedView}
@@ -42,14 +42,14 @@ is_of_views (Set name limit amount) = false
 is_of_views (Send target from) = false
 is_of_views (Receive snapshot bytes force) = false
 
--- the view shows what the reply says; or the reply opened none (profile)
+-- the view is of the name that the request says and shows what the reply says; or the reply opened none (profile)
 abbrev pub IsOpenedBy : {K : Type 0} → Placed → OpenedView K → Type 0
-IsOpenedBy r (Opened v own) = (own ≡ r) × (r.entry.reply ≡ TheOpened v.number v.sight)
+IsOpenedBy r (Opened v own) = (own ≡ r) × (r.entry.reply ≡ TheOpened v.number v.sight) × (v.target ≡ opened_name r.entry.request)
 IsOpenedBy r (Refused own) = (own ≡ r) × (is_opened r.entry.reply ≡ false)
 
--- the request ran, and the view shows what its reply says; or the reply opened none (profile)
+-- the request ran, and the view is that of its name, with the number and what is shown of its reply; or the reply opened none (profile)
 abbrev pub HasOpened : {K : Type 0} → Target → Kept → OpenedView K → Kept → Type 0
-HasOpened target seat (Opened v r) after = Ran seat (OpenView target) r after × (r.entry.reply ≡ TheOpened v.number v.sight)
+HasOpened target seat (Opened v r) after = Ran seat (OpenView target) r after × (r.entry.reply ≡ TheOpened v.number v.sight) × (v.target ≡ target)
 HasOpened target seat (Refused r) after = Ran seat (OpenView target) r after × (is_opened r.entry.reply ≡ false)
 
 -- the view is spent where the reply is Done, and else handed back (profile)

@@ -3,8 +3,11 @@ use Rattle.std.specs.Prelude.{◌≡◌, ℕ, List, [], Option, Some, Result, Ok
 use Rattle.std.specs.Coded.{Coded, code_by, coded×, coded_ℕ}
 use Rattle.std.specs.FinMap as finmap
 use Rattle.base.specs.declared.refusal.Refusal.{Refusal}
+use Rattle.name.specs.contracts.target.Target as target
 use Rattle.name.specs.declared.target.Target.{Target}
-use Rattle.model.specs.declared.request.Request.TheVariants.{Read, Send}
+use Rattle.name.specs.declared.target.Target.TheVariants.{FileSystem as OfFileSystem}
+use Rattle.model.specs.declared.request.Request.{Request}
+use Rattle.model.specs.declared.request.Request.TheVariants.{OpenView, Read, Send}
 use Rattle.model.specs.declared.reply.Reply.{Reply}
 use Rattle.model.specs.declared.reply.Reply.TheVariants.{Done, Refused, Data, Value, Group, Names, Count, Opened, Stream}
 use Rattle.model.specs.Numbers.{IsNumbered}
@@ -15,8 +18,9 @@ use Rattle.model.specs.Targets.{has_dataset, dataset_of}
 use Rattle.model.specs.World.{Dataset, map_of}
 use Rattle.model.specs.requests.Send.{sight_named}
 
--- the view's number, and what it shows (profile)
+-- the name that the view was opened of, its number, and what it shows (profile)
 pub record Viewed : Type 0 where
+  pub target : Target
   pub number : ℕ
   pub sight : Seen
 
@@ -36,9 +40,16 @@ seen_in (Count count) = nothing_seen
 seen_in (Opened view sight) = sight
 seen_in (Stream bytes) = nothing_seen
 
--- its code, that of the pair of the fields
+-- the name that a request opens a view of, and that of no dataset where it opens none (profile)
+abbrev pub opened_name : Request → Target
+opened_name (OpenView target) = target
+opened_name request = OfFileSystem []
+
+-- its code, that of the tuple of the fields
 abbrev pub viewed_code : Coded Viewed
-viewed_code = code_by (ℕ × Seen) (coded× coded_ℕ seen_code) (λ v. (v.number, v.sight)) (λ p. record { number = p.0; sight = p.1 }) (λ _. refl)
+viewed_code =
+    code_by (Target × (ℕ × Seen)) (coded× target.the_row.coded (coded× coded_ℕ seen_code)) (λ v. (v.target, (v.number, v.sight)))
+    (λ p. record { target = p.0; number = p.1.0; sight = p.1.1 }) (λ _. refl)
 
 -- the bytes of a block or why they can't be read, as the pool's reply (profile)
 abbrev pub reply_of : Result (Option (List ℕ)) Refusal → Reply
@@ -61,3 +72,9 @@ ReadsAs sight object block r =
 abbrev pub SendsAs : Seen → Option Target → Result (List ℕ) Refusal → Type 0
 SendsAs sight from r =
     (s : State) (target : Target) → IsNumbered s → sight_named s.now target ≡ Some sight → Step s (Send target from) (sent_reply r) s
+
+-- It is what a request of the view's name is answered in the place of the one that opened the view: in each state in which that one is
+-- answered with the view's number and with what it shows (zfs-send(8); views are profile)
+abbrev pub AnswersAtOpening : Viewed → (Target → Request) → Reply → Type 0
+AnswersAtOpening v request reply =
+    (s u : State) → IsNumbered s → Step s (OpenView v.target) (Opened v.number v.sight) u → Step s (request v.target) reply s

@@ -1,4 +1,4 @@
--- What a worker asks for, what it adds to a seat, and when it ends.
+-- What a worker asks for, what it adds to a seat, and why it ends.
 use Rattle.std.specs.Prelude.{◌≡◌, ◌≢◌, ◌⊎◌, ◌+◌, ℕ, List, [], ◌∷◌, ◌++◌, length, All, Bool, true, false, Option, Some, None}
 use Rattle.base.specs.declared.refusal.Refusal.{Refusal}
 use Rattle.base.specs.declared.refusal.Refusal.TheVariants.{NoMemory}
@@ -20,23 +20,30 @@ work_request (Slices count) = Slice count
 abbrev pub HadMemory : Placed → Type 0
 HadMemory r = r.entry.reply ≢ Refused NoMemory
 
--- all but the last had memory (profile)
-abbrev pub HadMemoryBefore : List Placed → Type 0
-HadMemoryBefore rs = (front : List Placed) × (last : Placed) × (rs ≡ front ++ last ∷ []) × All HadMemory front
+-- the last was refused for want of memory, and none before it (profile)
+pub record LackedMemoryLast (rs : List Placed) : Type 0 where
+  pub front : List Placed
+  pub last : Placed
+  pub split : rs ≡ front ++ last ∷ []
+  pub had : All HadMemory front
+  pub lacked : last.entry.reply ≡ Refused NoMemory
 
--- so many receipts were added to the seat, each for this request; none was refused for want of memory, but perhaps the last where
--- that is why the worker ended (profile)
-pub record IsWork (seat : Kept) (request : Request) (count : ℕ) (end : Option Refusal) (after : Kept) : Type 0 where
+-- Why a worker ended, from the gate's turns before, the receipts of the requests that ran, the refusal that ended it, if one did, the
+-- gate's turns after, and whether its last answer was no. The gate was asked once before each request that ran. Then it was asked once
+-- more: it said no, or it said yes and the next request got no entry, since the session had no room or no memory for it; and none that
+-- ran had been refused for want of memory. Or it was not asked again: the request that ran last was refused for want of memory (profile)
+abbrev pub HasEnded : ℕ → List Placed → Option Refusal → ℕ → Bool → Type 0
+HasEnded before rs None after stopped = (stopped ≡ true) × (before ≡ after + length rs) × All HadMemory rs
+HasEnded before rs (Some r) after stopped =
+    (stopped ≡ false)
+    × (((before ≡ after + length rs + 1) × IsFullOrNoMemory r × All HadMemory rs)
+    ⊎ ((before ≡ after + length rs) × (r ≡ NoMemory) × LackedMemoryLast rs))
+
+-- so many receipts were added to the seat, each for this request, and it was they, the gate and the refusal that ended the worker
+-- (profile)
+pub record IsWork (seat : Kept) (request : Request) (before count : ℕ) (end : Option Refusal) (left : ℕ) (stopped : Bool) (after : Kept) : Type 0 where
   pub receipts : List Placed
   pub added : IsAdded seat receipts after
   pub counted : length receipts ≡ count
   pub asked : All (λ r. r.entry.request ≡ request) receipts
-  pub memory : All HadMemory receipts ⊎ ((end ≡ Some NoMemory) × HadMemoryBefore receipts)
-
--- How a worker ended, from the gate's turns before, how many requests ran, the gate's turns after, whether its last answer was no, and
--- the refusal that ended it, if one did. The gate was asked once before each that ran; and then once more, where it said no, or where
--- it said yes and the session had no room or no memory for another entry; or the last one that ran was refused for want of
--- memory (profile)
-abbrev pub IsWorked : ℕ → ℕ → ℕ → Bool → Option Refusal → Type 0
-IsWorked before ran after stopped None = (stopped ≡ true) × (before ≡ after + ran)
-IsWorked before ran after stopped (Some r) = (stopped ≡ false) × (((before ≡ after + ran + 1) × IsFullOrNoMemory r) ⊎ ((before ≡ after + ran) × (r ≡ NoMemory)))
+  pub ended : HasEnded before receipts end left stopped

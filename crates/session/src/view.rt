@@ -8,7 +8,8 @@ ghost use Rattle.model.specs.Targets.{is_block};
 ghost use Rattle.model.specs.requests.Send.{start_of, stream_of};
 ghost use Rattle.model.specs.declared.reply.Reply.TheVariants.{Opened as TheOpened};
 ghost use Rattle.book.specs.Entered.{is_opened};
-ghost use Rattle.session.specs.Views.{ReadsAs, SendsAs};
+ghost use Rattle.model.specs.declared.request.Request.TheVariants.{Read as ToRead, Send as ToSend};
+ghost use Rattle.session.specs.Views.{ReadsAs, SendsAs, AnswersAtOpening, reply_of, sent_reply, opened_name};
 
 use base::meter::Meter;
 use base::refusal::Refusal;
@@ -27,7 +28,7 @@ use toll::Toll;
 
 /// A view of a snapshot: what it was when the view was opened. It is read without the session, by any thread that has it, while others
 /// go on. As long as it is open, a destroy or a rollback that would remove the snapshot answers Busy, and one that is deferred waits for
-/// it (zfs-destroy(8), -d). Contracts see its number and what it shows.
+/// it (zfs-destroy(8), -d). Contracts see the name that it was opened of, its number and what it shows.
 pub struct View<K: Opening> {
     number: u64,
     entry: Arc<Entry>,
@@ -50,13 +51,13 @@ impl<K: Opening> Model for View<K> {
     ghost use Rattle.std.specs.Prelude.{◌≡◌};
     ghost use Rattle.std.specs.Arc.{arc_value};
     ghost use Rattle.model.specs.declared.reply.Reply.TheVariants.{Opened as TheOpened};
-    ghost use Rattle.session.specs.Views.{Viewed, viewed_code, seen_in};
+    ghost use Rattle.session.specs.Views.{Viewed, viewed_code, opened_name, seen_in};
 
     ghost Value = { Viewed };
 
     ghost coded = { viewed_code };
 
-    ghost view = { λ v. record { number = v.number; sight = seen_in (arc_value v.entry).reply } };
+    ghost view = { λ v. record { target = opened_name (arc_value v.entry).request; number = v.number; sight = seen_in (arc_value v.entry).reply } };
 
     ghost invariant = { λ v. (arc_value v.entry).reply ≡ TheOpened v.number (seen_in (arc_value v.entry).reply) };
 }
@@ -85,6 +86,7 @@ impl<K: Opening> View<K> {
     // The view that this entry opened, if it opened one.
     pub(crate) fn of(entry: Arc<Entry>) -> Option<View<K>>
         ensures some { IfSome result (λ v. entry.value.reply ≡ TheOpened v.number v.sight) }
+        ensures named { IfSome result (λ v. v.target ≡ opened_name entry.value.request) }
         ensures none { IfNone result (is_opened entry.value.reply ≡ false) }
     {
         let Some(Reply::Opened(number, _)) = entry.reply.other() else {
@@ -105,13 +107,14 @@ impl<K: Opening> View<K> {
         self.number
     }
 
-    /// The 512 bytes of a block of an object of the snapshot, or none where it is a hole: what Read answered right after the request that
-    /// opened the view, whatever others have asked since. BadKey exactly where the object is above 255 or the block above 4095. It takes
-    /// no lock and no memory, and costs the nodes from the root to the block: at most six.
+    /// The 512 bytes of a block of an object of the snapshot, or none where it is a hole: what Read would have answered in the place of
+    /// the request that opened the view, whatever others have asked since. BadKey exactly where the object is above 255 or the block
+    /// above 4095. It takes no lock and no memory, and costs the nodes from the root to the block: at most six.
     pub fn read(&self, object: u32, block: u32) -> Result<Option<[u8; 512]>, Refusal>
         ensures ok { IfOk result (λ bytes. bytes ≡ get (contents self.now.sight.map) (leaf_index object block)) }
         ensures bad_key { (result ≡ Err Refusal.BadKey) ↔ (is_block object block ≡ false) }
         ensures as_read { ReadsAs self.now.sight object block result }
+        ensures at_opening { AnswersAtOpening self.now (λ target. ToRead target object block) (reply_of result) }
     {
         let mut meter = Meter::new(Toll::new());
         let sight = self.sight();
@@ -119,16 +122,17 @@ impl<K: Opening> View<K> {
         Ok(bytes.copied())
     }
 
-    /// The stream of the snapshot, whole or from a source (zfs-send(8), -i): what Send of it answered right after the request that opened
-    /// the view, whatever others have asked since; a source may be gone by then. NotAncestor exactly where the source was neither an older
-    /// snapshot of its lineage nor a bookmark of its file system of a lower group; else perhaps NoMemory. It takes no lock. It costs the
-    /// sources, the nodes younger than the source's group, each with its sixteen places, and the bytes, which are in memory with the
-    /// records.
+    /// The stream of the snapshot, whole or from a source (zfs-send(8), -i): what Send of it would have answered in the place of the
+    /// request that opened the view, whatever others have asked since; a source may be gone by then. NotAncestor exactly where the source
+    /// was neither an older snapshot of its lineage nor a bookmark of its file system of a lower group; else perhaps NoMemory. It takes
+    /// no lock. It costs the sources, the nodes younger than the source's group, each with its sixteen places, and the bytes, which are
+    /// in memory with the records.
     pub fn send(&self, alloc: Global, from: Option<&Target>) -> Result<Bytes, Refusal>
         ensures ok { IfOk result (λ bytes. option_map (stream_of self.now.sight) (start_of self.now.sight.sources (option_copied from.entry)) ≡ Some bytes) }
         ensures not_ancestor { (result ≡ Err Refusal.NotAncestor) ↔ (start_of self.now.sight.sources (option_copied from.entry) ≡ None) }
         ensures refusal { IfErr result (λ r. (r ≡ Refusal.NotAncestor) ⊎ (r ≡ Refusal.NoMemory)) }
         ensures as_sent { SendsAs self.now.sight (option_copied from.entry) result }
+        ensures at_opening { AnswersAtOpening self.now (λ target. ToSend target (option_copied from.entry)) (sent_reply result) }
     {
         let sight = self.sight();
         let Some(start) = start_in(sight.sources(), from) else {

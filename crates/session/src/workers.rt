@@ -3,7 +3,7 @@ ghost use Rattle.std.specs.Prelude.{◌≡◌, ◌↔◌, IsTrue};
 ghost use Rattle.base.specs.declared.refusal.Refusal.TheVariants.{NoMemory};
 ghost use Rattle.model.specs.declared.reply.Reply.TheVariants.{Refused};
 ghost use Rattle.model.specs.declared.request.Request.TheVariants.{Sync as ToSync, Slice as ToSlice};
-ghost use Rattle.session.specs.Works.{IsWork, IsWorked, work_request};
+ghost use Rattle.session.specs.Works.{IsWork, work_request};
 
 use crate::gate::Gate;
 use crate::shared::Session;
@@ -46,8 +46,7 @@ impl<K: Opening> Session<K> {
         seat: &mut Seat<K>,
         gate: &mut G,
     ) -> (u64, Option<Refusal>)
-        ensures work { IsWork seat.old ToSync result.0 result.1 seat.new }
-        ensures end { IsWorked (G.left gate.old) result.0 (G.left gate.new) (G.stopped gate.new) result.1 }
+        ensures { IsWork seat.old ToSync (G.left gate.old) result.0 result.1 (G.left gate.new) (G.stopped gate.new) seat.new }
     {
         run_work(self, alloc, rt, seat, gate, Work::Syncs)
     }
@@ -62,8 +61,7 @@ impl<K: Opening> Session<K> {
         count: u64,
         gate: &mut G,
     ) -> (u64, Option<Refusal>)
-        ensures work { IsWork seat.old (ToSlice count) result.0 result.1 seat.new }
-        ensures end { IsWorked (G.left gate.old) result.0 (G.left gate.new) (G.stopped gate.new) result.1 }
+        ensures { IsWork seat.old (ToSlice count) (G.left gate.old) result.0 result.1 (G.left gate.new) (G.stopped gate.new) seat.new }
     {
         run_work(self, alloc, rt, seat, gate, Work::Slices(count))
     }
@@ -78,8 +76,7 @@ fn run_work<K: Opening, R: Wait, G: Gate>(
     gate: &mut G,
     work: Work,
 ) -> (u64, Option<Refusal>)
-    ensures work { IsWork seat.old (work_request work) result.0 result.1 seat.new }
-    ensures end { IsWorked (G.left gate.old) result.0 (G.left gate.new) (G.stopped gate.new) result.1 }
+    ensures { IsWork seat.old (work_request work) (G.left gate.old) result.0 result.1 (G.left gate.new) (G.stopped gate.new) seat.new }
 {
     let mut ran = 0;
     'turns: while gate.turn() {
@@ -87,7 +84,8 @@ fn run_work<K: Opening, R: Wait, G: Gate>(
             Ok(Entered { receipt, viewed }) => {
                 drop(viewed);
                 ran += 1;
-                if lacked_memory(receipt) {
+                let lacked = lacked_memory(receipt);
+                if lacked {
                     return (ran, Some(Refusal::NoMemory));
                 }
             }

@@ -1,7 +1,9 @@
-use Rattle.std.proofs.Common.{sym, ap, ◌∙◌, rules}
+use Rattle.std.proofs.Common.{Err, sym, ap, ◌∙◌, rules}
 use Rattle.std.specs.Option.{option_copied}
+use Rattle.base.specs.declared.refusal.Refusal.TheVariants.{NotAncestor}
 use Rattle.model.specs.requests.Send.{start_of}
 use Rattle.session.proofs.Sending.{sent_bytes, sends_refused, sends}
+use Rattle.session.proofs.AtOpening.{sends_at_opening}
 use Rattle.session.proofs.view.View.send.Goals as goal
 
 pub returns-in_default-clause-as_sent : goal.returns-in_default-clause-as_sent
@@ -20,3 +22,9 @@ returns-clause-ok g c =
 pub returns-clause-as_sent : goal.returns-clause-as_sent
 returns-clause-as_sent g c = λ s target numbered here.
     sends s target _ c.args.self.now.sight here c.stream_bytes.result numbered (returns-clause-ok g c) c.stream_bytes.ensures.err
+
+pub returns-in_default-clause-at_opening : goal.returns-in_default-clause-at_opening
+returns-in_default-clause-at_opening g c = sends_at_opening c.args.self.now (option_copied c.args.from) (Err NotAncestor) (returns-in_default-clause-as_sent g c)
+
+pub returns-clause-at_opening : goal.returns-clause-at_opening
+returns-clause-at_opening g c = sends_at_opening c.args.self.now (option_copied c.args.from) c.stream_bytes.result (returns-clause-as_sent g c)
