@@ -2,7 +2,7 @@
 use Rattle.std.proofs.Common.{◌≡◌, ℕ, zero, suc, ◌+◌, ◌-◌, ◌<◌, ◌≤◌, Bool, true, false, cond, List, [], ◌∷◌, ◌++◌, length, get_or, take, drop, map, filter, Option, Some, refl, sym, ap, subst, ◌∙◌, arith, inl, inr, ◌⊎◌, ⊎_elim, append_assoc, append-nil, length-append, drop-cons}
 use Rattle.std.specs.Prelude.{slice_get, count_by, not, is_some}
 use Rattle.std.proofs.lemmas.Bool.{cases_lt, leb-true}
-use Rattle.std.proofs.lemmas.List.{take_all, length-take, length-map, map-append}
+use Rattle.std.proofs.lemmas.List.{length-take, length-map, map-append}
 use Rattle.std.proofs.lemmas.List.Sums.{sum_by-cons}
 use Rattle.std.proofs.lemmas.Option.{slice_get-get_or, slice_get_within}
 use Rattle.base.specs.declared.number.Dead.{Dead}
@@ -17,7 +17,7 @@ use Rattle.zalloc.specs.States.{is_free}
 use Rattle.zalloc.specs.Tallies.{IsTaken}
 use Rattle.batch.specs.Numbers.{numbers, frees, frees_from, is_young, young_numbers, IsAtHand}
 use Rattle.node.proofs.Options.{same_value}
-use Rattle.batch.proofs.Lists.{at_drop, drop_past}
+use Rattle.batch.proofs.Lists.{drop_past}
 
 -- one number more of those wanted
 pub take_step : (need k n : ℕ) (xs ys : List ℕ) → k < need → xs ++ take (need - k) (n ∷ ys) ≡ (xs ++ n ∷ []) ++ take (need - (k + 1)) ys
@@ -138,14 +138,6 @@ unfolding frees_from
 frees_none states from h =
     frees_to states from (length states) (λ k a b. h k a) ∙ ap (frees (from + length states)) (drop_past (from + length states) states (omega arith))
 
-frees_append : (i : ℕ) (xs ys : List BlockState) → frees i (xs ++ ys) ≡ frees i xs ++ frees (i + length xs) ys
-frees_append i [] ys = let e : i ≡ i + 0 = omega arith in ap (λ k. frees k ys) e
-frees_append i (x ∷ xs) ys = by (is_free x) (let e : i + 1 + length xs ≡ i + suc (length xs) = omega arith in frees_append (i + 1) xs ys ∙ ap (λ k. frees (i + 1) xs ++ frees k ys) e)
-  where
-    by : (b : Bool) → frees (i + 1) (xs ++ ys) ≡ frees (i + 1) xs ++ frees (i + suc (length xs)) ys → cond b (i ∷ frees (i + 1) (xs ++ ys)) (frees (i + 1) (xs ++ ys)) ≡ cond b (i ∷ frees (i + 1) xs) (frees (i + 1) xs) ++ frees (i + suc (length xs)) ys
-    by true e = ap (λ zs. i ∷ zs) e
-    by false e = e
-
 abbrev IsFreeIn : ℕ → ℕ → List BlockState → Type 0
 IsFreeIn i n xs = (i ≤ n) × (n < i + length xs) × (slice_get xs (n - i) ≡ Some Free)
 
@@ -207,84 +199,19 @@ different_take zero (x ∷ xs) h = tt
 different_take (suc n) [] h = tt
 different_take (suc n) (x ∷ xs) h = ((λ k. h.0 (in_take n xs x k)), different_take n xs h.1)
 
-take_left : {A : Type 0} (n : ℕ) (xs ys : List A) → n ≤ length xs → take n (xs ++ ys) ≡ take n xs
-take_left zero [] [] h = refl
-take_left zero [] (y ∷ ys) h = refl
-take_left zero (x ∷ xs) ys h = refl
-take_left (suc n) [] ys h = absurd (omega arith)
-take_left (suc n) (x ∷ xs) ys h = ap (λ zs. x ∷ zs) (take_left n xs ys (omega arith))
-
-take_apart : {A : Type 0} (n : ℕ) (xs : List A) → take n xs ++ drop n xs ≡ xs
-take_apart zero [] = refl
-take_apart zero (x ∷ xs) = refl
-take_apart (suc n) [] = refl
-take_apart (suc n) (x ∷ xs) = ap (λ ys. x ∷ ys) (take_apart n xs)
-
--- so many Free numbers: those from one on, and then those from the first on
+-- so many Free numbers, from the first on
 pub record AreFree (states : List BlockState) (r : ℕ) (ns : List ℕ) : Type 0 where
   pub len : length ns ≡ r
   pub free : (n : ℕ) → IsIn ns n → slice_get states n ≡ Some Free
   pub once : AreDifferent ns
 
-module _ (states : List BlockState) (hint r : ℕ) (within : hint ≤ length states) (enough : r ≤ count_by is_free states) where
-  abbrev lower : List ℕ
-  lower = frees 0 (take hint states)
-
-  abbrev upper : List ℕ
-  upper = frees hint (drop hint states)
-
-  front : length (take hint states) ≡ hint
-  front = let n = length-take hint states in omega (arith, n)
-
-  whole : frees 0 states ≡ lower ++ upper
-  whole = ap (frees 0) (sym (take_apart hint states)) ∙ frees_append 0 (take hint states) (drop hint states) ∙ ap (λ k. lower ++ frees k (drop hint states)) (let e : 0 + length (take hint states) ≡ hint = omega (arith, front) in e)
-
-  at_low : (n : ℕ) → IsIn lower n → n < hint
-  at_low n h = let p = frees_in 0 n (take hint states) h in omega (arith, p.1, front)
-
-  at_high : (n : ℕ) → IsIn upper n → hint ≤ n
-  at_high n h = (frees_in hint n (drop hint states) h).0
-
-  free_high : (n : ℕ) → IsIn upper n → slice_get states n ≡ Some Free
-  free_high n h = let p = frees_in hint n (drop hint states) h in let a = p.0 in let e : hint + (n - hint) ≡ n = omega arith in ap (slice_get states) (sym e) ∙ sym (at_drop hint (n - hint) states) ∙ p.2
-
-  free_any : (n : ℕ) → IsIn (frees 0 states) n → slice_get states n ≡ Some Free
-  free_any n h = let z : n ≡ n - 0 = omega arith in ap (slice_get states) z ∙ (frees_in 0 n states h).2
-
-  abbrev chosen : List ℕ
-  chosen = take r upper ++ take (r - length (take r upper)) (frees 0 states)
-
-  pub chosen_free : AreFree states r (take r (frees_from hint states) ++ take (r - length (take r (frees_from hint states))) (frees_from 0 states))
-  unfolding frees_from
-  chosen_free = ⊎_elim few many (cases_lt (length upper) r)
-    where
-      few : length upper < r → AreFree states r chosen
-      few h =
-          let all : take r upper ≡ upper = take_all r upper (omega arith) in
-          let total = ap length whole in
-          let parts = length-append lower upper in
-          let n = frees_count 0 states in
-          let rest : r - length upper ≤ length lower = omega (arith, total, parts, n, enough) in
-          let e : chosen ≡ upper ++ take (r - length upper) lower =
-          (λ i. all i ++ take (r - length (all i)) (whole i)) ∙ ap (λ zs. upper ++ zs) (take_left (r - length upper) lower upper rest) in
-          let k = length-take (r - length upper) lower in
-          let m = length-append upper (take (r - length upper) lower) in
-          subst (AreFree states r) (sym e) (record {
-            len = omega (arith, k, m, rest, h);
-            free = λ n i. ⊎_elim (free_high n) (λ j. free_any n (subst (λ xs. IsIn xs n) (sym whole) (in_left lower upper n (in_take _ lower n j)))) (in_append upper _ n i);
-            once = different_append upper _ (frees_once hint (drop hint states)) (different_take _ lower (frees_once 0 (take hint states))) (λ n i j. let a = at_high n i in let b = at_low n (in_take _ lower n j) in absurd (omega arith));
-          })
-
-      many : r ≤ length upper → AreFree states r chosen
-      many h =
-          let k = length-take r upper in
-          let full : r - length (take r upper) ≡ 0 = omega (arith, k) in
-          let e : chosen ≡ take r upper = ap (λ m. take r upper ++ take m (frees 0 states)) full ∙ append-nil (take r upper) in
-          subst (AreFree states r) (sym e) (record {
-            len = omega (arith, k);
-            free = λ n i. free_high n (in_take r upper n i);
-            once = different_take r upper (frees_once hint (drop hint states));
-          })
+pub chosen_free : (states : List BlockState) (r : ℕ) → r ≤ count_by is_free states → AreFree states r (take r (frees_from 0 states))
+unfolding frees_from
+chosen_free states r enough = record {
+  len = let k = length-take r (frees 0 states) in let n = frees_count 0 states in omega (arith, k, n, enough);
+  free = λ n h. let z : n ≡ n - 0 = omega arith in ap (slice_get states) z ∙ (frees_in 0 n states (in_take r (frees 0 states) n h)).2;
+  once = different_take r (frees 0 states) (frees_once 0 states);
+}
 
 -- the numbers of young blocks, and then Free ones
 pub record AreChosen (states : List BlockState) (y need : ℕ) (ds : List Dead) (ns : List ℕ) : Type 0 where
@@ -308,24 +235,19 @@ all_chosen states y need ds fs allocated once f = record {
 pub length-numbers : (xs : List BlockNo) → length (numbers xs) ≡ length xs
 length-numbers xs = length-map xs (λ (b : BlockNo). b.0)
 
--- what the three steps give
-pub choose_all : (states : List BlockState) (y need hint : ℕ) (ds : List Dead) (none first second third : List BlockNo) → ((d : Dead) → IsIn ds d → slice_get states d.block.0 ≡ Some Allocated) → AreDifferent (map (λ (d : Dead). d.block.0) ds)
-    → hint ≤ length states → need - length first ≤ count_by is_free states → none ≡ []
+-- what the two steps give
+pub choose_all : (states : List BlockState) (y need : ℕ) (ds : List Dead) (none first second : List BlockNo) → ((d : Dead) → IsIn ds d → slice_get states d.block.0 ≡ Some Allocated) → AreDifferent (map (λ (d : Dead). d.block.0) ds)
+    → need - length first ≤ count_by is_free states → none ≡ []
     → numbers first ≡ numbers none ++ take (need - length none) (young_numbers y ds)
-    → numbers second ≡ numbers first ++ take (need - length first) (frees_from hint states)
-    → numbers third ≡ numbers second ++ take (need - length second) (frees_from 0 states)
-    → AreChosen states y need ds (numbers third)
-choose_all states y need hint ds none first second third allocated once within enough e a b c =
+    → numbers second ≡ numbers first ++ take (need - length first) (frees_from 0 states)
+    → AreChosen states y need ds (numbers second)
+choose_all states y need ds none first second allocated once enough e a b =
     let ys = take need (young_numbers y ds) in
     let one : numbers first ≡ ys = a ∙ ap (λ (xs : List BlockNo). numbers xs ++ take (need - length xs) (young_numbers y ds)) e ∙ ap (λ n. take n (young_numbers y ds)) (let z : need - 0 ≡ need = omega arith in z) in
     let n1 : length first ≡ length ys = sym (length-numbers first) ∙ ap length one in
     let r : need - length first ≡ need - length ys = ap (λ n. need - n) n1 in
-    let hs = take (need - length ys) (frees_from hint states) in
-    let two : numbers second ≡ ys ++ hs = b ∙ (λ i. one i ++ take (r i) (frees_from hint states)) in
-    let n2 : length second ≡ length ys + length hs = sym (length-numbers second) ∙ ap length two ∙ length-append ys hs in
-    let s : need - length second ≡ need - length ys - length hs = omega (arith, n2) in
-    let three : numbers third ≡ ys ++ (hs ++ take (need - length ys - length hs) (frees_from 0 states)) = c ∙ (λ i. two i ++ take (s i) (frees_from 0 states)) ∙ append_assoc ys hs _ in
-    subst (AreChosen states y need ds) (sym three) (all_chosen states y need ds _ allocated once (chosen_free states hint (need - length ys) within (omega (arith, r, enough))))
+    let two : numbers second ≡ ys ++ take (need - length ys) (frees_from 0 states) = b ∙ (λ i. one i ++ take (r i) (frees_from 0 states)) in
+    subst (AreChosen states y need ds) (sym two) (all_chosen states y need ds _ allocated once (chosen_free states (need - length ys) (omega (arith, r, enough))))
 
 pub young_first : (y need : ℕ) (ds : List Dead) (none first : List BlockNo) → none ≡ [] → numbers first ≡ numbers none ++ take (need - length none) (young_numbers y ds) → (length first ≤ need) × (length first ≤ count_by (is_young y) ds) × (length first < need → length first ≡ count_by (is_young y) ds)
 young_first y need ds none first e a =

@@ -95,7 +95,6 @@ pub fn choose(
     if need - out.len() > allocator.counts().free as usize {
         return Err(Refusal::NoSpace);
     }
-    take_free(allocator, allocator.hint(), need, &mut out)?;
     take_free(allocator, 0, need, &mut out)?;
     Ok(out)
 }

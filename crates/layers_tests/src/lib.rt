@@ -27,6 +27,8 @@ mod outcomes;
 #[cfg(test)]
 mod own_names;
 #[cfg(test)]
+mod plain_numbers;
+#[cfg(test)]
 mod refused_lists;
 #[cfg(test)]
 mod sent;

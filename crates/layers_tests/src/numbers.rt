@@ -107,10 +107,7 @@ fn every_second_is_released(rt: HostRuntime) {
 
 fn is_without_numbers(rt: &impl Abort, alloc: Global) -> bool {
     let none = fresh(rt, alloc, 0);
-    finds_none(&none, 0)
-        && none.hint() == 0
-        && none.state(BlockNo(0)).is_none()
-        && has_counts(&none, 0, 0, 0)
+    finds_none(&none, 0) && none.state(BlockNo(0)).is_none() && has_counts(&none, 0, 0, 0)
 }
 
 /// Of 40,000 numbers that are taken, the last is released, found and taken again.
@@ -128,7 +125,7 @@ fn finds_the_first(numbers: &mut Allocator) -> bool {
     release(numbers, 0, false)
         && finds(numbers, 0, 0)
         && finds_none(numbers, 1)
-        && finds_none(numbers, numbers.hint())
+        && finds_none(numbers, 39999)
         && numbers.state(BlockNo(40000)).is_none()
 }
 

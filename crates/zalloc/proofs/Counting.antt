@@ -45,49 +45,5 @@ free_to_take (Allocated ∷ xs) zero e = cc
 free_to_take (Waiting ∷ xs) zero e = cc
 free_to_take (x ∷ xs) (suc i) e = let h = free_to_take xs i e in omega (arith, h, cons is_free x xs)
 
--- what stands at a place after a change
-pub get_set : (xs : List BlockState) (i k : ℕ) (y z : BlockState) → slice_get (slice_set xs i y) k ≡ Some z → ((k ≡ i) × (y ≡ z)) ⊎ ((k ≡ i → ⊥) × (slice_get xs k ≡ Some z))
-get_set [] i k y z e = cc
-get_set (a ∷ xs) zero zero y z e = inl (refl, cc)
-get_set (a ∷ xs) zero (suc k) y z e = inr (λ n. cc, e)
-get_set (a ∷ xs) (suc i) zero y z e = inr (λ n. cc, e)
-get_set (a ∷ xs) (suc i) (suc k) y z e =
-    ⊎_elim
-    (λ (h : (k ≡ i) × (y ≡ z)). inl (ap suc h.0, h.1))
-    (λ (h : (k ≡ i → ⊥) × (slice_get xs k ≡ Some z)). inr (λ n. h.0 (omega arith), h.1))
-    (get_set xs i k y z e)
-
--- the numbers that wait, and one more that is Allocated, are at most all numbers
-pub room_to_wait : (xs : List BlockState) (i : ℕ) → slice_get xs i ≡ Some Allocated → count_by is_waiting xs < length xs
-room_to_wait xs i e =
-    omega (arith, count_set is_waiting xs i Allocated Waiting e, count_by-le-length is_waiting (slice_set xs i Waiting), length-set xs i Waiting)
-
--- where none waits, the end of the group changes nothing
-pub none_waits : (xs : List BlockState) → ((k : ℕ) → slice_get xs k ≡ Some Waiting → ⊥) → map after_group xs ≡ xs
-none_waits [] h = refl
-none_waits (Free ∷ xs) h = ap (λ ys. Free ∷ ys) (none_waits xs (λ k. h (suc k)))
-none_waits (Allocated ∷ xs) h = ap (λ ys. Allocated ∷ ys) (none_waits xs (λ k. h (suc k)))
-none_waits (Waiting ∷ xs) h = absurd (h 0 refl)
-
--- a number that waits may be made Free before the group ends
-pub ended_early : (xs : List BlockState) (i : ℕ) → slice_get xs i ≡ Some Waiting → map after_group (slice_set xs i Free) ≡ map after_group xs
-ended_early [] i e = cc
-ended_early (x ∷ xs) zero e = let w : x ≡ Waiting = cc in sym (ap (λ y. after_group y ∷ map after_group xs) w)
-ended_early (x ∷ xs) (suc i) e = ap (λ ys. after_group x ∷ ys) (ended_early xs i e)
-
--- where all are Free, none waits
-pub none_at_first : (n k : ℕ) → slice_get (replicate n Free) k ≡ Some Waiting → ⊥
-none_at_first zero k e = cc
-none_at_first (suc n) zero e = cc
-none_at_first (suc n) (suc k) e = none_at_first n k e
-
 pub no_count_at_first : (n : ℕ) → count_by is_waiting (replicate n Free) ≡ 0
 no_count_at_first n = omega (arith, sum_by-replicate (λ z. one (is_waiting z)) n Free)
-
--- after the group has ended none waits
-pub none_after : (xs : List BlockState) (k : ℕ) → slice_get (map after_group xs) k ≡ Some Waiting → ⊥
-none_after [] k e = cc
-none_after (Free ∷ xs) zero e = cc
-none_after (Allocated ∷ xs) zero e = cc
-none_after (Waiting ∷ xs) zero e = cc
-none_after (x ∷ xs) (suc k) e = none_after xs k e

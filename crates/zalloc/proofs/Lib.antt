@@ -1,3 +1,8 @@
 pub mod Counting
 pub mod Finding
-pub mod Tallies
+pub mod Laid
+pub mod Moves
+pub mod Places
+pub mod Slots
+pub mod Spread
+pub mod States

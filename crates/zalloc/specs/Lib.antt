@@ -1,4 +1,5 @@
 pub mod Allocator
-pub mod StateMap
+pub mod Extents
+pub mod Laid
 pub mod States
 pub mod Tallies

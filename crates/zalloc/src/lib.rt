@@ -1,21 +1,23 @@
 //! The allocator: the state of every block number of a pool.
 //!
 //! A number is Free, Allocated or Waiting (profile). Waiting numbers are those of blocks that were let go and whose number
-//! may be used again only after the group is synced. A pool of 4,194,304 numbers that is full of holes costs no more to
-//! search than an empty one: counts of the Free numbers are kept for each run of 128 and of 16,384 numbers.
+//! may be used again only after the group is synced. The Free and the Waiting numbers are kept as extents, which are numbers
+//! in a row: a pool that is empty or full takes little memory, and one full of holes is searched as fast.
 #![tactic(auto)]
 
-ghost use Rattle.std.specs.Prelude.{◌≡◌, ◌≢◌, ℕ, ◌<◌, ◌≤◌, IfSome, IfNone, IfOk, IfErr, Some, slice_get, slice_set, map, length, count_by, if◌then◌else◌, replicate, vec_capacity, []};
-ghost use Rattle.std.specs.List.{Contains};
+ghost use Rattle.std.specs.Prelude.{◌≡◌, ◌≢◌, ℕ, ◌<◌, ◌≤◌, ◌||◌, true, false, IfSome, IfNone, IfOk, IfErr, Some, slice_get, slice_set, map, count_by, if◌then◌else◌, replicate};
 ghost use Rattle.zalloc.specs.States.{is_free, is_waiting, is_allocated, after_group};
+ghost use Rattle.zalloc.specs.Laid.{IsKept, is_held};
 ghost use Rattle.zalloc.specs.Tallies.{IsTaken};
 ghost use Rattle.zalloc.specs.declared.BlockState.TheVariants.{Free, Allocated, Waiting};
 
-mod state_map;
+mod chunk;
+mod extents;
 
 use base::number::BlockNo;
 use base::refusal::Refusal;
-use state_map::StateMap;
+use chunk::Extent;
+use extents::Extents;
 use std::alloc::Global;
 use std::fmt;
 use std::marker::Model;
@@ -44,25 +46,27 @@ pub struct Counts {
 
 /// The state of each number below the size of the pool. Contracts see the list of the states.
 ///
-/// It takes about five bytes for each number: one for its state, and four of room for the list of numbers that wait. Only
-/// `new` and `copy` take memory.
+/// The Free numbers are one set of extents, and the Waiting ones another; every other number is Allocated. An empty pool takes
+/// about 100 bytes for each 256 numbers and set, and one that is full of holes at most eight bytes for each second number. The
+/// room for the most extents is reserved by `new` and by `copy`, and the system gives its pages when they are first used: no
+/// other function takes memory.
 pub struct Allocator {
-    states: StateMap,
-    waiting: Vec<u32>,
-    free: u32,
-    hint: u32,
+    free: Extents,
+    waiting: Extents,
+    free_count: u32,
+    waiting_count: u32,
 }
 
 // By hand, so that it is proved once: a derived one is laid out anew in each crate that drops the type.
 impl Drop for Allocator {
     fn drop(self) {
         let Allocator {
-            states,
+            free,
             waiting,
-            free: _,
-            hint: _,
+            free_count: _,
+            waiting_count: _,
         } = self;
-        drop(states);
+        drop(free);
         drop(waiting);
     }
 }
@@ -73,53 +77,60 @@ impl Model for Allocator {
 
     ghost Value = { List BlockState };
 
-    ghost use Rattle.zalloc.specs.Allocator.{IsCounted};
+    ghost use Rattle.zalloc.specs.Allocator.{IsCounted, states_from};
 
-    ghost view = { λ a. a.states };
+    ghost view = { λ a. states_from a.free a.waiting };
 
     ghost invariant = { IsCounted };
 }
 
 impl Allocator {
     /// An allocator of `n` numbers, at most `MOST_BLOCKS`, each Free, with room for everything that it will keep. NoMemory
-    /// where the room was refused. It takes time and memory by `n`.
+    /// where the room was refused. It takes time by a 256th of `n`.
     pub fn new(alloc: Global, n: u32) -> Result<Allocator, Refusal>
         requires { n ≤ MOST_BLOCKS }
         ensures ok { IfOk result (λ a. a ≡ replicate n Free) }
         ensures no_memory { IfErr result (λ r. r ≡ Refusal.NoMemory) }
     {
-        let states = StateMap::new(alloc, n as usize)?;
-        let waiting = Vec::with_capacity(alloc, n as usize)?;
+        let free = Extents::new(alloc, n, true)?;
+        let waiting = Extents::new(alloc, n, false)?;
         Ok(Allocator {
-            states,
+            free,
             waiting,
-            free: n,
-            hint: 0,
+            free_count: n,
+            waiting_count: 0,
         })
     }
 
     /// Another allocator of the same states, with the room that `new` makes. NoMemory where the room was refused. It takes
-    /// time and memory by the size of the pool.
+    /// time and memory by the most extents that there have been, and a little by a 256th of the size of the pool.
     pub fn copy(&self) -> Result<Allocator, Refusal>
         ensures ok { IfOk result (λ a. a ≡ self.now) }
         ensures no_memory { IfErr result (λ r. r ≡ Refusal.NoMemory) }
     {
-        let states = self.states.copy()?;
-        let mut waiting = Vec::with_capacity(*self.waiting.allocator(), self.states.len())?;
-        waiting.extend_from_slice(&self.waiting)?;
+        let free = self.free.copy()?;
+        let waiting = self.waiting.copy()?;
         Ok(Allocator {
-            states,
+            free,
             waiting,
-            free: self.free,
-            hint: self.hint,
+            free_count: self.free_count,
+            waiting_count: self.waiting_count,
         })
     }
 
-    /// The state of a number, or None where it is not below the size of the pool. Constant time.
+    /// The state of a number, or None where it is not below the size of the pool. It reads the extents of two slots, at most 256.
     pub fn state(&self, b: BlockNo) -> Option<BlockState>
         ensures { result ≡ slice_get self.now b.0 }
     {
-        self.states.get(b.0 as usize)
+        if b.0 >= self.free.numbers() {
+            None
+        } else if self.free.contains(b.0) {
+            Some(BlockState::Free)
+        } else if self.waiting.contains(b.0) {
+            Some(BlockState::Waiting)
+        } else {
+            Some(BlockState::Allocated)
+        }
     }
 
     /// How many numbers are in each state. Constant time.
@@ -128,16 +139,15 @@ impl Allocator {
         ensures waiting { result.waiting ≡ count_by is_waiting self.now }
         ensures allocated { result.allocated ≡ count_by is_allocated self.now }
     {
-        let waiting = self.waiting.len() as u32;
         Counts {
-            free: self.free,
-            allocated: self.states.len() as u32 - self.free - waiting,
-            waiting,
+            free: self.free_count,
+            allocated: self.free.numbers() - self.free_count - self.waiting_count,
+            waiting: self.waiting_count,
         }
     }
 
-    /// The least Free number not below `from`, or None where there is none. Near constant time: it reads at most 128 states, 128
-    /// counts of runs of 128 numbers, 257 counts of runs of 16,384 numbers, and again 128 counts and 128 states.
+    /// The least Free number not below `from`, or None where there is none. It reads the extents of one slot, at most 128,
+    /// and of those after it as long as they are empty, which few are: an empty slot is joined with its neighbours.
     pub fn find(&self, from: u32) -> Option<BlockNo>
         ensures found { IfSome result (λ b. slice_get self.now b.0 ≡ Some Free) }
         ensures not_below { IfSome result (λ b. from ≤ b.0) }
@@ -145,49 +155,49 @@ impl Allocator {
         ensures within { IfSome result (λ b. b.0 < MOST_BLOCKS) }
         ensures none { IfNone result ((k : ℕ) → from ≤ k → slice_get self.now k ≢ Some Free) }
     {
-        let number = self.states.find(from as usize)?;
-        Some(BlockNo(number as u32))
+        let extent = self.free.next(from)?;
+        Some(BlockNo(extent.first))
     }
 
-    /// Where a search may well begin: after the number that was taken last. Contracts promise no more than that it is at most
-    /// the size of the pool. Where `find` gives none from there, there may be one from 0. Constant time.
-    pub fn hint(&self) -> u32
-        ensures { result ≤ length self.now }
-    {
-        self.hint
-    }
-
-    /// Makes a Free number Allocated. Constant time.
+    /// Makes a Free number Allocated. It reads and moves at most 128 extents, and divides or joins a slot now and then.
     pub fn take(&mut self, b: BlockNo)
         requires { slice_get self.old b.0 ≡ Some Free }
         ensures { self.new ≡ slice_set self.old b.0 Allocated }
     {
-        self.states.set(b.0 as usize, BlockState::Allocated);
-        self.free -= 1;
-        self.hint = b.0 + 1;
+        self.free.remove(Extent {
+            first: b.0,
+            past: b.0 + 1,
+        });
+        self.free_count -= 1;
     }
 
-    /// Makes an Allocated number Waiting or Free. Constant time.
+    /// Makes an Allocated number Waiting or Free. It costs as much as `take`.
     pub fn release(&mut self, b: BlockNo, wait: bool)
         requires { slice_get self.old b.0 ≡ Some Allocated }
         ensures { self.new ≡ slice_set self.old b.0 (if wait then Waiting else Free) }
     {
         if wait {
-            self.states.set(b.0 as usize, BlockState::Waiting);
-            self.waiting.push_reserved(b.0);
+            self.waiting.insert(Extent {
+                first: b.0,
+                past: b.0 + 1,
+            });
+            self.waiting_count += 1;
         } else {
-            self.states.set(b.0 as usize, BlockState::Free);
-            self.free += 1;
+            self.free.insert(Extent {
+                first: b.0,
+                past: b.0 + 1,
+            });
+            self.free_count += 1;
         }
     }
 
-    /// Makes each Waiting number Free. It takes time by how many wait, and none by the size of the pool.
+    /// Makes each Waiting number Free. It takes time by how many extents wait, and none by the size of the pool.
     pub fn end_group(&mut self)
         ensures { self.new ≡ map after_group self.old }
     {
-        let ended = self.waiting.len() as u32;
-        end_waits(&mut self.states, &mut self.waiting);
-        self.free += ended;
+        free_all(&mut self.free, &mut self.waiting);
+        self.free_count += self.waiting_count;
+        self.waiting_count = 0;
     }
 }
 
@@ -203,24 +213,23 @@ impl fmt::Debug for Allocator {
     }
 }
 
-/// Makes the numbers of the list Free, which are all that wait, and empties the list.
-fn end_waits(states: &mut StateMap, waiting: &mut Vec<u32>)
-    requires { (k : ℕ) → slice_get states.old k ≡ Some Waiting → Contains waiting.old.items k }
-    ensures states { states.new ≡ map after_group states.old }
-    ensures emptied { waiting.new.items ≡ [] }
-    ensures room { vec_capacity waiting.new ≡ vec_capacity waiting.old }
+/// Adds the numbers that wait to the Free ones.
+fn free_all(free: &mut Extents, waiting: &mut Extents)
+    requires free { IsKept free.old }
+    requires waiting { IsKept waiting.old }
+    requires same { waiting.old.numbers ≡ free.old.numbers }
+    requires apart { (k : ℕ) → k < free.old.numbers → is_held free.old k ≡ true → is_held waiting.old k ≡ false }
+    ensures free { IsKept free.new }
+    ensures waiting { IsKept waiting.new }
+    ensures numbers { free.new.numbers ≡ free.old.numbers }
+    ensures same { waiting.new.numbers ≡ free.old.numbers }
+    ensures moved { (k : ℕ) → k < free.old.numbers → is_held free.new k ≡ (is_held free.old k || is_held waiting.old k) }
+    ensures emptied { (k : ℕ) → k < free.old.numbers → is_held waiting.new k ≡ false }
 {
-    while let Some(number) = waiting.pop() {
-        end_wait(states, number);
-    }
-}
-
-/// Makes a number Free if it waits.
-fn end_wait(states: &mut StateMap, number: u32)
-    ensures same { map after_group states.new ≡ map after_group states.old }
-    ensures ended { (k : ℕ) → slice_get states.new k ≡ Some Waiting → (slice_get states.old k ≡ Some Waiting) × (k ≢ number) }
-{
-    if let Some(BlockState::Waiting) = states.get(number as usize) {
-        states.set(number as usize, BlockState::Free);
+    let mut from = 0;
+    while let Some(extent) = waiting.next(from) {
+        waiting.remove(extent);
+        free.insert(extent);
+        from = extent.past;
     }
 }

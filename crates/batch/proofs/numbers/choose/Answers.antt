@@ -10,16 +10,16 @@ returns-then-need-len-clause-no_space c = λ e.
 
 pub returns-clause-len : goal.returns-clause-len
 returns-clause-len c =
-    let all = choose_all c.args.allocator.now c.args.young.0 c.args.need c.hint.result c.args.released.now c.in_ok-out.out.items c.reuse.new.out.items c.take_free.new.out.items c.take_free-2.new.out.items c.requires.allocated c.requires.once c.hint.ensures (omega (arith, c.len.ensures.value, c.counts.ensures.free, c.if-need-len.false)) c.in_ok-out.ensures.items c.in_ok-reuse.ensures.ok c.in_ok-take_free.ensures.ok c.in_ok-take_free-2.ensures.ok in
-    sym (length-numbers c.take_free-2.new.out.items) ∙ all.len
+    let all = choose_all c.args.allocator.now c.args.young.0 c.args.need c.args.released.now c.in_ok-out.out.items c.reuse.new.out.items c.take_free.new.out.items c.requires.allocated c.requires.once (omega (arith, c.len.ensures.value, c.counts.ensures.free, c.if-need-len.false)) c.in_ok-out.ensures.items c.in_ok-reuse.ensures.ok c.in_ok-take_free.ensures.ok in
+    sym (length-numbers c.take_free.new.out.items) ∙ all.len
 
 pub returns-clause-at_hand : goal.returns-clause-at_hand
 returns-clause-at_hand c =
-    (choose_all c.args.allocator.now c.args.young.0 c.args.need c.hint.result c.args.released.now c.in_ok-out.out.items c.reuse.new.out.items c.take_free.new.out.items c.take_free-2.new.out.items c.requires.allocated c.requires.once c.hint.ensures (omega (arith, c.len.ensures.value, c.counts.ensures.free, c.if-need-len.false)) c.in_ok-out.ensures.items c.in_ok-reuse.ensures.ok c.in_ok-take_free.ensures.ok c.in_ok-take_free-2.ensures.ok).at_hand
+    (choose_all c.args.allocator.now c.args.young.0 c.args.need c.args.released.now c.in_ok-out.out.items c.reuse.new.out.items c.take_free.new.out.items c.requires.allocated c.requires.once (omega (arith, c.len.ensures.value, c.counts.ensures.free, c.if-need-len.false)) c.in_ok-out.ensures.items c.in_ok-reuse.ensures.ok c.in_ok-take_free.ensures.ok).at_hand
 
 pub returns-clause-once : goal.returns-clause-once
 returns-clause-once c =
-    (choose_all c.args.allocator.now c.args.young.0 c.args.need c.hint.result c.args.released.now c.in_ok-out.out.items c.reuse.new.out.items c.take_free.new.out.items c.take_free-2.new.out.items c.requires.allocated c.requires.once c.hint.ensures (omega (arith, c.len.ensures.value, c.counts.ensures.free, c.if-need-len.false)) c.in_ok-out.ensures.items c.in_ok-reuse.ensures.ok c.in_ok-take_free.ensures.ok c.in_ok-take_free-2.ensures.ok).once
+    (choose_all c.args.allocator.now c.args.young.0 c.args.need c.args.released.now c.in_ok-out.out.items c.reuse.new.out.items c.take_free.new.out.items c.requires.allocated c.requires.once (omega (arith, c.len.ensures.value, c.counts.ensures.free, c.if-need-len.false)) c.in_ok-out.ensures.items c.in_ok-reuse.ensures.ok c.in_ok-take_free.ensures.ok).once
 
 pub returns-clause-room : goal.returns-clause-room
 returns-clause-room c =

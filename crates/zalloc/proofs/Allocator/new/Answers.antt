@@ -1,18 +1,28 @@
-use Rattle.std.proofs.Common.{arith, sym}
-use Rattle.std.proofs.lemmas.List.{length-replicate}
+use Rattle.std.proofs.Common.{◌≡◌, ◌∙◌, sym, ap, arith, replicate}
+use Rattle.std.specs.Prelude.{count_by}
 use Rattle.zalloc.specs.declared.BlockState.TheVariants.{Free}
-use Rattle.zalloc.proofs.Counting.{none_at_first, no_count_at_first}
-use Rattle.zalloc.proofs.Tallies.{count_replicate}
+use Rattle.zalloc.specs.States.{is_free, is_waiting}
+use Rattle.zalloc.specs.Allocator.{states_from}
+use Rattle.zalloc.proofs.Counting.{no_count_at_first}
+use Rattle.zalloc.proofs.States.{all_free, count_free}
 use Rattle.zalloc.proofs.Allocator.new.Goals as goal
+
+all : (c : goal.In_ok-waiting) → states_from c.in_ok-free.free c.in_ok-waiting.waiting ≡ replicate c.args.n Free
+all c =
+    let n = c.in_ok-free.ensures.numbers in
+    all_free c.in_ok-free.free c.in_ok-waiting.waiting (λ k h. c.in_ok-free.ensures.held k (omega (arith, h, n))) ∙ ap (λ m. replicate m Free) n
 
 pub invariant_of-result : goal.invariant_of-result
 invariant_of-result c =
-    let n = c.args.n in
+    let n = c.in_ok-free.ensures.numbers in
     record {
-      few = rw c.in_ok-states.ensures (omega (arith, length-replicate n Free, c.requires));
-      free = rw c.in_ok-states.ensures (sym (count_replicate n));
-      waiting = rw (c.in_ok-states.ensures, c.in_ok-waiting.ensures.items) (sym (no_count_at_first n));
-      listed = rw c.in_ok-states.ensures (λ k e. absurd (none_at_first n k e));
-      room = rw c.in_ok-states.ensures (omega (arith, length-replicate n Free, c.in_ok-waiting.ensures.exact));
-      hint = omega arith;
+      free = c.in_ok-free.ensures.kept;
+      waiting = c.in_ok-waiting.ensures.kept;
+      same = c.in_ok-waiting.ensures.numbers ∙ sym n;
+      apart = λ k h e. c.in_ok-waiting.ensures.held k (omega (arith, h, n));
+      free_count = sym (ap (count_by is_free) (all c) ∙ count_free c.args.n);
+      waiting_count = sym (ap (count_by is_waiting) (all c) ∙ no_count_at_first c.args.n);
     }
+
+pub returns-clause-ok : goal.returns-clause-ok
+returns-clause-ok c = all c

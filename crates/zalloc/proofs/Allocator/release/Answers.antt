@@ -1,54 +1,106 @@
-use Rattle.std.proofs.Common.{◌≡◌, ◌++◌, ◌∷◌, [], arith, ap, subst, ◌∙◌, sym, Some, length-set, length-append, ⊎_elim}
-use Rattle.std.specs.Prelude.{slice_get}
-use Rattle.std.specs.List.{Contains}
-use Rattle.std.proofs.lemmas.List.Elements.{Contains-push, Contains-append_left}
-use Rattle.std.proofs.lemmas.Option.{slice_get_within}
+use Rattle.std.proofs.Common.{◌≡◌, ◌+◌, ◌≤◌, false, refl, ◌∙◌, sym, ap, arith, rules, subst}
+use Rattle.std.specs.Prelude.{slice_get, slice_set, count_by}
 use Rattle.zalloc.specs.declared.BlockState.TheVariants.{Free, Allocated, Waiting}
 use Rattle.zalloc.specs.States.{is_free, is_waiting}
-use Rattle.zalloc.proofs.Counting.{count_set, get_set, room_to_wait}
+use Rattle.zalloc.specs.Laid.{is_held}
+use Rattle.zalloc.specs.Allocator.{states_from}
+use Rattle.zalloc.proofs.Counting.{count_set}
+use Rattle.zalloc.proofs.States.{states_len, within_states, allocated_read, let_wait, wait_apart, let_free, free_apart, room_for}
 use Rattle.zalloc.proofs.Allocator.release.Goals as goal
 
-pub push_reserved-requires : goal.push_reserved-requires
-push_reserved-requires c =
+pub overflow_add-b : goal.overflow_add-b
+overflow_add-b c =
     let at = ap (λ s. slice_get s c.args.b.0) c.self.view_is ∙ c.requires in
-    omega (arith, room_to_wait c.self.inside.states c.args.b.0 at, c.self.invariant.waiting, c.self.invariant.room, c.self.inside.waiting.ok.0)
+    let p : c.args.b.0 + 1 ≤ 4194304 = omega (arith, within_states c.self.inside.free c.self.inside.waiting c.args.b.0 Allocated at, c.self.invariant.free.laid.few) in
+    search (rules, p)
+
+pub overflow_add-b-else-wait : goal.overflow_add-b-else-wait
+overflow_add-b-else-wait c =
+    let at = ap (λ s. slice_get s c.args.b.0) c.self.view_is ∙ c.requires in
+    let p : c.args.b.0 + 1 ≤ 4194304 = omega (arith, within_states c.self.inside.free c.self.inside.waiting c.args.b.0 Allocated at, c.self.invariant.free.laid.few) in
+    search (rules, p)
+
+pub insert-requires-clause-within : goal.insert-requires-clause-within
+insert-requires-clause-within c =
+    let at = ap (λ s. slice_get s c.args.b.0) c.self.view_is ∙ c.requires in
+    omega (arith, within_states c.self.inside.free c.self.inside.waiting c.args.b.0 Allocated at, c.self.invariant.same)
+
+pub insert-requires-clause-apart : goal.insert-requires-clause-apart
+insert-requires-clause-apart c = λ k p q.
+    let at = ap (λ s. slice_get s c.args.b.0) c.self.view_is ∙ c.requires in
+    let e : c.args.b.0 ≡ k = omega (arith, p, q) in
+    subst (λ j. is_held c.self.inside.waiting j ≡ false) e (allocated_read c.self.inside.free c.self.inside.waiting c.args.b.0 at).1
+
+pub overflow_add-self : goal.overflow_add-self
+overflow_add-self c =
+    let x = c.self.inside.free in
+    let y = c.self.inside.waiting in
+    let at = ap (λ s. slice_get s c.args.b.0) c.self.view_is ∙ c.requires in
+    let p : c.self.inside.waiting_count + 1 ≤ 4194304 = omega (arith, room_for is_waiting (states_from x y) c.args.b.0 Allocated Waiting at refl refl, states_len x y, c.self.invariant.waiting_count, c.self.invariant.free.laid.few) in
+    search (rules, p)
 
 pub invariant_of-self : goal.invariant_of-self
 invariant_of-self c =
-    let xs = c.self.inside.states in
-    let ws = c.self.inside.waiting.items in
+    let x = c.self.inside.free in
+    let y = c.self.inside.waiting in
     let b = c.args.b.0 in
+    let i = c.self.invariant in
     let at = ap (λ s. slice_get s b) c.self.view_is ∙ c.requires in
-    let n = length-set xs b Waiting in
-    let pushed = c.push_reserved.ensures.items in
+    let t = let_wait x y c.insert.new.self b i.same c.insert.ensures.with at in
     record {
-      few = rw c.set.ensures (omega (arith, n, c.self.invariant.few));
-      free = rw c.set.ensures (omega (arith, count_set is_free xs b Allocated Waiting at, c.self.invariant.free));
-      waiting = rw (c.set.ensures, pushed) (omega (arith, length-append ws (b ∷ []), count_set is_waiting xs b Allocated Waiting at, c.self.invariant.waiting));
-      listed = rw (c.set.ensures, pushed) (λ k e. ⊎_elim
-          (λ (p : (k ≡ b) × (Waiting ≡ Waiting)). subst (λ n. Contains (ws ++ b ∷ []) n) (sym p.0) (Contains-push ws b))
-          (λ (p : (k ≡ b → ⊥) × (slice_get xs k ≡ Some Waiting)). Contains-append_left ws (b ∷ []) k (c.self.invariant.listed k p.1))
-          (get_set xs b k Waiting Waiting e));
-      room = rw (c.set.ensures, c.push_reserved.ensures.capacity) (omega (arith, n, c.self.invariant.room));
-      hint = rw c.set.ensures (omega (arith, n, c.self.invariant.hint));
+      free = i.free;
+      waiting = c.insert.ensures.kept;
+      same = c.insert.ensures.with.numbers ∙ i.same;
+      apart = wait_apart x y c.insert.new.self b i.same c.insert.ensures.with i.apart at;
+      free_count = omega (arith, ap (count_by is_free) t, count_set is_free (states_from x y) b Allocated Waiting at, i.free_count);
+      waiting_count = omega (arith, ap (count_by is_waiting) t, count_set is_waiting (states_from x y) b Allocated Waiting at, i.waiting_count);
     }
 
-pub set-requires-else-wait : goal.set-requires-else-wait
-set-requires-else-wait c =
+pub insert-requires-else-wait-clause-within : goal.insert-requires-else-wait-clause-within
+insert-requires-else-wait-clause-within c =
     let at = ap (λ s. slice_get s c.args.b.0) c.self.view_is ∙ c.requires in
-    slice_get_within c.self.inside.states c.args.b.0 Allocated at
+    omega (arith, within_states c.self.inside.free c.self.inside.waiting c.args.b.0 Allocated at)
+
+pub insert-requires-else-wait-clause-apart : goal.insert-requires-else-wait-clause-apart
+insert-requires-else-wait-clause-apart c = λ k p q.
+    let at = ap (λ s. slice_get s c.args.b.0) c.self.view_is ∙ c.requires in
+    let e : c.args.b.0 ≡ k = omega (arith, p, q) in
+    subst (λ j. is_held c.self.inside.free j ≡ false) e (allocated_read c.self.inside.free c.self.inside.waiting c.args.b.0 at).0
+
+pub overflow_add-self-else-wait : goal.overflow_add-self-else-wait
+overflow_add-self-else-wait c =
+    let x = c.self.inside.free in
+    let y = c.self.inside.waiting in
+    let at = ap (λ s. slice_get s c.args.b.0) c.self.view_is ∙ c.requires in
+    let p : c.self.inside.free_count + 1 ≤ 4194304 = omega (arith, room_for is_free (states_from x y) c.args.b.0 Allocated Free at refl refl, states_len x y, c.self.invariant.free_count, c.self.invariant.free.laid.few) in
+    search (rules, p)
 
 pub invariant_of-self-else-wait : goal.invariant_of-self-else-wait
 invariant_of-self-else-wait c =
-    let xs = c.self.inside.states in
+    let x = c.self.inside.free in
+    let y = c.self.inside.waiting in
     let b = c.args.b.0 in
+    let i = c.self.invariant in
     let at = ap (λ s. slice_get s b) c.self.view_is ∙ c.requires in
-    let n = length-set xs b Free in
+    let w = c.insert-else-wait.ensures.with in
+    let t = let_free x y c.insert-else-wait.new.self b w at in
     record {
-      few = rw c.set-else-wait.ensures (omega (arith, n, c.self.invariant.few));
-      free = rw c.set-else-wait.ensures (omega (arith, count_set is_free xs b Allocated Free at, c.self.invariant.free));
-      waiting = rw c.set-else-wait.ensures (omega (arith, count_set is_waiting xs b Allocated Free at, c.self.invariant.waiting));
-      listed = rw c.set-else-wait.ensures (λ k e. ⊎_elim (λ (p : (k ≡ b) × (Free ≡ Waiting)). absurd (cc)) (λ (p : (k ≡ b → ⊥) × (slice_get xs k ≡ Some Waiting)). c.self.invariant.listed k p.1) (get_set xs b k Free Waiting e));
-      room = rw c.set-else-wait.ensures (omega (arith, n, c.self.invariant.room));
-      hint = rw c.set-else-wait.ensures (omega (arith, n, c.self.invariant.hint));
+      free = c.insert-else-wait.ensures.kept;
+      waiting = i.waiting;
+      same = i.same ∙ sym w.numbers;
+      apart = free_apart x y c.insert-else-wait.new.self b w i.apart at;
+      free_count = omega (arith, ap (count_by is_free) t, count_set is_free (states_from x y) b Allocated Free at, i.free_count);
+      waiting_count = omega (arith, ap (count_by is_waiting) t, count_set is_waiting (states_from x y) b Allocated Free at, i.waiting_count);
     }
+
+pub returns-then-wait : goal.returns-then-wait
+returns-then-wait c =
+    let at = ap (λ s. slice_get s c.args.b.0) c.self.view_is ∙ c.requires in
+    let t = let_wait c.self.inside.free c.self.inside.waiting c.insert.new.self c.args.b.0 c.self.invariant.same c.insert.ensures.with at ∙ ap (λ s. slice_set s c.args.b.0 Waiting) c.self.view_is in
+    rw c.if-wait.true t
+
+pub returns-else-wait : goal.returns-else-wait
+returns-else-wait c =
+    let at = ap (λ s. slice_get s c.args.b.0) c.self.view_is ∙ c.requires in
+    let t = let_free c.self.inside.free c.self.inside.waiting c.insert-else-wait.new.self c.args.b.0 c.insert-else-wait.ensures.with at ∙ ap (λ s. slice_set s c.args.b.0 Free) c.self.view_is in
+    rw c.if-wait.false t

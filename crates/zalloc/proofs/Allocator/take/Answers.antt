@@ -1,34 +1,53 @@
-use Rattle.std.proofs.Common.{◌≡◌, arith, ap, ◌∙◌, Some, length-set, rules, ⊎_elim}
-use Rattle.std.specs.Prelude.{slice_get}
-use Rattle.std.proofs.lemmas.Option.{slice_get_within}
-use Rattle.zalloc.specs.declared.BlockState.TheVariants.{Free, Allocated, Waiting}
+use Rattle.std.proofs.Common.{◌≡◌, ◌+◌, ◌≤◌, ◌∙◌, sym, ap, arith, rules, subst, true}
+use Rattle.std.specs.Prelude.{slice_get, slice_set, count_by}
+use Rattle.zalloc.specs.declared.BlockState.TheVariants.{Free, Allocated}
 use Rattle.zalloc.specs.States.{is_free, is_waiting}
-use Rattle.zalloc.proofs.Counting.{count_set, get_set, free_to_take}
+use Rattle.zalloc.specs.Laid.{is_held}
+use Rattle.zalloc.specs.Allocator.{states_from}
+use Rattle.zalloc.proofs.Counting.{count_set, free_to_take}
+use Rattle.zalloc.proofs.States.{within_states, free_read, taken, still_apart}
 use Rattle.zalloc.proofs.Allocator.take.Goals as goal
+
+pub overflow_add-b : goal.overflow_add-b
+overflow_add-b c =
+    let at = ap (λ s. slice_get s c.args.b.0) c.self.view_is ∙ c.requires in
+    let p : c.args.b.0 + 1 ≤ 4194304 = omega (arith, within_states c.self.inside.free c.self.inside.waiting c.args.b.0 Free at, c.self.invariant.free.laid.few) in
+    search (rules, p)
+
+pub remove-requires-clause-within : goal.remove-requires-clause-within
+remove-requires-clause-within c =
+    let at = ap (λ s. slice_get s c.args.b.0) c.self.view_is ∙ c.requires in
+    omega (arith, within_states c.self.inside.free c.self.inside.waiting c.args.b.0 Free at)
+
+pub remove-requires-clause-held : goal.remove-requires-clause-held
+remove-requires-clause-held c = λ k p q.
+    let at = ap (λ s. slice_get s c.args.b.0) c.self.view_is ∙ c.requires in
+    let e : c.args.b.0 ≡ k = omega (arith, p, q) in
+    subst (λ j. is_held c.self.inside.free j ≡ true) e (free_read c.self.inside.free c.self.inside.waiting c.args.b.0 at)
 
 pub overflow_sub-self : goal.overflow_sub-self
 overflow_sub-self c =
     let at = ap (λ s. slice_get s c.args.b.0) c.self.view_is ∙ c.requires in
-    omega (arith, free_to_take c.self.inside.states c.args.b.0 at, c.self.invariant.free)
-
-pub overflow_add-self : goal.overflow_add-self
-overflow_add-self c =
-    let at = ap (λ s. slice_get s c.args.b.0) c.self.view_is ∙ c.requires in
-    let p = slice_get_within c.self.inside.states c.args.b.0 Free at in
-    let few = c.self.invariant.few in
-    search (rules, p, few)
+    omega (arith, free_to_take (states_from c.self.inside.free c.self.inside.waiting) c.args.b.0 at, c.self.invariant.free_count)
 
 pub invariant_of-self : goal.invariant_of-self
 invariant_of-self c =
-    let xs = c.self.inside.states in
+    let x = c.self.inside.free in
+    let y = c.self.inside.waiting in
     let b = c.args.b.0 in
+    let i = c.self.invariant in
     let at = ap (λ s. slice_get s b) c.self.view_is ∙ c.requires in
-    let n = length-set xs b Allocated in
+    let t = taken x y c.remove.new.self b c.remove.ensures.without i.apart at in
     record {
-      few = rw c.set.ensures (omega (arith, n, c.self.invariant.few));
-      free = rw c.set.ensures (omega (arith, free_to_take xs b at, count_set is_free xs b Free Allocated at, c.self.invariant.free));
-      waiting = rw c.set.ensures (omega (arith, count_set is_waiting xs b Free Allocated at, c.self.invariant.waiting));
-      listed = rw c.set.ensures (λ k e. ⊎_elim (λ (p : (k ≡ b) × (Allocated ≡ Waiting)). absurd (cc)) (λ (p : (k ≡ b → ⊥) × (slice_get xs k ≡ Some Waiting)). c.self.invariant.listed k p.1) (get_set xs b k Allocated Waiting e));
-      room = rw c.set.ensures (omega (arith, n, c.self.invariant.room));
-      hint = rw c.set.ensures (omega (arith, n, slice_get_within xs b Free at));
+      free = c.remove.ensures.kept;
+      waiting = i.waiting;
+      same = i.same ∙ sym c.remove.ensures.without.numbers;
+      apart = still_apart x y c.remove.new.self b c.remove.ensures.without i.apart;
+      free_count = omega (arith, ap (count_by is_free) t, free_to_take (states_from x y) b at, count_set is_free (states_from x y) b Free Allocated at, i.free_count);
+      waiting_count = omega (arith, ap (count_by is_waiting) t, count_set is_waiting (states_from x y) b Free Allocated at, i.waiting_count);
     }
+
+pub returns : goal.returns
+returns c =
+    let at = ap (λ s. slice_get s c.args.b.0) c.self.view_is ∙ c.requires in
+    taken c.self.inside.free c.self.inside.waiting c.remove.new.self c.args.b.0 c.remove.ensures.without c.self.invariant.apart at ∙ ap (λ s. slice_set s c.args.b.0 Allocated) c.self.view_is
