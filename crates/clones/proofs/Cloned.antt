@@ -1,6 +1,6 @@
 -- A clone of the snapshot that a target names.
 use Rattle.std.proofs.Common.{◌≡◌, List, ℕ, Bool, true, false, cond, Option, Some, None, Result, Ok, Err, refl, sym, ap, subst, ◌∙◌}
-use Rattle.std.specs.Prelude.{IsSome, IfSome, IfOk, OnOk, is_some, not, ◌∷◌}
+use Rattle.std.specs.Prelude.{IsSome, IfSome, OnOk, is_some, not, ◌∷◌}
 use Rattle.std.specs.Option.{option_map, option_map_or, option_and_then}
 use Rattle.base.specs.declared.refusal.Refusal.{Refusal}
 use Rattle.base.specs.declared.refusal.Refusal.TheVariants.{NotSnapshot, NoDataset, Deferred}
@@ -75,16 +75,8 @@ module _ (t : Datasets) (m : Member) (name : List ℕ) where
     snapshot_there = subst (λ (x : Option Snap). IsSome x) (sym told.1) refl
 
     -- what the table answers
-    pub is_cloned : (r : Result Datasets Refusal) → IfSome (snap_named (world_of t) m) (λ u. IfOk r (λ v. v ≡ with_clone_of t (id_of u) name)) → IfOk r (λ v. v ≡ cloned t (OfSnapshot m) name)
-    is_cloned r h = by_result r (subst (λ (x : Option Snap). IfSome x (λ u. IfOk r (λ v. v ≡ with_clone_of t (id_of u) name))) told.1 h)
-      where
-        by_result : (x : Result Datasets Refusal) → IfOk x (λ v. v ≡ with_clone_of t (id_of told.0) name) → IfOk x (λ v. v ≡ cloned t (OfSnapshot m) name)
-        by_result (Ok v) k = k ∙ sym (cloned_as told.0 told.1)
-        by_result (Err e) k = tt
-
-    -- and where it adds the clone itself
-    pub is_cloned_now : (r : Result (Unit {0}) Refusal) (new : Datasets) → IfSome (snap_named (world_of t) m) (λ u. OnOk r (new ≡ with_clone_of t (id_of u) name)) → OnOk r (new ≡ cloned t (OfSnapshot m) name)
-    is_cloned_now r new h = by_result r (subst (λ (x : Option Snap). IfSome x (λ u. OnOk r (new ≡ with_clone_of t (id_of u) name))) told.1 h)
+    pub is_cloned : (r : Result (Unit {0}) Refusal) (new : Datasets) → IfSome (snap_named (world_of t) m) (λ u. OnOk r (new ≡ with_clone_of t (id_of u) name)) → OnOk r (new ≡ cloned t (OfSnapshot m) name)
+    is_cloned r new h = by_result r (subst (λ (x : Option Snap). IfSome x (λ u. OnOk r (new ≡ with_clone_of t (id_of u) name))) told.1 h)
       where
         by_result : (x : Result (Unit {0}) Refusal) → OnOk x (new ≡ with_clone_of t (id_of told.0) name) → OnOk x (new ≡ cloned t (OfSnapshot m) name)
         by_result (Ok done) k = k ∙ sym (cloned_as told.0 told.1)

@@ -83,26 +83,26 @@ module _ (t : Datasets) (name : Name) where
     can_promote = subst (λ (x : Option Promotion). IfSome x (CanPromote t name)) (sym told.1) (record { is = told.1; apart = apart })
 
     -- what stands before each dataset stays there
-    pub keeps_previous : AreFileSystems t.file_systems t.group → KeepsPrevious t (promoted t name)
+    keeps_previous : AreFileSystems t.file_systems t.group → KeepsPrevious t (promoted t name)
     keeps_previous good = subst (λ (x : Option Promotion). KeepsPrevious t (option_map_or (with_promoted t name) x t)) (sym told.1)
         (λ d there. promote_previous (world_of t) good name told.0 told.1 apart d there)
 
     -- and that is what the table's promote leaves
-    pub promoted_is : (u : Datasets) → IfSome (promotion_of (world_of t) name) (λ p. u ≡ with_promoted t name p) → u ≡ promoted t name
+    promoted_is : (u : Datasets) → IfSome (promotion_of (world_of t) name) (λ p. u ≡ with_promoted t name p) → u ≡ promoted t name
     promoted_is u h = by_some (promotion_of (world_of t) name) promotion_there h
       where
         by_some : (x : Option Promotion) → IsSome x → IfSome x (λ p. u ≡ with_promoted t name p) → u ≡ option_map_or (with_promoted t name) x t
         by_some None there e = absurd (true≢false (sym there))
         by_some (Some p) there e = e
 
-    -- so it is where the table itself is promoted
-    pub promoted_now : (r : Result (Unit {0}) Refusal) (u : Datasets) → IfSome (promotion_of (world_of t) name) (λ p. OnOk r (u ≡ with_promoted t name p)) → OnOk r (u ≡ promoted t name)
-    promoted_now (Ok done) u h = promoted_is u h
-    promoted_now (Err e) u h = tt
+    -- so it is where the table answers
+    pub is_promoted : (r : Result (Unit {0}) Refusal) (u : Datasets) → IfSome (promotion_of (world_of t) name) (λ p. OnOk r (u ≡ with_promoted t name p)) → OnOk r (u ≡ promoted t name)
+    is_promoted (Ok done) u h = promoted_is u h
+    is_promoted (Err e) u h = tt
 
-    pub previous_now : (r : Result (Unit {0}) Refusal) (u : Datasets) → AreFileSystems t.file_systems t.group → OnOk r (u ≡ promoted t name) → OnOk r (KeepsPrevious t u)
-    previous_now (Ok done) u good is = subst (KeepsPrevious t) (sym is) (keeps_previous good)
-    previous_now (Err e) u good is = tt
+    pub has_kept_previous : (r : Result (Unit {0}) Refusal) (u : Datasets) → AreFileSystems t.file_systems t.group → OnOk r (u ≡ promoted t name) → OnOk r (KeepsPrevious t u)
+    has_kept_previous (Ok done) u good is = subst (KeepsPrevious t) (sym is) (keeps_previous good)
+    has_kept_previous (Err e) u good is = tt
 
 -- ---- a snapshot of a name
 

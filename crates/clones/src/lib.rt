@@ -7,5 +7,5 @@
 mod clone;
 mod promotion;
 
-pub use crate::clone::{clone_now, clone_snapshot};
-pub use crate::promotion::{promote, promote_now};
+pub use crate::clone::clone_snapshot;
+pub use crate::promotion::promote;

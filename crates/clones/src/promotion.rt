@@ -1,5 +1,5 @@
 //! The promote of a clone.
-ghost use Rattle.std.specs.Prelude.{◌≡◌, ◌⊎◌, Some, None, IfSome, IfOk, IfErr, OnOk, OnErr, nat_lt};
+ghost use Rattle.std.specs.Prelude.{◌≡◌, ◌⊎◌, Some, None, IfSome, IfErr, OnOk, OnErr, nat_lt};
 ghost use Rattle.std.specs.List.{list_any};
 ghost use Rattle.std.specs.Option.{option_map};
 ghost use Rattle.base.specs.declared.refusal.Refusal.{Refusal};
@@ -24,8 +24,8 @@ use std::alloc::Global;
 /// A whole name has at most this many bytes (profile).
 const NAME_LIMIT: usize = 255;
 
-/// A table in which the clone of this name is promoted (zfs-promote(8)): it has its origin and the older snapshots of the file system of
-/// that, and the other's origin; the other keeps its newer snapshots, and the clone's origin is its own then. This table stays as it is.
+/// Promotes the clone of this name in this table (zfs-promote(8)): it has its origin and the older snapshots of the file system of that
+/// then, and the other's origin; the other keeps its newer snapshots, and the clone's origin is its own. At `Err` the table is as it was.
 /// Refused are NoDataset where no file system has the name, else NotClone where it has no origin, else BadName where the whole name of a
 /// snapshot that the clone would get would be over 255 bytes under the clone's name, else NameClash where the clone has a snapshot of the
 /// name of one of these; else NoMemory where there is none for it, or as `Table::promote` says (the order and the limit are profile).
@@ -33,29 +33,6 @@ const NAME_LIMIT: usize = 255;
 /// for each file system the logarithm of the number of its snapshots, the number of the snapshots of both with the segments of their dead
 /// lists, and for each snapshot that changes its file system the logarithms of the numbers of both.
 pub fn promote(
-    alloc: Global,
-    table: &Table,
-    name: &DsName,
-    segments: &mut SegMeter,
-) -> Result<Table, Refusal>
-    ensures ok { IfOk result (λ t. t ≡ promoted table.now name.now) }
-    ensures can { OnOk result (promote_refusal table.now name.now ≡ None) }
-    ensures refused { IfSome (promote_refusal table.now name.now) (λ e. result ≡ Err e) }
-    ensures only { IfErr result (λ e. (promote_refusal table.now name.now ≡ Some e) ⊎ (e ≡ Refusal.NoMemory)) }
-    ensures previous { IfOk result (KeepsPrevious table.now) }
-{
-    // It tells what holds of the file systems.
-    let _count = table.len();
-    if let Some(refusal) = refusal_of(table, name) {
-        return Err(refusal);
-    }
-    let mut to = table.copy()?;
-    to.promote(alloc, name, segments)?;
-    Ok(to)
-}
-
-/// The same in this table. At `Err` it is as it was. It costs what `promote` does, but for the copy.
-pub fn promote_now(
     alloc: Global,
     table: &mut Table,
     name: &DsName,

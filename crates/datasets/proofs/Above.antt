@@ -8,7 +8,7 @@ use Rattle.std.specs.FinMap as finmap
 use Rattle.base.specs.Map.{Block, BlockSet, blocks}
 use Rattle.base.specs.Surveys.{IsIn}
 use Rattle.model.specs.World.{World, FileSystem, Snap, SnapId, Dataset, Live, Snapped, id_of, same_id, snap_at, newest_or_origin, previous_of, map_of, map_of_snap}
-use Rattle.file_systems.specs.Clones.{snap_in, below_in, origin_at, below_at}
+use Rattle.datasets.specs.Clones.{snap_in, below_in, origin_at, below_at}
 use Rattle.file_system.specs.Dead.{newest_blocks, IsAbove}
 use Rattle.file_system.specs.Origins.{origin_group}
 use Rattle.file_system.specs.Rows.{live_of, snaps_at}

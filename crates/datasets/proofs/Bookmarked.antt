@@ -5,8 +5,8 @@ use Rattle.name.specs.Names.{name_cmp}
 use Rattle.model.specs.declared.limits.Limit.{Limit}
 use Rattle.model.specs.Limits.{limited}
 use Rattle.model.specs.World.{Bookmark, id_of}
-use Rattle.file_systems.specs.Bookmarked.{bookmarked_of}
-use Rattle.file_systems.specs.Limited.{limited_of}
+use Rattle.datasets.specs.Bookmarked.{bookmarked_of}
+use Rattle.datasets.specs.Limited.{limited_of}
 use Rattle.world.specs.Shapes.{Name}
 use Rattle.world.specs.Worlds.{snap_shape, shape_of, shapes}
 use Rattle.world.specs.Tables.{Datasets}

@@ -3,7 +3,7 @@ use Rattle.std.proofs.Common.{◌≡◌, ℕ, Bool, true, false, cond, ◌||◌,
 use Rattle.std.specs.Prelude.{nat_lt}
 use Rattle.std.specs.List.{list_any, filter}
 use Rattle.std.proofs.lemmas.Bool.{lt-ltb}
-use Rattle.file_systems.specs.Clones.{row_in}
+use Rattle.datasets.specs.Clones.{row_in}
 use Rattle.file_system.specs.Rows.{FileSystems, Entry, Row}
 
 -- whether one of some names passes a test

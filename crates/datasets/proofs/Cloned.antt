@@ -11,7 +11,7 @@ use Rattle.model.specs.requests.Create.{create_refusal}
 use Rattle.world.specs.Shapes.{Name, before_next}
 use Rattle.world.specs.Worlds.{snap_shape, shape_of, shapes}
 use Rattle.world.specs.Tables.{Datasets, world_of}
-use Rattle.file_systems.specs.Clones.{all_snaps, snap_in, IsTied}
+use Rattle.datasets.specs.Clones.{all_snaps, snap_in, IsTied}
 use Rattle.file_system.specs.Promotions.{clone_row, clone_system}
 use Rattle.world.proofs.Maps.{no_value}
 use Rattle.world.proofs.Finding.{from_find}

@@ -10,7 +10,7 @@ use Rattle.base.specs.Map.{blocks}
 use Rattle.base.specs.Surveys.{IsIn}
 use Rattle.model.specs.World.{FileSystem, Live, empty_file_system, maps_of, union_of}
 use Rattle.file_system.specs.declared.lost.Lost.{Lost}
-use Rattle.file_systems.specs.Clones.{origin_at, below_at}
+use Rattle.datasets.specs.Clones.{origin_at, below_at}
 use Rattle.file_system.specs.Losses.{IsLost}
 use Rattle.file_system.specs.Origins.{origin_group}
 use Rattle.file_system.specs.Rows.{live_of, snaps_at}

@@ -1,6 +1,6 @@
 -- What a table keeps: at first, once a file system is made, once a snapshot is taken, and once the group is closed.
 use Rattle.std.proofs.Common.{◌≡◌, ◌<◌, ◌≤◌, ◌++◌, ◌∷◌, [], ℕ, Bool, true, false, Option, Some, None, Result, Ok, Err, refl, sym, ap, subst, ◌∙◌, inl, inr, ⊎_elim, if◌then◌else◌, map, arith}
-use Rattle.std.specs.Prelude.{IsTrue, OnOk, OnErr, is_some, nat_le, not}
+use Rattle.std.specs.Prelude.{IsTrue, OnOk, OnErr, nat_le, not}
 use Rattle.std.specs.List.{find}
 use Rattle.std.specs.Option.{option_map_or}
 use Rattle.std.specs.FinMap as finmap
@@ -13,7 +13,7 @@ use Rattle.model.specs.World.{FileSystem, Snap, Live, id_of, same_id, empty_file
 use Rattle.model.specs.State.{fresh_world, fresh_state}
 use Rattle.model.specs.Hierarchy.{has_parent, file_system_limit}
 use Rattle.model.specs.requests.Create.{create_refusal}
-use Rattle.file_systems.specs.Clones.{all_snaps}
+use Rattle.datasets.specs.Clones.{all_snaps}
 use Rattle.file_system.specs.Rows.{live_of, plain_snap, with_snap}
 use Rattle.world.specs.Shapes.{Name, name_order, before_live, nothing_before}
 use Rattle.world.specs.Worlds.{FileSystems, snap_shape, AreFileSystems, AreMapsFrom, InNow, maps_of_both}
@@ -30,10 +30,7 @@ use Rattle.world.proofs.Groups.{raise_systems, same_maps}
 use Rattle.world.proofs.Snapshots.{take_systems, taken_from}
 use Rattle.world.proofs.Dead.{row_base}
 use Rattle.datasets.specs.Table.{AreNumbersOne, IsTable}
-
-none_from : {A : Type 0} (x : Option A) → is_some x ≡ false → x ≡ None
-none_from None h = refl
-none_from (Some a) h = cc
+use Rattle.datasets.proofs.Rows.{none_from}
 
 -- where each map was there before, a number names one block again
 pub numbers_from : (t u : Datasets) → AreFileSystems t.file_systems t.group → AreMapsFrom t.file_systems u.file_systems → AreNumbersOne t → AreNumbersOne u

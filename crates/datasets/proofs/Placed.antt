@@ -11,7 +11,7 @@ use Rattle.world.proofs.Bridge.{from_entries, start, rising}
 use Rattle.datasets.proofs.Removed.{from_zero}
 use Rattle.std.specs.List.{find, flat_map}
 use Rattle.std.specs.Option.{option_map}
-use Rattle.file_systems.specs.Clones.{row_in}
+use Rattle.datasets.specs.Clones.{row_in}
 use Rattle.file_system.specs.Rows.{Entry, Row}
 use Rattle.model.specs.World.{Snap, SnapId, id_of, same_id, snap_at}
 use Rattle.world.specs.Tables.{Datasets, world_of}

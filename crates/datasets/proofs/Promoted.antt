@@ -10,7 +10,7 @@ use Rattle.world.specs.Shapes.{Name}
 use Rattle.world.specs.Worlds.{FileSystems, AreMapsFrom}
 use Rattle.world.specs.Outcomes.{Promotion, promotion_of, promoted_snaps, snaps_after, promoted, demoted}
 use Rattle.world.specs.Tables.{Datasets, world_of, CanPromote}
-use Rattle.file_systems.specs.Promotions.{IsPromotion, CanPromoteIn, promoted_in}
+use Rattle.datasets.specs.Promoted.{IsPromotion, CanPromoteIn, promoted_in}
 use Rattle.world.proofs.Maps.{same_value}
 use Rattle.world.proofs.Finding.{from_filter, in_either}
 use Rattle.world.proofs.Listed.{in_map, map_in}

@@ -14,7 +14,7 @@ use Rattle.deadlist.specs.declared.deadlist.Deadlist.{Deadlist}
 use Rattle.name.specs.declared.member.Member.{Member}
 use Rattle.name.specs.Names.{same_name}
 use Rattle.model.specs.World.{FileSystem, Snap, Live, Snapped, id_of, newest_or_origin, previous_of, map_of, snap_named}
-use Rattle.file_systems.specs.Clones.{below_in, below_at}
+use Rattle.datasets.specs.Clones.{below_in, below_at}
 use Rattle.file_system.specs.Dead.{newest_blocks}
 use Rattle.file_system.specs.Origins.{origin_group}
 use Rattle.file_system.specs.Rows.{live_of, snaps_at}

@@ -11,7 +11,7 @@ use Rattle.base.specs.Map.{Map, blocks}
 use Rattle.base.specs.Surveys.{IsIn}
 use Rattle.model.specs.World.{FileSystem, Snap, Live}
 use Rattle.file_system.specs.declared.lost.Lost.{Lost}
-use Rattle.file_systems.specs.Clones.{origin_at, below_at}
+use Rattle.datasets.specs.Clones.{origin_at, below_at}
 use Rattle.file_system.specs.Losses.{newest_map, IsLost}
 use Rattle.file_system.specs.Origins.{origin_group}
 use Rattle.file_system.specs.Rows.{live_of, snaps_at, with_live}

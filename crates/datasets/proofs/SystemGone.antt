@@ -9,7 +9,7 @@ use Rattle.base.specs.declared.refusal.Refusal.{Refusal}
 use Rattle.base.specs.Map.{blocks}
 use Rattle.model.specs.World.{FileSystem, Live}
 use Rattle.file_system.specs.declared.lost.Lost.{Lost}
-use Rattle.file_systems.specs.Clones.{origin_at, below_at}
+use Rattle.datasets.specs.Clones.{origin_at, below_at}
 use Rattle.file_system.specs.Losses.{IsLost}
 use Rattle.file_system.specs.Origins.{origin_group}
 use Rattle.file_system.specs.Rows.{live_of, snaps_at}

@@ -19,7 +19,7 @@ use Rattle.model.specs.World.{FileSystem, SnapId, Dataset, Live, newest_or_origi
 use Rattle.tree.specs.Asking.{AllowsChange}
 use Rattle.tree.specs.Change.{Shown, IsChange}
 use Rattle.tree.specs.declared.change.Changed.{Changed}
-use Rattle.file_systems.specs.Clones.{origin_at}
+use Rattle.datasets.specs.Clones.{origin_at}
 use Rattle.file_system.specs.Origins.{origin_group}
 use Rattle.file_system.specs.Rows.{live_of, snaps_at, with_live}
 use Rattle.file_system.specs.Writes.{newest_group, young_after, IsWritten}

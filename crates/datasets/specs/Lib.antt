@@ -4,6 +4,12 @@ pub mod Snapshots
 pub mod Rollbacks
 pub mod Clones
 pub mod Limits
+pub mod CloneNames
+pub mod Places
+pub mod Sorted
+pub mod Promoted
+pub mod Bookmarked
+pub mod Limited
 pub use Rattle.file_system.specs.Dead
 pub use Rattle.file_system.specs.Gone
 pub use Rattle.file_system.specs.Losses
@@ -11,5 +17,3 @@ pub use Rattle.file_system.specs.Origins
 pub use Rattle.file_system.specs.Promotions
 pub use Rattle.file_system.specs.Rows
 pub use Rattle.file_system.specs.Splices
-pub use Rattle.file_systems.specs.CloneNames
-pub use Rattle.file_systems.specs.Places

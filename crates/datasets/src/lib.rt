@@ -1,9 +1,13 @@
 //! The dataset table: the file systems of a pool and their snapshots, in the group that is open.
 #![tactic(auto)]
 
+mod clones;
+mod file_systems;
 mod parent;
+mod place;
+mod row;
 mod table;
 
-pub use file_system::Alone;
-pub use file_systems::{CloneName, FileSystem, Snapshot};
+pub use clones::CloneName;
+pub use file_system::{Alone, FileSystem, Snapshot};
 pub use table::{FILE_SYSTEM_LIMIT, Table};

@@ -4,7 +4,7 @@ ghost use Rattle.std.specs.Option.{option_copied};
 ghost use Rattle.name.specs.Names.{parent_of as parent_name};
 
 /// What stands before the last `/` of a name, or none where it has a single component (zfs(8)).
-pub fn parent_of(name: &[u8]) -> Option<&[u8]>
+pub(crate) fn parent_of(name: &[u8]) -> Option<&[u8]>
     ensures { option_copied result ≡ parent_name name.now }
 {
     let mut end = name.len();

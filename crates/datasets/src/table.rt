@@ -20,8 +20,8 @@ ghost use Rattle.world.specs.Dead.{HasNoCloneIn};
 ghost use Rattle.world.specs.Deadlists.{Lists};
 ghost use Rattle.world.specs.Outcomes.{promotion_of};
 ghost use Rattle.world.specs.Tables.{world_of, with_system, without_snap, deferred_snap, tagged_snap, with_bookmarks, without_system, lost_between, CanSnap, CanRemove, CanPromote};
-ghost use Rattle.file_systems.specs.CloneNames.{name_of};
-ghost use Rattle.file_systems.specs.Clones.{row_in};
+ghost use Rattle.datasets.specs.CloneNames.{name_of};
+ghost use Rattle.datasets.specs.Clones.{row_in};
 ghost use Rattle.file_system.specs.Losses.{newest_map};
 ghost use Rattle.file_system.specs.Rows.{Row, live_of, snaps_at, with_live, snap_count, plain_snap};
 ghost use Rattle.datasets.specs.Clones.{with_clone_of, with_promoted};
@@ -31,6 +31,8 @@ ghost use Rattle.datasets.specs.Table.{AreNumbersOne, AreBookmarksClosed, AreSna
 ghost use Rattle.datasets.specs.Writes.{young_of, AllowsWrite, HasWritten};
 ghost use Rattle.datasets.specs.Snapshots.{with_snap_at};
 
+use crate::clones::CloneName;
+use crate::file_systems::FileSystems;
 use crate::parent::parent_of;
 use base::limit::Blocks;
 use base::meter::{Meter, SegMeter};
@@ -38,7 +40,7 @@ use base::number::{Group, Guid};
 use base::refusal::Refusal;
 use bookmarks::Bookmarks;
 use deadlist::deadlist::Deadlist;
-use file_systems::{CloneName, FileSystem, FileSystems, Lost, Snapshot};
+use file_system::{FileSystem, Lost, Snapshot};
 use holds::Holds;
 use model::limits::Limit;
 use model::snapshot_id::SnapshotId;
@@ -146,6 +148,15 @@ impl Table {
         self.systems.find(name)
     }
 
+    /// The snapshot of this name, or none. It costs the logarithm of the number of file systems, and that of the number of snapshots of its
+    /// own.
+    pub fn snapshot(&self, name: &Member) -> Option<&Snapshot>
+        ensures { option_copied result ≡ snap_named (world_of self.now) name.now }
+    {
+        let file_system = self.systems.find(&name.file_system)?;
+        file_system.snapshot_named(name.component.as_bytes())
+    }
+
     /// The snapshot of this identity with its file system, or none (On-Disk Specification, chapter 4: ds_creation_txg, ds_guid). It costs
     /// the number of file systems times the logarithm of that of the snapshots of one.
     pub fn snapshot_of(&self, id: SnapshotId) -> Option<(&FileSystem, &Snapshot)>
@@ -180,26 +191,9 @@ impl Table {
         None
     }
 
-    /// A table with one file system more, which has this name, no block and no snapshot, and one more owner of each other one. This
-    /// table stays as it is. Refused as `create_refusal` says; else NoMemory where there is none for the name, the rows or an owner.
-    /// It costs the number of file systems and the length of the name.
-    pub fn create(&self, name: &DsName) -> Result<Table, Refusal>
-        ensures ok { IfOk result (λ t. t ≡ with_system self.now name.now empty_file_system) }
-        ensures can { OnOk result (create_refusal self.now.file_systems name.now ≡ None) }
-        ensures refused { IfSome (create_refusal self.now.file_systems name.now) (λ e. result ≡ Err e) }
-        ensures only { IfErr result (λ e. (create_refusal self.now.file_systems name.now ≡ Some e) ⊎ (e ≡ Refusal.NoMemory)) }
-    {
-        if let Some(refusal) = self.create_refusal(name) {
-            return Err(refusal);
-        }
-        let mut table = self.copy()?;
-        table.add(name)?;
-        Ok(table)
-    }
-
-    /// Adds a file system of this name, which nothing refuses, without a block or a snapshot (zfs-create(8)). NoMemory where there is none for
-    /// it, and then the table is as it was. It costs the number of file systems and the length of the name.
-    pub fn add(&mut self, name: &DsName) -> Result<(), Refusal>
+    /// Adds a file system of this name, which nothing refuses, as `create_refusal` tells, without a block or a snapshot (zfs-create(8)).
+    /// NoMemory where there is none for it, and then the table is as it was. It costs the number of file systems and the length of the name.
+    pub fn create(&mut self, name: &DsName) -> Result<(), Refusal>
         requires can { create_refusal self.old.file_systems name.now ≡ None }
         ensures ok { OnOk result (self.new ≡ with_system self.old name.now empty_file_system) }
         ensures err { OnErr result (self.new ≡ self.old) }
@@ -209,24 +203,10 @@ impl Table {
         self.systems.add(file_system)
     }
 
-    /// A table with a clone of this snapshot more, which is there, under this name, which nothing refuses (zfs-clone(8)): its live map is
-    /// the snapshot's, by one more owner of its tree, and the snapshot is its origin; and with one more owner of each other file system.
-    /// This table stays as it is. NoMemory where there is none for the name, the rows or an owner. It costs the number of file systems,
-    /// the logarithm of the number of snapshots of the snapshot's own, and the length of the name.
-    pub fn with_clone(&self, name: &DsName, snapshot: &Member) -> Result<Table, Refusal>
-        requires can { create_refusal self.now.file_systems name.now ≡ None }
-        requires there { IsSome (snap_named (world_of self.now) snapshot.now) }
-        ensures ok { IfSome (snap_named (world_of self.now) snapshot.now) (λ t. IfOk result (λ u. u ≡ with_clone_of self.now (id_of t) name.now)) }
-        ensures err { IfErr result (λ e. e ≡ Refusal.NoMemory) }
-    {
-        let mut table = self.copy()?;
-        table.add_clone(name, snapshot)?;
-        Ok(table)
-    }
-
-    /// Adds a clone of this snapshot, which is there, under this name, which nothing refuses (zfs-clone(8)): its live map is the snapshot's, by
-    /// one more owner of its tree, and the snapshot is its origin. NoMemory where there is none for it, and then the table is as it was. It
-    /// costs the number of file systems, the logarithm of the number of snapshots of the snapshot's own, and the length of the name.
+    /// Adds a clone of this snapshot, which is there, under this name, which nothing refuses, as `create_refusal` tells (zfs-clone(8)): its
+    /// live map is the snapshot's, by one more owner of its tree, and the snapshot is its origin. NoMemory where there is none for it, and
+    /// then the table is as it was. It costs the number of file systems, the logarithm of the number of snapshots of the snapshot's own, and
+    /// the length of the name.
     pub fn add_clone(&mut self, name: &DsName, snapshot: &Member) -> Result<(), Refusal>
         requires can { create_refusal self.old.file_systems name.now ≡ None }
         requires there { IsSome (snap_named (world_of self.old) snapshot.now) }
@@ -234,7 +214,7 @@ impl Table {
         ensures err { OnErr result (self.new ≡ self.old) }
         ensures only { IfErr result (λ e. e ≡ Refusal.NoMemory) }
     {
-        let Some(origin) = self.snapshot_named(snapshot) else {
+        let Some(origin) = self.snapshot(snapshot) else {
             unreachable!()
         };
         let file_system = FileSystem::clone_of(self.systems.allocator(), name, origin)?;
@@ -470,21 +450,6 @@ impl Table {
         self.systems.rollback(alloc, name, segments)
     }
 
-    /// Takes out this file system, which is there and has no snapshot, and is neither the root nor a parent (zfs-destroy(8)); and answers
-    /// what is lost with it: the blocks of its live tree. Nobody has walked them. NoMemory where there is none for one more owner of that
-    /// tree, and then the table is as it was. It costs the number of file systems.
-    pub fn remove(&mut self, name: &DsName) -> Result<Lost, Refusal>
-        requires there { CanRemove self.old name.now }
-        ensures ok { OnOk result (self.new ≡ without_system self.old name.now) }
-        ensures lost { IfOk result (Loses self.old self.new) }
-        ensures err { OnErr result (self.new ≡ self.old) }
-        ensures only { IfErr result (λ e. e ≡ Refusal.NoMemory) }
-    {
-        let lost = self.lost_with(name)?;
-        self.take_out(name);
-        Ok(lost)
-    }
-
     /// What is lost with this file system, which is there and has no snapshot, and is neither the root nor a parent, where it goes
     /// (zfs-destroy(8)): the blocks of its live tree. Nobody has walked them. NoMemory where there is none for one more owner of that tree. It
     /// costs the logarithm of the number of file systems.
@@ -496,9 +461,9 @@ impl Table {
         self.systems.lost(name)
     }
 
-    /// Takes out this file system, which is there and has no snapshot, and is neither the root nor a parent (zfs-destroy(8)). It costs the
-    /// number of file systems, and where it is a clone, that of clones.
-    pub fn take_out(&mut self, name: &DsName)
+    /// Takes out this file system, which is there and has no snapshot, and is neither the root nor a parent (zfs-destroy(8)); what is lost
+    /// with it, `lost_with` tells before. It costs the number of file systems, and where it is a clone, that of clones.
+    pub fn remove(&mut self, name: &DsName)
         requires there { CanRemove self.old name.now }
         ensures { self.new ≡ without_system self.old name.now }
     {
@@ -529,19 +494,11 @@ impl Table {
         }
     }
 
-    // The snapshot of this name, or none.
-    fn snapshot_named(&self, name: &Member) -> Option<&Snapshot>
-        ensures { option_copied result ≡ snap_named (world_of self.now) name.now }
-    {
-        let file_system = self.systems.find(&name.file_system)?;
-        file_system.snapshot_named(name.component.as_bytes())
-    }
-
     // The creation group of the snapshot of this name, or none.
     fn group_of(&self, name: &Member) -> Option<Group>
         ensures { option_map (λ g. g.0) result ≡ option_map (λ t. t.group) (snap_named (world_of self.now) name.now) }
     {
-        let snapshot = self.snapshot_named(name)?;
+        let snapshot = self.snapshot(name)?;
         Some(snapshot.group())
     }
 

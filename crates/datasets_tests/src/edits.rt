@@ -3,21 +3,20 @@ ghost use Rattle.std.specs.Prelude.{◌≡◌, IfOk};
 ghost use Rattle.std.specs.FinSet as set;
 
 use crate::free::is_free;
+use crate::now::take;
 use base::meter::SegMeter;
 use base::refusal::Refusal;
 use datasets::Table;
 use destroyer::Freeing;
 use name::SnapName;
 use removals::Edit;
-use snap::{Guids, snapshot_one};
 use std::alloc::Global;
 use toll::Toll;
 
 /// The root with a snapshot `s`.
 fn with_one(alloc: Global) -> Result<Table, Refusal> {
-    let name = SnapName::read(alloc, b"p@s")?;
     let mut table = Table::new(alloc)?;
-    snapshot_one(alloc, &mut table, &name, Guids { pool: 7, next: 1 })?;
+    take(alloc, &mut table, b"p@s", 1)?;
     Ok(table)
 }
 

@@ -5,8 +5,9 @@ use base::meter::SegMeter;
 use base::refusal::Refusal;
 use datasets::Table;
 use name::SnapName;
-use snap::{Guids, snapshot_one};
+use snap::{Guids, snapshot};
 use std::alloc::Global;
+use std::slice::from_ref;
 use toll::Toll;
 
 /// Whether the first of two snapshots is gone, or both are there, and a rollback leaves them so.
@@ -31,8 +32,20 @@ fn takes_two(
     first: &SnapName,
     second: &SnapName,
 ) -> Result<bool, Refusal> {
-    snapshot_one(alloc, table, first, Guids { pool: 7, next: 1 })?;
-    snapshot_one(alloc, table, second, Guids { pool: 7, next: 2 })?;
+    snapshot(
+        alloc,
+        table,
+        from_ref(first),
+        false,
+        Guids { pool: 7, next: 1 },
+    )?;
+    snapshot(
+        alloc,
+        table,
+        from_ref(second),
+        false,
+        Guids { pool: 7, next: 2 },
+    )?;
     Ok(loses_or_keeps(alloc, table, first, second))
 }
 

@@ -1,10 +1,10 @@
 //! File systems that come into a table in place, and go.
 use crate::free::{has_snapshot, may_go};
+use crate::now::take;
 use crate::tables::name;
 use base::refusal::Refusal;
 use datasets::Table;
 use name::{DsName, Member, SnapName};
-use snap::{Guids, snapshot_one};
 use std::alloc::Global;
 
 /// Adds a file system of this name, or says why not.
@@ -12,7 +12,7 @@ fn add(table: &mut Table, made: &DsName) -> Result<(), Refusal> {
     if let Some(refusal) = table.create_refusal(made) {
         return Err(refusal);
     }
-    table.add(made)
+    table.create(made)
 }
 
 /// Adds a clone of that snapshot under this name, or says why not.
@@ -27,12 +27,12 @@ fn add_clone(table: &mut Table, made: &DsName, snapshot: &Member) -> Result<(), 
 }
 
 /// Takes this file system out, and answers how many blocks are lost with it; or says why not.
-fn take_out(table: &mut Table, gone: &DsName) -> Result<u32, Refusal> {
+fn remove(table: &mut Table, gone: &DsName) -> Result<u32, Refusal> {
     if !may_go(table, gone) {
         return Err(Refusal::NoDataset);
     }
     let lost = table.lost_with(gone)?;
-    table.take_out(gone);
+    table.remove(gone);
     Ok(lost.count)
 }
 
@@ -50,7 +50,7 @@ fn comes_and_goes(table: &mut Table, made: &DsName) -> bool {
     if added.is_err() {
         return changes_or_not(added, table, 1);
     }
-    let gone = take_out(table, made);
+    let gone = remove(table, made);
     changes_or_not(gone, table, 2)
 }
 
@@ -66,7 +66,7 @@ fn each_or_nothing(alloc: Global) -> Result<bool, Refusal> {
     let clone = DsName::read(alloc, b"p/c")?;
     let snapshot = SnapName::read(alloc, b"p@s")?;
     let mut table = Table::new(alloc)?;
-    snapshot_one(alloc, &mut table, &snapshot, Guids { pool: 7, next: 1 })?;
+    take(alloc, &mut table, b"p@s", 1)?;
     Ok(comes_and_goes(&mut table, &made) && is_cloned_or_not(&mut table, &clone, snapshot.member()))
 }
 

@@ -1,4 +1,4 @@
-//! Tests of `file_systems`, `datasets`, `snap`, `clones`, `removals`, `marks`, `space` and `sources` from outside.
+//! Tests of `datasets`, `snap`, `clones`, `removals`, `marks`, `space` and `sources` from outside.
 #![tactic(auto)]
 
 #[cfg(test)]
@@ -14,7 +14,7 @@ mod in_place;
 #[cfg(test)]
 mod limited;
 #[cfg(test)]
-mod lists;
+mod made;
 #[cfg(test)]
 mod marked;
 #[cfg(test)]

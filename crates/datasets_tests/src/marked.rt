@@ -3,10 +3,9 @@ use crate::now::{take, with_child};
 use crate::removing::{destroy_named, release_named};
 use base::refusal::Refusal;
 use bookmarks::Bookmarks;
-use datasets::Table;
-use file_systems::FileSystem;
+use datasets::{FileSystem, Table};
 use holds::Holds;
-use marks::{bookmark_now, hold_now};
+use marks::{bookmark, hold};
 use name::{DsName, MarkName, SnapName, Tag, Target};
 use std::alloc::Global;
 use std::sync::Arc;
@@ -21,7 +20,7 @@ pub fn hold_named(
 ) -> Result<(), Refusal> {
     let target = Target::read(alloc, name)?;
     let tag = Tag::read(alloc, tag)?;
-    hold_now(alloc, table, &target, &tag)
+    hold(alloc, table, &target, &tag)
 }
 
 /// Makes a bookmark of this snapshot.
@@ -33,7 +32,7 @@ pub fn bookmark_named(
 ) -> Result<(), Refusal> {
     let target = Target::read(alloc, name)?;
     let mark = MarkName::read(alloc, mark)?;
-    bookmark_now(alloc, table, &target, &mark)
+    bookmark(alloc, table, &target, &mark)
 }
 
 fn tag_count(file_system: &FileSystem) -> usize {

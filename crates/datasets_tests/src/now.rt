@@ -4,26 +4,32 @@ use base::refusal::Refusal;
 use clones::clone_snapshot;
 use datasets::Table;
 use name::{DsName, SnapName, Target};
-use snap::{Guids, snapshot_one};
+use snap::{Guids, snapshot};
 use std::alloc::Global;
+use std::slice::from_ref;
 use views::Views;
 
 /// The root and `p/a`.
 pub fn with_child(alloc: Global) -> Result<Table, Refusal> {
-    let root = Table::new(alloc)?;
     let child = DsName::read(alloc, b"p/a")?;
-    root.create(&child)
+    let mut table = Table::new(alloc)?;
+    if let Some(refusal) = table.create_refusal(&child) {
+        return Err(refusal);
+    }
+    table.create(&child)?;
+    Ok(table)
 }
 
 /// Takes a snapshot of this name, with this number of the counter.
 pub fn take(alloc: Global, table: &mut Table, bytes: &[u8], next: u64) -> Result<(), Refusal> {
     let name = SnapName::read(alloc, bytes)?;
-    snapshot_one(alloc, table, &name, Guids { pool: 7, next })?;
+    let guids = Guids { pool: 7, next };
+    snapshot(alloc, table, from_ref(&name), false, guids)?;
     Ok(())
 }
 
-/// The table with a clone `p/c` of this snapshot.
-pub fn cloned(alloc: Global, table: &Table, bytes: &[u8]) -> Result<Table, Refusal> {
+/// Adds a clone `p/c` of this snapshot.
+pub fn cloned(alloc: Global, table: &mut Table, bytes: &[u8]) -> Result<(), Refusal> {
     let origin = Target::read(alloc, bytes)?;
     let clone = DsName::read(alloc, b"p/c")?;
     clone_snapshot(table, &origin, &clone)

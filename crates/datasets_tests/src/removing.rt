@@ -4,9 +4,9 @@ use base::meter::SegMeter;
 use base::refusal::Refusal;
 use datasets::Table;
 use destroyer::Freeing;
-use marks::release_now;
+use marks::release;
 use name::{Tag, Target};
-use removals::destroy_now;
+use removals::destroy;
 use std::alloc::Global;
 use toll::Toll;
 use views::Views;
@@ -30,7 +30,7 @@ pub fn destroy_named(
     if !is_swept(table, views) {
         return Err(Refusal::Deferred);
     }
-    let outcome = destroy_now(
+    let outcome = destroy(
         alloc,
         table,
         &mut freeing,
@@ -65,7 +65,7 @@ pub fn release_named(
     if !is_swept(table, views) {
         return Err(Refusal::Deferred);
     }
-    let outcome = release_now(
+    let outcome = release(
         alloc,
         table,
         &mut freeing,

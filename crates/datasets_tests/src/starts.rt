@@ -3,7 +3,7 @@ use crate::marked::bookmark_named;
 use crate::now::{cloned, take, with_child};
 use base::meter::SegMeter;
 use base::refusal::Refusal;
-use clones::promote_now;
+use clones::promote;
 use datasets::Table;
 use model::source::Source;
 use name::{DsName, SnapName, Target};
@@ -18,7 +18,7 @@ pub fn with_history(alloc: Global) -> Result<Table, Refusal> {
     take(alloc, &mut table, b"p/a@s", 1)?;
     bookmark_named(alloc, &mut table, b"p/a@s", b"p/a#b")?;
     take(alloc, &mut table, b"p/a@t", 2)?;
-    let mut table = cloned(alloc, &table, b"p/a@t")?;
+    cloned(alloc, &mut table, b"p/a@t")?;
     take(alloc, &mut table, b"p/a@u", 3)?;
     take(alloc, &mut table, b"p/c@v", 4)?;
     bookmark_named(alloc, &mut table, b"p/c@v", b"p/c#w")?;
@@ -30,7 +30,7 @@ fn with_promoted(alloc: Global) -> Result<Table, Refusal> {
     let mut table = with_history(alloc)?;
     let clone = DsName::read(alloc, b"p/c")?;
     let mut segments = SegMeter::new(Toll::new());
-    promote_now(alloc, &mut table, &clone, &mut segments)?;
+    promote(alloc, &mut table, &clone, &mut segments)?;
     Ok(table)
 }
 

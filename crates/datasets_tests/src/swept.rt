@@ -7,8 +7,7 @@ ghost use Rattle.world.specs.Tables.{world_of};
 ghost use Rattle.removals.specs.Requests.{IsSweptBy};
 ghost use Rattle.datasets_tests.specs.Sweeping.{is_unneeded};
 
-use datasets::Table;
-use file_systems::{FileSystem, Snapshot};
+use datasets::{FileSystem, Snapshot, Table};
 use std::sync::Arc;
 use views::Views;
 

@@ -17,16 +17,19 @@ pub fn copied(rt: &impl Abort, table: &Table) -> Table {
     table.copy().expect(rt, "memory for a copy")
 }
 
-/// The table with this file system too.
-fn created(rt: &impl Abort, alloc: Global, table: &Table, bytes: &[u8]) -> Table {
-    let named = name(rt, alloc, bytes);
-    let created = table.create(&named);
-    drop(named);
-    created.expect(rt, "a file system")
+/// Adds a file system of this name, or says why not.
+fn created(table: &mut Table, named: &DsName) -> Result<(), Refusal> {
+    if let Some(refusal) = table.create_refusal(named) {
+        return Err(refusal);
+    }
+    table.create(named)
 }
 
 pub fn create(rt: &impl Abort, alloc: Global, table: &mut Table, bytes: &[u8]) {
-    *table = created(rt, alloc, table, bytes);
+    let named = name(rt, alloc, bytes);
+    let created = created(table, &named);
+    drop(named);
+    created.expect(rt, "a file system");
 }
 
 fn has(rt: &impl Abort, alloc: Global, table: &Table, bytes: &[u8]) -> bool {
@@ -76,14 +79,19 @@ pub fn is_out_of_memory<T: Drop>(refused: Result<T, Refusal>) -> bool {
     }
 }
 
-fn is_left_or_refused(table: &Table, made: &DsName) -> bool {
-    is_out_of_memory(table.create(made)) && is_out_of_memory(table.copy()) && table.len() == 1
+fn is_made_or_left(table: &mut Table, made: &DsName) -> bool {
+    let wanted = match created(table, made) {
+        Ok(()) => 2,
+        Err(refusal) if refusal.same(Refusal::NoMemory) => 1,
+        Err(_) => 0,
+    };
+    is_out_of_memory(table.copy()) && table.len() == wanted
 }
 
-/// Whether a table, which a create and a copy leave as it is, is made, or memory is all that is wanting.
+/// Whether a table is made, a create adds to it or leaves it, and a copy leaves it, or memory is all that is wanting.
 fn is_made_or_refused(alloc: Global, made: &DsName) -> bool {
     match Table::new(alloc) {
-        Ok(table) => is_left_or_refused(&table, made),
+        Ok(mut table) => is_made_or_left(&mut table, made),
         Err(refusal) => refusal.same(Refusal::NoMemory),
     }
 }

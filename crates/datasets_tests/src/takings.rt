@@ -1,12 +1,14 @@
 //! The snapshots of a request.
-use crate::tables::{family, fresh, is_out_of_memory, name};
+use crate::now::with_child;
+use crate::tables::{family, fresh};
 use base::number::Group;
 use base::refusal::Refusal;
 use datasets::Table;
 use name::SnapName;
-use snap::{Guids, Taken, snapshot, snapshot_one};
+use snap::{Guids, snapshot};
 use std::alloc::Global;
 use std::process::Abort;
+use std::slice::from_ref;
 
 fn snap_name(rt: &impl Abort, alloc: Global, bytes: &[u8]) -> SnapName {
     SnapName::read(alloc, bytes).expect(rt, "memory for a name")
@@ -25,11 +27,11 @@ fn names_of(rt: &impl Abort, alloc: Global, names: &[&[u8]]) -> Vec<SnapName> {
 fn taken(
     rt: &impl Abort,
     alloc: Global,
-    table: &Table,
+    table: &mut Table,
     names: &[&[u8]],
     recursive: bool,
     next: u64,
-) -> Result<Taken, Refusal> {
+) -> Result<usize, Refusal> {
     let list = names_of(rt, alloc, names);
     snapshot(alloc, table, &list, recursive, Guids { pool: 7, next })
 }
@@ -42,96 +44,50 @@ fn is_at(table: &Table, group: Group, snapshots: usize) -> bool {
 #[test]
 fn no_name_at_all(rt: HostRuntime) {
     let alloc = rt.alloc();
-    let table = fresh(&rt, alloc);
-    let after = taken(&rt, alloc, &table, &[], true, 1).expect(&rt, "nothing");
-    let (count, is_same) = (after.count, is_at(&after.to, Group(1), 0));
-    drop(after);
+    let mut table = fresh(&rt, alloc);
+    let count = taken(&rt, alloc, &mut table, &[], true, 1);
+    let is_same = is_at(&table, Group(1), 0);
     drop(table);
-    assert!(rt; count == 0 && is_same);
+    assert!(rt; count == Ok(0) && is_same);
 }
 
-/// Why these names are refused, if they are.
-fn refused(
-    rt: &impl Abort,
-    alloc: Global,
-    table: &Table,
-    names: &[&[u8]],
-    next: u64,
-) -> Option<Refusal> {
-    taken(rt, alloc, table, names, false, next).err()
-}
-
-/// Whether the last guid is taken, and none after it.
-fn runs_out(rt: &impl Abort, alloc: Global, table: &Table) -> bool {
+/// Whether two guids are too many where one is left, the last one is taken, and none after it.
+fn runs_out(rt: &impl Abort, alloc: Global, table: &mut Table) -> bool {
     let (one, two): ([&[u8]; 1], [&[u8]; 2]) = ([b"p@s"], [b"p@s", b"p/a@s"]);
-    refused(rt, alloc, table, &one, 4294967295).is_none()
-        && refused(rt, alloc, table, &two, 4294967295) == Some(Refusal::TooMany)
-        && refused(rt, alloc, table, &one, 4294967296) == Some(Refusal::TooMany)
+    taken(rt, alloc, table, &two, false, 4294967295) == Err(Refusal::TooMany)
+        && taken(rt, alloc, table, &one, false, 4294967296) == Err(Refusal::TooMany)
+        && taken(rt, alloc, table, &one, false, 4294967295) == Ok(1)
 }
 
 #[test]
 fn guids_run_out(rt: HostRuntime) {
     let alloc = rt.alloc();
-    let table = family(&rt, alloc);
-    let is_right = runs_out(&rt, alloc, &table);
+    let mut table = family(&rt, alloc);
+    let is_right = runs_out(&rt, alloc, &mut table);
     drop(table);
     assert!(rt; is_right);
 }
 
-/// Whether the snapshot is taken, or memory is all that is wanting; and the table stays as it was.
-fn takes_or_not(alloc: Global, table: &Table, one: &SnapName) -> bool {
-    let guids = Guids { pool: 7, next: 1 };
-    let taken = snapshot(alloc, table, std::slice::from_ref(one), true, guids);
-    is_out_of_memory(taken) && is_at(table, Group(1), 0)
-}
-
-fn takes_by_name(alloc: Global) -> Result<bool, Refusal> {
+/// Whether the table has a snapshot more of each file system, or stays as it was.
+fn takes_or_not(alloc: Global, table: &mut Table, recursive: bool) -> Result<bool, Refusal> {
     let one = SnapName::read(alloc, b"p@s")?;
-    let table = Table::new(alloc)?;
-    Ok(takes_or_not(alloc, &table, &one))
-}
-
-/// Run it with each allocation refused in turn: whatever is refused, the table stays as it was.
-#[test]
-fn refused_memory_takes_nothing(rt: HostRuntime) {
-    let is_right = takes_by_name(rt.alloc());
-    assert!(rt; is_right == Ok(true) || is_right == Err(Refusal::NoMemory));
-}
-
-/// Why a snapshot of this name alone is refused, with this number of its counter, by a pool with id 7; if it isn't, it is taken.
-pub fn refused_one(
-    rt: &impl Abort,
-    alloc: Global,
-    table: &mut Table,
-    bytes: &[u8],
-    next: u64,
-) -> Option<Refusal> {
-    let one = snap_name(rt, alloc, bytes);
-    snapshot_one(alloc, table, &one, Guids { pool: 7, next }).err()
-}
-
-/// Takes a snapshot of this name, with this number of the counter.
-pub fn take(rt: &impl Abort, alloc: Global, table: &mut Table, bytes: &[u8], next: u64) {
-    assert!(rt; refused_one(rt, alloc, table, bytes, next).is_none());
-}
-
-/// Whether the table has the snapshot, or stays as it was.
-fn takes_in_place_or_not(alloc: Global, table: &mut Table, one: &SnapName) -> bool {
-    match snapshot_one(alloc, table, one, Guids { pool: 7, next: 1 }) {
-        Ok(()) => is_at(table, Group(2), 1),
-        Err(refusal) => refusal.same(Refusal::NoMemory) && is_at(table, Group(1), 0),
+    let guids = Guids { pool: 7, next: 1 };
+    match snapshot(alloc, table, from_ref(&one), recursive, guids) {
+        Ok(count) => Ok(is_at(table, Group(2), count)),
+        Err(refusal) => Ok(refusal.same(Refusal::NoMemory) && is_at(table, Group(1), 0)),
     }
 }
 
-fn takes_in_place_by_name(alloc: Global) -> Result<bool, Refusal> {
-    let one = SnapName::read(alloc, b"p@s")?;
-    let mut table = Table::new(alloc)?;
-    Ok(takes_in_place_or_not(alloc, &mut table, &one))
+fn takes_by_name(alloc: Global, recursive: bool) -> Result<bool, Refusal> {
+    let mut table = with_child(alloc)?;
+    takes_or_not(alloc, &mut table, recursive)
 }
 
-/// Run it with each allocation refused in turn: the table has the snapshot, or stays as it was.
+/// Run it with each allocation refused in turn: the table has the snapshots, or stays as it was.
 #[test]
-fn refused_memory_keeps_no_live_map(rt: HostRuntime) {
-    let is_right = takes_in_place_by_name(rt.alloc());
-    assert!(rt; is_right == Ok(true) || is_right == Err(Refusal::NoMemory));
+fn refused_memory_takes_nothing(rt: HostRuntime) {
+    let one = takes_by_name(rt.alloc(), false);
+    let all = takes_by_name(rt.alloc(), true);
+    assert!(rt; one == Ok(true) || one == Err(Refusal::NoMemory));
+    assert!(rt; all == Ok(true) || all == Err(Refusal::NoMemory));
 }

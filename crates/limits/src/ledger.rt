@@ -69,6 +69,18 @@ impl Ledger {
         Ok(Ledger { lines, near })
     }
 
+    /// A ledger with the same lines, and with the room that `new` makes. NoMemory where there is none for them. It costs that room and the
+    /// number of lines.
+    pub fn copy(&self) -> Result<Ledger, Refusal>
+        ensures ok { IfOk result (λ l. l ≡ self.now) }
+        ensures err { IfErr result (λ e. e ≡ Refusal.NoMemory) }
+    {
+        let mut lines = Vec::with_capacity(*self.lines.allocator(), FILE_SYSTEM_LIMIT)?;
+        lines.extend_from_slice(&self.lines)?;
+        let near = self.near.copy()?;
+        Ok(Ledger { lines, near })
+    }
+
     /// It becomes the ledger of this table. It takes no memory, and costs the number of file systems times its logarithm, and the length of
     /// their names.
     pub fn fill(&mut self, table: &Table)

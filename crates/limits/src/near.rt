@@ -25,6 +25,17 @@ impl Near {
         Ok(Near { parents, last: 0 })
     }
 
+    /// The same places, with room for as many. NoMemory where there is none for them. It costs that room.
+    pub fn copy(&self) -> Result<Near, Refusal>
+        ensures err { IfErr result (λ e. e ≡ Refusal.NoMemory) }
+    {
+        let parents = self.parents.clone()?;
+        Ok(Near {
+            parents,
+            last: self.last,
+        })
+    }
+
     /// Where the parent of the file system at that place may stand. Constant time.
     pub fn parent(&self, place: usize) -> usize {
         match self.parents.get(place) {

@@ -25,30 +25,39 @@ pub record IsPlaced (t : Datasets) (m : Member) (u : Snap) : Type 0 where
 abbrev pub snap_in : Option (FileSystem × Snap) → Option Snap
 snap_in x = option_map (λ p. p.1) x
 
-pub placed_at : (t : Datasets) (m : Member) (u : Snap) → snap_in (placed (world_of t) (OfSnapshot m)) ≡ Some u → IsPlaced t m u
-placed_at t m u e = by_system (get t.file_systems m.file_system) refl
+-- it is the one of the name
+pub snap_placed : (t : Datasets) (m : Member) → snap_in (placed (world_of t) (OfSnapshot m)) ≡ snap_named (world_of t) m
+snap_placed t m = by_system (get t.file_systems m.file_system)
   where
+    by_snap : (f : FileSystem) (y : Option Snap) → snap_in (option_map {U = FileSystem × Snap} (λ (s : Snap). (f, s)) y) ≡ y
+    by_snap f None = refl
+    by_snap f (Some v) = refl
+
     named_in : Option FileSystem → Option Snap
     named_in x = option_and_then (λ (f : FileSystem). find (λ (v : Snap). same_name v.name m.component) f.snaps) x
 
-    both : Option FileSystem → Option Snap → Option (FileSystem × Snap)
-    both x y = option_and_then (λ (f : FileSystem). option_map {U = FileSystem × Snap} (λ (s : Snap). (f, s)) y) x
+    by_system : (x : Option FileSystem) → snap_in (option_and_then (λ (f : FileSystem). option_map {U = FileSystem × Snap} (λ (s : Snap). (f, s)) (named_in x)) x) ≡ named_in x
+    by_system None = refl
+    by_system (Some f) = by_snap f (named_in (Some f))
 
-    by_snap : (f : FileSystem) → get t.file_systems m.file_system ≡ Some f → (y : Option Snap) → named_in (Some f) ≡ y → snap_in (both (Some f) y) ≡ Some u → IsPlaced t m u
-    by_snap f at None k e = absurd (no_value u e)
-    by_snap f at (Some v) k e =
-        let named : snap_named (world_of t) m ≡ Some u = ap named_in at ∙ k ∙ e in
-        record {
-          system = f;
-          at = at;
-          named = named;
-          among = (from_find (λ (w : Snap). same_name w.name m.component) f.snaps u (k ∙ e)).0;
-          found = (λ i. both (at i) (named i));
-        }
+pub placed_at : (t : Datasets) (m : Member) (u : Snap) → snap_in (placed (world_of t) (OfSnapshot m)) ≡ Some u → IsPlaced t m u
+placed_at t m u e = by_system (get t.file_systems m.file_system) refl
+  where
+    named : snap_named (world_of t) m ≡ Some u
+    named = sym (snap_placed t m) ∙ e
+
+    named_in : Option FileSystem → Option Snap
+    named_in x = option_and_then (λ (f : FileSystem). find (λ (v : Snap). same_name v.name m.component) f.snaps) x
 
     by_system : (x : Option FileSystem) → get t.file_systems m.file_system ≡ x → IsPlaced t m u
-    by_system None at = absurd (no_value u (sym (λ i. snap_in (both (at i) (named_in (at i)))) ∙ e))
-    by_system (Some f) at = by_snap f at (named_in (Some f)) refl (sym (λ i. snap_in (both (at i) (named_in (at i)))) ∙ e)
+    by_system None at = absurd (no_value u (sym (ap named_in at) ∙ named))
+    by_system (Some f) at = record {
+      system = f;
+      at = at;
+      named = named;
+      among = (from_find (λ (w : Snap). same_name w.name m.component) f.snaps u (sym (ap named_in at) ∙ named)).0;
+      found = (λ i. option_and_then (λ (g : FileSystem). option_map {U = FileSystem × Snap} (λ (s : Snap). (g, s)) (named i)) (at i));
+    }
 
 -- what is said of what is found
 pub placed_with : {X : Type 0} (t : Datasets) (m : Member) (said : FileSystem × Snap → X) (x : X) → option_map said (placed (world_of t) (OfSnapshot m)) ≡ Some x

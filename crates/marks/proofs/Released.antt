@@ -1,9 +1,8 @@
 -- The release of a snapshot: it has its other tags, or goes.
 use Rattle.std.proofs.Common.{◌≡◌, ℕ, true, false, not, ◌&&◌, List, Option, Some, Result, Ok, Err, sym, ap, subst, ◌∙◌}
-use Rattle.std.specs.Prelude.{IfSome, IfOk}
+use Rattle.std.specs.Prelude.{IfSome, OnOk}
 use Rattle.std.specs.Option.{option_map, option_map_or}
 use Rattle.base.specs.Map.{BlockSet}
-use Rattle.base.specs.declared.refusal.Refusal.{Refusal}
 use Rattle.holds.specs.Tags.{without_tag}
 use Rattle.name.specs.declared.member.Member.{Member}
 use Rattle.name.specs.declared.target.Target.{Target}
@@ -18,7 +17,6 @@ use Rattle.world.specs.Worlds.{AreFileSystems}
 use Rattle.world.specs.Tables.{Datasets, world_of, tagged_snap, without_snap}
 use Rattle.removals.specs.Edits.{HasLost}
 use Rattle.removals.specs.Requests.{swept, IsSweptBy}
-use Rattle.removals.specs.declared.edit.Edit.{Edit}
 use Rattle.marks.specs.Requests.{released_in, is_due_with}
 use Rattle.marks.proofs.Placed.{IsPlaced, placed_with}
 use Rattle.marks.proofs.Tagged.{lost_tagged, tagged_stays, tagged_goes}
@@ -45,8 +43,13 @@ module _ (t : Datasets) (target : Target) (m : Member) (is : target ≡ OfSnapsh
   named_is P h = subst (λ (x : Option Snap). IfSome x P) found.1.named h
 
   -- it stays, and nothing is lost
-  pub stays_lost : (freeing : BlockSet) → AreDisjoint (union_of (world_of t)) freeing → (to : Datasets) → IfSome (snap_named (world_of t) m) (λ v. to ≡ tagged_snap t (id_of v) tags) → HasLost t freeing to freeing
-  stays_lost freeing apart to h = subst (λ x. HasLost t freeing x freeing) (sym (named_is (λ v. to ≡ tagged_snap t (id_of v) tags) h)) (lost_tagged t (id_of u) tags freeing apart)
+  pub stays_lost : {T E : Type 0} (r : Result T E) (freeing : BlockSet) → AreDisjoint (union_of (world_of t)) freeing → (to : Datasets)
+      → IfSome (snap_named (world_of t) m) (λ v. OnOk r (to ≡ tagged_snap t (id_of v) tags)) → OnOk r (HasLost t freeing to freeing)
+  stays_lost r freeing apart to h = by_result r (named_is (λ v. OnOk r (to ≡ tagged_snap t (id_of v) tags)) h)
+    where
+      by_result : {T E : Type 0} (x : Result T E) → OnOk x (to ≡ new) → OnOk x (HasLost t freeing to freeing)
+      by_result (Ok y) k = subst (λ x. HasLost t freeing x freeing) (sym k) (lost_tagged t (id_of u) tags freeing apart)
+      by_result (Err e) k = tt
 
   module _ (good : AreFileSystems t.file_systems t.group) (views : Views) (clean : IsSweptBy t views) where
     due_is : is_due_with t views target tags ≡ (u.deferred && not (is_needed (world_of t) views (record u { tags = tags })))
@@ -54,17 +57,20 @@ module _ (t : Datasets) (target : Target) (m : Member) (is : target ≡ OfSnapsh
         ap (λ x. is_due_with t views x tags) is
         ∙ ap (λ (x : Option (FileSystem × Snap)). option_map_or (λ (p : FileSystem × Snap). p.1.deferred && not (is_needed (world_of t) views (record p.1 { tags = tags }))) x false) found.1.found
 
-    pub stays : is_due_with t views target tags ≡ false → (to : Datasets) → IfSome (snap_named (world_of t) m) (λ v. to ≡ tagged_snap t (id_of v) tags)
-        → to ≡ swept (released_in t tag target) views
-    stays undue to h =
-        named_is (λ v. to ≡ tagged_snap t (id_of v) tags) h
-        ∙ sym (ap (λ x. swept x views) released_is ∙ tagged_stays t good views clean m.file_system found.1.system u found.1.at found.1.among tags (sym due_is ∙ undue))
+    -- it is what is left by the sweep
+    swept_is : {T E : Type 0} (r : Result T E) (to v : Datasets) → swept new views ≡ v → OnOk r (to ≡ v) → OnOk r (to ≡ swept (released_in t tag target) views)
+    swept_is (Ok x) to v left k = k ∙ sym (ap (λ x. swept x views) released_is ∙ left)
+    swept_is (Err e) to v left k = tt
+
+    pub stays : {T E : Type 0} (r : Result T E) → is_due_with t views target tags ≡ false → (to : Datasets) → IfSome (snap_named (world_of t) m) (λ v. OnOk r (to ≡ tagged_snap t (id_of v) tags))
+        → OnOk r (to ≡ swept (released_in t tag target) views)
+    stays r undue to h =
+        swept_is r to new (tagged_stays t good views clean m.file_system found.1.system u found.1.at found.1.among tags (sym due_is ∙ undue))
+        (named_is (λ v. OnOk r (to ≡ tagged_snap t (id_of v) tags)) h)
 
     -- it goes
-    pub goes : is_due_with t views target tags ≡ true → (r : Result Edit Refusal) → IfSome (snap_named (world_of t) m) (λ v. IfOk r (λ e. e.to ≡ without_snap t (id_of v)))
-        → IfOk r (λ e. e.to ≡ swept (released_in t tag target) views)
-    goes due r h = by_result r (named_is (λ v. IfOk r (λ e. e.to ≡ without_snap t (id_of v))) h)
-      where
-        by_result : (x : Result Edit Refusal) → IfOk x (λ e. e.to ≡ without_snap t (id_of u)) → IfOk x (λ e. e.to ≡ swept (released_in t tag target) views)
-        by_result (Ok e) k = k ∙ sym (ap (λ x. swept x views) released_is ∙ tagged_goes t good views clean m.file_system found.1.system u found.1.at found.1.among tags (sym due_is ∙ due))
-        by_result (Err e) k = tt
+    pub goes : {T E : Type 0} (r : Result T E) → is_due_with t views target tags ≡ true → (to : Datasets) → IfSome (snap_named (world_of t) m) (λ v. OnOk r (to ≡ without_snap t (id_of v)))
+        → OnOk r (to ≡ swept (released_in t tag target) views)
+    goes r due to h =
+        swept_is r to (without_snap t (id_of u)) (tagged_goes t good views clean m.file_system found.1.system u found.1.at found.1.among tags (sym due_is ∙ due))
+        (named_is (λ v. OnOk r (to ≡ without_snap t (id_of v))) h)

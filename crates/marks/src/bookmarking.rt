@@ -19,31 +19,13 @@ use name::{Component, MarkName, Target};
 use std::alloc::Global;
 use std::sync::Arc;
 
-/// A table with a bookmark more, under this name: it has the guid and the creation group of the snapshot that the target names, which is of
-/// the same file system (zfs-bookmark(8)). This table stays as it is. Refused are NotSnapshot where the target isn't the name of a
-/// snapshot, else NoDataset where there is no such snapshot, else NotAncestor where it is of another file system, else Exists where there
-/// is a bookmark of this name, else TooMany where the file system has 1,024 bookmarks; NoMemory, where there is none for it, may come
-/// before these (the file system, the order and the limit are profile). It costs the number of file systems, and what `bookmark_now` does.
+/// Makes a bookmark of this name: it has the guid and the creation group of the snapshot that the target names, which is of the same file
+/// system (zfs-bookmark(8)). Refused are NotSnapshot where the target isn't the name of a snapshot, else NoDataset where there is no such
+/// snapshot, else NotAncestor where it is of another file system, else Exists where there is a bookmark of this name, else TooMany where
+/// the file system has 1,024 bookmarks; else NoMemory where there is none for it (the file system, the order and the limit are profile). At
+/// `Err` the table is as it was. It costs the logarithms of the numbers of file systems and of the snapshots of one, and the number of the
+/// file system's bookmarks, which are at most 1,024.
 pub fn bookmark(
-    alloc: Global,
-    table: &Table,
-    target: &Target,
-    mark: &MarkName,
-) -> Result<Table, Refusal>
-    ensures ok { IfOk result (λ t. t ≡ bookmarked_in table.now target.now mark.now) }
-    ensures can { OnOk result (bookmark_refusal table.now target.now mark.now ≡ None) }
-    ensures refused { IfSome (bookmark_refusal table.now target.now mark.now) (λ e. (result ≡ Err e) ⊎ (result ≡ Err Refusal.NoMemory)) }
-    ensures only { IfErr result (λ e. (bookmark_refusal table.now target.now mark.now ≡ Some e) ⊎ (e ≡ Refusal.NoMemory)) }
-{
-    let mut to = table.copy()?;
-    bookmark_now(alloc, &mut to, target, mark)?;
-    Ok(to)
-}
-
-/// The same in this table: it is refused as `bookmark` is, and NoMemory comes last. At `Err` the table is as it was. It costs the
-/// logarithms of the numbers of file systems and of the snapshots of one, and the number of the file system's bookmarks, which are at most
-/// 1,024.
-pub fn bookmark_now(
     alloc: Global,
     table: &mut Table,
     target: &Target,
@@ -61,7 +43,7 @@ pub fn bookmark_now(
     table.set_bookmarks(alloc, &mark.member().file_system, bookmarks)
 }
 
-// The bookmarks of the file system with this one more, of the snapshot that the target names. It is refused as `bookmark_now` is. It costs
+// The bookmarks of the file system with this one more, of the snapshot that the target names. It is refused as `bookmark` is. It costs
 // what that does.
 fn bookmarks_with(
     alloc: Global,

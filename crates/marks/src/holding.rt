@@ -18,26 +18,12 @@ use name::{Tag, Target};
 use std::alloc::Global;
 use std::sync::Arc;
 
-/// A table in which the snapshot that the target names has this tag behind its others (zfs-hold(8), without -r; the order is profile). This
-/// table stays as it is. Refused are NotSnapshot where the target isn't the name of a snapshot, else NoDataset where there is no such
-/// snapshot, else Deferred where its destroy is deferred, else TagExists where it has the tag, else TooMany where it has 256 tags;
-/// NoMemory, where there is none for it, may come before these (the order and the limit are profile). It costs the number of file systems,
-/// and what `hold_now` does.
-pub fn hold(alloc: Global, table: &Table, target: &Target, tag: &Tag) -> Result<Table, Refusal>
-    ensures ok { IfOk result (λ t. t ≡ held_in table.now tag.now target.now) }
-    ensures can { OnOk result (hold_refusal table.now tag.now target.now ≡ None) }
-    ensures refused { IfSome (hold_refusal table.now tag.now target.now) (λ e. (result ≡ Err e) ⊎ (result ≡ Err Refusal.NoMemory)) }
-    ensures only { IfErr result (λ e. (hold_refusal table.now tag.now target.now ≡ Some e) ⊎ (e ≡ Refusal.NoMemory)) }
-{
-    let mut to = table.copy()?;
-    hold_now(alloc, &mut to, target, tag)?;
-    Ok(to)
-}
-
-/// The same in this table: it is refused as `hold` is, and NoMemory comes last. At `Err` the table is as it was. It costs the logarithms of
-/// the numbers of file systems and of snapshots, a walk over the chunks of the snapshots of one, and the bytes of the snapshot's tags,
-/// which are at most 256.
-pub fn hold_now(alloc: Global, table: &mut Table, target: &Target, tag: &Tag) -> Result<(), Refusal>
+/// From now on the snapshot that the target names has this tag behind its others (zfs-hold(8), without -r; the order is profile). Refused
+/// are NotSnapshot where the target isn't the name of a snapshot, else NoDataset where there is no such snapshot, else Deferred where its
+/// destroy is deferred, else TagExists where it has the tag, else TooMany where it has 256 tags; else NoMemory where there is none for it
+/// (the order and the limit are profile). At `Err` the table is as it was. It costs the logarithms of the numbers of file systems and of
+/// snapshots, a walk over the chunks of the snapshots of one, and the bytes of the snapshot's tags, which are at most 256.
+pub fn hold(alloc: Global, table: &mut Table, target: &Target, tag: &Tag) -> Result<(), Refusal>
     ensures ok { OnOk result (table.new ≡ held_in table.old tag.now target.now) }
     ensures can { OnOk result (hold_refusal table.old tag.now target.now ≡ None) }
     ensures refused { IfSome (hold_refusal table.old tag.now target.now) (λ e. result ≡ Err e) }
@@ -51,7 +37,7 @@ pub fn hold_now(alloc: Global, table: &mut Table, target: &Target, tag: &Tag) ->
     table.set_tags(alloc, name.member(), tags)
 }
 
-// The tags of the snapshot that the target names with this one behind them. It is refused as `hold_now` is. It costs the logarithm of the
+// The tags of the snapshot that the target names with this one behind them. It is refused as `hold` is. It costs the logarithm of the
 // number of file systems, that of the number of snapshots of one, and the bytes of the tags.
 fn tags_with(
     alloc: Global,

@@ -1,7 +1,8 @@
 //! Holds of snapshots, and bookmarks of them.
 //!
 //! A hold keeps a snapshot by a tag, and a release takes the tag away (zfs-hold(8), zfs-release(8), zfs-holds(8)). A bookmark keeps the
-//! guid and the creation group of a snapshot (zfs-bookmark(8)).
+//! guid and the creation group of a snapshot (zfs-bookmark(8)). Each changes the table, and what it has to free, and at `Err` both are as
+//! they were.
 #![tactic(auto)]
 
 mod bookmarking;
@@ -10,7 +11,7 @@ mod place;
 mod releasing;
 mod tags;
 
-pub use bookmarking::{bookmark, bookmark_now};
-pub use holding::{hold, hold_now};
-pub use releasing::{release, release_now};
+pub use bookmarking::bookmark;
+pub use holding::hold;
+pub use releasing::release;
 pub use tags::tags_of;

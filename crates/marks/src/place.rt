@@ -18,11 +18,7 @@ pub(crate) fn placed<'a>(table: &'a Table, target: &Target) -> Result<&'a Snapsh
     let Target::Snapshot(name) = target else {
         return Err(Refusal::NotSnapshot);
     };
-    let name = name.member();
-    let Some(file_system) = table.find(&name.file_system) else {
-        return Err(Refusal::NoDataset);
-    };
-    match file_system.snapshot_named(name.component.as_bytes()) {
+    match table.snapshot(name.member()) {
         Some(snapshot) => Ok(snapshot),
         None => Err(Refusal::NoDataset),
     }

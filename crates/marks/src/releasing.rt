@@ -24,49 +24,14 @@ use std::alloc::Global;
 use std::sync::Arc;
 use views::Views;
 
-/// The datasets in which the snapshot that the target names hasn't this tag any more (zfs-release(8), without -r), and without that
-/// snapshot where its destroy is deferred and no other tag, no open view and no clone needs it (zfs-destroy(8), -d): what no dataset has
-/// then is to be freed. The table and what it has to free stay as they are. Refused are NotSnapshot where the target isn't the name of a
-/// snapshot, else NoDataset where there is no such snapshot, else NoTag where it hasn't the tag; NoMemory, where there is none for it, may
-/// come before this last one. It costs what `Edit::of` does and the bytes of the snapshot's tags, which are at most 256; where the
-/// snapshot's destroy is deferred also the number of open views, and where it goes what `Edit::lose_snapshot` does.
+/// Takes this tag from the snapshot that the target names (zfs-release(8), without -r), and lets that snapshot go where its destroy is
+/// deferred and no other tag, no open view and no clone needs it (zfs-destroy(8), -d): what no dataset has then is to be freed. Refused are
+/// NotSnapshot where the target isn't the name of a snapshot, else NoDataset where there is no such snapshot, else NoTag where it hasn't
+/// the tag; NoMemory, where there is none for it, may come before this last one. At `Err` the table and what it has to free are as they
+/// were. It costs the logarithms of the numbers of file systems and of snapshots, a walk over the chunks of the snapshots of one, and the
+/// bytes of the snapshot's tags, which are at most 256; where the snapshot's destroy is deferred also the number of open views; and where
+/// it goes what `Edit::of` and `Edit::lose_snapshot` do.
 pub fn release(
-    alloc: Global,
-    table: &Table,
-    freeing: &Freeing,
-    views: &Views,
-    target: &Target,
-    tag: &Tag,
-    segments: &mut SegMeter,
-) -> Result<Edit, Refusal>
-    requires apart { AreDisjoint (union_of (world_of table.now)) freeing.now }
-    requires swept { IsSweptBy table.now views.now.opened }
-    ensures ok { IfOk result (λ e. e.to ≡ swept (released_in table.now tag.now target.now) views.now.opened) }
-    ensures lost { IfOk result (λ e. HasLost table.now freeing.now e.to e.freeing) }
-    ensures can { OnOk result (release_refusal table.now tag.now target.now ≡ None) }
-    ensures refused { IfSome (release_refusal table.now tag.now target.now) (λ e. (result ≡ Err e) ⊎ (result ≡ Err Refusal.NoMemory)) }
-    ensures only { IfErr result (λ e. (release_refusal table.now tag.now target.now ≡ Some e) ⊎ (e ≡ Refusal.NoMemory)) }
-{
-    // It tells of the snapshots that each identity is one's.
-    let _count = table.len();
-    let tags = tags_without(alloc, table, target, tag)?;
-    let Target::Snapshot(name) = target else {
-        unreachable!()
-    };
-    if is_due_with(table, views, target, &tags) {
-        return lose(alloc, table, freeing, name.member(), segments);
-    }
-    let mut edit = Edit::of(table, freeing)?;
-    let tags = Arc::new(alloc, tags)?;
-    edit.to.set_tags(alloc, name.member(), tags)?;
-    Ok(edit)
-}
-
-/// The same in this table and on what it has to free: it is refused as `release` is, and at `Err` both are as they were. It costs the
-/// logarithms of the numbers of file systems and of snapshots, a walk over the chunks of the snapshots of one, and the bytes of the
-/// snapshot's tags, which are at most 256; where the snapshot's destroy is deferred the number of open views; and where it goes what
-/// `Edit::of` and `Edit::lose_snapshot` do.
-pub fn release_now(
     alloc: Global,
     table: &mut Table,
     freeing: &mut Freeing,
@@ -91,15 +56,11 @@ pub fn release_now(
     let Target::Snapshot(name) = target else {
         unreachable!()
     };
-    if !is_due_with(table, views, target, &tags) {
-        let tags = Arc::new(alloc, tags)?;
-        table.set_tags(alloc, name.member(), tags)?;
-        return Ok(());
+    if is_due_with(table, views, target, &tags) {
+        return lose(alloc, table, freeing, name.member(), segments);
     }
-    let Edit { to, freeing: left } = lose(alloc, table, freeing, name.member(), segments)?;
-    *table = to;
-    *freeing = left;
-    Ok(())
+    let tags = Arc::new(alloc, tags)?;
+    table.set_tags(alloc, name.member(), tags)
 }
 
 // The other tags of the snapshot that the target names. It is refused as `release` is. It costs the logarithm of the number of file
@@ -129,23 +90,26 @@ fn is_due_with(table: &Table, views: &Views, target: &Target, tags: &Holds) -> b
     snapshot.is_deferred() && tags.is_empty() && !views.is_viewed(id) && !table.has_clone(id)
 }
 
-// The datasets without the snapshot of this name, which is there and has no clone: what no dataset has then is to be freed. NoMemory where
-// there is none for it. It costs what `Edit::of` and `Edit::lose_snapshot` do.
+// Lets the snapshot of this name go, which is there and has no clone: what no dataset has then is to be freed. NoMemory where there is none
+// for it, and then the table and what it has to free are as they were. It costs what `Edit::of` and `Edit::lose_snapshot` do.
 fn lose(
     alloc: Global,
-    table: &Table,
-    freeing: &Freeing,
+    table: &mut Table,
+    freeing: &mut Freeing,
     name: &Member,
     segments: &mut SegMeter,
-) -> Result<Edit, Refusal>
-    requires apart { AreDisjoint (union_of (world_of table.now)) freeing.now }
-    requires there { IsSome (snap_named (world_of table.now) name.now) }
-    requires no_clone { is_named_cloned table.now name.now ≡ false }
-    ensures ok { IfSome (snap_named (world_of table.now) name.now) (λ u. IfOk result (λ e. e.to ≡ without_snap table.now (id_of u))) }
-    ensures lost { IfOk result (λ e. HasLost table.now freeing.now e.to e.freeing) }
+) -> Result<(), Refusal>
+    requires apart { AreDisjoint (union_of (world_of table.old)) freeing.old }
+    requires there { IsSome (snap_named (world_of table.old) name.now) }
+    requires no_clone { is_named_cloned table.old name.now ≡ false }
+    ensures ok { IfSome (snap_named (world_of table.old) name.now) (λ u. OnOk result (table.new ≡ without_snap table.old (id_of u))) }
+    ensures lost { OnOk result (HasLost table.old freeing.old table.new freeing.new) }
+    ensures unchanged { OnErr result (table.new ≡ table.old) }
+    ensures kept { OnErr result (freeing.new ≡ freeing.old) }
     ensures err { IfErr result (λ e. e ≡ Refusal.NoMemory) }
 {
     let mut edit = Edit::of(table, freeing)?;
     edit.lose_snapshot(alloc, name, segments)?;
-    Ok(edit)
+    edit.put(table, freeing);
+    Ok(())
 }

@@ -1,68 +1,108 @@
--- Where no file system has a limit, none has one after a request that sets none; and what limits say where some have.
-use Rattle.std.proofs.Common.{◌≡◌, ◌<◌, ◌^◌, ◌+◌, ℕ, List, Option, None, Some, sym, ap, subst, ◌∙◌, ⊎_elim}
+-- What limits say of the world that a request has led to.
+use Rattle.std.proofs.Common.{◌≡◌, ◌<◌, ◌^◌, ◌+◌, ℕ, List, Option, None, Some, refl, sym, ap, subst, ◌∙◌, ⊎_elim, arith}
+use Rattle.std.specs.Prelude.{count_by, is_some, IsSome}
+use Rattle.std.specs.FinMap.{get}
 use Rattle.std.specs.FinSet as set
 use Rattle.std.specs.FinSet.{difference}
 use Rattle.base.specs.declared.refusal.Refusal.{Refusal}
 use Rattle.zalloc.specs.declared.BlockState.{BlockState}
-use Rattle.model.specs.State.{State, waiting_of}
-use Rattle.model.specs.Numbers.{HasStates}
+use Rattle.zalloc.specs.declared.Counts.{Counts}
+use Rattle.zalloc.specs.States.{is_free, is_allocated, is_waiting}
+use Rattle.model.specs.declared.limits.Limit.{Limit}
+use Rattle.model.specs.declared.request.Request.TheVariants.{Set}
+use Rattle.model.specs.declared.reply.Reply.TheVariants.{Done}
 use Rattle.model.specs.Rule.{first_of}
-use Rattle.model.specs.requests.Change.{limit_row}
+use Rattle.model.specs.State.{State, waiting_of}
+use Rattle.model.specs.Step.{Step}
+use Rattle.model.specs.Sums.{allocated_of, free_of, waiting_count}
 use Rattle.model.specs.World.{union_of, reach_of}
-use Rattle.steps.specs.Steady.{IsSteady}
-use Rattle.steps.proofs.Bounded.{IsUnasked}
-use Rattle.steps.proofs.Properties.{are_balanced}
+use Rattle.model.specs.requests.Change.{limit_row}
+use Rattle.world.specs.Blocks.{block_order as o}
 use Rattle.world.specs.Tables.{Datasets, world_of}
+use Rattle.world.proofs.SetCounts.{len-union}
 use Rattle.accounts.specs.Limits.{IsUnlimited}
-use Rattle.steps.specs.Edits.{datasets_of, StaysUnlimited}
-use Rattle.steps.specs.Handed.{IsAccounted, Line}
-use Rattle.steps.specs.Limiting.{IsAsked, IsOver}
+use Rattle.datasets.specs.Limits.{with_limit_of}
+use Rattle.steps.specs.Asked.{asked_by_set}
+use Rattle.steps.specs.Counted.{IsCountOf}
+use Rattle.steps.specs.Edits.{datasets_of, put, CanPut}
+use Rattle.steps.specs.Handed.{Space, Line, IsAccounted}
+use Rattle.steps.specs.Limiting.{IsOver, IsStateWith}
 use Rattle.steps.proofs.Balanced as balanced
+use Rattle.steps.proofs.Bounded.{IsUnasked}
+use Rattle.steps.proofs.Counts as counts
 use Rattle.steps.proofs.Foretold.{ledger_alike}
+use Rattle.steps.proofs.Known.{states_of}
+use Rattle.steps.proofs.Properties.{are_balanced}
+use Rattle.steps.proofs.Setting as setting
 use Rattle.pool.specs.Pools.{IsSound}
-use Rattle.pool.specs.Shown.{Shown, shown}
-use Rattle.pool.proofs.Fitting as fitting
 
-module _ (seen : Shown) (s : State) (numbers : List BlockState) (view : shown s numbers ≡ seen) (bare : IsUnlimited seen.state.now.file_systems) where
-  pub bare_here : IsUnlimited s.now.file_systems
-  bare_here = subst (λ (x : Shown). IsUnlimited x.state.now.file_systems) (sym view) bare
-
-  -- after a request that keeps it so
-  pub still_bare : (to : Datasets) → StaysUnlimited s to → IsUnlimited to.file_systems
-  still_bare to stays = stays bare_here
-
--- what datasets have can be counted by so many bits
-pub few_sound : (s : State) (numbers : List BlockState) → IsSound s numbers → s.size < 2 ^ 32 → set.len (union_of (world_of (datasets_of s))) < 2 ^ 32
-few_sound s numbers sound = fitting.few s sound.steady numbers sound.states
-
--- after a request that was refused
-pub same_accounted : (t to : Datasets) (l : Option (List Line)) → to ≡ t → IsAccounted t l → IsAccounted to l
-same_accounted t to l same kept = subst (λ d. IsAccounted d l) (sym same) kept
-
-pub never_none : (l : List Line) → Some l ≡ None → ⊥
-never_none l e = cc
-
+-- the ledger after the group is closed
 pub accounted_next : (t next : Datasets) (l : Option (List Line)) → next ≡ record t { group = t.group + 1 } → IsAccounted t l → IsAccounted next l
 accounted_next t next None is kept = subst (λ (d : Datasets). IsUnlimited d.file_systems) (sym is) kept
 accounted_next t next (Some l) is kept = kept ∙ ledger_alike (world_of t) (world_of next) (ap (λ (d : Datasets). d.file_systems) (sym is))
 
--- ---- what limits say of the state that a request leads to
-
-module _ (s new : State) (is : IsUnasked s new) where
-  -- as many wait
-  waiting_same : set.len (waiting_of new) ≡ set.len (waiting_of s)
+module _ (s : State) (numbers : List BlockState) (sound : IsSound s numbers) where
+  -- as many numbers wait as blocks
+  pub waiting_counted : count_by is_waiting numbers ≡ set.len (waiting_of s)
   unfolding waiting_of
-  waiting_same = (λ i. set.len (difference (reach_of (is.last i)) (is.reach i)))
+  waiting_counted = counts.count-waiting (reach_of s.now) (reach_of s.last) s.last.group s.now.group s.size sound.steady.good.pair.reached numbers (states_of s numbers sound.states)
 
-  module _ (to : Datasets) (systems : new.now.file_systems ≡ to.file_systems) (freeing : ℕ) (freed : set.len new.now.freeing ≡ freeing) where
-    is_asked : IsAsked s to freeing new
-    is_asked = record { systems = systems; freed = freed; waiting = waiting_same; size = is.size }
+  -- as many are free
+  free_counted : count_by is_free numbers ≡ free_of s
+  unfolding allocated_of waiting_count waiting_of
+  free_counted =
+      let f = counts.count-free (reach_of s.now) (reach_of s.last) s.last.group s.now.group s.size sound.steady.good.pair.reached numbers (states_of s numbers sound.states) in
+      let b = are_balanced s sound.steady numbers sound.states in
+      let u = len-union o (reach_of s.now) (reach_of s.last) in
+      omega (arith, f, b, u)
+
+  -- and as many are allocated
+  pub count_with : (n : Counts) → n.allocated ≡ count_by is_allocated numbers → n.free ≡ count_by is_free numbers → n.waiting ≡ count_by is_waiting numbers → IsCountOf s n
+  unfolding allocated_of waiting_count
+  count_with n allocated free waiting = record {
+    allocated = allocated ∙ counts.count-allocated (reach_of s.now) (reach_of s.last) s.last.group s.now.group s.size sound.steady.good.pair.reached numbers (states_of s numbers sound.states);
+    free = free ∙ free_counted;
+    waiting = waiting ∙ waiting_counted;
+  }
+
+  -- the state has its datasets, and this beside them
+  pub state_with : (space : Space) → space.size ≡ s.size → space.freeing ≡ set.len s.now.freeing → space.waiting ≡ count_by is_waiting numbers → IsStateWith s (datasets_of s) space
+  state_with space size freeing waiting = record {
+    steady = sound.steady;
+    balanced = are_balanced s sound.steady numbers sound.states;
+    datasets = refl;
+    beside = record { size = size; freeing = freeing; waiting = waiting ∙ waiting_counted };
+  }
+
+  -- ---- the state that limits are asked of
+
+  module _ (new : State) (is : IsUnasked s new) (to : Datasets) (systems : new.now.file_systems ≡ to.file_systems) where
+    -- what its datasets have can be counted by so many bits
+    pub few_unasked : set.len (union_of (world_of to)) < 2 ^ 32
+    few_unasked = balanced.few_unasked s (are_balanced s sound.steady numbers sound.states) new is sound.small to (sym systems)
+
+    -- as many wait
+    waiting_same : set.len (waiting_of new) ≡ set.len (waiting_of s)
+    unfolding waiting_of
+    waiting_same = (λ i. set.len (difference (reach_of (is.last i)) (is.reach i)))
 
     -- what was found is what the row of its limits says
-    pub over_is : (r : Option Refusal) → IsOver s to freeing r → (IsUnlimited s.now.file_systems → first_of (limit_row new) ≡ None) → first_of (limit_row new) ≡ r
-    over_is r over bare = ⊎_elim (λ b. bare b.0 ∙ sym b.1) (λ all. sym (all new is_asked)) over
+    pub over_is : (freeing : ℕ) → set.len new.now.freeing ≡ freeing → (r : Option Refusal) → IsOver s to freeing r → (IsUnlimited s.now.file_systems → first_of (limit_row new) ≡ None)
+        → first_of (limit_row new) ≡ r
+    over_is freeing freed r over bare = ⊎_elim (λ b. bare b.0 ∙ sym b.1) (λ all. sym (all new (record { systems = systems; freed = freed; waiting = waiting_same; size = is.size }))) over
 
-  -- what its datasets have can be counted by so many bits
-  pub few_unasked : IsSteady s → (numbers : List BlockState) → HasStates s numbers → s.size < 2 ^ 32 → (to : Datasets) → to.file_systems ≡ new.now.file_systems
-      → set.len (union_of (world_of to)) < 2 ^ 32
-  few_unasked steady numbers known small to same = balanced.few_unasked s (are_balanced s steady numbers known) new is small to same
+  -- ---- a limit that is set
+
+  module _ (name : List ℕ) (limit : Limit) (amount : Option ℕ) (there : IsSome (get s.now.file_systems name))
+      (fits : IsSome amount → first_of (limit_row (asked_by_set s name limit amount)) ≡ None) (t : Datasets) (is : t ≡ with_limit_of (datasets_of s) name limit amount) where
+    fits_here : (n : ℕ) → amount ≡ Some n → first_of (limit_row (asked_by_set s name limit amount)) ≡ None
+    fits_here n given = fits (ap is_some given)
+
+    there_here : get s.now.file_systems name ≡ None → ⊥
+    there_here none = let e = sym there ∙ ap is_some none in cc
+
+    pub set_can : CanPut s t 0
+    set_can = subst (λ d. CanPut s d 0) (sym is) (setting.set_can s sound.steady name limit amount fits_here)
+
+    pub set_done : Step s (Set name limit amount) Done (put s t 0)
+    set_done = subst (λ d. Step s (Set name limit amount) Done (put s d 0)) (sym is) (setting.set_done s name limit amount there_here sound.steady fits_here)

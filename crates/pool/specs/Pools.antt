@@ -1,28 +1,46 @@
 -- What a pool keeps between two steps.
-use Rattle.std.specs.Prelude.{◌+◌, ◌≤◌, List}
+use Rattle.std.specs.Prelude.{◌+◌, ◌≤◌, ◌<◌, ◌^◌, List}
 use Rattle.zalloc.specs.declared.BlockState.{BlockState}
 use Rattle.model.specs.State.{State}
 use Rattle.model.specs.Targets.{guid_limit}
 use Rattle.model.specs.Numbers.{HasStates}
+use Rattle.model.specs.World.{World as OneWorld}
 use Rattle.world.specs.Tables.{world_of}
+use Rattle.steps.specs.Handed.{IsAccounted}
 use Rattle.steps.specs.Steady.{IsSteady}
-use Rattle.pool.specs.declared.pool.Pool.TheInside.{Inside}
+use Rattle.pool.specs.declared.worlds.World.{World}
+use Rattle.pool.specs.declared.keep.Keep.{Keep}
 
--- the pool's state: its datasets now and when the last sync had been done, each with what is to be freed, and the open views (profile)
-abbrev pub state_of : Inside → State
-state_of p = record {
-  now = record (world_of p.present) { freeing = p.freeing };
-  last = record (world_of p.last) { freeing = p.last_freeing };
-  views = p.views.opened;
-  next_guid = p.next_guid;
-  next_view = p.views.next;
-  size = p.size;
-  pool = p.id;
+-- a world that a pool keeps: its datasets, and what is to be freed (profile)
+abbrev pub world_in : World → OneWorld
+world_in w = record (world_of w.table) { freeing = w.freeing }
+
+-- the pool's state, with this as its present world (profile)
+abbrev pub state_in : Keep → World → State
+state_in k w = record {
+  now = world_in w;
+  last = world_in k.last;
+  views = k.views.opened;
+  next_guid = k.next_guid;
+  next_view = k.views.next;
+  size = k.size;
+  pool = k.id;
 }
 
--- the facts of the worlds hold, each number has the state that the worlds give it, and the counter of guids is no further than past its last
--- number (profile)
+-- the facts of the worlds hold, each number has the state that the worlds give it, the counter of guids is no further than past its last
+-- number, and blocks can be counted (profile)
 pub record IsSound (s : State) (numbers : List BlockState) : Type 0 where
   pub steady : IsSteady s
   pub states : HasStates s numbers
   pub guids : s.next_guid ≤ guid_limit + 1
+  pub small : s.size < 2 ^ 32
+
+-- the ledger of a world is that of its datasets (profile)
+abbrev pub IsKept : World → Type 0
+IsKept w = IsAccounted w.table w.ledger
+
+-- the pool is sound with this present world, and both worlds have their ledgers (profile)
+pub record IsHeld (k : Keep) (w : World) : Type 0 where
+  pub sound : IsSound (state_in k w) k.allocator
+  pub now : IsKept w
+  pub last : IsKept k.last

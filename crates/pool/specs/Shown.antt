@@ -1,20 +1,23 @@
 -- What contracts see of a pool and of a prepared step.
-use Rattle.std.specs.Prelude.{List}
+use Rattle.std.specs.Prelude.{List, ℕ}
 use Rattle.std.proofs.Common.{refl}
-use Rattle.std.specs.Coded.{Coded, code_by, coded×, coded_list}
+use Rattle.std.specs.Coded.{Coded, code_by, coded×, coded_ℕ, coded_list}
 use Rattle.zalloc.specs.declared.BlockState.{BlockState}
 use Rattle.zalloc.specs.contracts.BlockState as block_state
 use Rattle.model.specs.State.{State}
 use Rattle.model.specs.Codes.{state_code}
 
--- what contracts see of a pool: its state, and the state of each of its numbers (profile)
+-- what contracts see of a pool: its state, the state of each of its numbers, and how many nodes of trees and segments of dead lists it has
+-- reached since it was made (profile)
 pub record Shown : Type 0 where
   pub state : State
   pub numbers : List BlockState
+  pub nodes : ℕ
+  pub segments : ℕ
 
--- both (profile)
-abbrev pub shown : State → List BlockState → Shown
-shown s numbers = record { state = s; numbers = numbers }
+-- all of these (profile)
+abbrev pub shown : State → List BlockState → ℕ → ℕ → Shown
+shown s numbers nodes segments = record { state = s; numbers = numbers; nodes = nodes; segments = segments }
 
 -- what contracts see of a prepared step: the pool that it was prepared on, and the state that it leads to (profile)
 pub record Leap : Type 0 where
@@ -24,8 +27,8 @@ pub record Leap : Type 0 where
 -- the code of what contracts see of a pool (profile)
 abbrev pub shown_code : Coded Shown
 shown_code =
-    code_by (State × List BlockState) (coded× state_code (coded_list block_state.the_row.coded))
-    (λ x. (x.state, x.numbers)) (λ p. record { state = p.0; numbers = p.1 }) (λ _. refl)
+    code_by (State × (List BlockState × (ℕ × ℕ))) (coded× state_code (coded× (coded_list block_state.the_row.coded) (coded× coded_ℕ coded_ℕ)))
+    (λ x. (x.state, (x.numbers, (x.nodes, x.segments)))) (λ p. shown p.0 p.1.0 p.1.1.0 p.1.1.1) (λ _. refl)
 
 -- the code of what they see of a prepared step (profile)
 abbrev pub leap_code : Coded Leap

@@ -1,70 +1,67 @@
-//! Clones and promotes.
-ghost use Rattle.std.specs.Prelude.{◌≡◌};
+//! Creations, clones and promotes.
+ghost use Rattle.std.specs.Prelude.{◌≡◌, None, OnErr};
 ghost use Rattle.model.specs.declared.request.Request.{Request};
-ghost use Rattle.model.specs.Step.{Step};
-ghost use Rattle.accounts.specs.Limits.{IsUnlimited};
-ghost use Rattle.pool.specs.Plans.{state_after_plan, CanDo};
+ghost use Rattle.pool.specs.Pools.{state_in, IsHeld};
+ghost use Rattle.pool.specs.Effects.{IsPerformed};
 
-use crate::pool::{Plan, Pool};
-use clones::{clone_now, clone_snapshot, promote, promote_now};
-use model::reply::Reply;
+use crate::effect::Effect;
+use crate::keep::Keep;
+use crate::worlds::World;
+use base::meter::SegMeter;
+use base::refusal::Refusal;
+use clones::{clone_snapshot, promote};
 use name::{DsName, Target};
 use std::alloc::Global;
+use steps::renew;
 
-impl Pool {
-    pub(crate) fn planned_clone(&self, target: &Target, name: &DsName) -> (Reply, Plan)
-        ensures can { CanDo self.now.state result.1 }
-        ensures step { Step self.now.state (Request.Clone target.now name.now) result.0 (state_after_plan self.now.state result.1) }
+impl Keep {
+    /// Adds a file system of this name. At `Err` the world is as it was. It costs what `Table::create` does.
+    pub(crate) fn create(&self, world: &mut World, name: &DsName) -> Result<Effect, Refusal>
+        requires { IsHeld self.now world.old }
+        ensures performed { IsPerformed (state_in self.now world.old) self.now.allocator world.new (Request.Create name.now) result }
+        ensures unchanged { OnErr result (world.new ≡ world.old) }
     {
-        let _size = self.size;
-        match clone_snapshot(&self.present, target, name) {
-            Ok(to) => (Reply::Done, Plan::Put { to, guids: 0 }),
-            Err(refusal) => (Reply::Refused(refusal), Plan::Nothing),
+        if let Some(refusal) = world.table.create_refusal(name) {
+            return Err(refusal);
         }
+        world.table.create(name)?;
+        renew(&mut world.ledger, &world.table);
+        Ok(Effect::Nothing)
     }
 
-    pub(crate) fn planned_promote(&mut self, alloc: Global, name: &DsName) -> (Reply, Plan)
-        ensures same { self.new ≡ self.old }
-        ensures can { CanDo self.old.state result.1 }
-        ensures step { Step self.old.state (Request.Promote name.now) result.0 (state_after_plan self.old.state result.1) }
+    /// Adds a clone of the snapshot that the target names. At `Err` the world is as it was. It costs what `clones::clone_snapshot` does.
+    pub(crate) fn clone_snapshot(
+        &self,
+        world: &mut World,
+        target: &Target,
+        name: &DsName,
+    ) -> Result<Effect, Refusal>
+        requires { IsHeld self.now world.old }
+        ensures performed { IsPerformed (state_in self.now world.old) self.now.allocator world.new (Request.Clone target.now name.now) result }
+        ensures unchanged { OnErr result (world.new ≡ world.old) }
     {
-        let _size = self.size;
-        let promoted = promote(alloc, &self.present, name, &mut self.segments);
-        let to = match promoted {
-            Ok(to) => to,
-            Err(refusal) => return (Reply::Refused(refusal), Plan::Nothing),
-        };
-        let freeing = self.freeing.len();
-        if let Some(refusal) = self.over(&to, freeing) {
-            return (Reply::Refused(refusal), Plan::Nothing);
-        }
-        (Reply::Done, Plan::Put { to, guids: 0 })
+        clone_snapshot(&mut world.table, target, name)?;
+        renew(&mut world.ledger, &world.table);
+        Ok(Effect::Nothing)
     }
 
-    // Clones at once, or answers why it can't, and then nothing has changed.
-    pub(crate) fn clone_now(&mut self, target: &Target, name: &DsName) -> Reply
-        requires { IsUnlimited self.old.state.now.file_systems }
-        ensures { Step self.old.state (Request.Clone target.now name.now) result self.new.state }
+    /// Promotes the clone of this name, and asks the limits of what that leads to. At `Err` the world is as it was, but of no use where it has
+    /// a ledger. It costs what `clones::promote` does.
+    pub(crate) fn promote(
+        &self,
+        alloc: Global,
+        world: &mut World,
+        name: &DsName,
+        segments: &mut SegMeter,
+    ) -> Result<Effect, Refusal>
+        requires { IsHeld self.now world.old }
+        ensures performed { IsPerformed (state_in self.now world.old) self.now.allocator world.new (Request.Promote name.now) result }
+        ensures unchanged { OnErr result (world.old.ledger ≡ None → world.new ≡ world.old) }
     {
-        let _size = self.size;
-        if let Err(refusal) = clone_now(&mut self.present, target, name) {
-            return Reply::Refused(refusal);
+        promote(alloc, &mut world.table, name, segments)?;
+        match self.over(world) {
+            Some(refusal) => Err(refusal),
+            None => Ok(Effect::Nothing),
         }
-        self.limiting = None;
-        Reply::Done
-    }
-
-    // Promotes at once, or answers why it can't, and then nothing has changed.
-    pub(crate) fn promote_now(&mut self, alloc: Global, name: &DsName) -> Reply
-        requires { IsUnlimited self.old.state.now.file_systems }
-        ensures { Step self.old.state (Request.Promote name.now) result self.new.state }
-    {
-        let _size = self.size;
-        let done = promote_now(alloc, &mut self.present, name, &mut self.segments);
-        if let Err(refusal) = done {
-            return Reply::Refused(refusal);
-        }
-        self.limiting = None;
-        Reply::Done
     }
 }

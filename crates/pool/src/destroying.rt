@@ -1,76 +1,76 @@
-//! Destroys.
-ghost use Rattle.std.specs.Prelude.{◌≡◌};
+//! Destroys and rollbacks.
+ghost use Rattle.std.specs.Prelude.{◌≡◌, None, OnErr};
 ghost use Rattle.model.specs.declared.request.Request.{Request};
-ghost use Rattle.model.specs.Step.{Step};
-ghost use Rattle.accounts.specs.Limits.{IsUnlimited};
-ghost use Rattle.pool.specs.Plans.{state_after_plan, CanDo};
+ghost use Rattle.pool.specs.Pools.{state_in, IsHeld};
+ghost use Rattle.pool.specs.Effects.{IsPerformed};
 
-use crate::pool::{Plan, Pool};
-use model::reply::Reply;
+use crate::effect::Effect;
+use crate::keep::Keep;
+use crate::worlds::World;
+use base::meter::SegMeter;
+use base::refusal::Refusal;
 use name::Target;
-use removals::{Edit, destroy, destroy_now};
+use removals::{destroy, rollback};
 use std::alloc::Global;
+use steps::renew;
 
-impl Pool {
-    pub(crate) fn planned_destroy(
-        &mut self,
+impl Keep {
+    /// Destroys what the target names. At `Err` the world is as it was. It costs what `removals::destroy` does.
+    pub(crate) fn destroy(
+        &self,
         alloc: Global,
+        world: &mut World,
         target: &Target,
         recursive: bool,
         defer: bool,
-    ) -> (Reply, Plan)
-        ensures same { self.new ≡ self.old }
-        ensures can { CanDo self.old.state result.1 }
-        ensures step { Step self.old.state (Request.Destroy target.now recursive defer) result.0 (state_after_plan self.old.state result.1) }
+        segments: &mut SegMeter,
+    ) -> Result<Effect, Refusal>
+        requires { IsHeld self.now world.old }
+        ensures performed { IsPerformed (state_in self.now world.old) self.now.allocator world.new (Request.Destroy target.now recursive defer) result }
+        ensures unchanged { OnErr result (world.new ≡ world.old) }
     {
-        let _size = self.size;
-        let edit = destroy(
+        destroy(
             alloc,
-            &self.present,
-            &self.freeing,
+            &mut world.table,
+            &mut world.freeing,
             &self.views,
             target,
             recursive,
             defer,
-            &mut self.segments,
-        );
-        let Edit { to, freeing } = match edit {
-            Ok(edit) => edit,
-            Err(refusal) => return (Reply::Refused(refusal), Plan::Nothing),
-        };
+            segments,
+        )?;
         // It tells of the file systems that are left what a table keeps.
-        let _count = to.len();
-        (Reply::Done, Plan::Lose { to, freeing })
+        let _count = world.table.len();
+        renew(&mut world.ledger, &world.table);
+        Ok(Effect::Nothing)
     }
 
-    // Destroys at once, or answers why it can't, and then nothing has changed.
-    pub(crate) fn destroy_now(
-        &mut self,
+    /// Takes a file system back to the snapshot that the target names, and asks the limits of what that leads to. At `Err` the world is as it
+    /// was, but of no use where it has a ledger. It costs what `removals::rollback` does.
+    pub(crate) fn rollback(
+        &self,
         alloc: Global,
+        world: &mut World,
         target: &Target,
-        recursive: bool,
-        defer: bool,
-    ) -> Reply
-        requires { IsUnlimited self.old.state.now.file_systems }
-        ensures { Step self.old.state (Request.Destroy target.now recursive defer) result self.new.state }
+        later: bool,
+        segments: &mut SegMeter,
+    ) -> Result<Effect, Refusal>
+        requires { IsHeld self.now world.old }
+        ensures performed { IsPerformed (state_in self.now world.old) self.now.allocator world.new (Request.Rollback target.now later) result }
+        ensures unchanged { OnErr result (world.old.ledger ≡ None → world.new ≡ world.old) }
     {
-        let _size = self.size;
-        let done = destroy_now(
+        rollback(
             alloc,
-            &mut self.present,
-            &mut self.freeing,
+            &mut world.table,
+            &mut world.freeing,
             &self.views,
             target,
-            recursive,
-            defer,
-            &mut self.segments,
-        );
-        // It tells of the file systems that are left what a table keeps.
-        let _count = self.present.len();
-        if let Err(refusal) = done {
-            return Reply::Refused(refusal);
+            later,
+            segments,
+        )?;
+        match self.over(world) {
+            Some(refusal) => Err(refusal),
+            None => Ok(Effect::Nothing),
         }
-        self.limiting = None;
-        Reply::Done
     }
 }

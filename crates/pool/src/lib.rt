@@ -2,15 +2,26 @@
 //!
 //! A pool keeps the present world and the one that the last sync left, and the state of each block number. It has file systems
 //! with their snapshots, clones and bookmarks, and with quotas and reservations.
+//!
+//! Each request that changes a world has one function, which changes it in place and tells an effect: what is left to be done to all that
+//! stands beside the world. `apply` lends it the present world, `prepare` a copy, and both settle the effect in the same way.
 #![tactic(auto)]
 
+mod changing;
 mod cloning;
 mod destroying;
+mod effect;
+mod keep;
+mod kind;
 mod limiting;
 mod marking;
+mod performing;
 mod pool;
 mod receiving;
+mod snapping;
+mod syncing;
 mod viewing;
+mod worlds;
 
 pub use pool::{Pool, Ready};
 pub use zalloc::MOST_BLOCKS;

@@ -1,42 +1,40 @@
 //! The limits of file systems: what they say of a request.
-ghost use Rattle.std.specs.Prelude.{◌≡◌, ◌<◌, ◌^◌, [], ◌∷◌, None, true, false, IfOk, IfErr, OnOk};
+ghost use Rattle.std.specs.Prelude.{◌≡◌, ◌<◌, ◌^◌, None, false, OnErr, count_by};
 ghost use Rattle.std.specs.FinSet as set;
-ghost use Rattle.tree.specs.Updates.{changes_of, IsBatch};
+ghost use Rattle.zalloc.specs.States.{is_waiting};
 ghost use Rattle.model.specs.declared.request.Request.{Request};
-ghost use Rattle.model.specs.State.{waiting_of};
+ghost use Rattle.model.specs.State.{State};
 ghost use Rattle.model.specs.Step.{Step};
 ghost use Rattle.model.specs.World.{union_of};
-ghost use Rattle.model.specs.requests.{rule_of};
 ghost use Rattle.world.specs.Tables.{world_of};
 ghost use Rattle.accounts.specs.Limits.{IsUnlimited};
-ghost use Rattle.steps.specs.Limiting.{IsOver, IsNoChange, MayChange, Foretells};
-ghost use Rattle.pool.specs.Plans.{state_after_plan, CanDo};
+ghost use Rattle.steps.specs.Handed.{IsAccounted};
+ghost use Rattle.steps.specs.Limiting.{IsOver};
+ghost use Rattle.steps.specs.Reached.{reaches_nodes};
+ghost use Rattle.pool.specs.Pools.{state_in, IsHeld, IsSound};
+ghost use Rattle.pool.specs.Effects.{IsPerformed};
+ghost use Rattle.pool.specs.Kinds.{kind_of};
+ghost use Rattle.pool.specs.Reached.{reaches_lists};
+ghost use Rattle.pool.specs.declared.kind.Kind.{Kind};
 
-use crate::pool::{Plan, Pool};
+use crate::effect::Effect;
+use crate::keep::{Keep, Meters};
+use crate::worlds::World;
 use base::limit::Blocks;
 use base::refusal::Refusal;
-use datasets::Table;
 use model::limits::Limit;
 use model::reply::Reply;
 use model::request::Request;
 use name::DsName;
 use std::alloc::Global;
-use steps::{Outlook, Space, answer, ask_change, over, with_limit};
-use tree::Update;
+use steps::{Space, answer, over, with_limit};
 
-impl Pool {
-    // Whether a file system may have a limit. Constant time.
-    pub(crate) fn is_limited(&self) -> bool
-        ensures { result ≡ false → IsUnlimited self.now.state.now.file_systems }
-    {
-        self.limiting.is_some()
-    }
-
-    // What the pool has beside what its file systems use, where so many blocks are to be freed. Constant time.
-    fn space(&self, freeing: u64) -> Space
-        ensures size { result.size ≡ self.now.state.size }
+impl Keep {
+    /// What the pool has beside what its file systems use, where so many blocks are to be freed. Constant time.
+    pub(crate) fn space(&self, freeing: u64) -> Space
+        ensures size { result.size ≡ self.now.size }
         ensures freeing { result.freeing ≡ freeing }
-        ensures waiting { result.waiting ≡ set.len (waiting_of self.now.state) }
+        ensures waiting { result.waiting ≡ count_by is_waiting self.now.allocator }
     {
         let waiting = self.allocator.counts().waiting;
         Space {
@@ -46,76 +44,65 @@ impl Pool {
         }
     }
 
-    // Which limit is broken where a request leads to these datasets and leaves so many blocks to be freed, if one is.
-    pub(crate) fn over(&mut self, to: &Table, freeing: u64) -> Option<Refusal>
-        requires few { set.len (union_of (world_of to.now)) < 2 ^ 32 }
-        ensures same { self.new ≡ self.old }
-        ensures over { IsOver self.old.state to.now freeing result }
+    /// Which limit is broken where a request has led to this world, if one is; the ledger becomes that of its datasets. Where none is kept, no
+    /// file system has a limit. It costs the number of file systems times its logarithm; without a ledger, nothing.
+    pub(crate) fn over(&self, world: &mut World) -> Option<Refusal>
+        requires unlimited { world.old.ledger ≡ None → IsUnlimited world.old.table.file_systems }
+        requires few { set.len (union_of (world_of world.old.table)) < 2 ^ 32 }
+        ensures same { world.new ≡ record world.old { ledger = world.new.ledger } }
+        ensures ledger { IsAccounted world.old.table world.new.ledger }
+        ensures none { world.old.ledger ≡ None → result ≡ None }
+        ensures bare { world.old.ledger ≡ None → world.new.ledger ≡ None }
+        ensures over { (s : State) → IsSound s self.now.allocator → s.size ≡ self.now.size → (world.old.ledger ≡ None → IsUnlimited s.now.file_systems) → IsOver s world.old.table (set.len world.old.freeing) result }
     {
-        let space = self.space(freeing);
-        over(&mut self.limiting, to, space)
+        let space = self.space(world.freeing.len());
+        over(&mut world.ledger, &world.table, space)
     }
 
-    // What `steps::ask_change` says of this update of the live tree of a file system.
-    pub(crate) fn ask_change(
-        &mut self,
+    /// The reply to a request that only reads. It costs what `steps::answer` does.
+    pub(crate) fn asked(
+        &self,
         alloc: Global,
-        name: &DsName,
-        update: &Update,
-    ) -> Result<Option<Outlook>, Refusal>
-        requires { IsBatch (update.now ∷ []) }
-        ensures same { self.new ≡ self.old }
-        ensures ok { OnOk result (MayChange self.old.state name.now (changes_of (update.now ∷ []))) }
-        ensures foretold { IfOk result (Foretells self.old.state name.now (changes_of (update.now ∷ []))) }
-        ensures err { IfErr result (IsNoChange self.old.state name.now (changes_of (update.now ∷ []))) }
+        world: &World,
+        request: &Request,
+        meters: &mut Meters,
+    ) -> Reply
+        requires held { IsHeld self.now world.now }
+        requires question { kind_of request.now ≡ Kind.Question }
+        ensures step { Step (state_in self.now world.now) request.now result (state_in self.now world.now) }
+        ensures nodes { reaches_nodes request.now ≡ false → meters.new.blocks ≡ meters.old.blocks }
+        ensures segments { reaches_lists request.now ≡ false → meters.new.segments ≡ meters.old.segments }
     {
-        let space = self.space(self.freeing.len());
-        ask_change(
-            &mut self.limiting,
-            alloc,
-            &self.present,
-            space,
-            self.last.group(),
-            name,
-            update,
-            &mut self.meter,
-        )
-    }
-
-    // The reply to a request that only reads.
-    pub(crate) fn asked(&mut self, alloc: Global, request: &Request) -> Reply
-        requires { (rule_of request.now None).only_reads ≡ true }
-        ensures same { self.new ≡ self.old }
-        ensures step { Step self.old.state request.now result self.old.state }
-    {
-        let space = self.space(self.freeing.len());
+        let space = self.space(world.freeing.len());
         answer(
             alloc,
-            &self.limiting,
-            &self.present,
+            &world.ledger,
+            &world.table,
             space,
             self.allocator.counts(),
             request,
-            &mut self.meter,
-            &mut self.segments,
+            &mut meters.blocks,
+            &mut meters.segments,
         )
     }
 
-    // Sets a limit of a file system, or answers why it can't.
-    pub(crate) fn planned_set(
+    /// Sets a limit of a file system. At `Err` the world is as it was. It costs what `steps::with_limit` does.
+    pub(crate) fn set(
         &self,
         alloc: Global,
+        world: &mut World,
         name: &DsName,
         limit: Limit,
         amount: Option<Blocks>,
-    ) -> (Reply, Plan)
-        ensures can { CanDo self.now.state result.1 }
-        ensures step { Step self.now.state (Request.Set name.now limit amount) result.0 (state_after_plan self.now.state result.1) }
+    ) -> Result<Effect, Refusal>
+        requires { IsHeld self.now world.old }
+        ensures performed { IsPerformed (state_in self.now world.old) self.now.allocator world.new (Request.Set name.now limit amount) result }
+        ensures unchanged { OnErr result (world.new ≡ world.old) }
     {
-        let space = self.space(self.freeing.len());
-        match with_limit(alloc, &self.present, space, name, limit, amount) {
-            Ok((to, limiting)) => (Reply::Done, Plan::Limit { to, limiting }),
-            Err(refusal) => (Reply::Refused(refusal), Plan::Nothing),
-        }
+        let space = self.space(world.freeing.len());
+        let (to, ledger) = with_limit(alloc, &world.table, space, name, limit, amount)?;
+        world.table = to;
+        world.ledger = Some(ledger);
+        Ok(Effect::Nothing)
     }
 }

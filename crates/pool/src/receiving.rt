@@ -1,38 +1,40 @@
 //! Receives of streams.
-ghost use Rattle.std.specs.Prelude.{◌≡◌};
+ghost use Rattle.std.specs.Prelude.{◌≡◌, OnErr};
 ghost use Rattle.model.specs.declared.request.Request.{Request};
-ghost use Rattle.model.specs.Step.{Step};
-ghost use Rattle.pool.specs.Plans.{state_after_plan, CanDo};
+ghost use Rattle.pool.specs.Pools.{state_in, IsHeld};
+ghost use Rattle.pool.specs.Effects.{IsPerformed};
 
-use crate::pool::{Plan, Pool};
+use crate::effect::Effect;
+use crate::keep::{Keep, Meters};
+use crate::worlds::World;
+use base::refusal::Refusal;
 use base::text::Bytes;
-use model::reply::Reply;
 use name::SnapName;
 use std::alloc::Global;
-use steps::{Intake, Present, intake_of};
+use steps::{Intake, Present, intake_of, renew};
 
-impl Pool {
-    // Receives a stream, or answers why it can't: what it leads to is made on a copy, which `commit` puts in place. It costs what
-    // `steps::intake_of` does.
-    pub(crate) fn planned_receive(
-        &mut self,
+impl Keep {
+    /// Receives a stream. At `Err` the world is as it was. It costs what `steps::intake_of` does.
+    pub(crate) fn receive(
+        &self,
         alloc: Global,
+        world: &mut World,
         snapshot: &SnapName,
         bytes: &Bytes,
         force: bool,
-    ) -> (Reply, Plan)
-        ensures same { self.new ≡ self.old }
-        ensures can { CanDo self.old.state result.1 }
-        ensures step { Step self.old.state (Request.Receive snapshot.now bytes.now force) result.0 (state_after_plan self.old.state result.1) }
+        meters: &mut Meters,
+    ) -> Result<Effect, Refusal>
+        requires { IsHeld self.now world.old }
+        ensures performed { IsPerformed (state_in self.now world.old) self.now.allocator world.new (Request.Receive snapshot.now bytes.now force) result }
+        ensures unchanged { OnErr result (world.new ≡ world.old) }
     {
-        let is_limited = self.is_limited();
         let present = Present {
-            table: &self.present,
-            freeing: &self.freeing,
-            synced: self.last.group(),
+            table: &world.table,
+            freeing: &world.freeing,
+            synced: self.last.table.group(),
             allocator: &self.allocator,
             size: self.size,
-            is_limited,
+            is_limited: world.ledger.is_some(),
         };
         let intake = intake_of(
             alloc,
@@ -40,13 +42,13 @@ impl Pool {
             snapshot,
             bytes.as_slice(),
             force,
-            &mut self.meter,
-            &mut self.segments,
-        );
-        let Intake { to, freeing, done } = match intake {
-            Ok(intake) => intake,
-            Err(refusal) => return (Reply::Refused(refusal), Plan::Nothing),
-        };
-        (Reply::Done, Plan::Receive { to, freeing, done })
+            &mut meters.blocks,
+            &mut meters.segments,
+        )?;
+        let Intake { to, freeing, done } = intake;
+        world.table = to;
+        world.freeing = freeing;
+        renew(&mut world.ledger, &world.table);
+        Ok(Effect::Blocks { done })
     }
 }

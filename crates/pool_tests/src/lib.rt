@@ -4,6 +4,8 @@
 #[cfg(test)]
 mod damaged;
 #[cfg(test)]
+mod meters;
+#[cfg(test)]
 mod pools;
 #[cfg(test)]
 mod settings;

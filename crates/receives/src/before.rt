@@ -89,7 +89,7 @@ fn with_new(table: &Table, freeing: &Freeing, name: &DsName) -> Result<Edit, Ref
     ensures err { IfErr result (λ e. e ≡ Refusal.NoMemory) }
 {
     let mut edit = Edit::of(table, freeing)?;
-    edit.to.add(name)?;
+    edit.to.create(name)?;
     Ok(edit)
 }
 

@@ -129,3 +129,14 @@ lost_alike t u v freeing after same lost = record {
   joined = lost.joined ∙ ap (λ s. union freeing (difference (union_of (world_of t)) s)) (sym same);
   apart = subst (λ s. AreDisjoint s after) (sym same) lost.apart;
 }
+
+-- ---- what an edit of them loses
+
+-- a copy is apart as they are
+pub apart_copied : (t u : Datasets) (freeing copied : BlockSet) → (u ≡ t) × (copied ≡ freeing) → AreDisjoint (union_of (world_of t)) freeing → AreDisjoint (union_of (world_of u)) copied
+apart_copied t u freeing copied same apart = subst (λ (p : Datasets × BlockSet). AreDisjoint (union_of (world_of p.0)) p.1) (λ i. (sym same.0 i, sym same.1 i)) apart
+
+-- what it has lost is lost once it is put in their place
+pub lost_put : (t u v to : Datasets) (freeing copied between after : BlockSet) → (u ≡ t) × (copied ≡ freeing) → HasLost u copied v between → to ≡ v → after ≡ between → HasLost t freeing to after
+lost_put t u v to freeing copied between after same lost put left =
+    subst (λ (p : (Datasets × BlockSet) × (Datasets × BlockSet)). HasLost p.0.0 p.0.1 p.1.0 p.1.1) (λ i. ((same.0 i, same.1 i), (sym put i, sym left i))) lost

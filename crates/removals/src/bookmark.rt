@@ -5,18 +5,14 @@ ghost use Rattle.std.specs.Option.{option_map};
 ghost use Rattle.std.specs.FinMap.{get, remove};
 ghost use Rattle.base.specs.declared.refusal.Refusal.{Refusal};
 ghost use Rattle.bookmarks.specs.Marks.{without_newer};
-ghost use Rattle.model.specs.World.{bookmark_named, union_of};
-ghost use Rattle.world.specs.Sets.{AreDisjoint};
+ghost use Rattle.model.specs.World.{bookmark_named};
 ghost use Rattle.world.specs.Tables.{world_of};
-ghost use Rattle.removals.specs.Edits.{HasLost};
 ghost use Rattle.removals.specs.Requests.{with_marks, without_bookmark};
 
-use crate::edit::Edit;
 use base::number::Group;
 use base::refusal::Refusal;
 use bookmarks::Bookmarks;
 use datasets::Table;
-use destroyer::Freeing;
 use name::{DsName, MarkName, Member};
 use std::alloc::Global;
 use std::sync::Arc;
@@ -58,30 +54,6 @@ pub(crate) fn destroy_bookmark(
     let name = name.member();
     let left = others(alloc, table, name)?;
     table.set_bookmarks(alloc, &name.file_system, left)
-}
-
-/// The datasets without the bookmark of this name (zfs-destroy(8)); nothing is to be freed with it. The table and what it has to free stay
-/// as they are. NoDataset exactly where there is none; else NoMemory where there is none for it. It costs the number of file systems, the
-/// chunks of pieces that are to be freed, and the number of the file system's bookmarks.
-pub(crate) fn without_bookmark(
-    alloc: Global,
-    table: &Table,
-    freeing: &Freeing,
-    name: &MarkName,
-) -> Result<Edit, Refusal>
-    requires apart { AreDisjoint (union_of (world_of table.now)) freeing.now }
-    ensures ok { IfOk result (λ e. e.to ≡ without_bookmark table.now name.now) }
-    ensures lost { IfOk result (λ e. HasLost table.now freeing.now e.to e.freeing) }
-    ensures no_dataset { (result ≡ Err Refusal.NoDataset) ↔ (bookmark_named (world_of table.now) name.now ≡ None) }
-    ensures only { IfErr result (λ e. (e ≡ Refusal.NoDataset) ⊎ (e ≡ Refusal.NoMemory)) }
-{
-    // It tells of the bookmarks that their groups are closed.
-    let _count = table.len();
-    let name = name.member();
-    let left = others(alloc, table, name)?;
-    let mut edit = Edit::of(table, freeing)?;
-    edit.to.set_bookmarks(alloc, &name.file_system, left)?;
-    Ok(edit)
 }
 
 /// Takes the bookmarks of later groups than this one from the file system of this name, where it is there (zfs-rollback(8), -r), and no

@@ -1,5 +1,5 @@
 //! What the close of a view lets go.
-ghost use Rattle.std.specs.Prelude.{◌≡◌, IfSome, IfNone, IfOk, IfErr, OnOk, OnErr};
+ghost use Rattle.std.specs.Prelude.{◌≡◌, IfErr, OnOk, OnErr};
 ghost use Rattle.std.specs.FinMap.{remove};
 ghost use Rattle.std.specs.Option.{option_map};
 ghost use Rattle.base.specs.declared.refusal.Refusal.{Refusal};
@@ -38,32 +38,34 @@ fn goes_with<'a>(
     Some((file_system, snapshot))
 }
 
-/// The datasets once the view of this number is closed, where something goes with it: the snapshot that it shows, if its destroy is
-/// deferred and no tag, no other view and no clone needs it (zfs-destroy(8), -d); what they have no more is to be freed. None where nothing
-/// goes. The table and what it has to free stay as they are. NoMemory where there is none for it. It costs the number of open views and
+/// Lets the snapshot go that goes with the view of this number, once that is closed: the one that it shows, if its destroy is deferred and
+/// no tag, no other view and no clone needs it (zfs-destroy(8), -d); what no dataset has then is to be freed. Where none goes, all stays.
+/// NoMemory where there is none for it, and then the table and what it has to free are as they were. It costs the number of open views and
 /// the number of file systems times the logarithm of that of the snapshots of one; and where a snapshot goes, what `Edit::of` and
 /// `Edit::lose_snapshot` do.
 pub fn close_view(
     alloc: Global,
-    table: &Table,
-    freeing: &Freeing,
+    table: &mut Table,
+    freeing: &mut Freeing,
     views: &Views,
     number: u64,
     segments: &mut SegMeter,
-) -> Result<Option<Edit>, Refusal>
-    requires apart { AreDisjoint (union_of (world_of table.now)) freeing.now }
-    requires swept { IsSweptBy table.now views.now.opened }
-    ensures some { IfOk result (λ o. IfSome o (λ e. e.to ≡ swept table.now (remove views.now.opened number))) }
-    ensures lost { IfOk result (λ o. IfSome o (λ e. HasLost table.now freeing.now e.to e.freeing)) }
-    ensures none { IfOk result (λ o. IfNone o (swept table.now (remove views.now.opened number) ≡ table.now)) }
+) -> Result<(), Refusal>
+    requires apart { AreDisjoint (union_of (world_of table.old)) freeing.old }
+    requires swept { IsSweptBy table.old views.now.opened }
+    ensures ok { OnOk result (table.new ≡ swept table.old (remove views.now.opened number)) }
+    ensures lost { OnOk result (HasLost table.old freeing.old table.new freeing.new) }
+    ensures unchanged { OnErr result (table.new ≡ table.old) }
+    ensures kept { OnErr result (freeing.new ≡ freeing.old) }
     ensures err { IfErr result (λ e. e ≡ Refusal.NoMemory) }
 {
     // It tells of the snapshots that their groups rise.
     let _count = table.len();
     let Some((file_system, snapshot)) = goes_with(table, views, number) else {
-        return Ok(None);
+        return Ok(());
     };
     let mut edit = Edit::of(table, freeing)?;
     edit.lose_named(alloc, file_system.name(), snapshot.name(), segments)?;
-    Ok(Some(edit))
+    edit.put(table, freeing);
+    Ok(())
 }

@@ -22,7 +22,7 @@ use std::alloc::Global;
 use std::sync::Arc;
 use views::Views;
 
-/// A table, and what is to be freed beside it.
+/// A copy of a table and of what is to be freed, from which datasets go before it is put in their place.
 #[derive(Drop)]
 pub struct Edit {
     pub to: Table,
@@ -39,6 +39,17 @@ impl Edit {
         let to = table.copy()?;
         let freeing = freeing.copy()?;
         Ok(Edit { to, freeing })
+    }
+
+    /// Puts the copy in the place of the table and of what is to be freed. It costs letting go of those: the number of file systems and the
+    /// chunks of pieces.
+    pub fn put(self, table: &mut Table, freeing: &mut Freeing)
+        ensures to { table.new ≡ self.to }
+        ensures freeing { freeing.new ≡ self.freeing }
+    {
+        let Edit { to, freeing: left } = self;
+        *table = to;
+        *freeing = left;
     }
 
     /// Lets the snapshot of this name go, which has no clone (zfs-destroy(8)): the blocks that no dataset has any more are to be freed.
@@ -64,8 +75,8 @@ impl Edit {
     }
 
     /// Makes the map of its newest snapshot the live map of this file system (zfs-rollback(8)): what it had beside is to be freed.
-    /// NoDataset exactly where there is no file system of this name or it has no snapshot; else NoMemory as `Table::rollback` says, and then
-    /// the edit is of no use. It costs what that does.
+    /// NoDataset exactly where there is no file system of this name or it has no snapshot; else NoMemory as `Table::rollback` says, and
+    /// then the edit is of no use. It costs what that does.
     pub fn lose_live(
         &mut self,
         alloc: Global,

@@ -1,5 +1,5 @@
-//! Datasets that are destroyed.
-ghost use Rattle.std.specs.Prelude.{◌≡◌, ◌⊎◌, ◌&&◌, not, Some, None, IfSome, IfOk, IfErr, OnOk};
+//! Snapshots that are destroyed.
+ghost use Rattle.std.specs.Prelude.{◌≡◌, ◌⊎◌, ◌&&◌, not, Some, None, IfSome, IfErr, OnOk, OnErr};
 ghost use Rattle.std.specs.List.{list_any};
 ghost use Rattle.base.specs.declared.refusal.Refusal.{Refusal};
 ghost use Rattle.name.specs.declared.target.Target.{Target};
@@ -37,28 +37,30 @@ fn any_cloned(table: &Table, all: &[Named], defer: bool) -> bool
     !defer && any_named_cloned(table, all)
 }
 
-/// The datasets without the snapshot of this name, or with `recursive` without those of that name of its file system and of each
-/// descendant; with `defer` those that a tag or one of these views keeps or that have a clone stay, and go once nothing needs them. The
-/// blocks that no dataset has then are to be freed. The table and what it has to free stay as they are. Refused are NoDataset where there
-/// is none of them; else, where not `defer`, Busy where a tag or one of these views keeps one of them, else HasClones where one of them has
-/// a clone; NoMemory, where there is none for it, may come before these (zfs-destroy(8)). It costs the number of file systems, the chunks
-/// of pieces that are to be freed, and for each name what `Edit::lose_snapshot` does and the number of open views.
-pub fn destroy_snapshots(
+/// Destroys the snapshot of this name, or with `recursive` those of that name of its file system and of each descendant; with `defer` those
+/// that a tag or one of these views keeps or that have a clone stay, and go once nothing needs them. The blocks that no dataset has then
+/// are to be freed. Refused are NoDataset where there is none of them; else, where not `defer`, Busy where a tag or one of these views
+/// keeps one of them, else HasClones where one of them has a clone; NoMemory, where there is none for it, may come before these
+/// (zfs-destroy(8)). At `Err` the table and what it has to free are as they were. It costs the number of file systems, the chunks of pieces
+/// that are to be freed, and for each name what `Edit::lose_snapshot` does and the number of open views.
+pub(crate) fn destroy_snapshots(
     alloc: Global,
-    table: &Table,
-    freeing: &Freeing,
+    table: &mut Table,
+    freeing: &mut Freeing,
     views: &Views,
     name: &SnapName,
     recursive: bool,
     defer: bool,
     segments: &mut SegMeter,
-) -> Result<Edit, Refusal>
-    requires apart { AreDisjoint (union_of (world_of table.now)) freeing.now }
-    ensures ok { IfOk result (λ e. e.to ≡ destroyed table.now views.now.opened (Target.Snapshot name.now) recursive defer) }
-    ensures lost { IfOk result (λ e. HasLost table.now freeing.now e.to e.freeing) }
-    ensures can { OnOk result (destroy_refusal table.now views.now.opened (Target.Snapshot name.now) recursive defer ≡ None) }
-    ensures refused { IfSome (destroy_refusal table.now views.now.opened (Target.Snapshot name.now) recursive defer) (λ e. (result ≡ Err e) ⊎ (result ≡ Err Refusal.NoMemory)) }
-    ensures only { IfErr result (λ e. (destroy_refusal table.now views.now.opened (Target.Snapshot name.now) recursive defer ≡ Some e) ⊎ (e ≡ Refusal.NoMemory)) }
+) -> Result<(), Refusal>
+    requires apart { AreDisjoint (union_of (world_of table.old)) freeing.old }
+    ensures ok { OnOk result (table.new ≡ destroyed table.old views.now.opened (Target.Snapshot name.now) recursive defer) }
+    ensures lost { OnOk result (HasLost table.old freeing.old table.new freeing.new) }
+    ensures can { OnOk result (destroy_refusal table.old views.now.opened (Target.Snapshot name.now) recursive defer ≡ None) }
+    ensures refused { IfSome (destroy_refusal table.old views.now.opened (Target.Snapshot name.now) recursive defer) (λ e. (result ≡ Err e) ⊎ (result ≡ Err Refusal.NoMemory)) }
+    ensures unchanged { OnErr result (table.new ≡ table.old) }
+    ensures kept { OnErr result (freeing.new ≡ freeing.old) }
+    ensures only { IfErr result (λ e. (destroy_refusal table.old views.now.opened (Target.Snapshot name.now) recursive defer ≡ Some e) ⊎ (e ≡ Refusal.NoMemory)) }
 {
     // It tells of the snapshots that their names are different.
     let _count = table.len();
@@ -75,5 +77,8 @@ pub fn destroy_snapshots(
     let mut edit = Edit::of(table, freeing)?;
     edit.lose_unneeded(alloc, table, views, &all, segments)?;
     edit.defer_all(alloc, &all)?;
-    Ok(edit)
+    // They are lent by the table.
+    drop(all);
+    edit.put(table, freeing);
+    Ok(())
 }

@@ -3,3 +3,4 @@ pub mod Families
 pub mod Twice
 pub mod Rooms
 pub mod Turns
+pub mod Taken

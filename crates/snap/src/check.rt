@@ -1,5 +1,5 @@
 //! Why snapshots can't be taken.
-ghost use Rattle.std.specs.Prelude.{◌≡◌, ◌<◌, ◌⊎◌, [], ◌∷◌, false, Some, None, IfOk, IfErr, OnOk, is_some, nat_lt, not, length};
+ghost use Rattle.std.specs.Prelude.{◌≡◌, ◌<◌, ◌⊎◌, Some, None, IfOk, IfErr, OnOk, is_some, nat_lt, not, length};
 ghost use Rattle.std.specs.List.{list_any};
 ghost use Rattle.std.specs.FinMap.{contains_key};
 ghost use Rattle.name.specs.Names.{whole_length};
@@ -8,7 +8,7 @@ ghost use Rattle.model.specs.Targets.{name_limit};
 ghost use Rattle.model.specs.Rule.{first_of};
 ghost use Rattle.model.specs.requests.Snapshot.{has_twice, has_no_room_for};
 ghost use Rattle.world.specs.Tables.{world_of};
-ghost use Rattle.snap.specs.Taking.{naming_row, refusal_of};
+ghost use Rattle.snap.specs.Taking.{naming_row};
 
 use crate::named::Named;
 use base::refusal::Refusal;
@@ -80,12 +80,15 @@ pub fn any_taken(table: &Table, all: &[Named]) -> bool
     all.iter().any(|name| is_taken(table, name))
 }
 
-// Whether a file system stands twice. NoMemory where there is none for a set of the names. It costs their number times its
-// logarithm.
+// Whether a file system stands twice. NoMemory where there is none for a set of the names, which fewer than two don't need. It costs
+// their number times its logarithm.
 fn has_twice(alloc: Global, all: &[Named]) -> Result<bool, Refusal>
     ensures ok { IfOk result (λ twice. twice ≡ has_twice all.now) }
     ensures err { IfErr result (λ e. e ≡ Refusal.NoMemory) }
 {
+    if all.len() < 2 {
+        return Ok(false);
+    }
     let mut seen = BTreeSet::new(alloc);
     for name in all {
         if !seen.insert(name.file_system.as_bytes())? {
@@ -128,29 +131,4 @@ pub fn check(alloc: Global, table: &Table, all: &[Named], next: u64) -> Result<(
         return Err(Refusal::TooMany);
     }
     Ok(())
-}
-
-/// Why a snapshot of this name alone is refused, if it is: NoDataset where its file system isn't there, else as `check` says. It takes
-/// no memory. It costs the logarithm of the number of file systems, and that of the number of snapshots of this one.
-pub fn refusal_of_one(table: &Table, name: &SnapName, next: u64) -> Option<Refusal>
-    ensures { result ≡ refusal_of table.now next (name.now ∷ []) false }
-{
-    if is_missing(table, name) {
-        return Some(Refusal::NoDataset);
-    }
-    let member = name.member();
-    let named = Named {
-        file_system: &member.file_system,
-        component: &member.component,
-    };
-    if is_too_long(&named) {
-        return Some(Refusal::BadName);
-    }
-    if is_taken(table, &named) {
-        return Some(Refusal::Exists);
-    }
-    if has_no_room(table, next, 1) {
-        return Some(Refusal::TooMany);
-    }
-    None
 }

@@ -4,7 +4,7 @@
 //! of the group that was open, which is then closed (zfs-snapshot(8)).
 #![tactic(auto)]
 
-ghost use Rattle.std.specs.Prelude.{◌≡◌, ◌↔◌, ◌⊎◌, [], ◌∷◌, false, Some, None, IfSome, IfOk, IfErr, OnOk, OnErr, length};
+ghost use Rattle.std.specs.Prelude.{◌≡◌, ◌↔◌, ◌⊎◌, Some, None, IfSome, IfOk, IfErr, OnOk, OnErr, length};
 ghost use Rattle.base.specs.declared.refusal.Refusal.{Refusal};
 ghost use Rattle.model.specs.requests.Snapshot.{guid_by};
 ghost use Rattle.snap.specs.Taking.{all_of, refusal_of, after_taking};
@@ -14,9 +14,9 @@ mod named;
 mod take;
 
 pub use crate::check::any_taken;
-use crate::check::{any_missing, check, refusal_of_one};
+use crate::check::{any_missing, check};
 pub use crate::named::{Named, expand, is_in_family};
-use crate::take::{take, take_one};
+use crate::take::{take_all, take_one};
 use base::refusal::Refusal;
 use datasets::Table;
 use name::SnapName;
@@ -30,65 +30,49 @@ pub struct Guids {
     pub next: u64,
 }
 
-/// What a request for snapshots leaves: the table with them, and how many they are.
-#[derive(Drop)]
-pub struct Taken {
-    pub to: Table,
-    pub count: usize,
-}
-
-/// A table with a snapshot of each of these names, and with `recursive` of each descendant of their file systems too, of the group
-/// that was open, which is closed. This table stays as it is. Without a name the table is the same. Refused are NoDataset where a
-/// file system isn't there, else BadName where a whole name is over 255 bytes, else Exists where there is a snapshot of such a name
-/// or a file system stands twice, else TooMany where the pool would have over 65,536 snapshots, the group is the last one or the
-/// counter has no guids left. NoMemory, where there is none for the names or the snapshots, may come before all of these but
-/// NoDataset (zfs-snapshot(8); numbers are profile). With n snapshots it costs the number of file systems, with `recursive` once for
-/// each name, n times its logarithm and those of the numbers of file systems and of a file system's snapshots, and, for each file
-/// system whose snapshots another table shares, a 32nd of their number.
+/// Takes in this table a snapshot of each of these names, and with `recursive` of each descendant of their file systems too, of the group
+/// that was open, which is closed; and answers how many they are. Without a name nothing changes. At `Err` the table is as it was.
+/// Refused are NoDataset where a file system isn't there, else BadName where a whole name is over 255 bytes, else Exists where there is
+/// a snapshot of such a name or a file system stands twice, else TooMany where the pool would have over 65,536 snapshots, the group is
+/// the last one or the counter has no guids left. NoMemory, where there is none for the names or the snapshots, may come before all of
+/// these but NoDataset (zfs-snapshot(8); numbers are profile). A single snapshot is taken in place: it costs the logarithm of the number
+/// of file systems and that of the number of its file system's snapshots, with `recursive` the number of file systems; and where another
+/// table shares these snapshots, a 32nd of their number. Others are taken on a copy: n of them cost the number of file systems, with
+/// `recursive` once for each name, n times its logarithm and those of the numbers of file systems and of a file system's snapshots, and
+/// for each a 32nd of the number of these.
 pub fn snapshot(
     alloc: Global,
-    table: &Table,
+    table: &mut Table,
     names: &[SnapName],
     recursive: bool,
     guids: Guids,
-) -> Result<Taken, Refusal>
-    ensures ok { IfOk result (λ taken. taken.to ≡ after_taking table.now (guid_by guids.pool guids.next) (all_of table.now names.now recursive)) }
-    ensures count { IfOk result (λ taken. taken.count ≡ length (all_of table.now names.now recursive)) }
-    ensures can { OnOk result (refusal_of table.now guids.next names.now recursive ≡ None) }
-    ensures refused { IfSome (refusal_of table.now guids.next names.now recursive) (λ e. (result ≡ Err e) ⊎ (result ≡ Err Refusal.NoMemory)) }
-    ensures no_dataset { (result ≡ Err Refusal.NoDataset) ↔ (refusal_of table.now guids.next names.now recursive ≡ Some Refusal.NoDataset) }
-    ensures only { IfErr result (λ e. (refusal_of table.now guids.next names.now recursive ≡ Some e) ⊎ (e ≡ Refusal.NoMemory)) }
+) -> Result<usize, Refusal>
+    ensures ok { OnOk result (table.new ≡ after_taking table.old (guid_by guids.pool guids.next) (all_of table.old names.now recursive)) }
+    ensures count { IfOk result (λ n. n ≡ length (all_of table.old names.now recursive)) }
+    ensures can { OnOk result (refusal_of table.old guids.next names.now recursive ≡ None) }
+    ensures refused { IfSome (refusal_of table.old guids.next names.now recursive) (λ e. (result ≡ Err e) ⊎ (result ≡ Err Refusal.NoMemory)) }
+    ensures no_dataset { (result ≡ Err Refusal.NoDataset) ↔ (refusal_of table.old guids.next names.now recursive ≡ Some Refusal.NoDataset) }
+    ensures unchanged { OnErr result (table.new ≡ table.old) }
+    ensures only { IfErr result (λ e. (refusal_of table.old guids.next names.now recursive ≡ Some e) ⊎ (e ≡ Refusal.NoMemory)) }
 {
     if any_missing(table, names) {
         return Err(Refusal::NoDataset);
     }
     let all = expand(alloc, table, names, recursive)?;
     check(alloc, table, &all, guids.next)?;
-    let to = take(alloc, table, &all, guids)?;
-    Ok(Taken {
-        to,
-        count: all.len(),
-    })
-}
-
-/// Takes a snapshot of this name in this table, of the group that was open, which is closed. Refused as `snapshot` of this name alone
-/// without `recursive`, but NoMemory comes after all that refuses it; then, as at each refusal, the table is as it was (zfs-snapshot(8);
-/// numbers are profile). It costs the logarithm of the number of file systems, and that of the number of snapshots of this one; and
-/// where another table shares these, a 32nd of their number.
-pub fn snapshot_one(
-    alloc: Global,
-    table: &mut Table,
-    name: &SnapName,
-    guids: Guids,
-) -> Result<(), Refusal>
-    ensures ok { OnOk result (table.new ≡ after_taking table.old (guid_by guids.pool guids.next) (all_of table.old (name.now ∷ []) false)) }
-    ensures err { OnErr result (table.new ≡ table.old) }
-    ensures can { OnOk result (refusal_of table.old guids.next (name.now ∷ []) false ≡ None) }
-    ensures refused { IfSome (refusal_of table.old guids.next (name.now ∷ []) false) (λ e. result ≡ Err e) }
-    ensures only { IfErr result (λ e. (refusal_of table.old guids.next (name.now ∷ []) false ≡ Some e) ⊎ (e ≡ Refusal.NoMemory)) }
-{
-    if let Some(refusal) = refusal_of_one(table, name, guids.next) {
-        return Err(refusal);
+    let count = all.len();
+    if count == 0 {
+        return Ok(0);
     }
-    take_one(alloc, table, name.member(), guids)
+    if count == 1
+        && let [name] = names
+    {
+        drop(all);
+        take_one(alloc, table, name.member(), guids)?;
+        return Ok(1);
+    }
+    let to = take_all(alloc, table, &all, guids)?;
+    drop(all);
+    *table = to;
+    Ok(count)
 }

@@ -1,12 +1,11 @@
 //! The taking of snapshots that nothing refuses.
-ghost use Rattle.std.specs.Prelude.{◌≡◌, ◌+◌, ◌<◌, ◌≤◌, [], ◌∷◌, true, false, IfOk, IfErr, OnOk, OnErr, length, nat_lt};
+ghost use Rattle.std.specs.Prelude.{◌≡◌, ◌+◌, ◌<◌, ◌≤◌, [], ◌∷◌, false, IfOk, IfErr, OnOk, OnErr, length};
 ghost use Rattle.base.specs.declared.refusal.Refusal.{Refusal};
 ghost use Rattle.model.specs.Targets.{guid_limit};
 ghost use Rattle.model.specs.requests.Snapshot.{guid_by, has_no_room_for};
 ghost use Rattle.world.specs.Tables.{world_of};
 ghost use Rattle.world.specs.Takings.{AreTakable};
 ghost use Rattle.datasets.specs.Snapshots.{taken_of};
-ghost use Rattle.snap.specs.Taking.{after_taking};
 
 use crate::Guids;
 use crate::named::Named;
@@ -24,9 +23,10 @@ fn guid_at(guids: Guids, place: usize) -> Guid
     Guid(u64::from(guids.pool) * 4294967296 + guids.next + place as u64)
 }
 
-// A table with a snapshot of each of these names, of which there is one or more, of the group that was open, which is closed.
-// NoMemory where there is none for it. It costs what `take` does.
-fn take_all(alloc: Global, table: &Table, all: &[Named], guids: Guids) -> Result<Table, Refusal>
+/// A table with a snapshot of each of these names, of which there is one or more, of the group that was open, which is closed. This
+/// table stays as it is. NoMemory where there is none for it. It costs the number of file systems, and for each name the logarithm of
+/// that and a 32nd of the snapshots that its file system had.
+pub fn take_all(alloc: Global, table: &Table, all: &[Named], guids: Guids) -> Result<Table, Refusal>
     requires takable { AreTakable table.now.file_systems all.now }
     requires some { 0 < length all.now }
     requires room { has_no_room_for (world_of table.now) guids.next (length all.now) ≡ false }
@@ -43,21 +43,6 @@ fn take_all(alloc: Global, table: &Table, all: &[Named], guids: Guids) -> Result
         to.take_snapshot(alloc, name.file_system, name.component, guid, group)?;
     }
     Ok(to)
-}
-
-/// A table with a snapshot of each of these names, of the group that was open, which is closed; without a name an equal table. This
-/// table stays as it is. NoMemory where there is none for it. It costs the number of file systems, and for each name the logarithm of
-/// that and a 32nd of the snapshots that its file system had.
-pub fn take(alloc: Global, table: &Table, all: &[Named], guids: Guids) -> Result<Table, Refusal>
-    requires takable { AreTakable table.now.file_systems all.now }
-    requires room { nat_lt 0 (length all.now) ≡ true → has_no_room_for (world_of table.now) guids.next (length all.now) ≡ false }
-    ensures ok { IfOk result (λ to. to ≡ after_taking table.now (guid_by guids.pool guids.next) all.now) }
-    ensures err { IfErr result (λ e. e ≡ Refusal.NoMemory) }
-{
-    if all.is_empty() {
-        return table.copy();
-    }
-    take_all(alloc, table, all, guids)
 }
 
 /// Takes a snapshot of this name alone in this table, of the group that was open, which is closed. NoMemory where there is none for

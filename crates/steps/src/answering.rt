@@ -12,12 +12,11 @@ ghost use Rattle.steps.specs.Counted.{IsCountOf};
 ghost use Rattle.steps.specs.Reached.{reaches_nodes, HasRead};
 
 use crate::counting::{get, pool_get, would_free, written_since};
-use crate::limiting::Limiting;
 use crate::naming::{holds, list, read};
 use crate::sending::send;
 use base::meter::{Meter, SegMeter};
 use datasets::Table;
-use limits::Space;
+use limits::{Ledger, Space};
 use model::reply::Reply;
 use model::request::Request;
 use std::alloc::Global;
@@ -32,7 +31,7 @@ use zalloc::Counts;
 /// `sends::stream_bytes` do.
 pub fn answer(
     alloc: Global,
-    limiting: &Option<Limiting>,
+    ledger: &Option<Ledger>,
     table: &Table,
     space: Space,
     counts: Counts,
@@ -41,7 +40,7 @@ pub fn answer(
     segments: &mut SegMeter,
 ) -> Reply
     requires reads { (rule_of request.now None).only_reads ≡ true }
-    requires own { IsAccounted table.now limiting.now }
+    requires own { IsAccounted table.now ledger.now }
     requires few { set.len (union_of (world_of table.now)) < 2 ^ 32 }
     ensures step { (s : State) → IsStateWith s table.now space → IsCountOf s counts → Step s request.now result s }
     ensures nodes { reaches_nodes request.now ≡ false → meter.new ≡ meter.old }
@@ -55,7 +54,7 @@ pub fn answer(
         } => read(table, target, *object, *block, meter),
         Request::Get { target, property } => get(
             alloc,
-            limiting,
+            ledger,
             table,
             space,
             counts.free,

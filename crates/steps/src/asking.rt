@@ -19,13 +19,13 @@ ghost use Rattle.steps.specs.Asked.{asked_by_set};
 ghost use Rattle.lookups.specs.Accounted.{IsAccounted};
 ghost use Rattle.steps.specs.Limiting.{IsStateWith, IsNoChange, MayChange, Foretells};
 
-use crate::limiting::{Limiting, found, refilled};
+use crate::limiting::{found, refilled};
 use base::limit::Blocks;
 use base::meter::Meter;
 use base::number::Group;
 use base::refusal::Refusal;
 use datasets::Table;
-use limits::Space;
+use limits::{Ledger, Space};
 use model::limits::Limit;
 use model::request::Property;
 use name::{DsName, Target};
@@ -40,7 +40,7 @@ use tree::Update;
 /// there is no such file system; else NoMemory where there is none to look ahead. It costs the nodes on the way to the changes, and for each
 /// level of the name the logarithm of the number of file systems; where no file system has a limit, nothing.
 pub fn ask_change(
-    limiting: &mut Option<Limiting>,
+    ledger: &mut Option<Ledger>,
     alloc: Global,
     table: &Table,
     space: Space,
@@ -50,15 +50,15 @@ pub fn ask_change(
     meter: &mut Meter,
 ) -> Result<Option<Outlook>, Refusal>
     requires batch { IsBatch (update.now ∷ []) }
-    requires own { IsAccounted table.now limiting.old }
+    requires own { IsAccounted table.now ledger.old }
     requires state { (s : State) × IsStateWith s table.now space × (synced.0 ≡ s.last.group) }
-    ensures same { limiting.new ≡ limiting.old }
+    ensures same { ledger.new ≡ ledger.old }
     ensures ok { (s : State) → IsStateWith s table.now space → synced.0 ≡ s.last.group → OnOk result (MayChange s name.now (changes_of (update.now ∷ []))) }
     ensures foretold { (s : State) → IsStateWith s table.now space → synced.0 ≡ s.last.group → IfOk result (Foretells s name.now (changes_of (update.now ∷ []))) }
     ensures err { (s : State) → IsStateWith s table.now space → synced.0 ≡ s.last.group → IfErr result (IsNoChange s name.now (changes_of (update.now ∷ []))) }
 {
-    let found = found(limiting, table, name);
-    let Some(limiting) = &*limiting else {
+    let found = found(ledger, table, name);
+    let Some(ledger) = &*ledger else {
         return Ok(None);
     };
     let Some(file_system) = found else {
@@ -71,9 +71,7 @@ pub fn ask_change(
         freeing: space.freeing,
         waiting: space.waiting + outlook.waiting,
     };
-    let over = limiting
-        .ledger
-        .over_after(table, name, outlook.here, outlook.referenced, asked);
+    let over = ledger.over_after(table, name, outlook.here, outlook.referenced, asked);
     match over {
         Some(refusal) => Err(refusal),
         None => Ok(Some(outlook)),
@@ -84,27 +82,27 @@ pub fn ask_change(
 // beside them, and so many blocks free (zfsprops(7): available). It costs for each level of the name the logarithm of the number of file
 // systems, and the length of the name; where no file system has a limit, constant time.
 pub(crate) fn room_asked(
-    limiting: &Option<Limiting>,
+    ledger: &Option<Ledger>,
     table: &Table,
     space: Space,
     free: u32,
     target: &Target,
     property: Property,
 ) -> u64
-    requires own { IsAccounted table.now limiting.now }
+    requires own { IsAccounted table.now ledger.now }
     ensures small { result < 2 ^ 55 }
     ensures room { (s : State) → IsStateWith s table.now space → free ≡ free_of s → (name : List ℕ) → target.now ≡ Target.FileSystem name → property ≡ Property.Available → IsSome (get table.now.file_systems name) → result ≡ room_of s name }
 {
     let (Target::FileSystem(name), Property::Available) = (target, property) else {
         return 0;
     };
-    let Some(limiting) = limiting else {
+    let Some(ledger) = ledger else {
         return u64::from(free);
     };
     if table.find(name).is_none() {
         return 0;
     }
-    limiting.ledger.room(table, name, space)
+    ledger.room(table, name, space)
 }
 
 /// The datasets with a limit of a file system set, and what is kept of limits then, where a pool has these datasets and this beside them
@@ -117,7 +115,7 @@ pub fn with_limit(
     name: &DsName,
     limit: Limit,
     amount: Option<Blocks>,
-) -> Result<(Table, Limiting), Refusal>
+) -> Result<(Table, Ledger), Refusal>
     requires state { (s : State) × IsStateWith s table.now space }
     ensures ok { IfOk result (λ p. p.0 ≡ with_limit_of table.now name.now limit amount) }
     ensures ledger { IfOk result (λ p. p.1 ≡ ledger_of (world_of p.0)) }
@@ -125,15 +123,15 @@ pub fn with_limit(
     ensures fits { (s : State) → IsStateWith s table.now space → OnOk result (IsSome amount → first_of (limit_row (asked_by_set s name.now limit amount)) ≡ None) }
     ensures err { (s : State) → IsStateWith s table.now space → IfErr result (λ e. Step s (Request.Set name.now limit amount) (Reply.Refused e) s) }
 {
-    let mut limiting = Limiting::new(alloc)?;
+    let mut ledger = Ledger::new(alloc)?;
     let mut to = table.copy()?;
     to.set_limit(alloc, name, limit, amount)?;
     if amount.is_none() {
-        limiting.ledger.fill(&to);
-        return Ok((to, limiting));
+        ledger.fill(&to);
+        return Ok((to, ledger));
     }
-    match refilled(&mut limiting.ledger, &to, space) {
+    match refilled(&mut ledger, &to, space) {
         Some(refusal) => Err(refusal),
-        None => Ok((to, limiting)),
+        None => Ok((to, ledger)),
     }
 }

@@ -15,11 +15,10 @@ ghost use Rattle.steps.specs.Limiting.{IsStateWith};
 ghost use Rattle.steps.specs.Counted.{IsCountOf};
 
 use crate::asking::room_asked;
-use crate::limiting::{Limiting, kept_ledger};
 use base::meter::SegMeter;
 use base::refusal::Refusal;
 use datasets::Table;
-use limits::Space;
+use limits::{Ledger, Space};
 use lookups::{in_bytes, value_named};
 use model::reply::{Reply, Value};
 use model::request::{PoolProperty, Property};
@@ -30,7 +29,7 @@ use zalloc::Counts;
 // A property of a dataset or a bookmark.
 pub(crate) fn get(
     alloc: Global,
-    limiting: &Option<Limiting>,
+    ledger: &Option<Ledger>,
     table: &Table,
     space: Space,
     free: u32,
@@ -38,16 +37,16 @@ pub(crate) fn get(
     property: Property,
     segments: &mut SegMeter,
 ) -> Reply
-    requires own { IsAccounted table.now limiting.now }
+    requires own { IsAccounted table.now ledger.now }
     requires few { set.len (union_of (world_of table.now)) < 2 ^ 32 }
     ensures step { (s : State) → IsStateWith s table.now space → free ≡ free_of s → Step s (Request.Get target.now property) result s }
     ensures segments { HasRead table.now (Request.Get target.now property) result segments.old segments.new }
 {
-    let room = room_asked(limiting, table, space, free, target, property);
+    let room = room_asked(ledger, table, space, free, target, property);
     let value = value_named(
         alloc,
         table,
-        kept_ledger(limiting),
+        ledger.as_ref(),
         target,
         property,
         room,

@@ -11,4 +11,4 @@ returns c =
     let named = c.in-Snapshot.is ∙ ap OfSnapshot (sym c.member.ensures) in
     c.create_refusal.ensures
     ∙ sym (ap (λ (x : Target). clone_refusal c.args.table.now x c.args.name.now) named
-    ∙ refused_as_new c.args.table.now c.member.result.now c.args.name.now c.in-Some.origin.now (sym c.snapshot_named.ensures ∙ ap (λ x. option_copied x) c.in-Some.is) (sym c.if-is_deferred.ensures))
+    ∙ refused_as_new c.args.table.now c.member.result.now c.args.name.now c.in-Some.origin.now (sym c.snapshot.ensures ∙ ap (λ x. option_copied x) c.in-Some.is) (sym c.if-is_deferred.ensures))

@@ -12,5 +12,5 @@ returns-clause-lost c =
     let t = c.args.table.now in
     let name = c.args.name.now in
     subst (λ (p : Datasets × BlockSet). HasLost t c.args.freeing.now p.0 p.1)
-    (λ i. (sym (c.in_ok-add.ensures.ok ∙ ap (λ (u : Datasets). with_system u name empty_file_system) c.in_ok-edit.ensures.ok.0) i, sym c.in_ok-edit.ensures.ok.1 i))
+    (λ i. (sym (c.in_ok-create.ensures.ok ∙ ap (λ (u : Datasets). with_system u name empty_file_system) c.in_ok-edit.ensures.ok.0) i, sym c.in_ok-edit.ensures.ok.1 i))
     (lost_with_new t name (can_add t.file_systems name c.requires.can).absent c.args.freeing.now c.requires.apart)

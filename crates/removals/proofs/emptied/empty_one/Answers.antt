@@ -1,5 +1,6 @@
-use Rattle.std.proofs.Common.{Result, Ok, Err, ap, ◌∙◌}
-use Rattle.std.specs.Prelude.{OnOk, is_some}
+use Rattle.std.proofs.Common.{ap, ◌∙◌}
+use Rattle.std.proofs.lemmas.Result.{on_ok_weaker}
+use Rattle.std.specs.Prelude.{is_some}
 use Rattle.std.specs.FinMap.{get}
 use Rattle.datasets.specs.Rows.{entry_of, snaps_at}
 use Rattle.model.specs.World.{empty_file_system}
@@ -18,17 +19,13 @@ vacate-requires-clause-bare c =
     ap (snaps_at c.lose_newer.new.self.to.file_systems) c.name.ensures
     ∙ one_bare c.args.edit.now.to c.len-count.ensures.good (entry_of c.args.file_system.now) c.requires.there c.lose_newer.new.self.to c.in_ok-lose_newer.ensures.ok
 
-on_ok : {T E P Q : Type 0} (r : Result T E) → (P → Q) → OnOk r P → OnOk r Q
-on_ok (Ok x) f p = f p
-on_ok (Err e) f p = tt
-
 pub returns-clause-ok : goal.returns-clause-ok
-returns-clause-ok c = on_ok c.vacate.result
+returns-clause-ok c = on_ok_weaker c.vacate.result
     (λ to. one_emptied c.args.edit.now.to c.len-count.ensures.good (entry_of c.args.file_system.now) c.requires.there c.lose_newer.new.self.to c.in_ok-lose_newer.ensures.ok c.vacate.new.edit.to
     (to ∙ ap (λ n. with_system c.lose_newer.new.self.to n empty_file_system) c.name.ensures))
     c.vacate.ensures.ok
 
 pub returns-clause-lost : goal.returns-clause-lost
-returns-clause-lost c = on_ok c.vacate.result
+returns-clause-lost c = on_ok_weaker c.vacate.result
     (λ lost. lost_then c.args.edit.now.to c.lose_newer.new.self.to c.vacate.new.edit.to c.args.edit.now.freeing c.lose_newer.new.self.freeing c.vacate.new.edit.freeing c.in_ok-lose_newer.ensures.lost lost)
     c.vacate.ensures.lost

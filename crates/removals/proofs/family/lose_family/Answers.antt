@@ -31,8 +31,8 @@ loop-left-preserved-in-Continue-1 c = record {
       let within = (λ i. is_in_family (sym c.as_bytes.ensures i) (sym (c.as_bytes-in-loop-left.ensures ∙ c.name.ensures) i)) ∙ sym c.is_in_family.ensures ∙ c.if-is_in_family.true in
       goes entry_in c.args.table.now c.args.name.now c.file_systems-rows.result.now (shared_are c.args.table.now.file_systems c.file_systems-rows.result.now c.file_systems-rows.ensures) c.loop-left.left c.loop-left-test.true c.loop-left.invariant.within
       c.index-rows-left.result c.index-rows-left.is (entry_of c.deref-file_system.result.now) (ap entry_of c.deref-file_system.ensures) c.loop-left.edit.to c.loop-left.invariant.so_far within
-      c.lose_file_system.new.edit.to (c.in_ok-lose_file_system.ensures.ok ∙ ap (without_system c.loop-left.edit.to) c.name-then-is_in_family.ensures);
-  lost = lost_then c.args.edit.now.to c.loop-left.edit.to c.lose_file_system.new.edit.to c.args.edit.now.freeing c.loop-left.edit.freeing c.lose_file_system.new.edit.freeing
+      c.lose_file_system.new.table (c.in_ok-lose_file_system.ensures.ok ∙ ap (without_system c.loop-left.edit.to) c.name-then-is_in_family.ensures);
+  lost = lost_then c.args.edit.now.to c.loop-left.edit.to c.lose_file_system.new.table c.args.edit.now.freeing c.loop-left.edit.freeing c.lose_file_system.new.freeing
       c.loop-left.invariant.lost c.in_ok-lose_file_system.ensures.lost;
 }
 

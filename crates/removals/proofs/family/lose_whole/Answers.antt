@@ -1,4 +1,5 @@
-use Rattle.std.proofs.Common.{◌≡◌, true, Result, Ok, Err, ap, subst, ◌∙◌}
+use Rattle.std.proofs.Common.{◌≡◌, true, ap, subst, ◌∙◌}
+use Rattle.std.proofs.lemmas.Result.{on_ok_weaker}
 use Rattle.std.specs.Prelude.{OnOk}
 use Rattle.world.specs.Tables.{Datasets}
 use Rattle.removals.specs.Requests.{without_family}
@@ -9,10 +10,6 @@ use Rattle.removals.proofs.family.lose_whole.Goals as goal
 pub lose_family-requires-clause-bare : goal.lose_family-requires-clause-bare
 lose_family-requires-clause-bare c = emptied_bare c.args.table.now c.args.name.now c.in_ok-emptied.emptied (c.in_ok-emptied.ensures.ok ∙ c.in_ok-empty_family.ensures.ok)
 
-on_ok : {T E P Q : Type 0} (r : Result T E) → (P → Q) → OnOk r P → OnOk r Q
-on_ok (Ok x) f p = f p
-on_ok (Err e) f p = tt
-
 pub returns-clause-ok : goal.returns-clause-ok
 returns-clause-ok c =
     subst (λ (v : Datasets). OnOk c.lose_family.result (c.lose_family.new.edit.to ≡ v))
@@ -20,6 +17,6 @@ returns-clause-ok c =
     c.lose_family.ensures.ok
 
 pub returns-clause-lost : goal.returns-clause-lost
-returns-clause-lost c = on_ok c.lose_family.result
+returns-clause-lost c = on_ok_weaker c.lose_family.result
     (λ lost. lost_then c.args.edit.now.to c.empty_family.new.edit.to c.lose_family.new.edit.to c.args.edit.now.freeing c.empty_family.new.edit.freeing c.lose_family.new.edit.freeing c.in_ok-empty_family.ensures.lost lost)
     c.lose_family.ensures.lost

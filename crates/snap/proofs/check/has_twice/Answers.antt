@@ -2,8 +2,12 @@ use Rattle.std.proofs.Common.{◌≡◌, ◌+◌, drop, sym, ap, ◌∙◌, arit
 use Rattle.std.proofs.lemmas.Bool.{not-false, not-true}
 use Rattle.name.specs.declared.member.Member.{Member}
 use Rattle.snap.proofs.Rests.{next_left, none_left}
+use Rattle.snap.proofs.Taken.{few_apart}
 use Rattle.snap.proofs.Twice.{twice_after, twice_first, twice_here, twice_later, has_name}
 use Rattle.snap.proofs.check.has_twice.Goals as goal
+
+pub returns-then-all-lt2-clause-ok : goal.returns-then-all-lt2-clause-ok
+returns-then-all-lt2-clause-ok c = sym (few_apart c.args.all.now c.if-all-lt2.true)
 
 pub loop-name-init : goal.loop-name-init
 loop-name-init c = sym (twice_first c.args.all.now) ∙ ap (λ ks. twice_after ks c.args.all.now) (sym c.new-seen.ensures.empty)

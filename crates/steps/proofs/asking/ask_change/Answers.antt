@@ -51,4 +51,4 @@ returns-clause-foretold c s is opened =
 
 -- where nothing is kept, no file system has a limit
 pub returns-in_default-clause-ok : goal.returns-in_default-clause-ok
-returns-in_default-clause-ok c s is opened = inl (bare_in s c.args.table.now c.args.space is (nothing_kept c.args.table.now c.args.limiting.now c.requires.own (sym c.found-found.ensures.same ∙ c.in_default.is)))
+returns-in_default-clause-ok c s is opened = inl (bare_in s c.args.table.now c.args.space is (nothing_kept c.args.table.now c.args.ledger.now c.requires.own (sym c.found-found.ensures.same ∙ c.in_default.is)))

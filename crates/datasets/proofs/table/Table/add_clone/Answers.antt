@@ -6,7 +6,7 @@ use Rattle.model.specs.World.{Snap, id_of, snap_named}
 use Rattle.model.specs.requests.Create.{create_refusal}
 use Rattle.file_system.specs.Rows.{Row}
 use Rattle.file_system.specs.Promotions.{clone_system}
-use Rattle.file_systems.specs.Clones.{all_snaps, IsTied}
+use Rattle.datasets.specs.Clones.{all_snaps, IsTied}
 use Rattle.world.specs.Tables.{Datasets, world_of}
 use Rattle.datasets.specs.Clones.{with_clone_of}
 use Rattle.datasets.proofs.Kept.{added_table, is_added}
@@ -19,7 +19,7 @@ add-requires-clause-absent c =
     (absent (record { file_systems = c.self.inside.systems; group = c.self.inside.group.0 }) c.self.invariant c.args.name.now
     (subst (λ (t : Datasets). create_refusal t.file_systems c.args.name.now ≡ None) (sym c.self.view_is) c.requires.can)
     c.args.snapshot.now c.in-Some.origin.now
-    (ap (λ (t : Datasets). snap_named (world_of t) c.args.snapshot.now) c.self.view_is ∙ sym c.snapshot_named.ensures ∙ ap (λ x. option_copied x) c.in-Some.is))
+    (ap (λ (t : Datasets). snap_named (world_of t) c.args.snapshot.now) c.self.view_is ∙ sym c.snapshot.ensures ∙ ap (λ x. option_copied x) c.in-Some.is))
 
 pub add-requires-clause-bare : goal.add-requires-clause-bare
 add-requires-clause-bare c = subst (λ (r : Row). r.system.snaps ≡ []) (sym c.in_ok-file_system.ensures.ok) refl
@@ -30,7 +30,7 @@ add-requires-clause-tied c =
     (origin_tied (record { file_systems = c.self.inside.systems; group = c.self.inside.group.0 }) c.self.invariant c.args.name.now
     (subst (λ (t : Datasets). create_refusal t.file_systems c.args.name.now ≡ None) (sym c.self.view_is) c.requires.can)
     c.args.snapshot.now c.in-Some.origin.now
-    (ap (λ (t : Datasets). snap_named (world_of t) c.args.snapshot.now) c.self.view_is ∙ sym c.snapshot_named.ensures ∙ ap (λ x. option_copied x) c.in-Some.is))
+    (ap (λ (t : Datasets). snap_named (world_of t) c.args.snapshot.now) c.self.view_is ∙ sym c.snapshot.ensures ∙ ap (λ x. option_copied x) c.in-Some.is))
 
 -- with a clone more, or as it was
 pub invariant_of-self : goal.invariant_of-self
@@ -40,13 +40,13 @@ invariant_of-self c =
     (cloned_table (record { file_systems = c.self.inside.systems; group = c.self.inside.group.0 }) c.self.invariant c.args.name.now
     (subst (λ (t : Datasets). create_refusal t.file_systems c.args.name.now ≡ None) (sym c.self.view_is) c.requires.can)
     c.args.snapshot.now c.in-Some.origin.now
-    (ap (λ (t : Datasets). snap_named (world_of t) c.args.snapshot.now) c.self.view_is ∙ sym c.snapshot_named.ensures ∙ ap (λ x. option_copied x) c.in-Some.is))
+    (ap (λ (t : Datasets). snap_named (world_of t) c.args.snapshot.now) c.self.view_is ∙ sym c.snapshot.ensures ∙ ap (λ x. option_copied x) c.in-Some.is))
     (subst (λ (r : Row). OnOk c.add.result (c.add.new.self ≡ insert c.self.inside.systems r.name r.system)) c.in_ok-file_system.ensures.ok c.add.ensures.ok)
     c.add.ensures.err
 
 pub returns-clause-ok : goal.returns-clause-ok
 returns-clause-ok c =
-    let found = ap (λ (t : Datasets). snap_named (world_of t) c.args.snapshot.now) c.self.view_is ∙ sym c.snapshot_named.ensures ∙ ap (λ x. option_copied x) c.in-Some.is in
+    let found = ap (λ (t : Datasets). snap_named (world_of t) c.args.snapshot.now) c.self.view_is ∙ sym c.snapshot.ensures ∙ ap (λ x. option_copied x) c.in-Some.is in
     let can = (subst (λ (t : Datasets). create_refusal t.file_systems c.args.name.now ≡ None) (sym c.self.view_is) c.requires.can) in
     subst (λ (t : Datasets). IfSome (snap_named (world_of t) c.args.snapshot.now)
     (λ u. OnOk c.add.result (record { file_systems = c.add.new.self; group = c.self.inside.group.0 } ≡ with_clone_of t (id_of u) c.args.name.now))) c.self.view_is

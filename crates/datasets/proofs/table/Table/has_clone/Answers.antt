@@ -1,6 +1,6 @@
 use Rattle.std.proofs.Common.{sym, ◌∙◌}
 use Rattle.model.specs.Ids.{snap_id}
-use Rattle.file_systems.specs.CloneNames.{name_of}
+use Rattle.datasets.specs.CloneNames.{name_of}
 use Rattle.world.specs.Tables.{world_of}
 use Rattle.datasets.proofs.ClonesOf.{counted, none_counted}
 use Rattle.datasets.proofs.table.Table.has_clone.Goals as goal

@@ -3,7 +3,7 @@ use Rattle.std.specs.Prelude.{OnOk}
 use Rattle.std.specs.Arc.{arc_value}
 use Rattle.std.specs.FinMap.{get}
 use Rattle.model.specs.World.{Bookmark}
-use Rattle.file_systems.specs.Bookmarked.{bookmarked_of}
+use Rattle.datasets.specs.Bookmarked.{bookmarked_of}
 use Rattle.world.specs.Tables.{Datasets, with_bookmarks}
 use Rattle.datasets.proofs.Kept.{added_table}
 use Rattle.datasets.proofs.Changed.{is_changed}

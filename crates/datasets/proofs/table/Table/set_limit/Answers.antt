@@ -1,7 +1,7 @@
 use Rattle.std.proofs.Common.{◌≡◌, subst}
 use Rattle.std.specs.Prelude.{OnOk}
 use Rattle.model.specs.Limits.{limited}
-use Rattle.file_systems.specs.Limited.{limited_of}
+use Rattle.datasets.specs.Limited.{limited_of}
 use Rattle.world.specs.Tables.{Datasets}
 use Rattle.datasets.specs.Limits.{with_limit_of}
 use Rattle.datasets.proofs.Kept.{added_table}

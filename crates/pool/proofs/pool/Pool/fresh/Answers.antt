@@ -1,31 +1,40 @@
-use Rattle.std.proofs.Common.{sym, subst, ◌∙◌, ◌≡◌, List, arith}
+use Rattle.std.proofs.Common.{ℕ, List, None, sym, subst, ◌∙◌, arith}
+use Rattle.std.specs.FinMap as finmap
+use Rattle.std.specs.FinMap.{insert}
+use Rattle.std.specs.FinSet as set
+use Rattle.name.specs.Names.{root_name}
 use Rattle.zalloc.specs.declared.BlockState.{BlockState}
-use Rattle.model.specs.State.{State, fresh_state, fresh_world}
-use Rattle.base.specs.Map.{BlockSet}
+use Rattle.model.specs.State.{fresh_state, fresh_world}
+use Rattle.model.specs.World.{empty_file_system}
 use Rattle.views.specs.Viewing.{Viewing}
-use Rattle.world.specs.Tables.{Datasets, world_of}
 use Rattle.steps.proofs.Fresh.{first_steady, first_unlimited, first_numbers}
-use Rattle.pool.specs.Pools.{IsSound}
+use Rattle.pool.specs.declared.keep.Keep.{Keep}
+use Rattle.pool.specs.declared.worlds.World.{World}
+use Rattle.pool.specs.Pools.{state_in, IsSound, IsHeld}
 use Rattle.pool.proofs.pool.Pool.fresh.Goals as goal
-use Rattle.accounts.specs.Limits.{IsUnlimited}
 
-abbrev state_at : Datasets → BlockSet → Datasets → BlockSet → Viewing → State → State
-state_at now freeing last last_freeing v s = record s { now = record (world_of now) { freeing = freeing }; last = record (world_of last) { freeing = last_freeing }; views = v.opened; next_view = v.next }
+abbrev first : World
+first = record { table = record { file_systems = insert finmap.empty root_name empty_file_system; group = 1 }; freeing = set.empty; ledger = None }
+
+abbrev keep_of : ℕ → ℕ → World → Viewing → List BlockState → Keep
+keep_of id size last views numbers = record { last = last; views = views; next_guid = 1; size = size; id = id; allocator = numbers }
 
 pub invariant_of-result : goal.invariant_of-result
 unfolding fresh_state fresh_world
 invariant_of-result c =
     let last = c.in_ok-last.ensures.ok ∙ c.in_ok-present.ensures.ok in
-    let same : state_at c.in_ok-present.present c.new-4.result c.in_ok-last.last c.new-5.result c.in_ok-views.views (fresh_state c.args.id c.args.blocks) ≡ fresh_state c.args.id c.args.blocks =
-    λ i. state_at (c.in_ok-present.ensures.ok i) (c.new-4.ensures i) (last i) (c.new-5.ensures i) (c.in_ok-views.ensures.ok i) (fresh_state c.args.id c.args.blocks) in (
-      subst (λ x. IsSound x c.in_ok-allocator.allocator) (sym same)
-          (subst (λ (st : List BlockState). IsSound (fresh_state c.args.id c.args.blocks) st) (sym c.in_ok-allocator.ensures.ok)
-          (record { steady = first_steady c.args.id c.args.blocks; states = first_numbers c.args.id c.args.blocks; guids = omega (arith) })),
-      subst (λ (t : Datasets). IsUnlimited t.file_systems) (sym c.in_ok-present.ensures.ok) first_unlimited,
-    )
+    subst (λ (w : World). IsHeld (keep_of c.args.id c.args.blocks c.in_ok-last.last c.in_ok-views.views c.in_ok-allocator.allocator) w) (sym c.in_ok-present.ensures.ok)
+    (subst (λ (w : World). IsHeld (keep_of c.args.id c.args.blocks w c.in_ok-views.views c.in_ok-allocator.allocator) first) (sym last)
+    (subst (λ (v : Viewing). IsHeld (keep_of c.args.id c.args.blocks first v c.in_ok-allocator.allocator) first) (sym c.in_ok-views.ensures.ok)
+    (record {
+      sound = subst (λ (st : List BlockState). IsSound (fresh_state c.args.id c.args.blocks) st) (sym c.in_ok-allocator.ensures.ok)
+          (record { steady = first_steady c.args.id c.args.blocks; states = first_numbers c.args.id c.args.blocks; guids = omega (arith); small = omega (arith) });
+      now = first_unlimited;
+      last = first_unlimited;
+    })))
 
 pub returns-clause-ok : goal.returns-clause-ok
 unfolding fresh_state fresh_world
 returns-clause-ok c =
     let last = c.in_ok-last.ensures.ok ∙ c.in_ok-present.ensures.ok in
-    λ i. state_at (c.in_ok-present.ensures.ok i) (c.new-4.ensures i) (last i) (c.new-5.ensures i) (c.in_ok-views.ensures.ok i) (fresh_state c.args.id c.args.blocks)
+    λ i. state_in (keep_of c.args.id c.args.blocks (last i) (c.in_ok-views.ensures.ok i) c.in_ok-allocator.allocator) (c.in_ok-present.ensures.ok i)

@@ -1,0 +1,49 @@
+use Rattle.std.proofs.Common.{map, refl}
+use Rattle.std.specs.Arc.{arc_value}
+use Rattle.file_system.specs.Deferred.{with_tags, tagged_at}
+use Rattle.datasets.specs.Places.{IsAt, IsGapFor}
+use Rattle.file_system.specs.Rows.{entry_in}
+use Rattle.datasets.proofs.Rows.{on_err}
+use Rattle.datasets.proofs.Labelled.{is_edited, no_snap_in_gap, snap_there, stands_above, labelled_sorted, labelled_is, same_sorted, same_is}
+use Rattle.datasets.proofs.file_systems.FileSystems.set_tags.Goals as goal
+
+-- a snapshot isn't of a file system that isn't there
+pub unreachable-requires : goal.unreachable-requires
+unreachable-requires c =
+    let gap : IsGapFor (map entry_in c.self.inside.rows.items) c.args.name.now c.in_default.field-0 = rw (← c.deref.ensures.value, ← c.as_bytes.ensures) c.in_default.ensures.absent in
+    no_snap_in_gap c.self.inside c.self.invariant c.args.self.now c.self.view_is c.args.name.now c.in_default.field-0 gap c.args.group.0 c.requires.there
+
+pub set_tags-requires-clause-there : goal.set_tags-requires-clause-there
+set_tags-requires-clause-there c =
+    let at : IsAt (map entry_in c.self.inside.rows.items) c.args.name.now c.in-Ok.place = rw (← c.deref.ensures.value, ← c.as_bytes.ensures) c.in-Ok.ensures.found in
+    snap_there c.self.inside c.self.invariant c.args.self.now c.self.view_is c.args.name.now c.in-Ok.place at c.index_mut.result.now c.index_mut.ensures.value c.args.group.0 c.requires.there
+
+pub set_tags-requires-clause-above : goal.set_tags-requires-clause-above
+set_tags-requires-clause-above c =
+    let at : IsAt (map entry_in c.self.inside.rows.items) c.args.name.now c.in-Ok.place = rw (← c.deref.ensures.value, ← c.as_bytes.ensures) c.in-Ok.ensures.found in
+    stands_above c.self.inside c.self.invariant c.args.self.now c.self.view_is c.args.name.now c.in-Ok.place at c.index_mut.result.now c.index_mut.ensures.value c.requires.above
+
+-- where memory was refused the rows are the same
+pub invariant_of-self : goal.invariant_of-self
+invariant_of-self c =
+    let at : IsAt (map entry_in c.self.inside.rows.items) c.args.name.now c.in-Ok.place = rw (← c.deref.ensures.value, ← c.as_bytes.ensures) c.in-Ok.ensures.found in
+    same_sorted c.self.inside c.self.invariant c.args.self.now c.self.view_is c.args.name.now c.in-Ok.place at c.index_mut.result.now c.index_mut.ensures.value c.set_tags.new.row c.in_err-set_tags.ensures.err _ refl refl refl
+
+pub returns-in_err-set_tags-clause-err : goal.returns-in_err-set_tags-clause-err
+returns-in_err-set_tags-clause-err c =
+    let at : IsAt (map entry_in c.self.inside.rows.items) c.args.name.now c.in-Ok.place = rw (← c.deref.ensures.value, ← c.as_bytes.ensures) c.in-Ok.ensures.found in
+    on_err c.from_residual.result
+    (same_is c.self.inside c.self.invariant c.args.self.now c.self.view_is c.args.name.now c.in-Ok.place at c.index_mut.result.now c.index_mut.ensures.value c.set_tags.new.row c.in_err-set_tags.ensures.err)
+
+-- the row has other labels
+pub invariant_of-self-2 : goal.invariant_of-self-2
+invariant_of-self-2 c =
+    let at : IsAt (map entry_in c.self.inside.rows.items) c.args.name.now c.in-Ok.place = rw (← c.deref.ensures.value, ← c.as_bytes.ensures) c.in-Ok.ensures.found in
+    labelled_sorted c.self.inside c.self.invariant c.args.self.now c.self.view_is c.args.name.now c.in-Ok.place at c.index_mut.result.now c.index_mut.ensures.value
+    (λ f. tagged_at f c.args.group.0 (arc_value c.args.tags)) (is_edited (with_tags (arc_value c.args.tags)) (λ t. refl) (λ t. refl) c.args.group.0 (arc_value c.index_mut.result.now).system) c.set_tags.new.row c.in_ok-set_tags.ensures.ok _ refl refl refl
+
+pub returns-clause-ok : goal.returns-clause-ok
+returns-clause-ok c =
+    let at : IsAt (map entry_in c.self.inside.rows.items) c.args.name.now c.in-Ok.place = rw (← c.deref.ensures.value, ← c.as_bytes.ensures) c.in-Ok.ensures.found in
+    labelled_is c.self.inside c.self.invariant c.args.self.now c.self.view_is c.args.name.now c.in-Ok.place at c.index_mut.result.now c.index_mut.ensures.value
+    (λ f. tagged_at f c.args.group.0 (arc_value c.args.tags)) (is_edited (with_tags (arc_value c.args.tags)) (λ t. refl) (λ t. refl) c.args.group.0 (arc_value c.index_mut.result.now).system) c.set_tags.new.row c.in_ok-set_tags.ensures.ok

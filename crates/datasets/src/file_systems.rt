@@ -1,0 +1,462 @@
+//! The file systems of a pool, by name.
+ghost use Rattle.std.specs.Prelude.{◌≡◌, ◌==◌, ◌<◌, [], length, ◌⊎◌, ◌↔◌, ◌≤◌, Some, None, IsSome, IfSome, IfOk, IfErr, OnOk, OnErr, map};
+ghost use Rattle.std.specs.Arc.{arc_value};
+ghost use Rattle.std.specs.Option.{option_map, option_map_or, option_copied};
+ghost use Rattle.std.specs.FinMap as finmap;
+ghost use Rattle.std.specs.FinMap.{get, insert, entries, len};
+ghost use Rattle.std.specs.List.{find};
+ghost use Rattle.base.specs.Map.{blocks};
+ghost use Rattle.base.specs.Surveys.{dead_block};
+ghost use Rattle.base.specs.declared.refusal.Refusal.{Refusal};
+ghost use Rattle.model.specs.World.{empty_file_system, Snap, id_of, same_id};
+ghost use Rattle.base.specs.Surveys.{IsIn};
+ghost use Rattle.world.specs.Dead.{HasNoCloneIn};
+ghost use Rattle.model.specs.Ids.{snap_id};
+ghost use Rattle.datasets.specs.Bookmarked.{bookmarked_of};
+ghost use Rattle.datasets.specs.Limited.{limited_of};
+ghost use Rattle.datasets.specs.CloneNames.{name_of, clones_in};
+ghost use Rattle.datasets.specs.Clones.{all_snaps, origin_at, below_at, row_in, IsTied};
+ghost use Rattle.file_system.specs.Dead.{AllowsLive, IsAbove};
+ghost use Rattle.file_system.specs.Losses.{newest_map, IsLost};
+ghost use Rattle.file_system.specs.Origins.{origin_group};
+ghost use Rattle.datasets.specs.Promoted.{promoted_in, IsPromotion, CanPromoteIn};
+ghost use Rattle.world.specs.Outcomes.{Promotion};
+ghost use Rattle.file_system.specs.Rows.{live_of, snaps_at, with_live, with_snap, snap_count};
+ghost use Rattle.file_system.specs.Splices.{lost_from, without_snap_of, AreAbove};
+ghost use Rattle.file_system.specs.Deferred.{deferred_of, tagged_of};
+ghost use Rattle.file_system.specs.Writes.{young_after, IsWritten};
+ghost use Rattle.world.specs.Deadlists.{Lists};
+ghost use Rattle.tree.specs.Asking.{IsNoSpaceOrNoMemory};
+ghost use Rattle.tree.specs.Change.{HasRoom, LacksRoom, CountsDropped};
+ghost use Rattle.tree.specs.Updates.{changes_of};
+
+use crate::clones::{CloneIndex, CloneName};
+use crate::place::{gap, place};
+use crate::row::{
+    apply, defer, owner_place, promoted, put, rollback, set_bookmarks, set_limit, set_tags, shared,
+    splice, take,
+};
+use base::limit::Blocks;
+use base::meter::{Meter, SegMeter};
+use base::number::{Group, Guid};
+use base::refusal::Refusal;
+use bookmarks::Bookmarks;
+use deadlist::deadlist::Deadlist;
+use file_system::{FileSystem, Lost};
+use holds::Holds;
+use model::limits::Limit;
+use model::snapshot_id::SnapshotId;
+use name::{Component, DsName};
+use std::alloc::Global;
+use std::marker::Model;
+use std::sync::Arc;
+use tree::{Changed, Update};
+use zalloc::Allocator;
+
+/// File systems by name. Contracts see the map from their names to them.
+///
+/// They stand in byte order of their names, so that `p/a-x` comes between `p/a` and `p/a/x`. Those that were copied from one another
+/// share the file systems that none of them changed.
+#[derive(Drop)]
+pub(crate) struct FileSystems {
+    rows: Vec<Arc<FileSystem>>,
+    snapshot_count: usize,
+    clones: CloneIndex,
+}
+
+impl Model for FileSystems {
+    ghost use Rattle.std.specs.FinMap.{from_sorted};
+    ghost use Rattle.std.specs.Prelude.{map};
+    ghost use Rattle.file_system.specs.Origins.{origin_group};
+    ghost use Rattle.file_system.specs.Rows.{FileSystems, entry_in, file_systems_code};
+    ghost use Rattle.datasets.specs.Sorted.{IsSorted};
+
+    ghost Value = { FileSystems };
+
+    ghost coded = { file_systems_code };
+
+    ghost view = { λ t. from_sorted (map entry_in t.rows.items) };
+
+    ghost invariant = { IsSorted };
+}
+
+impl FileSystems {
+    /// One file system alone, of this name, without a block or a snapshot. NoMemory where there is none for it. Constant time.
+    pub(crate) fn new(alloc: Global, name: &DsName) -> Result<FileSystems, Refusal>
+        ensures ok { IfOk result (λ t. t ≡ insert finmap.empty name.now empty_file_system) }
+        ensures err { IfErr result (λ e. e ≡ Refusal.NoMemory) }
+    {
+        let row = Arc::new(alloc, FileSystem::new(alloc, name)?)?;
+        let mut rows = Vec::with_capacity(alloc, 1)?;
+        rows.push_reserved(row);
+        Ok(FileSystems {
+            rows,
+            snapshot_count: 0,
+            clones: CloneIndex::new(alloc),
+        })
+    }
+
+    /// Equal file systems, by one more owner of each, as `Table::copy` says. It costs the number of file systems, and that of clones.
+    pub(crate) fn copy(&self) -> Result<FileSystems, Refusal>
+        ensures ok { IfOk result (λ t. t ≡ self.now) }
+        ensures err { IfErr result (λ e. e ≡ Refusal.NoMemory) }
+    {
+        let rows = shared(*self.rows.allocator(), &self.rows)?;
+        let clones = self.clones.copy()?;
+        Ok(FileSystems {
+            rows,
+            snapshot_count: self.snapshot_count,
+            clones,
+        })
+    }
+
+    /// How many file systems there are. Constant time.
+    pub(crate) fn len(&self) -> usize
+        ensures { result ≡ len self.now }
+    {
+        let rows: &[Arc<FileSystem>] = &self.rows;
+        rows.len()
+    }
+
+    /// How many snapshots they have together. Constant time.
+    pub(crate) fn snapshot_count(&self) -> usize
+        ensures { result ≡ snap_count self.now }
+    {
+        self.snapshot_count
+    }
+
+    /// All of them, in byte order of their names. Constant time.
+    pub(crate) fn as_slice(&self) -> &[Arc<FileSystem>]
+        ensures { map arc_value result.now ≡ map (row_in self.now) (entries self.now) }
+    {
+        &self.rows
+    }
+
+    /// The file system of this name, or none. It costs the logarithm of their number.
+    pub(crate) fn find(&self, name: &DsName) -> Option<&FileSystem>
+        ensures { option_copied result ≡ option_map (λ f. row_in self.now (name.now, f)) (get self.now name.now) }
+    {
+        match place(&self.rows, name.as_bytes()) {
+            Ok(place) => Some(&*self.rows[place]),
+            Err(_) => None,
+        }
+    }
+
+    /// The clones of the snapshot of this identity, in byte order of their names, as `Table::clones_of` says.
+    pub(crate) fn clones_of(&self, id: SnapshotId) -> &[CloneName]
+        ensures { map name_of result.now ≡ clones_in self.now (snap_id id) }
+    {
+        self.clones.of(id)
+    }
+
+    /// Whether there is a file system of this name. It costs the logarithm of their number.
+    pub(crate) fn contains(&self, name: &[u8]) -> bool
+        ensures { result ≡ finmap.contains_key self.now name.now }
+    {
+        place(&self.rows, name).is_ok()
+    }
+
+    /// The allocator of their memory. Constant time.
+    pub(crate) fn allocator(&self) -> Global {
+        *self.rows.allocator()
+    }
+
+    /// Adds this file system, whose name none of these has, and which has no snapshot; where it is a clone, its origin is a snapshot of one of
+    /// these (zfs-create(8), zfs-clone(8)). NoMemory where there is none for it; then all are as they were. It costs the number of file
+    /// systems, and where it is a clone, that of clones.
+    pub(crate) fn add(&mut self, file_system: FileSystem) -> Result<(), Refusal>
+        requires absent { get self.old file_system.name ≡ None }
+        requires bare { file_system.system.snaps ≡ [] }
+        requires tied { IsTied (all_snaps self.old) file_system }
+        ensures ok { OnOk result (self.new ≡ insert self.old file_system.name file_system.system) }
+        ensures err { OnErr result (self.new ≡ self.old) }
+        ensures only { IfErr result (λ e. e ≡ Refusal.NoMemory) }
+    {
+        let place = gap(&self.rows, file_system.name().as_bytes());
+        let added = Arc::new(self.allocator(), file_system)?;
+        self.rows.reserve(1)?;
+        self.clones.enter(added.origin(), added.owned_name())?;
+        put(&mut self.rows, place, added);
+        Ok(())
+    }
+
+    /// Promotes the clone of this name, as `Table::promote` says (zfs-promote(8)).
+    pub(crate) fn promote(
+        &mut self,
+        alloc: Global,
+        name: &DsName,
+        segments: &mut SegMeter,
+    ) -> Result<(), Refusal>
+        requires { CanPromoteIn self.old name.now }
+        ensures ok { OnOk result ((p : Promotion) → IsPromotion self.old name.now p → self.new ≡ promoted_in self.old name.now p) }
+        ensures err { OnErr result (self.new ≡ self.old) }
+        ensures only { IfErr result (λ e. e ≡ Refusal.NoMemory) }
+    {
+        let Ok(place) = place(&self.rows, name.as_bytes()) else {
+            unreachable!()
+        };
+        let Some(origin) = self.rows[place].origin() else {
+            unreachable!()
+        };
+        let Some(other) = owner_place(&self.rows, origin) else {
+            unreachable!()
+        };
+        let (clone, owner) = promoted(
+            alloc,
+            &self.rows[place],
+            &self.rows[other],
+            origin,
+            segments,
+        )?;
+        self.clones
+            .promote(origin, &self.rows[place], &self.rows[other])?;
+        self.rows[other] = owner;
+        self.rows[place] = clone;
+        Ok(())
+    }
+
+    /// Puts a batch of changes of the live tree of this file system in force, as `Table::apply_live` says, in this group. Where others share
+    /// the file system, a copy of it, by one more owner of its name, its tree and its snapshots, is changed and takes its place.
+    pub(crate) fn apply_live(
+        &mut self,
+        name: &DsName,
+        alloc: Global,
+        updates: &[Update],
+        group: Group,
+        synced: Group,
+        allocator: &Allocator,
+        meter: &mut Meter,
+        segments: &mut SegMeter,
+    ) -> Result<Changed, Refusal>
+        requires allowed { AllowsLive (blocks (below_at self.old name.now)) (origin_group (origin_at self.old name.now)) (live_of self.old name.now) (snaps_at self.old name.now) updates.now group.0 synced.0 allocator.now }
+        requires above { IfSome (get self.old name.now) (AreAbove (below_at self.old name.now)) }
+        ensures ok { IfOk result (IsWritten (live_of self.old name.now) (live_of self.new name.now) (origin_group (origin_at self.old name.now)) (snaps_at self.old name.now) (changes_of updates.now) group.0 synced.0 allocator.now) }
+        ensures others { OnOk result (self.new ≡ with_live self.old name.now (live_of self.new name.now)) }
+        ensures room { OnOk result (HasRoom (live_of self.old name.now) (changes_of updates.now) (young_after (origin_group (origin_at self.old name.now)) (snaps_at self.old name.now) synced.0) allocator.now) }
+        ensures err { OnErr result (self.new ≡ self.old) }
+        ensures no_dataset { (result ≡ Err Refusal.NoDataset) ↔ (get self.old name.now ≡ None) }
+        ensures no_space { result ≡ Err Refusal.NoSpace → LacksRoom (live_of self.old name.now) (changes_of updates.now) (young_after (origin_group (origin_at self.old name.now)) (snaps_at self.old name.now) synced.0) allocator.now }
+        ensures only { IfErr result (λ e. (e ≡ Refusal.NoDataset) ⊎ IsNoSpaceOrNoMemory e) }
+        ensures metered { OnOk result (CountsDropped (live_of self.old name.now) (changes_of updates.now) meter.old meter.new) }
+        ensures never_lower { meter.old ≤ meter.new }
+    {
+        let Ok(place) = place(&self.rows, name.as_bytes()) else {
+            return Err(Refusal::NoDataset);
+        };
+        let row = &mut self.rows[place];
+        apply(
+            row, alloc, updates, group, synced, allocator, meter, segments,
+        )
+    }
+
+    /// A snapshot of the live map of this file system after its others, as `Table::take_snapshot` says, of a group and guid that no other
+    /// snapshot has together. NoMemory also where there are as many snapshots as a usize counts. Where others share the file system, a copy of
+    /// it takes its place.
+    pub(crate) fn take_snapshot(
+        &mut self,
+        alloc: Global,
+        name: &DsName,
+        component: &Component,
+        guid: Guid,
+        group: Group,
+    ) -> Result<(), Refusal>
+        requires there { IsSome (get self.old name.now) }
+        requires fresh { find (λ t. same_id (id_of t) (record { group = group.0; guid = guid.0 })) (all_snaps self.old) ≡ None }
+        ensures ok { OnOk result (self.new ≡ option_map_or (λ f. insert self.old name.now (with_snap f component.now guid.0 group.0)) (get self.old name.now) self.old) }
+        ensures err { OnErr result (self.new ≡ self.old) }
+        ensures only { IfErr result (λ e. e ≡ Refusal.NoMemory) }
+    {
+        let Ok(place) = place(&self.rows, name.as_bytes()) else {
+            unreachable!()
+        };
+        let Some(count) = self.snapshot_count.checked_add(1) else {
+            return Err(Refusal::NoMemory);
+        };
+        take(&mut self.rows[place], alloc, component, guid, group)?;
+        self.snapshot_count = count;
+        Ok(())
+    }
+
+    /// Takes the snapshot of this group, which is there and no clone's origin, out of this file system, as `Table::destroy_snapshot` says, and
+    /// answers the blocks that are lost with it, which neither what stands before it has nor what comes after it. Where others share the file
+    /// system, a copy of it takes its place.
+    pub(crate) fn splice(
+        &mut self,
+        alloc: Global,
+        name: &DsName,
+        group: Group,
+        segments: &mut SegMeter,
+    ) -> Result<Deadlist, Refusal>
+        requires there { IsSome (find (λ t. t.group == group.0) (snaps_at self.old name.now)) }
+        requires above { IfSome (get self.old name.now) (AreAbove (below_at self.old name.now)) }
+        requires unused { (t : Snap) → IsIn (snaps_at self.old name.now) t → t.group ≡ group.0 → HasNoCloneIn self.old (id_of t) }
+        ensures ok { OnOk result (self.new ≡ without_snap_of self.old name.now group.0) }
+        ensures lost { IfOk result (λ d. Lists (map dead_block d.entries) (lost_from (blocks (below_at self.old name.now)) (snaps_at self.old name.now) (live_of self.old name.now) group.0)) }
+        ensures err { OnErr result (self.new ≡ self.old) }
+        ensures only { IfErr result (λ e. e ≡ Refusal.NoMemory) }
+    {
+        let Ok(place) = place(&self.rows, name.as_bytes()) else {
+            unreachable!()
+        };
+        let lost = splice(&mut self.rows[place], alloc, group, segments)?;
+        self.snapshot_count -= 1;
+        Ok(lost)
+    }
+
+    /// From now on the destroy of the snapshot of this group, which is there, of this file system is deferred, as `Table::defer` says. Where
+    /// others share the file system, a copy of it takes its place.
+    pub(crate) fn defer(
+        &mut self,
+        alloc: Global,
+        name: &DsName,
+        group: Group,
+    ) -> Result<(), Refusal>
+        requires there { IsSome (find (λ t. t.group == group.0) (snaps_at self.old name.now)) }
+        requires above { IfSome (get self.old name.now) (AreAbove (below_at self.old name.now)) }
+        ensures ok { OnOk result (self.new ≡ deferred_of self.old name.now group.0) }
+        ensures err { OnErr result (self.new ≡ self.old) }
+        ensures only { IfErr result (λ e. e ≡ Refusal.NoMemory) }
+    {
+        let Ok(place) = place(&self.rows, name.as_bytes()) else {
+            unreachable!()
+        };
+        defer(&mut self.rows[place], alloc, group)?;
+        Ok(())
+    }
+
+    /// From now on the snapshot of this group, which is there, of this file system has these tags, as `Table::set_tags` says. Where others share
+    /// the file system, a copy of it takes its place.
+    pub(crate) fn set_tags(
+        &mut self,
+        alloc: Global,
+        name: &DsName,
+        group: Group,
+        tags: Arc<Holds>,
+    ) -> Result<(), Refusal>
+        requires there { IsSome (find (λ t. t.group == group.0) (snaps_at self.old name.now)) }
+        requires above { IfSome (get self.old name.now) (AreAbove (below_at self.old name.now)) }
+        ensures ok { OnOk result (self.new ≡ tagged_of self.old name.now group.0 (arc_value tags)) }
+        ensures err { OnErr result (self.new ≡ self.old) }
+        ensures only { IfErr result (λ e. e ≡ Refusal.NoMemory) }
+    {
+        let Ok(place) = place(&self.rows, name.as_bytes()) else {
+            unreachable!()
+        };
+        set_tags(&mut self.rows[place], alloc, group, tags)?;
+        Ok(())
+    }
+
+    /// From now on this file system, which is there, has these bookmarks, as `Table::set_bookmarks` says. Where others share it, a copy of it
+    /// takes its place.
+    pub(crate) fn set_bookmarks(
+        &mut self,
+        alloc: Global,
+        name: &DsName,
+        bookmarks: Arc<Bookmarks>,
+    ) -> Result<(), Refusal>
+        requires there { IsSome (get self.old name.now) }
+        ensures ok { OnOk result (self.new ≡ bookmarked_of self.old name.now (arc_value bookmarks)) }
+        ensures err { OnErr result (self.new ≡ self.old) }
+        ensures only { IfErr result (λ e. e ≡ Refusal.NoMemory) }
+    {
+        let Ok(place) = place(&self.rows, name.as_bytes()) else {
+            unreachable!()
+        };
+        set_bookmarks(&mut self.rows[place], alloc, bookmarks)?;
+        Ok(())
+    }
+
+    /// From now on this file system, which is there, has this limit, or none, as `Table::set_limit` says. Where others share it, a copy of it
+    /// takes its place.
+    pub(crate) fn set_limit(
+        &mut self,
+        alloc: Global,
+        name: &DsName,
+        limit: Limit,
+        amount: Option<Blocks>,
+    ) -> Result<(), Refusal>
+        requires there { IsSome (get self.old name.now) }
+        ensures ok { OnOk result (self.new ≡ limited_of self.old name.now limit amount) }
+        ensures err { OnErr result (self.new ≡ self.old) }
+        ensures only { IfErr result (λ e. e ≡ Refusal.NoMemory) }
+    {
+        let Ok(place) = place(&self.rows, name.as_bytes()) else {
+            unreachable!()
+        };
+        set_limit(&mut self.rows[place], alloc, limit, amount)?;
+        Ok(())
+    }
+
+    /// Makes the map of its newest snapshot, which is there, the live map of this file system, as `Table::rollback` says, and answers what is
+    /// lost with the one before: its blocks that the snapshot hasn't. Where others share the file system, a copy of it takes its place.
+    pub(crate) fn rollback(
+        &mut self,
+        alloc: Global,
+        name: &DsName,
+        segments: &mut SegMeter,
+    ) -> Result<Lost, Refusal>
+        requires there { 0 < length (snaps_at self.old name.now) }
+        requires above { IfSome (get self.old name.now) (AreAbove (below_at self.old name.now)) }
+        ensures ok { OnOk result (self.new ≡ with_live self.old name.now (newest_map (live_of self.old name.now) (snaps_at self.old name.now))) }
+        ensures lost { IfOk result (IsLost (blocks (below_at self.old name.now)) (origin_group (origin_at self.old name.now)) (live_of self.old name.now) (snaps_at self.old name.now)) }
+        ensures err { OnErr result (self.new ≡ self.old) }
+        ensures only { IfErr result (λ e. e ≡ Refusal.NoMemory) }
+    {
+        let Ok(place) = place(&self.rows, name.as_bytes()) else {
+            unreachable!()
+        };
+        let lost = rollback(&mut self.rows[place], alloc, segments)?;
+        Ok(lost)
+    }
+
+    /// What is lost with this file system, which is there and has no snapshot, where it goes, as `Table::lost_with` says: the blocks of its live
+    /// tree, by one more owner of that.
+    pub(crate) fn lost(&self, name: &DsName) -> Result<Lost, Refusal>
+        requires there { IsSome (get self.now name.now) }
+        requires bare { snaps_at self.now name.now ≡ [] }
+        requires above { IsAbove (blocks (below_at self.now name.now)) (origin_group (origin_at self.now name.now)) (live_of self.now name.now) (snaps_at self.now name.now) }
+        ensures lost { IfOk result (IsLost (blocks (below_at self.now name.now)) (origin_group (origin_at self.now name.now)) (live_of self.now name.now) []) }
+        ensures err { IfErr result (λ e. e ≡ Refusal.NoMemory) }
+    {
+        let Ok(place) = place(&self.rows, name.as_bytes()) else {
+            unreachable!()
+        };
+        self.rows[place].lost()
+    }
+
+    /// Takes out this file system, which is there and has no snapshot, as `Table::remove` says.
+    pub(crate) fn take_out(&mut self, name: &DsName)
+        requires there { IsSome (get self.old name.now) }
+        requires bare { snaps_at self.old name.now ≡ [] }
+        ensures { self.new ≡ finmap.remove self.old name.now }
+    {
+        let Ok(place) = place(&self.rows, name.as_bytes()) else {
+            unreachable!()
+        };
+        let origin = self.rows[place].origin();
+        self.clones.leave(origin, name);
+        let _gone = self.rows.remove(place);
+    }
+
+    /// Empties this file system, which is there and has no snapshot, as `Table::vacate` says; and answers what is lost with that. Where it is a
+    /// clone, it costs the number of clones too.
+    pub(crate) fn vacate(&mut self, alloc: Global, name: &DsName) -> Result<Lost, Refusal>
+        requires there { IsSome (get self.old name.now) }
+        requires bare { snaps_at self.old name.now ≡ [] }
+        requires above { IsAbove (blocks (below_at self.old name.now)) (origin_group (origin_at self.old name.now)) (live_of self.old name.now) (snaps_at self.old name.now) }
+        ensures ok { OnOk result (self.new ≡ insert self.old name.now empty_file_system) }
+        ensures lost { IfOk result (IsLost (blocks (below_at self.old name.now)) (origin_group (origin_at self.old name.now)) (live_of self.old name.now) []) }
+        ensures err { OnErr result (self.new ≡ self.old) }
+        ensures only { IfErr result (λ e. e ≡ Refusal.NoMemory) }
+    {
+        let lost = self.lost(name)?;
+        let Ok(place) = place(&self.rows, name.as_bytes()) else {
+            unreachable!()
+        };
+        let empty = Arc::new(alloc, FileSystem::new(alloc, name)?)?;
+        let origin = self.rows[place].origin();
+        self.clones.leave(origin, name);
+        self.rows[place] = empty;
+        Ok(lost)
+    }
+}

@@ -1,9 +1,0 @@
-use Rattle.std.proofs.Common.{ap, ◌∙◌}
-use Rattle.model.specs.Ids.{snap_id}
-use Rattle.file_systems.specs.CloneNames.{clones_in}
-use Rattle.file_systems.proofs.Listing.{listed_names}
-use Rattle.file_systems.proofs.list.FileSystems.clones_of.Goals as goal
-
--- the clones are listed
-pub returns : goal.returns
-returns c = c.of.ensures ∙ listed_names _ c.self.inside.clones (snap_id c.args.id) c.self.invariant.listed ∙ ap (λ m. clones_in m (snap_id c.args.id)) c.self.view_is

@@ -1,7 +1,0 @@
-use Rattle.std.proofs.Common.{ap, ◌∙◌}
-use Rattle.file_system.specs.Rows.{snap_count}
-use Rattle.file_systems.proofs.list.FileSystems.snapshot_count.Goals as goal
-
--- they are counted
-pub returns : goal.returns
-returns c = c.self.invariant.counted ∙ ap snap_count c.self.view_is

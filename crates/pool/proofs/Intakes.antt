@@ -1,0 +1,65 @@
+-- What a receive makes of a world.
+use Rattle.std.proofs.Common.{◌≡◌, ◌<◌, ◌^◌, ℕ, List, Bool, Option, None, Ok, false, subst}
+use Rattle.std.specs.FinSet as set
+use Rattle.name.specs.declared.member.Member.{Member}
+use Rattle.zalloc.specs.declared.BlockState.{BlockState}
+use Rattle.model.specs.Numbers.{HasStates}
+use Rattle.model.specs.State.{State}
+use Rattle.model.specs.World.{union_of}
+use Rattle.model.specs.declared.request.Request.TheVariants.{Receive}
+use Rattle.world.specs.Tables.{world_of}
+use Rattle.accounts.specs.Limits.{IsUnlimited}
+use Rattle.steps.specs.Edits.{datasets_of}
+use Rattle.steps.specs.Handed.{IsAccounted, Line}
+use Rattle.steps.specs.Intakes.{IsPresent, IsIntakeOf}
+use Rattle.steps.specs.Received.{put_freeing}
+use Rattle.steps.specs.declared.intake.Intake.{Intake}
+use Rattle.steps.specs.declared.intake.Present.{Present}
+use Rattle.steps.proofs.Receiving.{receive_release, receive_take}
+use Rattle.pool.specs.declared.effect.Effect.TheVariants.{Blocks}
+use Rattle.pool.specs.declared.keep.Keep.{Keep}
+use Rattle.pool.specs.declared.worlds.World.{World}
+use Rattle.pool.specs.Effects.{IsPerformed, numbers_after}
+use Rattle.pool.specs.Pools.{state_in, IsSound, IsHeld}
+use Rattle.pool.proofs.Commits.{few, sound_received}
+use Rattle.pool.proofs.Performed.{unlimited}
+
+-- what a sound pool keeps is what a receive looks at
+pub present : (s : State) (numbers : List BlockState) → IsSound s numbers → (p : Present) → numbers ≡ p.allocator.now → datasets_of s ≡ p.table.now
+    → s.now.freeing ≡ p.freeing.now → s.last.group ≡ p.synced.0 → s.size ≡ p.size → (p.is_limited ≡ false → IsUnlimited s.now.file_systems) → IsPresent s p
+present s numbers sound p known datasets freeing synced size unlimited = record {
+  steady = sound.steady;
+  states = subst (HasStates s) known sound.states;
+  datasets = datasets;
+  freeing = freeing;
+  synced = synced;
+  size = size;
+  unlimited = unlimited;
+}
+
+module _ (k : Keep) (w : World) (held : IsHeld k w) (m : Member) (bytes : List ℕ) (force : Bool) (i : Intake) (is : IsIntakeOf (state_in k w) m bytes force i) where
+  abbrev s : State
+  s = state_in k w
+
+  sound : IsSound (put_freeing s i.to i.freeing) (numbers_after s.last.group k.allocator (Blocks i.done))
+  sound = sound_received s k.allocator held.sound i.to i.freeing _ _ is.can
+
+  pub intake_few : set.len (union_of (world_of i.to)) < 2 ^ 32
+  intake_few = few (put_freeing s i.to i.freeing) (numbers_after s.last.group k.allocator (Blocks i.done)) sound
+
+  pub intake_bare : w.ledger ≡ None → IsUnlimited i.to.file_systems
+  intake_bare none = is.unlimited (unlimited k w held none)
+
+  pub intake_performed : (ledger : Option (List Line)) → IsAccounted i.to ledger
+      → IsPerformed s k.allocator (record { table = i.to; freeing = i.freeing; ledger = ledger }) (Receive m bytes force) (Ok (Blocks i.done))
+  intake_performed ledger kept = (
+    record {
+      sound = sound;
+      kept = kept;
+      may = (
+        receive_release s held.sound.steady k.allocator held.sound.states i.to i.freeing _ _ is.can,
+        receive_take s held.sound.steady k.allocator held.sound.states i.to i.freeing _ _ is.can,
+      );
+    },
+    is.step,
+  )

@@ -1,0 +1,22 @@
+use Rattle.std.proofs.Common.{◌∙◌}
+use Rattle.pool.specs.Pools.{state_in}
+use Rattle.pool.proofs.Commits.{few}
+use Rattle.pool.proofs.Limited.{state_with, count_with}
+use Rattle.pool.proofs.Refusing.{only_reads, unread}
+use Rattle.pool.proofs.keep.Keep.asked.Goals as goal
+
+pub answer-requires-clause-reads : goal.answer-requires-clause-reads
+answer-requires-clause-reads c = only_reads c.args.request.now c.requires.question
+
+pub returns-clause-segments : goal.returns-clause-segments
+returns-clause-segments c = λ none. unread c.args.request.now c.requires.question none c.args.world.now.table c.answer.result c.args.meters.now.segments c.answer.new.segments c.answer.ensures.segments
+
+pub answer-requires-clause-few : goal.answer-requires-clause-few
+answer-requires-clause-few c = few (state_in c.args.self.now c.args.world.now) c.args.self.now.allocator c.requires.held.sound
+
+pub returns-clause-step : goal.returns-clause-step
+returns-clause-step c =
+    let s = state_in c.args.self.now c.args.world.now in
+    c.answer.ensures.step s
+    (state_with s c.args.self.now.allocator c.requires.held.sound c.space-space.result c.space-space.ensures.size (c.space-space.ensures.freeing ∙ c.len.ensures) c.space-space.ensures.waiting)
+    (count_with s c.args.self.now.allocator c.requires.held.sound c.counts.result c.counts.ensures.allocated c.counts.ensures.free c.counts.ensures.waiting)

@@ -1,0 +1,42 @@
+use Rattle.model.specs.declared.request.Request.TheVariants.{Release}
+use Rattle.marks.specs.Requests.{released_in}
+use Rattle.removals.specs.Requests.{swept}
+use Rattle.steps.specs.Edits.{datasets_of}
+use Rattle.steps.proofs.Releasing as steps
+use Rattle.pool.specs.Pools.{state_in}
+use Rattle.pool.proofs.Performed.{exits, on_err, same_both, apart, clean, bare, lost_few, lost_placed}
+use Rattle.pool.proofs.keep.Keep.release.Goals as goal
+
+pub release-requires-clause-apart : goal.release-requires-clause-apart
+release-requires-clause-apart c = apart c.args.self.now c.args.world.now c.requires
+
+pub release-requires-clause-swept : goal.release-requires-clause-swept
+release-requires-clause-swept c = clean c.args.self.now c.args.world.now c.requires
+
+pub returns-in_err-release-clause-performed : goal.returns-in_err-release-clause-performed
+returns-in_err-release-clause-performed c =
+    let s = state_in c.args.self.now c.args.world.now in
+    exits s c.args.self.now.allocator _ (Release c.args.tag.now c.args.target.now) c.from_residual.result c.in_err-release.field-0.0 c.from_residual.ensures.1
+    (steps.release_refused s c.args.tag.now c.args.target.now c.in_err-release.field-0.0 c.in_err-release.ensures.only)
+
+pub returns-in_err-release-clause-unchanged : goal.returns-in_err-release-clause-unchanged
+returns-in_err-release-clause-unchanged c =
+    on_err c.from_residual.result _ (same_both c.args.world.now c.release.new.table c.release.new.freeing c.in_err-release.ensures.unchanged c.in_err-release.ensures.kept)
+
+pub renew-requires-clause-unlimited : goal.renew-requires-clause-unlimited
+renew-requires-clause-unlimited c =
+    let s = state_in c.args.self.now c.args.world.now in
+    bare c.args.self.now c.args.world.now c.requires (swept (released_in (datasets_of s) c.args.tag.now c.args.target.now) s.views) c.release.new.table c.in_ok-release.ensures.ok (steps.release_unlimited s c.args.tag.now c.args.target.now c.requires.sound.steady)
+
+pub renew-requires-clause-few : goal.renew-requires-clause-few
+renew-requires-clause-few c =
+    let s = state_in c.args.self.now c.args.world.now in
+    lost_few c.args.self.now c.args.world.now c.requires (swept (released_in (datasets_of s) c.args.tag.now c.args.target.now) s.views) c.release.new.table c.in_ok-release.ensures.ok c.release.new.freeing c.in_ok-release.ensures.lost
+    (steps.release_can s c.args.tag.now c.args.target.now c.requires.sound.steady)
+
+pub returns-clause-performed : goal.returns-clause-performed
+returns-clause-performed c =
+    let s = state_in c.args.self.now c.args.world.now in
+    lost_placed c.args.self.now c.args.world.now c.requires (swept (released_in (datasets_of s) c.args.tag.now c.args.target.now) s.views) c.release.new.table c.in_ok-release.ensures.ok c.release.new.freeing c.in_ok-release.ensures.lost
+    (steps.release_can s c.args.tag.now c.args.target.now c.requires.sound.steady) c.renew.new.ledger c.renew.ensures
+    (Release c.args.tag.now c.args.target.now) (steps.release_done s c.args.tag.now c.args.target.now c.requires.sound.steady c.in_ok-release.ensures.can)

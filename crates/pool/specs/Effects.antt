@@ -1,0 +1,68 @@
+-- What a request leads to, and what it leaves to be done beside its world.
+use Rattle.std.specs.Prelude.{ℕ, List, Result, Ok, Err, map, length}
+use Rattle.base.specs.Surveys.{dead_block}
+use Rattle.base.specs.declared.refusal.Refusal.{Refusal}
+use Rattle.zalloc.specs.declared.BlockState.{BlockState}
+use Rattle.zalloc.specs.States.{after_group}
+use Rattle.tree.specs.Taking.{takes, AllFree}
+use Rattle.model.specs.Edits.{with_now}
+use Rattle.model.specs.State.{State}
+use Rattle.model.specs.Step.{Step}
+use Rattle.model.specs.declared.request.Request.{Request}
+use Rattle.model.specs.declared.reply.Reply.{Reply}
+use Rattle.model.specs.declared.reply.Reply.TheVariants.{Done, Refused, Count, Group}
+use Rattle.steps.specs.Edits.{closed}
+use Rattle.steps.specs.Settles.{AllAllocated, releases}
+use Rattle.pool.specs.Pools.{world_in, IsSound, IsKept}
+use Rattle.pool.specs.declared.worlds.World.{World}
+use Rattle.pool.specs.declared.effect.Effect.{Effect}
+use Rattle.pool.specs.declared.effect.Effect.TheVariants.{Nothing, Guids, Blocks, Taken, Synced, Closed}
+
+-- the state once that is done beside its present world (profile)
+abbrev pub effected : State → Effect → State
+effected s Nothing = s
+effected s (Guids next) = record s { next_guid = next }
+effected s (Blocks done) = s
+effected s (Taken taken) = s
+effected s (Synced last) = record s { last = world_in last }
+effected s (Closed number) = closed s number
+
+-- the states of all numbers then, where the last sync opened this group (profile)
+abbrev pub numbers_after : ℕ → List BlockState → Effect → List BlockState
+numbers_after g numbers Nothing = numbers
+numbers_after g numbers (Guids next) = numbers
+numbers_after g numbers (Blocks done) = takes (releases g numbers (map dead_block done.released.items)) (map (λ n. n.0) done.taken.items)
+numbers_after g numbers (Taken taken) = releases g numbers (map dead_block taken.items)
+numbers_after g numbers (Synced last) = map after_group numbers
+numbers_after g numbers (Closed number) = numbers
+
+-- that can be done: what is released is Allocated, and what is taken Free, each when its turn comes; and the world that was synced has its
+-- ledger (profile)
+abbrev pub MaySettle : ℕ → List BlockState → Effect → Type 0
+MaySettle g numbers Nothing = Unit {0}
+MaySettle g numbers (Guids next) = Unit {0}
+MaySettle g numbers (Blocks done) =
+    AllAllocated g numbers (map dead_block done.released.items) × AllFree (releases g numbers (map dead_block done.released.items)) (map (λ n. n.0) done.taken.items)
+MaySettle g numbers (Taken taken) = AllAllocated g numbers (map dead_block taken.items)
+MaySettle g numbers (Synced last) = IsKept last
+MaySettle g numbers (Closed number) = Unit {0}
+
+-- the reply to the request (profile)
+abbrev pub reply_of : Effect → Reply
+reply_of Nothing = Done
+reply_of (Guids next) = Done
+reply_of (Blocks done) = Done
+reply_of (Taken taken) = Count (length taken.items)
+reply_of (Synced last) = Group last.table.group
+reply_of (Closed number) = Done
+
+-- with this world in place and that done beside it, the pool is sound again (profile)
+pub record Settles (s : State) (numbers : List BlockState) (w : World) (e : Effect) : Type 0 where
+  pub sound : IsSound (effected (with_now s (world_in w)) e) (numbers_after s.last.group numbers e)
+  pub kept : IsKept w
+  pub may : MaySettle s.last.group numbers e
+
+-- a request was done by that, or it was refused, as a step says (profile)
+abbrev pub IsPerformed : State → List BlockState → World → Request → Result Effect Refusal → Type 0
+IsPerformed s numbers w q (Ok e) = Settles s numbers w e × Step s q (reply_of e) (effected (with_now s (world_in w)) e)
+IsPerformed s numbers w q (Err why) = Step s q (Refused why) s

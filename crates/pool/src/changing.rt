@@ -1,0 +1,78 @@
+//! Writes, punches and freed objects.
+ghost use Rattle.std.specs.Prelude.{◌≡◌, [], ◌∷◌, Err, IfOk, OnErr};
+ghost use Rattle.name.specs.declared.target.Target.{Target};
+ghost use Rattle.tree.specs.Updates.{IsBatch};
+ghost use Rattle.model.specs.declared.request.Request.{Request};
+ghost use Rattle.model.specs.declared.reply.Reply.{Reply};
+ghost use Rattle.model.specs.Step.{Step};
+ghost use Rattle.pool.specs.Asked.{Asks};
+ghost use Rattle.pool.specs.Pools.{state_in, IsHeld};
+ghost use Rattle.pool.specs.Effects.{IsPerformed};
+
+use crate::effect::Effect;
+use crate::keep::{Keep, Meters};
+use crate::worlds::World;
+use base::refusal::Refusal;
+use name::{DsName, Target};
+use std::alloc::Global;
+use std::slice::from_ref;
+use steps::{ask_change, live_name, settle};
+use tree::Update;
+
+impl Keep {
+    /// Puts this update of the live tree of a file system in force, once the limits hold with it. What it drops is released, and its numbers
+    /// taken, when the effect is settled. At `Err` the world is as it was. It costs the path to the leaf, or the object's nodes.
+    pub(crate) fn change(
+        &self,
+        alloc: Global,
+        world: &mut World,
+        target: &Target,
+        update: Result<Update, Refusal>,
+        meters: &mut Meters,
+    ) -> Result<Effect, Refusal>
+        requires held { IsHeld self.now world.old }
+        requires batch { IfOk update (λ u. IsBatch (u ∷ [])) }
+        ensures performed { (q : Request) → Asks q target.now update.entry → IsPerformed (state_in self.now world.old) self.now.allocator world.new q result }
+        ensures unchanged { OnErr result (world.new ≡ world.old) }
+    {
+        let name = live_name(&world.table, target)?;
+        let update = match update {
+            Ok(update) => update,
+            Err(refusal) => return Err(self.outside_the_limits(world, name, refusal)),
+        };
+        let synced = self.last.table.group();
+        let outlook = ask_change(
+            &mut world.ledger,
+            alloc,
+            &world.table,
+            self.space(world.freeing.len()),
+            synced,
+            name,
+            &update,
+            &mut meters.blocks,
+        )?;
+        let done = world.table.apply_live(
+            name,
+            alloc,
+            from_ref(&update),
+            synced,
+            &self.allocator,
+            &mut meters.blocks,
+            &mut meters.segments,
+        )?;
+        settle(&mut world.ledger, &world.table, name, outlook);
+        Ok(Effect::Blocks { done })
+    }
+
+    // Why nothing is changed where no update is asked for, since numbers are outside their limits: that there is no such file system comes
+    // first.
+    fn outside_the_limits(&self, world: &World, name: &DsName, refusal: Refusal) -> Refusal
+        requires { IsHeld self.now world.now }
+        ensures { (q : Request) → Asks q (Target.FileSystem name.now) (Err refusal) → Step (state_in self.now world.now) q (Reply.Refused result) (state_in self.now world.now) }
+    {
+        match world.table.find(name) {
+            Some(_) => refusal,
+            None => Refusal::NoDataset,
+        }
+    }
+}

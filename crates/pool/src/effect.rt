@@ -1,0 +1,38 @@
+//! What a request leaves to be done once its world is in place.
+ghost use Rattle.std.specs.Prelude.{◌≡◌};
+ghost use Rattle.pool.specs.Effects.{reply_of};
+
+use crate::worlds::World;
+use base::number::Dead;
+use model::reply::Reply;
+use tree::Changed;
+
+/// What a request that has changed a world leaves to be done to all that stands beside it.
+#[derive(Drop)]
+pub(crate) enum Effect {
+    /// Nothing: the same blocks are reached.
+    Nothing,
+    /// The counter of guids goes on with this number.
+    Guids { next: u64 },
+    /// A live map has changed: blocks are released, and numbers taken.
+    Blocks { done: Changed },
+    /// Blocks were taken out of what is to be freed, and are released.
+    Taken { taken: Vec<Dead> },
+    /// The world is synced: this is the last synced one now, and what waits is free.
+    Synced { last: World },
+    /// The view of this number is closed.
+    Closed { number: u64 },
+}
+
+impl Effect {
+    /// The reply to the request. Constant time.
+    pub(crate) fn reply(&self) -> Reply
+        ensures { result ≡ reply_of self.now }
+    {
+        match self {
+            Effect::Taken { taken } => Reply::Count(taken.len() as u64),
+            Effect::Synced { last } => Reply::Group(last.table.group().0),
+            _ => Reply::Done,
+        }
+    }
+}

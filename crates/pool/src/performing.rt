@@ -1,0 +1,99 @@
+//! The change of a world that a request asks for.
+ghost use Rattle.std.specs.Prelude.{◌≡◌, ◌≢◌, ◌⊎◌, None, OnErr, false};
+ghost use Rattle.pool.specs.Pools.{state_in, IsHeld};
+ghost use Rattle.pool.specs.Kinds.{kind_of};
+ghost use Rattle.pool.specs.Effects.{IsPerformed};
+ghost use Rattle.pool.specs.Reached.{changes_blocks, reaches_lists};
+ghost use Rattle.pool.specs.declared.kind.Kind.{Kind};
+
+use crate::effect::Effect;
+use crate::keep::{Keep, Meters};
+use crate::worlds::World;
+use base::refusal::Refusal;
+use model::request::Request;
+use objset::{free_of, punch_of, write_of};
+use std::alloc::Global;
+
+impl Keep {
+    /// Changes this world as the request asks, which changes one, and tells what is left to be done beside it. At `Err` the world is as it was,
+    /// but of no use where the request asks limits of what it leads to, and the world has a ledger.
+    pub(crate) fn perform(
+        &self,
+        alloc: Global,
+        world: &mut World,
+        request: &Request,
+        meters: &mut Meters,
+    ) -> Result<Effect, Refusal>
+        requires held { IsHeld self.now world.old }
+        requires no_question { kind_of request.now ≢ Kind.Question }
+        requires no_view { kind_of request.now ≢ Kind.View }
+        ensures performed { IsPerformed (state_in self.now world.old) self.now.allocator world.new request.now result }
+        ensures nodes { changes_blocks request.now ≡ false → meters.new.blocks ≡ meters.old.blocks }
+        ensures segments { reaches_lists request.now ≡ false → meters.new.segments ≡ meters.old.segments }
+        ensures unchanged { OnErr result ((kind_of request.now ≡ Kind.Change) ⊎ (world.old.ledger ≡ None) → world.new ≡ world.old) }
+    {
+        match request {
+            Request::Create { name } => self.create(world, name),
+            Request::Set {
+                name,
+                limit,
+                amount,
+            } => self.set(alloc, world, name, *limit, *amount),
+            Request::Write {
+                target,
+                object,
+                block,
+                bytes,
+            } => {
+                let update = write_of(*object, *block, bytes.as_array());
+                self.change(alloc, world, target, update, meters)
+            }
+            Request::Punch {
+                target,
+                object,
+                block,
+            } => self.change(alloc, world, target, punch_of(*object, *block), meters),
+            Request::FreeObject { target, object } => {
+                self.change(alloc, world, target, free_of(*object), meters)
+            }
+            Request::Snapshot { names, recursive } => {
+                self.snapshot(alloc, world, names, *recursive)
+            }
+            Request::Rollback { target, later } => {
+                self.rollback(alloc, world, target, *later, &mut meters.segments)
+            }
+            Request::Clone { target, name } => self.clone_snapshot(world, target, name),
+            Request::Promote { name } => self.promote(alloc, world, name, &mut meters.segments),
+            Request::Destroy {
+                target,
+                recursive,
+                defer,
+            } => self.destroy(
+                alloc,
+                world,
+                target,
+                *recursive,
+                *defer,
+                &mut meters.segments,
+            ),
+            Request::Hold { tag, target } => self.hold(alloc, world, tag, target),
+            Request::Release { tag, target } => self.release(
+                alloc,
+                world,
+                tag,
+                target,
+                &mut meters.segments,
+            ),
+            Request::Bookmark { target, mark } => self.bookmark(alloc, world, target, mark),
+            Request::Receive {
+                snapshot,
+                bytes,
+                force,
+            } => self.receive(alloc, world, snapshot, bytes, *force, meters),
+            Request::CloseView { view } => self.close(alloc, world, *view, &mut meters.segments),
+            Request::Slice { count } => self.slice(world, *count, meters),
+            Request::Sync => self.sync(world),
+            _ => unreachable!(),
+        }
+    }
+}

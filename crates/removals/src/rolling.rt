@@ -1,0 +1,141 @@
+//! A file system back at one of its snapshots.
+ghost use Rattle.std.specs.Prelude.{◌≡◌, ◌⊎◌, ◌||◌, false, Some, None, IfSome, IfErr, OnOk, OnErr, nat_lt};
+ghost use Rattle.std.specs.Option.{option_map};
+ghost use Rattle.std.specs.List.{find, list_any};
+ghost use Rattle.std.specs.FinMap.{get};
+ghost use Rattle.base.specs.declared.refusal.Refusal.{Refusal};
+ghost use Rattle.bookmarks.specs.Marks.{has_newer};
+ghost use Rattle.datasets.specs.Origins.{origin_group};
+ghost use Rattle.datasets.specs.Writes.{newest_group};
+ghost use Rattle.name.specs.declared.target.Target.{Target};
+ghost use Rattle.name.specs.Names.{same_name};
+ghost use Rattle.model.specs.World.{union_of};
+ghost use Rattle.model.specs.requests.Rollback.{placed};
+ghost use Rattle.world.specs.Sets.{AreDisjoint};
+ghost use Rattle.world.specs.Tables.{world_of};
+ghost use Rattle.removals.specs.Edits.{HasLost};
+ghost use Rattle.removals.specs.Named.{is_cloned_after};
+ghost use Rattle.removals.specs.Requests.{rolled, rollback_refusal, refusal_at};
+
+use crate::bookmark::lose_newer_bookmarks;
+use crate::cloned::any_later_cloned;
+use crate::edit::Edit;
+use crate::held::any_later_held;
+use base::meter::SegMeter;
+use base::number::Group;
+use base::refusal::Refusal;
+use datasets::{FileSystem, Snapshot, Table};
+use destroyer::Freeing;
+use name::{Component, Member, Target};
+use std::alloc::Global;
+use views::Views;
+
+/// Puts a file system back at a snapshot of it: its live map is the snapshot's again, and newer snapshots and bookmarks go; what is lost
+/// with that is to be freed (zfs-rollback(8)). Refused are NotSnapshot where the name isn't one of a snapshot, else NoDataset where there
+/// is no such snapshot, else NotNewest where there is a newer snapshot or bookmark and not `later`, else Busy where a tag or one of these
+/// views keeps a newer snapshot, else HasClones where a newer one has a clone; else NoMemory where there is none for it, or as
+/// `Table::rollback` says. At `Err` the table and what it has to free are as they were. It costs the number of file systems, the chunks of
+/// pieces that are to be freed, the number of the file system's snapshots with the segments of their dead lists, that of its bookmarks, and
+/// for each newer snapshot what its destroy does and the number of open views.
+pub fn rollback(
+    alloc: Global,
+    table: &mut Table,
+    freeing: &mut Freeing,
+    views: &Views,
+    target: &Target,
+    later: bool,
+    segments: &mut SegMeter,
+) -> Result<(), Refusal>
+    requires apart { AreDisjoint (union_of (world_of table.old)) freeing.old }
+    ensures ok { OnOk result (table.new ≡ rolled table.old target.now) }
+    ensures lost { OnOk result (HasLost table.old freeing.old table.new freeing.new) }
+    ensures can { OnOk result (rollback_refusal table.old views.now.opened target.now later ≡ None) }
+    ensures refused { IfSome (rollback_refusal table.old views.now.opened target.now later) (λ e. result ≡ Err e) }
+    ensures unchanged { OnErr result (table.new ≡ table.old) }
+    ensures kept { OnErr result (freeing.new ≡ freeing.old) }
+    ensures only { IfErr result (λ e. (rollback_refusal table.old views.now.opened target.now later ≡ Some e) ⊎ (e ≡ Refusal.NoMemory)) }
+{
+    let Target::Snapshot(name) = target else {
+        return Err(Refusal::NotSnapshot);
+    };
+    let component = &name.member().component;
+    let Some((file_system, snapshot)) = placed(table, name.member()) else {
+        return Err(Refusal::NoDataset);
+    };
+    let group = snapshot.group();
+    // It tells of the snapshots that their groups rise.
+    let _count = table.len();
+    if let Some(refusal) = refusal_of(table, file_system, group, views, later) {
+        return Err(refusal);
+    }
+    let mut edit = Edit::of(table, freeing)?;
+    go_back(&mut edit, alloc, file_system, component, group, segments)?;
+    edit.put(table, freeing);
+    Ok(())
+}
+
+// The snapshot of this name with its file system, or none. It costs the logarithm of the number of file systems, and that of the number
+// of snapshots of this one.
+fn placed<'a>(table: &'a Table, name: &Member) -> Option<(&'a FileSystem, &'a Snapshot)>
+    ensures found { option_map (λ p. (p.0.now.system, p.1.now)) result ≡ placed (world_of table.now) (Target.Snapshot name.now) }
+    ensures named { IfSome result (λ p. p.0.now.name ≡ name.now.file_system) }
+{
+    let file_system = table.find(&name.file_system)?;
+    let snapshot = file_system.snapshot_named(name.component.as_bytes())?;
+    Some((file_system, snapshot))
+}
+
+// Whether this file system has a snapshot or a bookmark of a later group. It costs the number of its bookmarks.
+fn has_newer(file_system: &FileSystem, group: Group) -> bool
+    ensures { result ≡ (nat_lt group.0 (newest_group (origin_group file_system.now.system.origin) file_system.now.system.snaps) || has_newer file_system.now.system.bookmarks group.0) }
+{
+    file_system.newest_group() > group || file_system.bookmarks().any_after(group)
+}
+
+// Why this file system of the table can't go back to its snapshot of this group, if it can't. It costs what `has_newer`, `any_later_held`
+// and `any_later_cloned` do.
+fn refusal_of(
+    table: &Table,
+    file_system: &FileSystem,
+    group: Group,
+    views: &Views,
+    later: bool,
+) -> Option<Refusal>
+    ensures { result ≡ refusal_at table.now file_system.now.system group.0 views.now.opened later }
+{
+    if !later && has_newer(file_system, group) {
+        return Some(Refusal::NotNewest);
+    }
+    if any_later_held(file_system, group, views) {
+        return Some(Refusal::Busy);
+    }
+    if any_later_cloned(table, file_system, group) {
+        return Some(Refusal::HasClones);
+    }
+    None
+}
+
+// Puts this file system back at its snapshot of this name, which is of this group; no newer one has a clone. NoMemory where there is none
+// for it, and then the edit is of no use. It costs what `rollback` does.
+fn go_back(
+    edit: &mut Edit,
+    alloc: Global,
+    file_system: &FileSystem,
+    component: &Component,
+    group: Group,
+    segments: &mut SegMeter,
+) -> Result<(), Refusal>
+    requires apart { AreDisjoint (union_of (world_of edit.old.to)) edit.old.freeing }
+    requires there { get edit.old.to.file_systems file_system.now.name ≡ Some file_system.now.system }
+    requires group { option_map (λ s. s.group) (find (λ s. same_name s.name component.now) file_system.now.system.snaps) ≡ Some group.0 }
+    requires no_clone { list_any (is_cloned_after edit.old.to group.0) file_system.now.system.snaps ≡ false }
+    ensures ok { OnOk result (edit.new.to ≡ rolled edit.old.to (Target.Snapshot (record { file_system = file_system.now.name; component = component.now }))) }
+    ensures lost { OnOk result (HasLost edit.old.to edit.old.freeing edit.new.to edit.new.freeing) }
+    ensures err { IfErr result (λ e. e ≡ Refusal.NoMemory) }
+{
+    // It tells of the snapshots that their groups rise.
+    let _count = edit.to.len();
+    edit.lose_newer(alloc, file_system, group, segments)?;
+    edit.lose_live(alloc, file_system.name(), segments)?;
+    lose_newer_bookmarks(alloc, &mut edit.to, file_system.name(), group)
+}
