@@ -11,6 +11,10 @@ from pathlib import Path
 DOCS = Path(__file__).resolve().parent.parent / "docs"
 FONT = 'font-family="sans-serif" font-size="13"'
 KINDS = {"plain": "#ffffff", "live": "#dceefb", "snapshot": "#fdf3d1", "shared": "#e4f3df", "gone": "#f6d9d5", "quiet": "#f2f2f2"}
+LAYERS = {
+    "ground": "#eeeae4", "blocks and trees": "#dceefb", "what it means": "#f2f2f2", "datasets": "#e4f3df", "requests": "#fdf3d1",
+    "pool": "#f6d9d5", "session": "#e9e0f5", "program": "#dff3f1", "tests": "#f2f2f2",
+}
 
 
 @dataclass
@@ -134,34 +138,187 @@ def block_states():
     return p
 
 
+def crate_layers():
+    """The layers of crates.txt with their crates, from the ground up, and on which other layers each names a crate."""
+    crates, stands_on = {}, {}
+    home, needs = {}, []
+    for line in (DOCS.parent / "crates.txt").read_text().splitlines():
+        if line.startswith("#"):
+            layer = line[1:].strip()
+            crates[layer], stands_on[layer] = [], set()
+        elif line:
+            head, _, rest = line.partition(":")
+            crate = head.split()[0]
+            crates[layer].append(crate)
+            home[crate] = layer
+            needs += [(layer, other) for other in rest.split()]
+    for layer, other in needs:
+        if home.get(other, layer) != layer:
+            stands_on[layer].add(home[other])
+    return crates, stands_on
+
+
 def layers():
-    """The layers, and the ways of a write, a destroy and a receive through them."""
-    p = Picture(860, 560)
-    bands = ["program", "session", "pool", "requests", "datasets", "blocks and trees", "ground"]
-    for row, band in enumerate(bands):
-        p.parts.append(f'<rect x="10" y="{44 + 70 * row}" width="840" height="62" rx="5" fill="{KINDS["quiet"]}" stroke="#bbb"/>')
-        p.words(22, 80 + 70 * row, band, style='font-weight="bold"')
-    ways = [
-        ("write", 160, "live", ["script", "", "pool: change", "limits, outlook", "datasets: the row", "batch, tree, zalloc", "node"]),
-        ("destroy", 400, "gone", ["script", "", "pool: destroy", "removals, destroyer", "datasets, snapshots", "deadlist", "shared_list"]),
-        ("receive", 640, "shared", ["script", "", "pool: receive", "receives, removals", "datasets, snapshots", "batch, tree, zalloc", "stream"]),
-    ]
-    for name, x, kind, steps in ways:
-        p.words(x + 95, 32, name, "middle", 'font-weight="bold"')
-        last = None
-        for row, step in enumerate(steps):
-            if step:
-                y = 57 + 70 * row
-                if last is not None:
-                    p.arrow(x + 95, last + 36, x + 95, y)
-                p.box(x, y, 190, 36, step, kind)
-                last = y
-    p.words(375, 150, "under a lock: session, book", "middle")
-    p.words(14, 556, "Beside the layers stands what it all means: model, world, accounts, laws, records.")
+    """The layers of crates.txt, each with its crates, and on which other layers each stands."""
+    crates, stands_on = crate_layers()
+    bands = list(reversed(crates))
+    rows = {band: crate_rows(crates[band], 570) for band in bands}
+    p = Picture(900, 74 + sum(16 + 32 * len(rows[band]) for band in bands) + 8 * len(bands))
+    p.words(14, 26, "A line leads from a layer, at its dot, down to each layer of which it names a crate. Nothing leads up.")
+    y, middle = 42, {}
+    for band in bands:
+        height = 16 + 32 * len(rows[band])
+        p.parts.append(f'<rect x="10" y="{y}" width="724" height="{height}" rx="5" fill="{LAYERS[band]}" stroke="#bbb"/>')
+        p.words(22, y + height / 2 + 4.5, band, style='font-weight="bold"')
+        for row, boxes in enumerate(rows[band]):
+            for x, width, crate in boxes:
+                p.box(160 + x, y + 8 + 32 * row + 3, width, 26, crate)
+        middle[band] = (y, height)
+        y += height + 8
+    lanes = [band for band in bands if stands_on[band]]
+    for lane, band in enumerate(lanes):
+        x = 754 + 17 * lane
+        top = middle[band][0] + 7
+        below = [other for other in bands if other in stands_on[band]]
+        ends = [middle[other][0] + middle[other][1] - 5 - 4 * lane for other in below]
+        p.line(734, top, x, top, "#444")
+        p.parts.append(f'<circle cx="734" cy="{top}" r="4" fill="#444"/>')
+        p.line(x, top, x, ends[-1], "#444")
+        for end in ends:
+            p.arrow(x, end, 736, end)
+    p.words(14, y + 18, "Of what it means model alone has code; world and accounts are lemmas, laws has the laws. Tests try what they stand on.")
     return p
 
 
-PICTURES = {"layers": layers, "lineage": lineage, "dead-lists": dead_lists, "block-states": block_states}
+def crate_rows(crates, width):
+    """The boxes of crates, in rows of at most that width: each from where, how wide, and its crate."""
+    rows, x = [[]], 0
+    for crate in crates:
+        box = 18 + 8 * len(crate)
+        if x + box > width:
+            rows.append([])
+            x = 0
+        rows[-1].append((x, box, crate))
+        x += box + 8
+    return rows
+
+
+# The ways of three requests: how deep the call is, the crate, and what is called, in the order in which they are called.
+WRITE = [
+    (0, "script", "run_script, request_at, Caller::ask"),
+    (0, "pool", "Pool::apply, in_place, Keep::perform"),
+    (1, "tree", "objset::write_of: the update, or BadKey"),
+    (1, "pool", "Keep::change"),
+    (2, "lookups", "live_name: of which file system"),
+    (2, "steps", "ask_change: with a ledger only"),
+    (3, "limits", "Ledger::find: the file system"),
+    (3, "tree", "Tree::forecast, by batch::forecast_of"),
+    (3, "limits", "outlook_of"),
+    (3, "limits", "Ledger::over_after"),
+    (2, "datasets", "Table::apply_live: the row"),
+    (3, "file_system", "FileSystem::apply"),
+    (4, "snapshots", "Line::last: the newest group"),
+    (4, "tree", "Tree::draft"),
+    (5, "batch", "draft_of: survey, choose, fill"),
+    (6, "zalloc", "Allocator::find"),
+    (4, "deadlist", "Deadlist::reserve"),
+    (4, "tree", "Tree::put: renew_root"),
+    (5, "node", "the nodes on the path"),
+    (4, "deadlist", "Deadlist::push_upto"),
+    (2, "steps", "settle, by Ledger::settle of limits"),
+    (0, "pool", "Keep::settle: Effect::Blocks"),
+    (1, "zalloc", "release of each that goes"),
+    (1, "tree", "take_all: zalloc's take of each new one"),
+]
+DESTROY = [
+    (0, "script", "run_script, request_at, Caller::ask"),
+    (0, "pool", "Pool::apply, in_place, Keep::perform"),
+    (1, "pool", "Keep::destroy"),
+    (2, "removals", "destroy, destroy_file_systems"),
+    (3, "removals", "refusal_of: Busy, HasClones .."),
+    (4, "datasets", "find, file_systems, clones_of"),
+    (4, "views", "is_viewed"),
+    (3, "removals", "Edit::of: copies of table and freeing"),
+    (3, "removals", "empty_family: snapshot by snapshot"),
+    (4, "datasets", "Table::remove_snapshot"),
+    (5, "file_system", "FileSystem::splice"),
+    (6, "deadlist", "take_after: the lost; append"),
+    (6, "snapshots", "splice, or remove of the last"),
+    (4, "destroyer", "Freeing::add_dead"),
+    (4, "datasets", "Table::vacate: the live map"),
+    (4, "destroyer", "Freeing::add_tree"),
+    (3, "removals", "remove_family: row by row"),
+    (4, "datasets", "Table::lost_with, remove"),
+    (3, "removals", "sweep: deferred origins"),
+    (3, "removals", "Edit::put: both in force"),
+    (2, "steps", "renew, by Ledger::fill of limits"),
+    (0, "pool", "Keep::settle: Effect::Nothing"),
+    (0, "pool", "later, Slice: Keep::slice"),
+    (1, "destroyer", "Freeing::slice"),
+    (2, "tree", "Subtree::peel, node by node"),
+    (2, "deadlist", "iter_from, entry by entry"),
+    (0, "pool", "Keep::settle: Effect::Taken"),
+    (1, "zalloc", "release of each"),
+]
+RECEIVE = [
+    (0, "script", "run_script, request_at, Caller::ask"),
+    (0, "pool", "Pool::apply, in_place, Keep::perform"),
+    (1, "pool", "Keep::receive"),
+    (2, "steps", "intake_of"),
+    (3, "stream", "read_stream, or BadStream"),
+    (3, "receives", "begin: receive_refusal, start"),
+    (4, "removals", "Edit::of: copies of table and freeing"),
+    (4, "datasets", "whole: Table::create"),
+    (4, "removals", "with -F: Edit::lose_live"),
+    (5, "datasets", "Table::rollback: the newest's map"),
+    (5, "destroyer", "Freeing::add_tree"),
+    (4, "removals", "with -F: remove_newer_bookmarks"),
+    (3, "receives", "updates_of: the records as a batch"),
+    (3, "steps", "ask_limits: with a ledger only"),
+    (4, "tree", "Tree::forecast"),
+    (4, "limits", "kept_outlook_of"),
+    (4, "limits", "Ledger::fill, settle, first_over"),
+    (3, "receives", "finish"),
+    (4, "datasets", "Table::apply_live: as a write's"),
+    (5, "file_system", "FileSystem::apply, as there"),
+    (4, "datasets", "Table::keep_live"),
+    (5, "file_system", "FileSystem::take: the snapshot"),
+    (6, "snapshots", "push; the dead list goes with it"),
+    (2, "pool", "the copies are the present world"),
+    (2, "steps", "renew, by Ledger::fill of limits"),
+    (0, "pool", "Keep::settle: Effect::Blocks"),
+    (1, "zalloc", "release, take: as a write's"),
+]
+
+
+def ways():
+    """The ways of a write, of a destroy and of a receive: which function of which crate is called, in order."""
+    crates, _ = crate_layers()
+    home = {crate: layer for layer, names in crates.items() for crate in names}
+    columns = [("write p/a 0 0 61", WRITE), ("destroy -r p/a", DESTROY), ("receive [-F] p/a@s HEX", RECEIVE)]
+    p = Picture(40 + 424 * len(columns), 112 + 26 * max(len(way) for _, way in columns))
+    for column, (name, way) in enumerate(columns):
+        left = 20 + 424 * column
+        p.title(left, 28, name)
+        for row, (depth, crate, call) in enumerate(way):
+            x, y = left + 12 * depth, 42 + 26 * row
+            p.parts.append(f'<rect x="{x}" y="{y}" width="{404 - 12 * depth}" height="22" rx="4" fill="{LAYERS[home[crate]]}" stroke="#999"/>')
+            p.words(x + 8, y + 15.5, crate, style='font-weight="bold"')
+            p.words(x + 102, y + 15.5, call)
+    y, x = p.height - 38, 20
+    p.words(x, y + 15.5, "The layer of a crate:")
+    x += 150
+    for layer in crates:
+        if any(home[crate] == layer for _, way in columns for _, crate, _ in way):
+            width = 24 + 8 * len(layer)
+            p.parts.append(f'<rect x="{x}" y="{y}" width="{width}" height="22" rx="4" fill="{LAYERS[layer]}" stroke="#999"/>')
+            p.words(x + width / 2, y + 15.5, layer, "middle")
+            x += width + 10
+    p.words(x + 20, y + 15.5, "What stands further in is called by what stands above it and further out.")
+    return p
+
+
+PICTURES = {"layers": layers, "ways": ways, "lineage": lineage, "dead-lists": dead_lists, "block-states": block_states}
 
 
 def main():

@@ -16,11 +16,11 @@ use Rattle.world.specs.Blocks.{block_order as o}
 use Rattle.world.specs.Shapes.{Name}
 use Rattle.world.specs.Worlds.{shape_of, shapes, snap_shape, AreFileSystems}
 use Rattle.world.specs.Dead.{IsThere}
-use Rattle.world.proofs.SetCounts.{same_members, in_difference, from_difference, no-empty}
-use Rattle.world.proofs.Listed.{in_map}
-use Rattle.world.proofs.Requests.{lineage_facts}
-use Rattle.world.proofs.Bridge.{shape_at, among, no_block, map_of_kept, map_of_live, previous_of_live}
-use Rattle.world.proofs.Dead.{in_line}
+use Rattle.world.proofs.lists.SetCounts.{same_members, in_difference, from_difference, no-empty}
+use Rattle.world.proofs.lists.Listed.{in_map}
+use Rattle.world.proofs.lineage.Requests.{lineage_facts}
+use Rattle.world.proofs.lineage.Bridge.{shape_at, among, no_block, map_of_kept, map_of_live, previous_of_live}
+use Rattle.world.proofs.lineage.Dead.{in_line}
 use Rattle.accounts.specs.Levels.{IsSameHere}
 use Rattle.accounts.specs.Limits.{IsWithin, AreQuotasMet}
 use Rattle.accounts.specs.Asked.{AreLiveAlike, AreWorldsAlike}

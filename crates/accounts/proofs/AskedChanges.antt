@@ -8,7 +8,7 @@ use Rattle.base.specs.Rewrite.{Changes, rewrite}
 use Rattle.model.specs.World.{World, FileSystem}
 use Rattle.model.specs.Edits.{after_change}
 use Rattle.world.specs.Shapes.{Name, name_order}
-use Rattle.world.proofs.Maps.{same_value, no_value, key_cases, get-insert_same, get-insert_other}
+use Rattle.world.proofs.lists.Maps.{same_value, no_value, key_cases, get-insert_same, get-insert_other}
 use Rattle.accounts.specs.Asked.{AreAlike, IsNumberedOnce, AreLiveAlike, AreWorldsAlike}
 use Rattle.accounts.proofs.Counts.{alike_itself, rewrites_alike}
 

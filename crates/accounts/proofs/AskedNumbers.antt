@@ -17,11 +17,11 @@ use Rattle.model.specs.Refusals.{fresh_number}
 use Rattle.world.specs.Shapes.{Name, key_order}
 use Rattle.world.specs.Numbering.{ChangesKeys}
 use Rattle.world.specs.Worlds.{ArePaired, InNow}
-use Rattle.world.proofs.SetCounts.{equal_keys}
-use Rattle.world.proofs.Bridge.{map_of_live}
-use Rattle.world.proofs.Finding.{in_either, from_flat}
-use Rattle.world.proofs.Listed.{in_map}
-use Rattle.world.proofs.Rewrites.{rewrite_is_change}
+use Rattle.world.proofs.lists.SetCounts.{equal_keys}
+use Rattle.world.proofs.lineage.Bridge.{map_of_live}
+use Rattle.world.proofs.lists.Finding.{in_either, from_flat}
+use Rattle.world.proofs.lists.Listed.{in_map}
+use Rattle.world.proofs.maps.Rewrites.{rewrite_is_change}
 use Rattle.accounts.specs.Asked.{IsNumberedOnce}
 use Rattle.accounts.proofs.Keys.{from_keys}
 

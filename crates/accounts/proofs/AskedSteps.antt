@@ -1,14 +1,13 @@
 -- A change of a live map that isn't refused leaves every limit as it should be, whatever numbers its new blocks have.
-use Rattle.std.proofs.Common.{◌≡◌, ◌<◌, Bool, true, false, Some, None, refl, sym, ap, subst, ◌∙◌, ◌⊎◌, inl, inr, arith}
+use Rattle.std.proofs.Common.{◌≡◌, Bool, true, false, Some, None, refl, sym, ap, subst, ◌∙◌, ◌⊎◌, inl, inr, arith}
 use Rattle.std.specs.FinMap.{get}
 use Rattle.base.specs.declared.number.Key.{Key}
 use Rattle.base.specs.Map.{Cell, Block, IsTree, block_of, blocks}
 use Rattle.base.specs.Rewrite.{Changes, rewrite, is_touched}
-use Rattle.name.specs.declared.target.Target.TheVariants.{FileSystem as OfFileSystem}
+use Rattle.base.specs.declared.name.target.Target.TheVariants.{FileSystem as OfFileSystem}
 use Rattle.model.specs.World.{World, FileSystem, Live, union_of, reach_of}
 use Rattle.model.specs.State.{State}
 use Rattle.model.specs.Edits.{with_now, after_change}
-use Rattle.model.specs.Fits.{pool_holds}
 use Rattle.model.specs.Sums.{referenced_of}
 use Rattle.model.specs.Rule.{Choice}
 use Rattle.model.specs.Outcome.{state_after}
@@ -18,21 +17,19 @@ use Rattle.world.specs.Sets.{Has}
 use Rattle.world.specs.Blocks.{block_order as o}
 use Rattle.world.specs.Shapes.{Name}
 use Rattle.world.specs.Worlds.{AreFileSystems, IsPoolState}
-use Rattle.world.proofs.SetCounts.{in_union_left}
-use Rattle.world.proofs.Bridge.{map_of_live}
-use Rattle.world.proofs.Cells.{in_blocks, from_blocks}
-use Rattle.world.proofs.Kept.{reach_is}
-use Rattle.world.proofs.Rewrites.{rewrite_is_change}
-use Rattle.world.proofs.TableWrites.{live_systems}
+use Rattle.world.proofs.lists.SetCounts.{in_union_left}
+use Rattle.world.proofs.lineage.Bridge.{map_of_live}
+use Rattle.world.proofs.maps.Cells.{in_blocks, from_blocks}
+use Rattle.world.proofs.changes.Kept.{reach_is}
+use Rattle.world.proofs.maps.Rewrites.{rewrite_is_change}
+use Rattle.world.proofs.changes.TableWrites.{live_systems}
 use Rattle.accounts.specs.Levels.{IsSameHere}
 use Rattle.accounts.specs.Limits.{HasLimits}
 use Rattle.accounts.specs.Asked.{IsNumberedOnce, AreWorldsAlike}
 use Rattle.accounts.proofs.Asked.{same_here, same_size}
-use Rattle.accounts.proofs.Limits.{limits_met}
 use Rattle.accounts.proofs.Steps.{after_limits}
 use Rattle.accounts.proofs.AskedNumbers.{once_of_pair, fresh_rewrite_once}
-use Rattle.accounts.proofs.AskedChanges.{after_is, live_there, changes_alike, change_frees_none}
-use Rattle.accounts.proofs.AskedPool.{same_room}
+use Rattle.accounts.proofs.AskedChanges.{after_is, live_there, changes_alike}
 use Rattle.accounts.proofs.Rows.{change_asked, change_limits}
 
 module _ (s : State) (good : IsPoolState s) (name : Name) (x : FileSystem) (at : get s.now.file_systems name ≡ Some x) (c : Changes) where
@@ -86,22 +83,6 @@ module _ (s : State) (good : IsPoolState s) (name : Name) (x : FileSystem) (at :
     change_same_size = same_size (after_change s.now name c (fresh_number s)) (after_change s.now name c choice.number) asked_systems later.now.systems asked_alike
 
     module _ (in_range : Bool) (none : refusal_of s (change_rule (OfFileSystem name) c in_range) ≡ None) where
-      -- the pool has room
-      pub change_has_room : pool_holds (with_now s (after_change s.now name c choice.number)) ≡ true
-      unfolding refusal_of state_asked
-      change_has_room =
-          same_room (after_change s.now name c (fresh_number s)) (after_change s.now name c choice.number) asked_systems later.now.systems asked_alike
-          (change_frees_none s.now name x at c choice.number ∙ sym (change_frees_none s.now name x at c (fresh_number s)))
-          s old
-          ∙ (limits_met (with_now s asked) (change_asked s (with_now s asked) (OfFileSystem name) in_range none)).1
-        where
-          old : (b : Block) → Has (reach_of s.last) b → b.birth < (after_change s.now name c (fresh_number s)).group
-          old b h =
-              let l = good.pair.reached.since.older b h in
-              let g = good.pair.reached.since.later in
-              let e = ap (λ (w : World). w.group) (after_is s.now name x at c (fresh_number s)) in
-              omega (arith, l, g, e)
-
       -- and every quota and refquota holds, after the sweep too
       pub change_limits_after : HasLimits s → HasLimits (state_after s choice (change_rule (OfFileSystem name) c in_range))
       unfolding refusal_of state_asked

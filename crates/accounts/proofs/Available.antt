@@ -4,7 +4,7 @@ use Rattle.std.specs.Prelude.{is_some}
 use Rattle.std.specs.Option.{option_map_or}
 use Rattle.std.specs.FinMap.{get}
 use Rattle.std.specs.FinMap as finmap
-use Rattle.name.specs.Names.{parent_of}
+use Rattle.base.specs.Names.{parent_of}
 use Rattle.model.specs.World.{FileSystem}
 use Rattle.model.specs.State.{State}
 use Rattle.model.specs.Hierarchy.{IsHierarchy}

@@ -13,15 +13,15 @@ use Rattle.world.specs.Sets.{Has}
 use Rattle.world.specs.Blocks.{block_order as o, after}
 use Rattle.world.specs.Shapes.{Name, name_order}
 use Rattle.world.specs.Worlds.{AreFileSystems, AreRising}
-use Rattle.world.specs.Dead.{IsThere, HasNoCloneIn, base_of, below_of, dead_of, next_in}
-use Rattle.world.proofs.SetCounts.{same_members, in_difference, from_difference, in_intersection, from_intersection}
-use Rattle.world.proofs.Lineage.{in_after, from_after}
-use Rattle.world.proofs.Maps.{same_value, at_entry}
-use Rattle.world.proofs.Listed.{in_map, map_in}
-use Rattle.world.proofs.Finding.{from_filter, same_id_is}
-use Rattle.world.proofs.States.{in_clones}
-use Rattle.world.proofs.Promotions.{append_assoc, after_is}
-use Rattle.world.proofs.Bridge.{start, rising, in_middle, one_snap, from_entries}
+use Rattle.world.specs.Dead.{IsThere, base_of, below_of, dead_of, next_in}
+use Rattle.world.proofs.lists.SetCounts.{same_members, in_difference, from_difference, in_intersection, from_intersection}
+use Rattle.world.proofs.lineage.Lineage.{in_after, from_after}
+use Rattle.world.proofs.lists.Maps.{same_value, at_entry}
+use Rattle.world.proofs.lists.Listed.{in_map, map_in}
+use Rattle.world.proofs.lists.Finding.{from_filter, same_id_is}
+use Rattle.world.proofs.steps.States.{in_clones}
+use Rattle.world.proofs.changes.Promotions.{append_assoc, after_is}
+use Rattle.world.proofs.lineage.Bridge.{start, rising, in_middle, one_snap, from_entries}
 use Rattle.accounts.specs.Space.{AreNext, dead_in_each, oldest_in, without_each}
 use Rattle.accounts.proofs.Next.{newest_last, from_newest, next_there, next_previous, comes_next}
 use Rattle.accounts.proofs.Snapshots.{used_by_snap_is, in_each, from_each}
@@ -53,14 +53,6 @@ from_clones w id q h =
     by_origin : (y : Option SnapId) → option_map_or (same_id id) y false ≡ true → y ≡ Some id
     by_origin None h = absurd (true≢false (sym h))
     by_origin (Some i) h = ap Some (sym (same_id_is id i h))
-
--- a snapshot that no file system has for its origin has no clone
-pub no_clones : (w : World) (id : SnapId) → HasNoCloneIn w.file_systems id → clones_of w id ≡ []
-no_clones w id none = nothing (clones_of w id) (λ q i. let x = from_clones w id q i in none q x.0 x.1 x.2)
-  where
-    nothing : (xs : List Name) → ((x : Name) → IsIn xs x → ⊥) → xs ≡ []
-    nothing [] h = refl
-    nothing (x ∷ xs) h = absurd (h x (inl refl))
 
 -- the oldest dataset of a file system that is there
 oldest_is : (w : World) (name : Name) (s : FileSystem) → get w.file_systems name ≡ Some s → oldest_in w name ≡ next_in name s.snaps
@@ -146,12 +138,6 @@ module _ (w : World) (good : AreFileSystems w.file_systems w.group) where
     used_by_snap_at =
         used_by_snap_is w good (id_of t) (name, s, t, at, there, refl) (next_in name newer ∷ map (oldest_in w) (clones_of w (id_of t))) next_of_snap
         ∙ ap (λ x. len (after (base_of w (Snapped (id_of t))) x)) (dead_first (map (oldest_in w) (clones_of w (id_of t))))
-
-    -- without clones, the next deadlist alone gives it
-    pub used_by_snap_alone : HasNoCloneIn w.file_systems (id_of t) → used_by_snap w (id_of t) ≡ len (after (base_of w (Snapped (id_of t))) (dead_of w (next_in name newer)))
-    used_by_snap_alone none =
-        used_by_snap_at
-        ∙ ap (λ cs. len (after (base_of w (Snapped (id_of t))) (dead_in_each w (dead_of w (next_in name newer)) (map (oldest_in w) cs)))) (no_clones w (id_of t) none)
 
     abbrev clones : List Dataset
     clones = map (oldest_in w) (clones_of w (id_of t))

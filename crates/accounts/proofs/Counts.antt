@@ -15,12 +15,12 @@ use Rattle.world.specs.Blocks.{block_order as o}
 use Rattle.world.specs.Shapes.{key_order}
 use Rattle.world.specs.Usage.{IsEntry, AreApart}
 use Rattle.world.specs.Trees.{total}
-use Rattle.world.proofs.SetCounts.{same_members, in_difference, from_difference, in_retain, from_retain, in_union_left, in_union_right, from_union}
-use Rattle.world.proofs.Maps.{same_value, at_entry, entries_apart}
-use Rattle.world.proofs.Lists.{len-from_list, from_list-filter, once_filter}
-use Rattle.world.proofs.Cells.{in_blocks, from_blocks}
-use Rattle.world.proofs.Presence.{same_presence}
-use Rattle.world.proofs.Rewrites.{rewrite_is_change}
+use Rattle.world.proofs.lists.SetCounts.{same_members, in_difference, from_difference, in_retain, from_retain, in_union_left, in_union_right, from_union}
+use Rattle.world.proofs.lists.Maps.{same_value, at_entry, entries_apart}
+use Rattle.world.proofs.lists.Lists.{len-from_list, from_list-filter, once_filter}
+use Rattle.world.proofs.maps.Cells.{in_blocks, from_blocks}
+use Rattle.world.proofs.maps.Presence.{same_presence}
+use Rattle.world.proofs.maps.Rewrites.{rewrite_is_change}
 use Rattle.accounts.specs.Asked.{AreAlike, IsNumberedOnce}
 use Rattle.accounts.proofs.Totals.{total_more}
 use Rattle.accounts.proofs.Keys.{in_keys, from_keys, keys_once}

@@ -2,14 +2,14 @@
 use Rattle.std.proofs.Common.{◌≡◌, ℕ, zero, suc, ◌+◌, List, [], ◌∷◌, Option, Some, None, refl, sym, ap, subst, inl, ⊎_elim, arith}
 use Rattle.std.specs.Option.{option_and_then}
 use Rattle.base.specs.Surveys.{IsIn, AreDifferent}
-use Rattle.name.specs.Names.{parent_of}
+use Rattle.base.specs.Names.{parent_of}
 use Rattle.model.specs.World.{World}
 use Rattle.model.specs.Sums.{used_of, used_by_children}
 use Rattle.world.specs.Trees.{total}
 use Rattle.model.specs.Hierarchy.{IsHierarchy}
-use Rattle.world.proofs.Maps.{no_value}
+use Rattle.world.proofs.lists.Maps.{no_value}
 use Rattle.accounts.specs.Levels.{slashes, above, IsUnder, charge_of, IsNoMore, IsSameHere, AreSameBut}
-use Rattle.accounts.proofs.Names.{level_up, above_is, under_itself, under_child, one_path}
+use Rattle.accounts.proofs.Names.{level_up, above_is, under_child, one_path}
 use Rattle.accounts.proofs.Levels.{used-split, used_no_more, but_some}
 
 same_more : (old new : World) (name : List ℕ) → IsSameHere old new name → IsNoMore old new name
@@ -26,12 +26,6 @@ module _ (old new : World) (good : IsHierarchy old.file_systems) (good' : IsHier
       let a = used_no_more old new good good' name (λ lower u. same_more old new lower (h lower u)) in
       let b = used_no_more new old good' good name (λ lower u. same_less old new lower (h lower u)) in
       omega (arith, a, b)
-
-  pub charge_away : (name : List ℕ) → ((m : List ℕ) → IsIn ms m → ¬ (IsUnder name m)) → charge_of new name ≡ charge_of old name
-  charge_away name out =
-      let u = used_away name out in
-      let r = (same name (λ i. out name i (under_itself name))).reserved in
-      omega (arith, u, r)
 
   -- usedbychildren changes by what the charges of those children change that have a changed file system at or below them
   pub children_change : (name : List ℕ) (cs : List (List ℕ)) → AreDifferent cs → ((c : List ℕ) → IsIn cs c → parent_of c ≡ Some name)

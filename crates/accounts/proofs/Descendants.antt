@@ -6,11 +6,11 @@ use Rattle.std.specs.Option.{option_map_or}
 use Rattle.std.specs.FinMap.{keys}
 use Rattle.std.proofs.lemmas.Bool.{eqb-true, eq-eqb}
 use Rattle.base.specs.Surveys.{IsIn}
-use Rattle.name.specs.Names.{slash, same_name, before_slash, parent_of, is_descendant}
+use Rattle.base.specs.Names.{slash, same_name, before_slash, parent_of, is_descendant}
 use Rattle.model.specs.Hierarchy.{FileSystems, IsHierarchy}
 use Rattle.world.specs.Trees.{total}
-use Rattle.world.proofs.Finding.{name_itself, one_name}
-use Rattle.world.proofs.Maps.{same_value, no_value}
+use Rattle.world.proofs.lists.Finding.{name_itself, one_name}
+use Rattle.world.proofs.lists.Maps.{same_value, no_value}
 use Rattle.accounts.specs.Levels.{slashes}
 use Rattle.accounts.specs.Space.{is_in_family}
 use Rattle.accounts.proofs.Totals.{total_same, total_plus, total_zero}

@@ -6,7 +6,7 @@ use Rattle.std.specs.FinMap.{get, keys}
 use Rattle.std.specs.FinMap as finmap
 use Rattle.std.specs.FinSet.{len, union}
 use Rattle.std.proofs.lemmas.Bool.{leb-true}
-use Rattle.name.specs.Names.{root_name}
+use Rattle.base.specs.Names.{root_name}
 use Rattle.model.specs.World.{World, FileSystem, union_of, reach_of, children_of}
 use Rattle.model.specs.State.{State}
 use Rattle.model.specs.Sums.{used_of, used_here, used_by_children, children_within, reservation_of, used_by_dataset, used_by_snapshots, used_by_refreservation}

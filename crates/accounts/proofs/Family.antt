@@ -1,46 +1,28 @@
 -- Where no file system has a limit, a file system uses what those of its family have of their own.
 use Rattle.std.proofs.Common.{◌≡◌, ℕ, zero, suc, ◌+◌, ◌-◌, ◌≤◌, Bool, true, false, cond, List, [], ◌∷◌, Some, map, refl, sym, ap, ◌∙◌, inl, inr, arith}
 use Rattle.std.specs.Prelude.{IsSome, unwrap_or}
-use Rattle.std.specs.List.{sum, filter}
 use Rattle.std.specs.Option.{option_map_or}
 use Rattle.std.specs.FinMap.{get, entries, keys}
 use Rattle.std.specs.FinMap as finmap
 use Rattle.base.specs.Surveys.{IsIn}
-use Rattle.name.specs.Names.{same_name, is_descendant}
+use Rattle.base.specs.Names.{same_name, is_descendant}
 use Rattle.model.specs.World.{World, FileSystem, Live}
 use Rattle.model.specs.Sums.{used_of, used_by_children, used_by_refreservation, written_of}
 use Rattle.world.specs.Shapes.{name_order}
 use Rattle.world.specs.Usage.{IsEntry}
 use Rattle.world.specs.Trees.{total, used_within}
 use Rattle.world.specs.Worlds.{AreFileSystems}
-use Rattle.world.proofs.Finding.{name_itself, one_name}
-use Rattle.world.proofs.Maps.{at_entry}
+use Rattle.world.proofs.lists.Finding.{name_itself, one_name}
+use Rattle.world.proofs.lists.Maps.{at_entry}
 use Rattle.accounts.specs.Levels.{slashes}
 use Rattle.accounts.specs.Limits.{IsUnlimited}
 use Rattle.accounts.specs.Space.{own_of, own_where, is_in_family}
 use Rattle.accounts.proofs.Totals.{sum-total, total_same, total_plus, total_swap, cond_total}
 use Rattle.accounts.proofs.Names.{is_child, child_is, level_up, level_low, in_keys, keys_once}
 use Rattle.accounts.proofs.Descendants.{family_parts, of_one_child}
-use Rattle.accounts.proofs.Root.{own, own_here, within_same, total_one}
+use Rattle.accounts.proofs.Root.{own, within_same, total_one}
 
 -- ---- sums over all file systems
-
--- the sum over those that pass a test
-pub own_where_filtered : (w : World) (p : List ℕ → Bool) → own_where w p ≡ sum (map (λ e. own_of w e.1) (filter (λ e. p e.0) (entries w.file_systems)))
-own_where_filtered w p =
-    sum-total (λ (e : List ℕ × FileSystem). cond (p e.0) (own_of w e.1) 0) (entries w.file_systems)
-    ∙ passing (entries w.file_systems)
-    ∙ sym (sum-total (λ (e : List ℕ × FileSystem). own_of w e.1) (filter (λ e. p e.0) (entries w.file_systems)))
-  where
-    passing : (es : List (List ℕ × FileSystem)) → total (λ e. cond (p e.0) (own_of w e.1) 0) es ≡ total (λ e. own_of w e.1) (filter (λ e. p e.0) es)
-    passing [] = refl
-    passing (e ∷ es) = at (p e.0) (passing es)
-      where
-        at : (b : Bool) → total (λ e. cond (p e.0) (own_of w e.1) 0) es ≡ total (λ e. own_of w e.1) (filter (λ e. p e.0) es)
-            → cond b (own_of w e.1) 0 + total (λ e. cond (p e.0) (own_of w e.1) 0) es
-            ≡ total (λ e. own_of w e.1) (cond b (e ∷ filter (λ e. p e.0) es) (filter (λ e. p e.0) es))
-        at true ih = omega (arith, ih)
-        at false ih = omega (arith, ih)
 
 -- the same sum over names
 names_sum : (w : World) (p : List ℕ → Bool) → total (λ q. cond (p q) (own w q) 0) (keys w.file_systems) ≡ own_where w p
@@ -108,18 +90,6 @@ module _ (w : World) (good : AreFileSystems w.file_systems w.group) where
         within_same w unlimited (finmap.len w.file_systems) name
         ∙ deep_sum (finmap.len w.file_systems) name (in_keys w.file_systems name there) (omega arith)
         ∙ names_sum w (is_in_family name)
-
-    -- usedbychildren: what its descendants have of their own
-    pub used_by_children_unlimited : (name : List ℕ) → IsSome (get w.file_systems name) → used_by_children w name ≡ own_where w (is_descendant name)
-    unfolding used_of below_has family_has
-    used_by_children_unlimited name there =
-        let i = in_keys w.file_systems name there in
-        let u = used_unlimited name there in
-        let n = names_sum w (is_in_family name) in
-        let f = family_is name i in
-        let h = own_here w unlimited name in
-        let b = names_sum w (is_descendant name) in
-        omega (arith, u, n, f, h, b)
 
 -- usedbyrefreservation: nothing
 pub used_by_refreservation_unlimited : (w : World) → IsUnlimited w.file_systems → (name : List ℕ) (s : FileSystem) → get w.file_systems name ≡ Some s

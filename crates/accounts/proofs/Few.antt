@@ -1,21 +1,17 @@
 -- A request that changes few file systems: the others' own numbers stay, and it is enough to ask those few and the ones above them.
-use Rattle.std.proofs.Common.{◌≡◌, ℕ, ◌+◌, ◌-◌, List, [], ◌∷◌, Option, Some, None, map, refl, sym, ap, subst, ◌∙◌, ⊎_elim}
+use Rattle.std.proofs.Common.{◌≡◌, ℕ, ◌+◌, ◌-◌, List, [], ◌∷◌, Option, Some, None, map, refl, sym, ap, ◌∙◌, ⊎_elim}
 use Rattle.std.specs.Prelude.{unwrap_or}
 use Rattle.std.specs.FinMap.{get}
 use Rattle.std.specs.FinSet.{len, difference}
 use Rattle.base.specs.Map.{blocks}
-use Rattle.base.specs.Surveys.{IsIn}
 use Rattle.model.specs.World.{World, FileSystem, Snap, SnapId, Live, Snapped, map_of, map_of_snap, previous_of, blocks_of_all}
-use Rattle.model.specs.Sums.{referenced_of, written_of}
+use Rattle.model.specs.Sums.{written_of}
 use Rattle.world.specs.Worlds.{AreFileSystems}
 use Rattle.world.specs.Dead.{IsThere}
-use Rattle.world.proofs.Bridge.{map_of_kept, map_of_live, previous_of_live, one_snap}
-use Rattle.accounts.specs.Levels.{IsUnder, IsSameHere, AreSameBut}
-use Rattle.accounts.specs.Limits.{IsWithin, IsQuotaMet, IsRefquotaMet, AreQuotasMet}
+use Rattle.world.proofs.lineage.Bridge.{map_of_kept, map_of_live, previous_of_live, one_snap}
+use Rattle.accounts.specs.Levels.{IsSameHere, AreSameBut}
 use Rattle.accounts.specs.Steps.{AreSnapsOrNew, AreEqualBut}
-use Rattle.accounts.proofs.Names.{in_or_out}
 use Rattle.accounts.proofs.Levels.{here_is, reserved_is, nothing_here, no_reservation}
-use Rattle.accounts.proofs.Limits.{ask_above}
 use Rattle.accounts.proofs.Older.{origin_there, previous_there}
 
 module _ (old new : World) (good : AreFileSystems old.file_systems old.group) (good' : AreFileSystems new.file_systems new.group) (from : AreSnapsOrNew old new) where
@@ -50,10 +46,6 @@ module _ (old new : World) (good : AreFileSystems old.file_systems old.group) (g
     unfolding written_of
     same_written i = len (difference (blocks (same_live i)) (blocks (same_previous i)))
 
-    same_referenced : referenced_of new (Live name) ≡ referenced_of old (Live name)
-    unfolding referenced_of
-    same_referenced i = len (blocks (same_live i))
-
     own_same : IsSameHere old new name
     own_same = record {
       here = here_is new name s at'
@@ -77,13 +69,3 @@ module _ (old new : World) (good : AreFileSystems old.file_systems old.group) (g
               reserved = no_reservation new good'.hierarchy name f ∙ sym (no_reservation old good.hierarchy name e);
             }
         by_old (Some s) e = own_same name s e (others name out ∙ e)
-
-    -- it is enough to ask the quotas of the changed file systems and of those above them, and the refquotas of the changed ones
-    pub ask_few : AreQuotasMet old → ((m name : List ℕ) → IsIn ms m → IsUnder name m → IsQuotaMet new name) → ((m : List ℕ) → IsIn ms m → IsRefquotaMet new m) → AreQuotasMet new
-    ask_few met quotas refquotas = record {
-      quotas = ask_above old new good.hierarchy good'.hierarchy ms same_but others met.quotas quotas;
-      refquotas = λ name t at. ⊎_elim
-          (λ i. refquotas name i t at)
-          (λ out. let at'' = sym (others name out) ∙ at in subst (λ n. IsWithin n t.limits.refquota) (sym (same_referenced name t at'' at)) (met.refquotas name t at''))
-          (in_or_out ms name);
-    }

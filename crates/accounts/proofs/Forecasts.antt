@@ -12,7 +12,7 @@ use Rattle.base.specs.Rewrite.{Changes, rewrite, is_touched}
 use Rattle.base.specs.Surveys.{IsIn, IsSurvey}
 use Rattle.model.specs.World.{World, FileSystem, Snap, Live, map_of, map_of_snap, previous_of, blocks_of_all, union_of, reach_of}
 use Rattle.model.specs.State.{State, waiting_of}
-use Rattle.model.specs.Sums.{referenced_of, written_of, used_here, reservation_of, used_by_dataset, used_by_snapshots}
+use Rattle.model.specs.Sums.{referenced_of, written_of, used_here, used_by_dataset, used_by_snapshots}
 use Rattle.model.specs.Edits.{with_now, after_change}
 use Rattle.model.specs.Refusals.{fresh_number}
 use Rattle.world.specs.Sets.{Has}
@@ -21,20 +21,20 @@ use Rattle.world.specs.Shapes.{Name}
 use Rattle.world.specs.Sums.{origin_group}
 use Rattle.world.specs.Worlds.{AreFileSystems, IsPoolState}
 use Rattle.world.specs.Dead.{base_of}
-use Rattle.world.proofs.SetCounts.{in_union_left, in_union_right, from_union, no-empty}
-use Rattle.world.proofs.Bridge.{map_of_live}
-use Rattle.world.proofs.Kept.{reach_is}
-use Rattle.world.proofs.Put.{put_here, put_other, put_cases}
-use Rattle.world.proofs.Rewrites.{rewrite_is_change}
-use Rattle.world.proofs.Cells.{in_blocks, from_new_blocks}
+use Rattle.world.proofs.lists.SetCounts.{in_union_left, in_union_right, from_union, no-empty}
+use Rattle.world.proofs.lineage.Bridge.{map_of_live}
+use Rattle.world.proofs.changes.Kept.{reach_is}
+use Rattle.world.proofs.lineage.Put.{put_here, put_other, put_cases}
+use Rattle.world.proofs.maps.Rewrites.{rewrite_is_change}
+use Rattle.world.proofs.maps.Cells.{in_blocks, from_new_blocks}
 use Rattle.accounts.specs.Asked.{IsNumberedOnce}
 use Rattle.accounts.specs.Forecasts.{count_after, count_between, count_before, IsOutlook, outlook_here}
 use Rattle.accounts.specs.Levels.{AreSameBut}
 use Rattle.accounts.specs.Steps.{AreSnapsOrNew, AreEqualBut}
-use Rattle.accounts.proofs.AskedChanges.{after_is, change_frees_none}
+use Rattle.accounts.proofs.AskedChanges.{after_is}
 use Rattle.accounts.proofs.AskedNumbers.{once_of_pair, fresh_rewrite_once}
 use Rattle.accounts.proofs.Few.{same_but}
-use Rattle.accounts.proofs.Levels.{here_is, reserved_is}
+use Rattle.accounts.proofs.Levels.{here_is}
 use Rattle.accounts.proofs.Surveyed.{count_split, lost_more, own, goes, gone, count_all, without_changed}
 use Rattle.accounts.proofs.Replaced.{live_in, origin_born, origin_kept, previous_born, previous_kept, previous_low, origin_high, snapped_low, snapped_in, snapped_there, systems, referenced_is, written_is, by_dataset_is, by_snapshots_is, union_from, union_lost, union_hasnt}
 
@@ -210,9 +210,6 @@ module _ (s : State) (good : IsPoolState s) (name : Name) (f : FileSystem) (at :
   pub asked_systems : AreFileSystems (after_change s.now name ch (fresh_number s)).file_systems (after_change s.now name ch (fresh_number s)).group
   asked_systems = subst (λ (v : World). AreFileSystems v.file_systems v.group) (sym asked_is) (systems s.now line name f at live new)
 
-  pub asked_freeing : (after_change s.now name ch (fresh_number s)).freeing ≡ s.now.freeing
-  asked_freeing = change_frees_none s.now name f at ch (fresh_number s)
-
   -- what of the file system's `used` isn't its children's
   pub asked_used_here : used_here (after_change s.now name ch (fresh_number s)) name ≡ outlook_here s name f dropped (length made)
   asked_used_here =
@@ -227,9 +224,6 @@ module _ (s : State) (good : IsPoolState s) (name : Name) (f : FileSystem) (at :
       sums : (d' d s' s v' v n c a b h r : ℕ) → d' + a ≡ d + n → s' ≡ s + b → v' + c ≡ v + n → a ≡ b + c → h ≡ d' + s' + (r - v')
           → h ≡ (d + s + n - c) + (r - (v + n - c))
       sums d' d s' s v' v n c a b h r e i j k l = omega (arith, e, i, j, k, l)
-
-  pub asked_reserved : reservation_of (after_change s.now name ch (fresh_number s)) name ≡ reservation_of s.now name
-  asked_reserved = reserved_is asked name after_f asked_there ∙ sym (reserved_is s.now name f at)
 
   -- ---- the others
 

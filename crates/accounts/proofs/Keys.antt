@@ -4,7 +4,7 @@ use Rattle.std.specs.FinMap.{FinMap, get, entries, keys}
 use Rattle.base.specs.Surveys.{IsIn, AreDifferent}
 use Rattle.world.specs.Sets.{IsExactOrder}
 use Rattle.world.specs.Usage.{IsEntry, AreApart}
-use Rattle.world.proofs.Maps.{entry_of, at_entry, entries_apart}
+use Rattle.world.proofs.lists.Maps.{entry_of, at_entry, entries_apart}
 
 module _ {K X : Type 0} where
   key_entry : (es : List (K × X)) (k : K) → IsIn (map (λ e. e.0) es) k → (x : X) × IsEntry es k x

@@ -5,13 +5,13 @@ use Rattle.std.specs.Option.{option_map_or}
 use Rattle.std.specs.FinMap.{get}
 use Rattle.std.specs.FinMap as finmap
 use Rattle.base.specs.Surveys.{IsIn, AreDifferent}
-use Rattle.name.specs.Names.{same_name, parent_of}
+use Rattle.base.specs.Names.{same_name, parent_of}
 use Rattle.model.specs.World.{World, FileSystem, Live, children_of}
 use Rattle.model.specs.Sums.{used_of, used_here, used_by_children, children_within, reservation_of, used_by_dataset, used_by_snapshots, used_by_refreservation, written_of}
 use Rattle.world.specs.Trees.{total}
 use Rattle.model.specs.Hierarchy.{IsHierarchy}
-use Rattle.world.proofs.Maps.{no_value}
-use Rattle.world.proofs.Finding.{name_itself, one_name}
+use Rattle.world.proofs.lists.Maps.{no_value}
+use Rattle.world.proofs.lists.Finding.{name_itself, one_name}
 use Rattle.accounts.specs.Levels.{slashes, IsUnder, charge_of, IsNoMore}
 use Rattle.accounts.proofs.Totals.{sum-total, total_same, total_more, set_all_apart, but_all, among_but, others_but}
 use Rattle.accounts.proofs.Names.{level_up, level_low, under_itself, under_child, in_keys, from_keys, parent_in, children_once, in_children, from_children, in_or_out}
@@ -113,9 +113,6 @@ module _ (w : World) (good : IsHierarchy w.file_systems) where
 -- ---- one world and a later one
 
 module _ (old new : World) (good : IsHierarchy old.file_systems) (good' : IsHierarchy new.file_systems) where
-  abbrev total_of : World → List ℕ → ℕ
-  total_of w name = total (charge_of w) (children_of w name)
-
   -- children that are charged no more
   children_more : (f g : List ℕ → ℕ) (name : List ℕ) → ((child : List ℕ) → parent_of child ≡ Some name → IsIn (children_of new name) child → (f child ≤ g child) × ((g child ≡ 0) ⊎ IsIn (children_of old name) child))
       → total f (children_of new name) ≤ total g (children_of old name)

@@ -28,7 +28,6 @@ pub mod Counts
 pub mod Asked
 pub mod AskedNumbers
 pub mod AskedChanges
-pub mod AskedPool
 pub mod Rows
 pub mod AskedSteps
 pub mod Surveyed

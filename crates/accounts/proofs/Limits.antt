@@ -1,23 +1,18 @@
 -- Limits as facts, and where it is enough to ask some file systems.
-use Rattle.std.proofs.Common.{◌≡◌, ℕ, Bool, true, List, [], ◌∷◌, Option, Some, None, refl, sym, ap, subst, ◌∙◌, inl, inr, ⊎_elim}
+use Rattle.std.proofs.Common.{◌≡◌, ℕ, Bool, true, List, [], ◌∷◌, Option, Some, None, refl, ap, ◌∙◌, inl, inr, ⊎_elim}
 use Rattle.std.specs.Prelude.{nat_le, ◌&&◌}
 use Rattle.std.specs.List.{list_all}
 use Rattle.std.specs.Option.{option_map_or}
-use Rattle.std.specs.FinMap.{get, entries}
+use Rattle.std.specs.FinMap.{entries}
 use Rattle.std.proofs.lemmas.Bool.{leb-true, le-leb, and_parts, and_from}
-use Rattle.base.specs.Surveys.{IsIn}
 use Rattle.model.specs.World.{World, FileSystem, Live}
 use Rattle.model.specs.State.{State}
 use Rattle.model.specs.Sums.{used_of, referenced_of}
 use Rattle.model.specs.Fits.{quotas_hold, refquotas_hold, pool_holds, limits_hold}
 use Rattle.world.specs.Usage.{IsEntry}
 use Rattle.world.specs.Shapes.{name_order}
-use Rattle.model.specs.Hierarchy.{IsHierarchy}
-use Rattle.world.proofs.Maps.{entry_of, at_entry}
-use Rattle.accounts.specs.Levels.{IsUnder, AreSameBut}
+use Rattle.world.proofs.lists.Maps.{entry_of, at_entry}
 use Rattle.accounts.specs.Limits.{IsWithin, IsQuotaMet, IsRefquotaMet, AreQuotasMet}
-use Rattle.accounts.proofs.Names.{under_itself, some_under}
-use Rattle.accounts.proofs.Depth.{used_away}
 
 from_within : (n : ℕ) (x : Option ℕ) → option_map_or (nat_le n) x true ≡ true → IsWithin n x
 from_within n None e = tt
@@ -69,18 +64,4 @@ module _ (s : State) where
       let b = and_parts (refquotas_hold s.now) (pool_holds s) a.1 in
       (are_met s.now a.0 b.0, b.1)
 
-  pub met_limits : AreQuotasMet s.now → pool_holds s ≡ true → limits_hold s ≡ true
-  met_limits met holds =
-      and_from (quotas_hold s.now) (refquotas_hold s.now && pool_holds s) (met_quotas s.now met.quotas)
-      (and_from (refquotas_hold s.now) (pool_holds s) (met_refquotas s.now met.refquotas) holds)
-
 -- ---- it is enough to ask the changed file systems and those above them
-
-module _ (old new : World) (good : IsHierarchy old.file_systems) (good' : IsHierarchy new.file_systems) (ms : List (List ℕ)) (same : AreSameBut old new ms)
-    (others : (name : List ℕ) → ¬ (IsIn ms name) → get new.file_systems name ≡ get old.file_systems name) where
-  pub ask_above : ((name : List ℕ) → IsQuotaMet old name) → ((m name : List ℕ) → IsIn ms m → IsUnder name m → IsQuotaMet new name) → (name : List ℕ) → IsQuotaMet new name
-  ask_above before asked name s at = ⊎_elim
-      (λ r. asked r.0 name r.1 r.2 s at)
-      (λ none. subst (λ n. IsWithin n s.limits.quota) (sym (used_away old new good good' ms same name none))
-      (before name s (sym (others name (λ i. none name i (under_itself name))) ∙ at)))
-      (some_under ms name)

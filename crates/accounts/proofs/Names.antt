@@ -5,15 +5,15 @@ use Rattle.std.specs.Option.{option_map_or, option_and_then}
 use Rattle.std.specs.FinMap.{get, entries, keys}
 use Rattle.std.specs.FinMap as finmap
 use Rattle.base.specs.Surveys.{IsIn, AreDifferent}
-use Rattle.name.specs.Names.{slash, same_name, before_slash, parent_of}
+use Rattle.base.specs.Names.{slash, same_name, before_slash, parent_of}
 use Rattle.model.specs.World.{World, FileSystem, children_of}
 use Rattle.world.specs.Shapes.{name_order}
 use Rattle.model.specs.Hierarchy.{FileSystems, IsHierarchy}
-use Rattle.world.proofs.Put.{parent_there}
-use Rattle.world.proofs.Finding.{name_itself, one_name, in_filter, from_filter}
-use Rattle.world.proofs.Maps.{same_value, no_value, some_of, key_cases}
-use Rattle.world.proofs.Listed.{length-mapped}
-use Rattle.world.proofs.Lists.{once_filter}
+use Rattle.world.proofs.lineage.Put.{parent_there}
+use Rattle.world.proofs.lists.Finding.{name_itself, one_name, in_filter, from_filter}
+use Rattle.world.proofs.lists.Maps.{same_value, no_value, some_of, key_cases}
+use Rattle.world.proofs.lists.Listed.{length-mapped}
+use Rattle.world.proofs.lists.Lists.{once_filter}
 use Rattle.accounts.specs.Levels.{slashes, above, IsUnder}
 use Rattle.accounts.proofs.Keys as map_keys
 use Rattle.accounts.proofs.Totals.{levels_few}
@@ -105,14 +105,6 @@ under_or_not name lower = at (above (slashes lower - slashes name) lower) refl
         (λ is. inl (slashes lower - slashes name, e ∙ ap Some is))
         (λ ne. inr (λ u. ne (same_value q name (sym e ∙ ap (λ k. above k lower) (sym (that u.0 u.1)) ∙ u.1))))
         (key_cases name_order q name)
-
--- one of the names is at or below a name, or none is
-pub some_under : (ns : List (List ℕ)) (name : List ℕ) → ((m : List ℕ) × IsIn ns m × IsUnder name m) ⊎ ((m : List ℕ) → IsIn ns m → ¬ (IsUnder name m))
-some_under [] name = inr (λ m i. absurd i)
-some_under (n ∷ ns) name = ⊎_elim
-    (λ u. inl (n, inl refl, u))
-    (λ no'. ⊎_elim (λ r. inl (r.0, inr r.1, r.2)) (λ none. inr (λ m i u. ⊎_elim (λ is. no' (subst (IsUnder name) is u)) (λ k. none m k u) i)) (some_under ns name))
-    (under_or_not name n)
 
 -- ---- the names of file systems
 

@@ -3,18 +3,16 @@ use Rattle.std.proofs.Common.{◌≡◌, List, [], ◌∷◌, ◌++◌, Option, 
 use Rattle.std.specs.List.{last_or}
 use Rattle.std.specs.Option.{option_map, option_or}
 use Rattle.std.specs.FinMap.{get}
-use Rattle.std.specs.FinSet.{difference}
-use Rattle.base.specs.Map.{BlockSet, blocks}
 use Rattle.base.specs.Surveys.{IsIn}
-use Rattle.model.specs.World.{World, FileSystem, Snap, SnapId, Dataset, Live, Snapped, id_of, map_of, map_of_snap, previous_of, newest_or_origin}
+use Rattle.model.specs.World.{World, FileSystem, Snap, SnapId, Dataset, Live, Snapped, id_of, map_of, previous_of, newest_or_origin}
 use Rattle.world.specs.Shapes.{Name}
 use Rattle.world.specs.Worlds.{AreFileSystems}
-use Rattle.world.specs.Dead.{IsThere, below_of, dead_of, next_in}
-use Rattle.world.proofs.Maps.{same_value}
-use Rattle.world.proofs.Finding.{append_none, in_left}
-use Rattle.world.proofs.Promotions.{split_at}
-use Rattle.world.proofs.Bridge.{in_middle, map_of_live, map_of_kept, previous_of_live, previous_of_kept}
-use Rattle.accounts.specs.Space.{next_map, newest_blocks}
+use Rattle.world.specs.Dead.{IsThere, next_in}
+use Rattle.world.proofs.lists.Maps.{same_value}
+use Rattle.world.proofs.lists.Finding.{append_none}
+use Rattle.world.proofs.changes.Promotions.{split_at}
+use Rattle.world.proofs.lineage.Bridge.{in_middle, map_of_live, map_of_kept, previous_of_live, previous_of_kept}
+use Rattle.accounts.specs.Space.{next_map}
 
 -- ---- the newest of some snapshots, or the origin
 
@@ -62,29 +60,3 @@ module _ (w : World) (good : AreFileSystems w.file_systems w.group) where
       → map_of w (next_in name newer) ≡ next_map s newer
   next_map_is name s older [] at is = map_of_live w name s at
   next_map_is name s older (t ∷ ts) at is = map_of_kept w w.group good.lines name s t (id_of t) at (subst (λ l. IsIn l t) (sym is) (in_middle older t ts)) refl
-
-  -- the blocks of what stands before it
-  newest_is : (x : Option SnapId) (bs : BlockSet) → blocks (map_of_snap w x) ≡ bs → (older : List Snap)
-      → ((t : Snap) → IsIn older t → map_of w (Snapped (id_of t)) ≡ t.map)
-      → blocks (map_of_snap w (option_or (option_map id_of (last_or None older)) x)) ≡ newest_blocks bs older
-  newest_is x bs e [] maps = e
-  newest_is x bs e (t ∷ ts) maps = last t ts (maps t (inl refl)) (λ u i. maps u (inr i))
-    where
-      last : (v : Snap) (vs : List Snap) → map_of w (Snapped (id_of v)) ≡ v.map → ((u : Snap) → IsIn vs u → map_of w (Snapped (id_of u)) ≡ u.map)
-          → blocks (map_of_snap w (option_or (option_map id_of (last_or (Some v) vs)) x)) ≡ newest_blocks (blocks v.map) vs
-      last v [] m each = ap (λ y. blocks y) m
-      last v (u ∷ us) m each = last u us (each u (inl refl)) (λ y i. each y (inr i))
-
-  pub below_next : (name : Name) (s : FileSystem) (older newer : List Snap) → get w.file_systems name ≡ Some s → s.snaps ≡ older ++ newer
-      → below_of w (next_in name newer) ≡ newest_blocks (blocks (map_of_snap w s.origin)) older
-  unfolding below_of
-  below_next name s older newer at is =
-      ap (λ x. blocks (map_of_snap w x)) (next_previous name s older newer at is)
-      ∙ newest_is s.origin (blocks (map_of_snap w s.origin)) refl older
-      (λ t i. map_of_kept w w.group good.lines name s t (id_of t) at (subst (λ l. IsIn l t) (sym is) (in_left older newer t i)) refl)
-
-  -- and what has gone from them to it
-  pub dead_next : (name : Name) (s : FileSystem) (older newer : List Snap) → get w.file_systems name ≡ Some s → s.snaps ≡ older ++ newer
-      → dead_of w (next_in name newer) ≡ difference (newest_blocks (blocks (map_of_snap w s.origin)) older) (blocks (next_map s newer))
-  unfolding dead_of
-  dead_next name s older newer at is = λ i. difference (below_next name s older newer at is i) (blocks (next_map_is name s older newer at is i))

@@ -1,5 +1,5 @@
 -- The snapshots before a dataset in its lineage, which no bound cuts.
-use Rattle.std.proofs.Common.{◌≡◌, ℕ, zero, suc, ◌<◌, ◌≤◌, ◌⊎◌, true, false, ◌||◌, List, [], ◌∷◌, ◌++◌, Option, Some, None, refl, sym, ap, subst, ◌∙◌, inl, inr, ⊎_elim, arith}
+use Rattle.std.proofs.Common.{◌≡◌, ℕ, zero, suc, ◌<◌, ◌≤◌, ◌⊎◌, true, false, ◌||◌, List, [], ◌∷◌, Option, Some, None, refl, sym, ap, subst, ◌∙◌, inl, inr, ⊎_elim, arith}
 use Rattle.std.specs.List.{list_any}
 use Rattle.std.specs.Option.{option_map_or}
 use Rattle.std.proofs.lemmas.Bool.{false_from_ne_true}
@@ -9,10 +9,10 @@ use Rattle.model.specs.World.{World, FileSystem, SnapId, Dataset, Live, Snapped,
 use Rattle.world.specs.Shapes.{Shape, SnapShape, Before, Starts, IsAmong}
 use Rattle.world.specs.Worlds.{snap_shape, shapes, shape_of, AreFileSystems}
 use Rattle.world.specs.Dead.{IsThere, base_of, group_of}
-use Rattle.world.proofs.Requests.{lineage_facts}
-use Rattle.world.proofs.WithoutSnaps.{any_in, any_from}
-use Rattle.world.proofs.Bridge.{shape_at, from_shape, from_among, among, prev_starts, start, starts}
-use Rattle.world.proofs.Dead.{there_row, in_line}
+use Rattle.world.proofs.lineage.Requests.{lineage_facts}
+use Rattle.world.proofs.removals.WithoutSnaps.{any_in, any_from}
+use Rattle.world.proofs.lineage.Bridge.{shape_at, from_shape, from_among, among, prev_starts, start, starts}
+use Rattle.world.proofs.lineage.Dead.{there_row, in_line}
 use Rattle.accounts.specs.Space.{IsPath}
 
 module _ (w : World) where
@@ -25,20 +25,10 @@ module _ (w : World) where
   unfolding older_of
   older_none d e = ap (chain w w.group) e ∙ ended w.group
 
-  -- so it has no snapshot in its lineage
-  pub not_older_none : (id : SnapId) (d : Dataset) → previous_of w d ≡ None → list_any (same_id id) (older_of w d) ≡ false
-  not_older_none id d e = ap (list_any (same_id id)) (older_none d e)
-
   -- the dataset at the end of a path is there
   pub path_there : (id : SnapId) (ids : List SnapId) (d : Dataset) → IsPath w id ids d → IsThere w d
   path_there id [] d p = p.0
   path_there id (j ∷ js) d p = path_there j js d p.2
-
-  -- a path that goes on to the dataset that comes next
-  pub path_more : (id : SnapId) (ids : List SnapId) (j : SnapId) (d : Dataset) → IsPath w id ids (Snapped j) → IsThere w d → previous_of w d ≡ Some j
-      → IsPath w id (ids ++ j ∷ []) d
-  path_more id [] j d p there e = (p.0, p.1, (there, e))
-  path_more id (i ∷ is) j d p there e = (p.0, p.1, path_more i is j d p.2 there e)
 
   -- the last step of a path
   path_end : (id : SnapId) (ids : List SnapId) (d : Dataset) → IsPath w id ids d
@@ -181,27 +171,3 @@ module _ (w : World) (good : AreFileSystems w.file_systems w.group) where
   -- a snapshot from which a path leads to the dataset is in its lineage
   pub older_has : (id : SnapId) (ids : List SnapId) (d : Dataset) → IsPath w id ids d → list_any (same_id id) (older_of w d) ≡ true
   older_has id ids d p = any_in (older_of w d) id id (has_by (group_of w d) id ids d (omega arith) p) refl
-
-  from_by : (k : ℕ) (id : SnapId) (d : Dataset) → group_of w d ≤ k → IsThere w d → IsIn (older_of w d) id → (ids : List SnapId) × IsThere w (Snapped id) × IsPath w id ids d
-  from_by zero id d l there i = at (previous_of w d) refl
-    where
-      at : (x : Option SnapId) → previous_of w d ≡ x → (ids : List SnapId) × IsThere w (Snapped id) × IsPath w id ids d
-      at None e = absurd (subst (λ xs. IsIn xs id) (older_none w d e) i)
-      at (Some j) e = let b = previous_below d j there e in absurd (omega (arith, b, l))
-  from_by (suc k) id d l there i = at (λ j lower is h. from_by k id (Snapped j) lower is h) (previous_of w d) refl
-    where
-      at : ((j : SnapId) → j.group ≤ k → IsThere w (Snapped j) → IsIn (older_of w (Snapped j)) id → (ids : List SnapId) × IsThere w (Snapped id) × IsPath w id ids (Snapped j))
-          → (x : Option SnapId) → previous_of w d ≡ x → (ids : List SnapId) × IsThere w (Snapped id) × IsPath w id ids d
-      at ih None e = absurd (subst (λ xs. IsIn xs id) (older_none w d e) i)
-      at ih (Some j) e =
-          let b = previous_below d j there e in
-          let before = previous_there d j there e in
-          ⊎_elim
-          (λ is. ([], subst (λ x. IsThere w (Snapped x)) (sym is) before, (there, e ∙ ap Some (sym is))))
-          (λ h. let r = ih j (omega (arith, b, l)) before h in (r.0 ++ j ∷ [], r.1, path_more w id r.0 j d r.2 there e))
-          (subst (λ xs. IsIn xs id) (older_first d j there e) i)
-
-  -- and only such a snapshot is
-  pub older_from : (id : SnapId) (d : Dataset) → IsThere w d → list_any (same_id id) (older_of w d) ≡ true
-      → (ids : List SnapId) × IsThere w (Snapped id) × IsPath w id ids d
-  older_from id d there t = from_by (group_of w d) id d (omega arith) there (any_from (older_of w d) id t)

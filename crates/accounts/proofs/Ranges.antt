@@ -17,13 +17,13 @@ use Rattle.world.specs.Usage.{up_to_next, IsInRange}
 use Rattle.world.specs.Worlds.{FileSystems, snap_shape, shape_of, shapes, AreRising, AreFileSystems}
 use Rattle.world.specs.Dead.{HasNoCloneIn}
 use Rattle.world.specs.Sums.{dead_since, origin_group}
-use Rattle.world.proofs.Listed.{in_map, map_in}
-use Rattle.world.proofs.Finding.{filter_no, from_filter}
-use Rattle.world.proofs.Shapes.{tail_right}
-use Rattle.world.proofs.Ranges.{would_free_in_world}
-use Rattle.world.proofs.WithoutSnaps.{any_in, any_from}
-use Rattle.world.proofs.Bridge.{shape_at, from_shape, from_among, among, shapes-append, start, starts, start_is, own_row, union_is, rising, rising_above}
-use Rattle.world.proofs.Dead.{row_dead}
+use Rattle.world.proofs.lists.Listed.{in_map, map_in}
+use Rattle.world.proofs.lists.Finding.{filter_no}
+use Rattle.world.proofs.lineage.Shapes.{tail_right}
+use Rattle.world.proofs.space.Ranges.{would_free_in_world}
+use Rattle.world.proofs.removals.WithoutSnaps.{any_in, any_from}
+use Rattle.world.proofs.lineage.Bridge.{shape_at, from_shape, from_among, among, shapes-append, start, starts, start_is, own_row, union_is, rising_above}
+use Rattle.world.proofs.lineage.Dead.{row_dead}
 use Rattle.accounts.specs.Space.{with_next, newest_group}
 use Rattle.accounts.proofs.Snapshots.{Goes, outside_same, without_is}
 
@@ -142,18 +142,3 @@ module _ (from to : ℕ) (up : from ≤ to) where
           (λ k. absurd (true≢false (sym (and_from (nat_le from t.group) (nat_le t.group to) (le-leb from t.group l) (le-leb t.group to k)) ∙ b)))
           (cases_lt to t.group))
           (cases_lt t.group from)
-
-module _ (w : World) (good : AreFileSystems w.file_systems w.group) where
-  -- what would be freed with the snapshots of a file system from one group to another, which have no clones
-  pub would_free_between : (name : List ℕ) (s : FileSystem) → get w.file_systems name ≡ Some s → (from to : ℕ) → from ≤ to
-      → ((t : Snap) → IsIn s.snaps t → from ≤ t.group → t.group ≤ to → HasNoCloneIn w.file_systems (id_of t))
-      → would_free w (map id_of (filter (λ t. nat_le from t.group && nat_le t.group to) s.snaps))
-      ≡ dead_since w (newest_group (origin_group s) (filter (λ t. nat_lt t.group from) s.snaps))
-      (with_next name (filter (λ t. nat_le from t.group && nat_le t.group to) s.snaps) (filter (λ t. nat_lt to t.group) s.snaps))
-  would_free_between name s at from to up none =
-      would_free_is w good name s (filter (λ t. nat_lt t.group from) s.snaps) (filter (λ t. nat_le from t.group && nat_le t.group to) s.snaps) (filter (λ t. nat_lt to t.group) s.snaps)
-      at (three_parts from to up (start w.file_systems w.group good.lines name s at).base s.snaps (rising w.file_systems w.group good.lines name s at))
-      (λ t i.
-      let k = from_filter (λ (t : Snap). nat_le from t.group && nat_le t.group to) s.snaps t i in
-      let p = and_parts (nat_le from t.group) (nat_le t.group to) k.1 in
-      none t k.0 (leb-true from t.group p.0) (leb-true t.group to p.1))

@@ -15,16 +15,16 @@ use Rattle.world.specs.Shapes.{Name, SnapShape, Before, before_next, before_live
 use Rattle.world.specs.Sums.{origin_group}
 use Rattle.world.specs.Worlds.{snap_shape, shapes, AreFileSystems}
 use Rattle.world.specs.Dead.{base_of, below_of}
-use Rattle.world.proofs.SetCounts.{in_difference, from_difference}
-use Rattle.world.proofs.Lineage.{below_born, in_after, from_after}
-use Rattle.world.proofs.Listed.{in_map, map_in}
-use Rattle.world.proofs.Moves.{before_born}
-use Rattle.world.proofs.Replace.{live_or_snap}
-use Rattle.world.proofs.Bridge.{start, starts, start_is, own_row, live_row, live_there, in_middle, no_block, in_world, from_world, in_union_of, map_of_live, map_of_kept, previous_of_live}
-use Rattle.world.proofs.Dead.{there_row, row_base, row_below, in_line}
-use Rattle.world.proofs.LiveMaps.{live_alone, live_new, live_rest}
-use Rattle.world.proofs.Put.{put_here}
-use Rattle.world.proofs.TableWrites.{live_systems, live_loses}
+use Rattle.world.proofs.lists.SetCounts.{in_difference, from_difference}
+use Rattle.world.proofs.lineage.Lineage.{below_born, in_after, from_after}
+use Rattle.world.proofs.lists.Listed.{in_map, map_in}
+use Rattle.world.proofs.lineage.Moves.{before_born}
+use Rattle.world.proofs.lineage.Replace.{live_or_snap}
+use Rattle.world.proofs.lineage.Bridge.{start, starts, start_is, own_row, live_row, live_there, in_middle, no_block, in_world, from_world, in_union_of, map_of_live, map_of_kept, previous_of_live}
+use Rattle.world.proofs.lineage.Dead.{there_row, row_base, row_below, in_line}
+use Rattle.world.proofs.changes.LiveMaps.{live_alone, live_new, live_rest}
+use Rattle.world.proofs.lineage.Put.{put_here}
+use Rattle.world.proofs.changes.TableWrites.{live_systems, live_loses}
 use Rattle.accounts.proofs.Next.{from_newest}
 use Rattle.accounts.proofs.Snapshots.{in_all, from_all}
 

@@ -2,13 +2,13 @@
 use Rattle.std.proofs.Common.{◌≡◌, ℕ, zero, suc, ◌+◌, ◌<◌, List, Option, Some, None, refl, ap, ◌∙◌, arith}
 use Rattle.std.specs.Prelude.{IsSome, is_some}
 use Rattle.std.specs.FinMap.{get}
-use Rattle.name.specs.Names.{parent_of}
+use Rattle.base.specs.Names.{parent_of}
 use Rattle.model.specs.World.{FileSystem, union_of}
 use Rattle.model.specs.State.{State}
 use Rattle.model.specs.Sums.{used_of, within_quota, unspent_of, pool_room, room_of, allocated_of, free_of, waiting_count, IsBalanced}
 use Rattle.world.specs.Sets.{AreDisjoint}
 use Rattle.world.specs.Worlds.{AreFileSystems}
-use Rattle.world.proofs.Maps.{some_of}
+use Rattle.world.proofs.lists.Maps.{some_of}
 use Rattle.accounts.specs.Levels.{slashes}
 use Rattle.accounts.specs.Limits.{IsUnlimited}
 use Rattle.accounts.proofs.Names.{level_up, in_keys, from_keys, parent_in}

@@ -8,7 +8,7 @@ use Rattle.std.specs.FinMap as finmap
 use Rattle.std.specs.FinSet.{len}
 use Rattle.std.proofs.lemmas.Bool.{eqb-true}
 use Rattle.base.specs.Surveys.{IsIn, AreDifferent}
-use Rattle.name.specs.Names.{root_name}
+use Rattle.base.specs.Names.{root_name}
 use Rattle.model.specs.World.{World, FileSystem, Live, union_of, children_of}
 use Rattle.model.specs.Sums.{used_of, used_here, used_by_children, children_within, reservation_of, used_by_dataset, used_by_snapshots, used_by_refreservation, written_of}
 use Rattle.world.specs.Shapes.{name_order}
@@ -16,9 +16,9 @@ use Rattle.world.specs.Usage.{IsEntry}
 use Rattle.world.specs.Trees.{total, used_within, IsTree}
 use Rattle.model.specs.Hierarchy.{IsHierarchy}
 use Rattle.world.specs.Worlds.{HasParent, AreFileSystems}
-use Rattle.world.proofs.Put.{parent_there}
-use Rattle.world.proofs.Maps.{at_entry, same_value}
-use Rattle.world.proofs.Trees.{root_uses_all}
+use Rattle.world.proofs.lineage.Put.{parent_there}
+use Rattle.world.proofs.lists.Maps.{at_entry, same_value}
+use Rattle.world.proofs.maps.Trees.{root_uses_all}
 use Rattle.accounts.specs.Levels.{slashes}
 use Rattle.accounts.specs.Limits.{IsUnlimited}
 use Rattle.accounts.specs.Space.{own_of}

@@ -1,9 +1,9 @@
 -- A request whose row refuses nothing has the limits that the row asks, in the world that is asked and in the one that it leads to.
-use Rattle.std.proofs.Common.{◌≡◌, Bool, true, false, not, ◌++◌, None, refl, sym, inl, inr}
+use Rattle.std.proofs.Common.{◌≡◌, Bool, true, false, not, None, refl, sym, inl, inr}
 use Rattle.base.specs.declared.refusal.Refusal.{Refusal}
 use Rattle.base.specs.declared.refusal.Refusal.TheVariants.{Quota, RefQuota, NoSpace}
 use Rattle.base.specs.Surveys.{IsIn}
-use Rattle.name.specs.declared.target.Target.{Target}
+use Rattle.base.specs.declared.name.target.Target.{Target}
 use Rattle.model.specs.World.{World}
 use Rattle.model.specs.State.{State}
 use Rattle.model.specs.Edits.{with_now}
@@ -11,8 +11,7 @@ use Rattle.model.specs.Fits.{quotas_hold, refquotas_hold, pool_holds, limits_hol
 use Rattle.model.specs.Rule.{Row, first_of}
 use Rattle.model.specs.requests.Change.{limit_row, change_row}
 use Rattle.world.specs.Worlds.{AreFileSystems}
-use Rattle.world.proofs.Finding.{in_right}
-use Rattle.world.proofs.ViewedRequests.{row_false}
+use Rattle.world.proofs.views.ViewedRequests.{row_false}
 use Rattle.accounts.specs.Limits.{HasLimits}
 use Rattle.accounts.specs.Asked.{AreWorldsAlike}
 use Rattle.accounts.proofs.Limits.{limits_met}
@@ -32,10 +31,6 @@ limits_in asked row among none =
 
 pub limits_asked : (asked : State) → first_of (limit_row asked) ≡ None → limits_hold asked ≡ true
 limits_asked asked = limits_in asked (limit_row asked) (λ r i. i)
-
--- after other conditions, as those of a snapshot, a rollback and a promote
-pub then_asked : (asked : State) (row : Row) → first_of (row ++ limit_row asked) ≡ None → limits_hold asked ≡ true
-then_asked asked row = limits_in asked (row ++ limit_row asked) (λ r i. in_right row (limit_row asked) r i)
 
 -- those of a change of a live map
 pub change_asked : (s asked : State) (target : Target) (in_range : Bool) → first_of (change_row s asked target in_range) ≡ None → limits_hold asked ≡ true

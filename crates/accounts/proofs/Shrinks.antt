@@ -15,10 +15,10 @@ use Rattle.world.specs.Shapes.{Name, IsGood}
 use Rattle.world.specs.Sums.{origin_group}
 use Rattle.world.specs.Worlds.{shapes, AreRising, AreFileSystems}
 use Rattle.world.specs.Dead.{base_of, below_of}
-use Rattle.world.proofs.SetCounts.{len-subset, in_difference, from_difference, no-empty, same_members}
-use Rattle.world.proofs.Listed.{in_map, map_in}
-use Rattle.world.proofs.Bridge.{start, starts, start_is, rising, map_of_kept, map_of_live, previous_of_live}
-use Rattle.world.proofs.Dead.{in_line}
+use Rattle.world.proofs.lists.SetCounts.{len-subset, in_difference, from_difference, no-empty, same_members}
+use Rattle.world.proofs.lists.Listed.{in_map, map_in}
+use Rattle.world.proofs.lineage.Bridge.{start, starts, start_is, rising, map_of_kept, map_of_live, previous_of_live}
+use Rattle.world.proofs.lineage.Dead.{in_line}
 use Rattle.accounts.specs.Levels.{IsNoMore}
 use Rattle.accounts.specs.Limits.{IsWithin, IsKeptOrNone, IsShrunk, IsMade, AreShrunk, AreQuotasMet}
 use Rattle.accounts.specs.Space.{newest_group}

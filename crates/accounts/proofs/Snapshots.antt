@@ -1,5 +1,5 @@
 -- What all datasets but some snapshots have, and the space of a snapshot.
-use Rattle.std.proofs.Common.{◌≡◌, Bool, true, false, not, List, [], ◌∷◌, Option, Some, None, map, refl, sym, ap, subst, ◌∙◌, ◌↔◌, true≢false, inl, inr, ⊎_elim, ◌⊎◌}
+use Rattle.std.proofs.Common.{◌≡◌, Bool, true, false, not, List, [], ◌∷◌, Option, Some, None, map, refl, sym, ap, subst, ◌∙◌, true≢false, inl, inr, ⊎_elim, ◌⊎◌}
 use Rattle.std.specs.List.{filter, flat_map}
 use Rattle.std.specs.Option.{option_map}
 use Rattle.std.specs.FinMap.{get, entries, values}
@@ -17,14 +17,14 @@ use Rattle.world.specs.Shapes.{Name, name_order, Shape, SnapShape, IsAmong, line
 use Rattle.world.specs.Usage.{IsEntry}
 use Rattle.world.specs.Worlds.{FileSystems, shapes, AreFileSystems}
 use Rattle.world.specs.Dead.{IsThere, dead_of, base_of}
-use Rattle.world.proofs.SetCounts.{no-empty, in_union_left, in_union_right, from_union, in_intersection, from_intersection}
-use Rattle.world.proofs.Maps.{no_value, same_value, entry_of, at_entry}
-use Rattle.world.proofs.Listed.{in_map, map_in}
-use Rattle.world.proofs.Finding.{in_flat, from_flat, in_filter, from_filter, same_id_is, is_same_id}
-use Rattle.world.proofs.Replace.{same_snap, live_or_snap, id_of_row}
-use Rattle.world.proofs.Usage.{used_of_snapshot_in_world}
-use Rattle.world.proofs.Bridge.{from_shape, from_among, row_blocks, kept_there, map_of_live, map_of_kept, from_entries, row_prev}
-use Rattle.world.proofs.Dead.{there_row, row_base, row_dead}
+use Rattle.world.proofs.lists.SetCounts.{no-empty, in_union_left, in_union_right, from_union, in_intersection, from_intersection}
+use Rattle.world.proofs.lists.Maps.{no_value, same_value, entry_of, at_entry}
+use Rattle.world.proofs.lists.Listed.{in_map, map_in}
+use Rattle.world.proofs.lists.Finding.{in_flat, from_flat, in_filter, from_filter, same_id_is, is_same_id}
+use Rattle.world.proofs.lineage.Replace.{same_snap, live_or_snap, id_of_row}
+use Rattle.world.proofs.space.Usage.{used_of_snapshot_in_world}
+use Rattle.world.proofs.lineage.Bridge.{from_shape, from_among, row_blocks, kept_there, map_of_live, map_of_kept, from_entries, row_prev}
+use Rattle.world.proofs.lineage.Dead.{there_row, row_base, row_dead}
 use Rattle.accounts.specs.Space.{AreNext, dead_in_each}
 
 -- ---- the blocks of several maps
@@ -55,10 +55,6 @@ from_each w s (d ∷ ds) b h =
     let k = from_intersection o (dead_of w d) (dead_in_each w s ds) b h in
     let r = from_each w s ds b k.1 in
     (r.0, λ e i. ⊎_elim (λ is. subst (λ x. Has (dead_of w x) b) (sym is) k.0) (λ j. r.1 e j) i)
-
--- a block of the set that is in each of the deadlists
-pub in_dead_in_each : (w : World) (s : BlockSet) (ds : List Dataset) (b : Block) → Has (dead_in_each w s ds) b ↔ (Has s b × ((d : Dataset) → IsIn ds d → Has (dead_of w d) b))
-in_dead_in_each w s ds b = (λ h. from_each w s ds b h, λ h. in_each w s ds b h.0 h.1)
 
 -- ---- what stays of a file system where some snapshots go
 
@@ -219,14 +215,3 @@ module _ (w : World) (good : AreFileSystems w.file_systems w.group) where
         ap (λ x. len (difference x (union_without w (same_id id)))) (sym b)
         ∙ ap len of_snapshot.0
         ∙ (λ i. len (after (row_base w w.group good.lines (Snapped id) k.0 k.1 i) ((next_rows id ds next.right).3 (b i) i)))
-
-  -- where one dataset alone is next, as where the snapshot has no clone, its deadlist gives it
-  pub used_by_snap_one : (id : SnapId) → IsThere w (Snapped id) → (d : Dataset) → AreNext w id (d ∷ [])
-      → used_by_snap w id ≡ len (after (base_of w (Snapped id)) (dead_of w d))
-  unfolding used_by_snap next_rows
-  used_by_snap_one id there d next =
-      let k = there_row w w.group good.lines (Snapped id) there in
-      let n = there_row w w.group good.lines d (next.right d (inl refl)).0 in
-      ap (λ x. len (difference x (union_without w (same_id id)))) (sym (row_blocks w w.group good.lines (Snapped id) k.0 k.1))
-      ∙ ap len ((of_snapshot id there (d ∷ []) next).1 n.0 refl)
-      ∙ (λ i. len (after (row_base w w.group good.lines (Snapped id) k.0 k.1 i) (row_dead w w.group good.lines d n.0 n.1 i)))

@@ -11,10 +11,10 @@ use Rattle.world.specs.Shapes.{Name, name_order, Shape, IsGood}
 use Rattle.world.specs.Usage.{IsEntry, AreApart, AreOf, stretch_of, snapshot_blocks}
 use Rattle.world.specs.Worlds.{FileSystems, snap_shape, shape_of, shapes}
 use Rattle.world.specs.Trees.{total}
-use Rattle.world.proofs.SetCounts.{same_members, no-empty, in_union_left, in_union_right, from_union, in_difference, from_difference}
-use Rattle.world.proofs.Maps.{entry_of, at_entry, entries_apart}
-use Rattle.world.proofs.Usage.{used_by, total_used_of_world}
-use Rattle.world.proofs.Bridge.{shape_at, from_shape, start, starts, start_is, union_is}
+use Rattle.world.proofs.lists.SetCounts.{same_members, no-empty, in_union_left, in_union_right, from_union, in_difference, from_difference}
+use Rattle.world.proofs.lists.Maps.{entry_of, at_entry, entries_apart}
+use Rattle.world.proofs.space.Usage.{used_by, total_used_of_world}
+use Rattle.world.proofs.lineage.Bridge.{shape_at, from_shape, start, starts, start_is, union_is}
 use Rattle.accounts.specs.Space.{own_of}
 
 mapped_in : (es : List (Name × FileSystem)) (name : Name) (s : FileSystem) → IsEntry es name s → IsEntry (map (λ e. (e.0, shape_of e.1)) es) name (shape_of s)

@@ -1,31 +1,28 @@
 -- The limits at every state: the requests that don't ask keep them, and so does the sweep.
-use Rattle.std.proofs.Common.{◌≡◌, ℕ, Bool, true, false, not, List, Option, Some, None, map, refl, sym, ap, subst, ◌∙◌, inl, inr, ⊎_elim, ◌⊎◌}
+use Rattle.std.proofs.Common.{◌≡◌, ℕ, Bool, true, false, not, Option, Some, None, map, refl, sym, ap, subst, ◌∙◌, inl, inr, ⊎_elim, ◌⊎◌}
 use Rattle.std.specs.Prelude.{◌||◌, ◌&&◌, if◌then◌else◌}
 use Rattle.std.specs.List.{filter}
 use Rattle.std.specs.Option.{option_map, option_map_or}
 use Rattle.std.specs.FinMap.{get, insert}
 use Rattle.base.specs.Surveys.{IsIn}
-use Rattle.model.specs.World.{World, FileSystem, Snap, SnapId, id_of, same_id, map_of_snap, empty_file_system}
+use Rattle.model.specs.World.{World, FileSystem, Snap, SnapId, id_of, map_of_snap, empty_file_system}
 use Rattle.model.specs.State.{State}
-use Rattle.model.specs.Edits.{with_file_system, with_file_systems, with_losses, with_next_group, with_now, with_tags, without_snaps}
+use Rattle.model.specs.Edits.{with_file_system, with_file_systems, with_losses, with_next_group, without_snaps}
 use Rattle.model.specs.Rule.{Choice, Rule}
 use Rattle.model.specs.Outcome.{is_needed, state_after_sweep, state_after}
-use Rattle.model.specs.Fits.{quotas_hold, refquotas_hold}
-use Rattle.model.specs.requests.Create.{with_new_file_system, create_rule}
-use Rattle.model.specs.requests.Sync.{sync_rule}
+use Rattle.model.specs.requests.Create.{with_new_file_system}
 use Rattle.model.specs.requests.Destroy.{with_deferred}
 use Rattle.world.specs.Shapes.{Name, name_order}
 use Rattle.world.specs.Worlds.{IsPoolState}
 use Rattle.world.specs.Outcomes.{with_clone, with_names}
-use Rattle.world.proofs.Maps.{no_value, same_value, key_cases, get-insert_same, get-insert_other}
-use Rattle.world.proofs.Listed.{in_map}
-use Rattle.world.proofs.Finding.{from_filter}
-use Rattle.world.proofs.Sweep.{get-with_file_systems}
-use Rattle.world.proofs.Families.{from_retained}
-use Rattle.world.proofs.States.{sweep_keeps}
+use Rattle.world.proofs.lists.Maps.{no_value, same_value, key_cases, get-insert_same, get-insert_other}
+use Rattle.world.proofs.lists.Listed.{in_map}
+use Rattle.world.proofs.lists.Finding.{from_filter}
+use Rattle.world.proofs.removals.Sweep.{get-with_file_systems}
+use Rattle.world.proofs.removals.Families.{from_retained}
+use Rattle.world.proofs.steps.States.{sweep_keeps}
 use Rattle.accounts.specs.Limits.{IsShrunk, IsMade, AreShrunk, AreQuotasMet, HasLimits}
 use Rattle.accounts.specs.Steps.{AreKept}
-use Rattle.accounts.proofs.Limits.{are_met}
 use Rattle.accounts.proofs.Shrinks.{quotas_stay}
 
 -- ---- file systems
@@ -130,15 +127,6 @@ kept_marks w change each = kept_all w (λ _ s. record s { snaps = map change s.s
 pub kept_deferred : (w : World) (some : Snap → Bool) → AreKept w (with_deferred w some)
 kept_deferred w some = kept_marks w (λ t. record t { deferred = t.deferred || some t }) (λ t. (refl, refl))
 
--- tags: Hold, Release
-pub kept_tags : (w : World) (id : SnapId) (tags : List (List ℕ)) → AreKept w (with_tags w id tags)
-kept_tags w id tags = kept_marks w (λ t. if same_id (id_of t) id then record t { tags = tags } else t) (λ t. at t (same_id (id_of t) id))
-  where
-    at : (t : Snap) (b : Bool)
-        → (id_of (if b then record t { tags = tags } else t) ≡ id_of t) × ((if b then record t { tags = tags } else t).map ≡ t.map)
-    at t true = (refl, refl)
-    at t false = (refl, refl)
-
 -- file systems gone: Destroy
 pub kept_names : (w : World) (stays : Name → Bool) → AreKept w (with_names w stays)
 kept_names w stays q t at = (t, (from_retained w.file_systems stays q t at).1, shrunk_itself t)
@@ -168,20 +156,12 @@ step_keeps s new good good' last shrunk has = record {
   last = subst AreQuotasMet (sym last) has.last;
 }
 
--- a request that asks has the limits by its row: Write, Punch, FreeObject, Snapshot, Rollback, Promote, Set to a value, Receive
-pub step_asked : (s new : State) → new.last ≡ s.last → quotas_hold new.now ≡ true → refquotas_hold new.now ≡ true → HasLimits s → HasLimits new
-step_asked s new last quotas refquotas has = record { now = are_met new.now quotas refquotas; last = subst AreQuotasMet (sym last) has.last }
-
 -- where the present world becomes the last one too
 pub sync_limits : (s : State) → IsPoolState s → IsPoolState (record s { now = with_next_group s.now; last = with_next_group s.now }) → HasLimits s
     → HasLimits (record s { now = with_next_group s.now; last = with_next_group s.now })
 sync_limits s good good' has =
     let met = quotas_stay s.now (with_next_group s.now) good.now.systems good'.now.systems (kept_shrunk s.now (with_next_group s.now) (kept_same s.now (with_next_group s.now) refl)) has.now in
     record { now = met; last = met }
-
--- the way back to the last synced world
-pub abandon_limits : (s new : State) → new.now ≡ s.last → new.last ≡ s.last → HasLimits s → HasLimits new
-abandon_limits s new now last has = record { now = subst AreQuotasMet (sym now) has.last; last = subst AreQuotasMet (sym last) has.last }
 
 last_stays : (s : State) → (state_after_sweep s).last ≡ s.last
 unfolding state_after_sweep
@@ -198,10 +178,6 @@ swept_shrunk s =
 pub sweep_limits : (s : State) → IsPoolState s → HasLimits s → HasLimits (state_after_sweep s)
 sweep_limits s good has = step_keeps s (state_after_sweep s) good (sweep_keeps s good) (last_stays s) (swept_shrunk s) has
 
--- what joins `freeing` changes no limit
-pub kept_losses : (w new : World) → AreKept w new → AreKept w (with_losses w new)
-kept_losses w new h = kept_trans w new (with_losses w new) h (kept_same new (with_losses w new) refl)
-
 -- ---- whole steps, with the sweep
 
 -- a request that has kept them
@@ -212,16 +188,3 @@ after_limits s c rule good before has = at rule.only_reads
     at : (b : Bool) → HasLimits (if b then s else state_after_sweep (rule.after s c))
     at true = before
     at false = sweep_limits (rule.after s c) good has
-
--- a request that makes no file system's own numbers more
-pub shrunk_limits : (s : State) (c : Choice) (rule : Rule) → IsPoolState s → IsPoolState (rule.after s c) → (rule.after s c).last ≡ s.last → AreShrunk s.now (rule.after s c).now
-    → HasLimits s → HasLimits (state_after s c rule)
-shrunk_limits s c rule good good' last shrunk has = after_limits s c rule good' has (step_keeps s (rule.after s c) good good' last shrunk has)
-
-pub create_limits : (s : State) (c : Choice) (name : Name) → get s.now.file_systems name ≡ None → IsPoolState s → IsPoolState (with_now s (with_new_file_system s.now name))
-    → HasLimits s → HasLimits (state_after s c (create_rule name))
-create_limits s c name gone good good' has = shrunk_limits s c (create_rule name) good good' refl (shrunk_created s.now name gone) has
-
-pub sync_limits_after : (s : State) (c : Choice) → IsPoolState s → IsPoolState (record s { now = with_next_group s.now; last = with_next_group s.now })
-    → HasLimits s → HasLimits (state_after s c sync_rule)
-sync_limits_after s c good good' has = after_limits s c sync_rule good' has (sync_limits s good good' has)

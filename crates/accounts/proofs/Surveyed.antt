@@ -12,14 +12,14 @@ use Rattle.base.specs.Surveys.{IsIn, AreDifferent, IsSurvey}
 use Rattle.world.specs.Sets.{Has}
 use Rattle.world.specs.Blocks.{block_cmp, block_order as o, after}
 use Rattle.world.specs.Numbering.{ChangesKeys}
-use Rattle.world.proofs.SetCounts.{Has-cases, same_members, in_difference, from_difference, in_retain, from_retain, len-two_parts}
-use Rattle.world.proofs.Lists.{in_listed, from_listed, len-from_list, from_list-filter, once_filter}
-use Rattle.world.proofs.Listed.{in_map, map_in, different_map, length-mapped}
-use Rattle.world.proofs.Lineage.{in_after, from_after}
-use Rattle.world.proofs.Maps.{some_of}
-use Rattle.world.proofs.Cells.{in_blocks, from_blocks, from_new_blocks}
-use Rattle.world.proofs.Presence.{same_presence}
-use Rattle.world.proofs.Rewrites.{rewrite_is_change}
+use Rattle.world.proofs.lists.SetCounts.{Has-cases, same_members, in_difference, from_difference, in_retain, from_retain, len-two_parts}
+use Rattle.world.proofs.lists.Lists.{in_listed, from_listed, len-from_list, from_list-filter, once_filter}
+use Rattle.world.proofs.lists.Listed.{in_map, map_in, different_map, length-mapped}
+use Rattle.world.proofs.lineage.Lineage.{in_after, from_after}
+use Rattle.world.proofs.lists.Maps.{some_of}
+use Rattle.world.proofs.maps.Cells.{in_blocks, from_blocks, from_new_blocks}
+use Rattle.world.proofs.maps.Presence.{same_presence}
+use Rattle.world.proofs.maps.Rewrites.{rewrite_is_change}
 use Rattle.accounts.specs.Asked.{IsNumberedOnce}
 use Rattle.accounts.specs.Forecasts.{count_after, count_between}
 

@@ -9,7 +9,7 @@ use Rattle.std.specs.FinMap as finmap
 use Rattle.std.specs.FinSet.{len, difference, union, empty, len-empty}
 use Rattle.base.specs.Map.{Map, Block, BlockSet, blocks, block_cmp}
 use Rattle.base.specs.Surveys.{IsIn}
-use Rattle.name.specs.declared.member.Member.{Member}
+use Rattle.base.specs.declared.name.member.Member.{Member}
 use Rattle.model.specs.World.{World, FileSystem, Snap, Live, id_of, map_of, map_of_snap, previous_of, maps_of, blocks_of_all, union_of, reach_of}
 use Rattle.model.specs.Sums.{referenced_of, written_of, used_here, reservation_of, used_by_dataset, used_by_snapshots}
 use Rattle.model.specs.Edits.{with_next_group}
@@ -19,17 +19,17 @@ use Rattle.world.specs.Blocks.{block_order as o}
 use Rattle.world.specs.Shapes.{Name, name_order}
 use Rattle.world.specs.Takings.{AreTakable}
 use Rattle.world.specs.Worlds.{snap_shape, shape_of, shapes, AreFileSystems}
-use Rattle.world.proofs.SetCounts.{same_members, in_difference, from_difference, in_union_left, no-empty}
-use Rattle.world.proofs.Bridge.{shape_at, among, map_of_live, map_of_kept, previous_of_live, in_middle, in_union_of, from_union_of}
-use Rattle.world.proofs.Groups.{raise_systems}
-use Rattle.world.proofs.Kept.{reach_is}
-use Rattle.world.proofs.Moves.{raised}
-use Rattle.world.proofs.Put.{put_here, put_other, put_cases}
-use Rattle.world.proofs.Finding.{in_left, in_either}
-use Rattle.world.proofs.Listed.{in_map, map_in}
-use Rattle.world.proofs.Maps.{same_value, key_cases}
-use Rattle.world.proofs.Requests.{lineage_facts}
-use Rattle.world.proofs.SnapshotLists.{AreIdsBelow, IsReady, fresh, good'}
+use Rattle.world.proofs.lists.SetCounts.{same_members, in_difference, from_difference, in_union_left, no-empty}
+use Rattle.world.proofs.lineage.Bridge.{shape_at, among, map_of_live, map_of_kept, previous_of_live, in_middle, in_union_of, from_union_of}
+use Rattle.world.proofs.steps.Groups.{raise_systems}
+use Rattle.world.proofs.changes.Kept.{reach_is}
+use Rattle.world.proofs.lineage.Moves.{raised}
+use Rattle.world.proofs.lineage.Put.{put_here, put_other, put_cases}
+use Rattle.world.proofs.lists.Finding.{in_left, in_either}
+use Rattle.world.proofs.lists.Listed.{in_map, map_in}
+use Rattle.world.proofs.lists.Maps.{same_value, key_cases}
+use Rattle.world.proofs.lineage.Requests.{lineage_facts}
+use Rattle.world.proofs.steps.SnapshotLists.{AreIdsBelow, IsReady, fresh, good'}
 use Rattle.accounts.specs.Levels.{AreSameBut}
 use Rattle.accounts.specs.Steps.{AreSnapsOrNew, AreEqualBut}
 use Rattle.accounts.proofs.Few.{same_but, map_same}
@@ -160,9 +160,6 @@ module _ (w : World) (good : AreFileSystems w.file_systems w.group) (m : Member)
     where
       live_is : map_of v (Live name) ≡ f.live
       live_is = map_of_live v name longer here
-
-  abbrev kept_for : ℕ
-  kept_for = unwrap_or f.limits.refreservation 0
 
   own : used_here v name + (unwrap_or f.limits.refreservation 0 - written_of w (Live name)) ≡ used_here w name + unwrap_or f.limits.refreservation 0
   own =

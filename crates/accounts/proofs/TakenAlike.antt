@@ -2,7 +2,7 @@
 use Rattle.std.proofs.Common.{◌≡◌, ℕ, [], ◌∷◌, Some, sym, ap, subst, ◌∙◌, ⊎_elim, arith}
 use Rattle.std.specs.Prelude.{unwrap_or}
 use Rattle.std.specs.FinMap.{get}
-use Rattle.name.specs.declared.member.Member.{Member}
+use Rattle.base.specs.declared.name.member.Member.{Member}
 use Rattle.model.specs.World.{World, FileSystem, Live}
 use Rattle.model.specs.Edits.{with_next_group}
 use Rattle.model.specs.Sums.{used_of, referenced_of}
@@ -10,7 +10,7 @@ use Rattle.model.specs.requests.Snapshot.{with_snapshot}
 use Rattle.world.specs.Shapes.{Name, name_order}
 use Rattle.world.specs.Takings.{AreTakable}
 use Rattle.world.specs.Worlds.{AreFileSystems}
-use Rattle.world.proofs.Maps.{same_value, key_cases}
+use Rattle.world.proofs.lists.Maps.{same_value, key_cases}
 use Rattle.accounts.specs.Asked.{AreLiveAlike, AreWorldsAlike}
 use Rattle.accounts.specs.Levels.{IsSameHere}
 use Rattle.accounts.specs.Limits.{IsWithin, AreQuotasMet}

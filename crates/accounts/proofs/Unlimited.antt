@@ -2,7 +2,7 @@
 use Rattle.std.proofs.Common.{◌≡◌, ◌+◌, true, sym, ap, subst, arith}
 use Rattle.std.specs.Prelude.{nat_le, max}
 use Rattle.std.specs.FinSet.{len, union}
-use Rattle.name.specs.Names.{root_name}
+use Rattle.base.specs.Names.{root_name}
 use Rattle.model.specs.World.{World, Live, union_of, reach_of}
 use Rattle.model.specs.State.{State, waiting_of}
 use Rattle.model.specs.Sums.{used_of, referenced_of, reservation_of}

@@ -1,20 +1,14 @@
 -- Walks along a lineage, file system by file system.
-use Rattle.std.proofs.Common.{◌≡◌, ℕ, ◌+◌, ◌≤◌, Bool, true, false, ◌||◌, List, [], ◌∷◌, ◌++◌, Option, Some, None, map, refl, sym, ap, ◌∙◌, append_assoc, arith}
+use Rattle.std.proofs.Common.{◌≡◌, ℕ, ◌+◌, Bool, true, false, ◌||◌, List, [], ◌∷◌, ◌++◌, Option, Some, None, map, refl, sym, ap, ◌∙◌, append_assoc, arith}
 use Rattle.std.specs.List.{list_any}
 use Rattle.std.specs.Option.{option_map_or}
 use Rattle.std.specs.FinMap.{get}
-use Rattle.std.specs.FinSet.{len}
-use Rattle.base.specs.Map.{blocks}
-use Rattle.model.specs.World.{World, FileSystem, Snap, SnapId, Dataset, Snapped, id_of, same_id, map_of, previous_of, newest_or_origin, older_of}
-use Rattle.model.specs.Sums.{written_since, referenced_of}
-use Rattle.world.specs.Blocks.{upto}
+use Rattle.model.specs.World.{World, FileSystem, Snap, SnapId, Dataset, Snapped, id_of, same_id, newest_or_origin, older_of}
 use Rattle.world.specs.Worlds.{AreFileSystems}
-use Rattle.world.specs.Dead.{IsThere, dead_of, next_in}
+use Rattle.world.specs.Dead.{next_in}
 use Rattle.world.specs.Sums.{dead_by}
-use Rattle.world.proofs.Space as rows
-use Rattle.accounts.specs.Space.{IsPath, on_path, with_next, born_by}
-use Rattle.accounts.proofs.Written.{path_rows, written_since_is}
-use Rattle.accounts.proofs.Older.{older_none, older_step, older_from}
+use Rattle.accounts.specs.Space.{IsPath, on_path, with_next}
+use Rattle.accounts.proofs.Older.{older_none, older_step}
 use Rattle.accounts.proofs.Next.{newest_last, next_there, next_previous}
 
 -- the datasets of a range, and the one that comes next
@@ -36,27 +30,6 @@ module _ (w : World) where
 module _ (w : World) (good : AreFileSystems w.file_systems w.group) where
   -- ---- how many blocks were born by a group
 
-  -- of a snapshot's blocks that were born by a group, what the datasets on a path drop is on their deadlists
-  pub born_by_path : (id : SnapId) (ids : List SnapId) (d : Dataset) → IsPath w id ids d → (cut : ℕ) → cut ≤ id.group
-      → born_by w cut (Snapped id) ≡ born_by w cut d + dead_by w cut (on_path ids d)
-  born_by_path id ids d p cut l =
-      let r = path_rows w good id ids d p in
-      rows.len_upto cut id.group (blocks (map_of w (Snapped id))) r.0 r.1 l ∙ (λ i. len (upto cut (r.2 i)) + r.3 cut i)
-
-  -- one step of a walk
-  pub born_by_step : (id : SnapId) (d : Dataset) → IsThere w d → previous_of w d ≡ Some id → (cut : ℕ) → cut ≤ id.group
-      → born_by w cut (Snapped id) ≡ born_by w cut d + len (upto cut (dead_of w d))
-  born_by_step id d there e cut l = let r = born_by_path id [] d (there, e) cut l in omega (arith, r)
-
-  -- so a walk that has counted what was dropped since a snapshot of the lineage knows what was written since
-  pub written_since_walked : (id : SnapId) (d : Dataset) → IsThere w d → list_any (same_id id) (older_of w d) ≡ true
-      → (n : ℕ) → born_by w id.group (Snapped id) ≡ born_by w id.group d + n → written_since w d id + referenced_of w (Snapped id) ≡ referenced_of w d + n
-  written_since_walked id d there older n e =
-      let r = older_from w good id d there older in
-      let a = written_since_is w good id r.0 d r.1 r.2 in
-      let b = born_by_path id r.0 d r.2 id.group (omega arith) in
-      omega (arith, a, b, e)
-
   -- ---- within a file system
 
   module _ (name : List ℕ) (s : FileSystem) (at : get w.file_systems name ≡ Some s) where
@@ -69,13 +42,6 @@ module _ (w : World) (good : AreFileSystems w.file_systems w.group) where
       next_previous w good name s older (t ∷ range ++ newer) at is ∙ e,
       path_in (older ++ t ∷ []) range newer (is ∙ sym (append_assoc older (t ∷ []) (range ++ newer))) (id_of t) (newest_last s older t),
     )
-
-    -- what a walk through them counts
-    pub born_by_range : (older range newer : List Snap) → s.snaps ≡ older ++ (range ++ newer) → (id : SnapId) → newest_or_origin s older ≡ Some id
-        → (cut : ℕ) → cut ≤ id.group → born_by w cut (Snapped id) ≡ born_by w cut (next_in name newer) + dead_by w cut (with_next name range newer)
-    born_by_range older range newer is id e cut l =
-        born_by_path id (map id_of range) (next_in name newer) (path_in older range newer is id e) cut l
-        ∙ ap (λ ds. born_by w cut (next_in name newer) + dead_by w cut ds) (on_path_range name range newer)
 
     -- the lineage of what comes next after some snapshots: these, and then the origin and what is older than it
     older_parts : (id : SnapId) (older range newer : List Snap) → s.snaps ≡ older ++ (range ++ newer)

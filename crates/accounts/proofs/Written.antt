@@ -12,11 +12,11 @@ use Rattle.world.specs.Shapes.{lineages}
 use Rattle.world.specs.Worlds.{shapes, AreFileSystems}
 use Rattle.world.specs.Dead.{IsThere, group_of}
 use Rattle.world.specs.Sums.{dead_by}
-use Rattle.world.proofs.Moves.{group_is}
-use Rattle.world.proofs.Moves.{group_of as group_in}
-use Rattle.world.proofs.Space as rows
-use Rattle.world.proofs.Bridge.{row_blocks, row_prev}
-use Rattle.world.proofs.Dead.{there_row, row_dead, in_line}
+use Rattle.world.proofs.lineage.Moves.{group_is}
+use Rattle.world.proofs.lineage.Moves.{group_of as group_in}
+use Rattle.world.proofs.space.Space as rows
+use Rattle.world.proofs.lineage.Bridge.{row_blocks, row_prev}
+use Rattle.world.proofs.lineage.Dead.{there_row, row_dead, in_line}
 use Rattle.accounts.specs.Space.{IsPath, on_path}
 
 module _ (w : World) (good : AreFileSystems w.file_systems w.group) where

@@ -6,7 +6,7 @@ use Rattle.std.specs.FinMap.{entries}
 use Rattle.std.specs.FinSet as set
 use Rattle.base.specs.Map.{Map, BlockSet, blocks}
 use Rattle.base.specs.Surveys.{IsIn}
-use Rattle.name.specs.Names.{same_name, is_descendant}
+use Rattle.base.specs.Names.{same_name, is_descendant}
 use Rattle.model.specs.World.{World, FileSystem, Snap, SnapId, Dataset, Live, Snapped, id_of, map_of, previous_of, file_system_at}
 use Rattle.model.specs.Sums.{used_by_dataset, used_by_snapshots}
 use Rattle.world.specs.Blocks.{upto}

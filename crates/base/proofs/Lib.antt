@@ -1,3 +1,4 @@
 pub mod RewriteLaw
 pub mod LawProofs
 pub mod Contents
+pub mod Marks

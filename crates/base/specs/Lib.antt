@@ -7,3 +7,5 @@ pub mod Refusals
 pub mod Rewrite
 pub mod Surveys
 pub mod Laws
+pub mod Names
+pub mod Reading

@@ -6,6 +6,7 @@ pub mod failing;
 pub mod laws;
 pub mod limit;
 pub mod meter;
+pub mod name;
 pub mod number;
 pub mod refusal;
 pub mod text;

@@ -1,32 +1,19 @@
 -- Members of lists, by their places.
-use Rattle.std.proofs.Common.{◌≡◌, ℕ, zero, suc, ◌+◌, ◌<◌, ◌∙◌, ◌≤◌, List, [], ◌∷◌, length, get_or, drop, Some, refl, sym, ap, subst, arith, inl, inr, ⊎_elim}
+use Rattle.std.proofs.Common.{◌≡◌, ℕ, zero, suc, ◌+◌, ◌<◌, ◌∙◌, ◌≤◌, List, [], ◌∷◌, length, get_or, drop, Some, refl, sym, ap, subst, arith, ⊎_elim}
 use Rattle.std.specs.Prelude.{slice_get}
 use Rattle.std.proofs.lemmas.Option.{get_or_from_slice_get, slice_get-get_or}
 use Rattle.std.proofs.lemmas.Bool.{cases_lt}
 use Rattle.std.specs.List.{All}
-use Rattle.base.specs.Surveys.{IsIn, AreDifferent}
-use Rattle.node.proofs.Options.{same_value}
+use Rattle.base.specs.Surveys.{IsIn}
 
 pub in_at : {A : Type 0} (xs : List A) (a : A) → IsIn xs a → (i : ℕ) × (slice_get xs i ≡ Some a)
 in_at [] a h = absurd h
 in_at (x ∷ xs) a h = ⊎_elim (λ e. (zero, ap Some (sym e))) (λ r. let i = in_at xs a r in (suc i.0, i.1)) h
 
-pub at_in : {A : Type 0} (xs : List A) (i : ℕ) (a : A) → slice_get xs i ≡ Some a → IsIn xs a
-at_in [] i a e = cc
-at_in (x ∷ xs) zero a e = inl (sym (same_value x a e))
-at_in (x ∷ xs) (suc i) a e = inr (at_in xs i a e)
-
 pub at_drop : {A : Type 0} (n i : ℕ) (xs : List A) → slice_get (drop n xs) i ≡ slice_get xs (n + i)
 at_drop zero i xs = let e : 0 + i ≡ i = omega arith in rw e refl
 at_drop (suc n) i [] = refl
 at_drop (suc n) i (x ∷ xs) = let e : suc n + i ≡ suc (n + i) = omega arith in rw e (at_drop n i xs)
-
-pub different_at : {A : Type 0} (xs : List A) → ((i j : ℕ) (a : A) → slice_get xs i ≡ Some a → slice_get xs j ≡ Some a → i ≡ j) → AreDifferent xs
-different_at [] h = tt
-different_at (x ∷ xs) h = (
-  λ t. let i = in_at xs x t in let e = h zero (suc i.0) x refl i.1 in absurd (omega arith),
-  different_at xs (λ i j a p q. let e = h (suc i) (suc j) a p q in omega arith),
-)
 
 pub all_bytes : (xs : List ℕ) → ((i : ℕ) → get_or xs i 0 < 256) → All (λ b. b < 256) xs
 all_bytes xs h = λ k d l.

@@ -1,5 +1,5 @@
 -- The new blocks of a part stand one after another.
-use Rattle.std.proofs.Common.{◌≡◌, ℕ, zero, suc, ◌+◌, ◌-◌, ◌*◌, ◌<◌, ◌≤◌, Bool, true, false, cond, List, [], ◌∷◌, ◌++◌, length, get_or, set, take, drop, map, Option, Some, None, refl, sym, ap, subst, ◌∙◌, arith, length-append}
+use Rattle.std.proofs.Common.{◌≡◌, ℕ, zero, suc, ◌+◌, ◌-◌, ◌*◌, ◌<◌, Bool, true, false, cond, List, [], ◌∷◌, ◌++◌, length, get_or, set, take, drop, map, Option, Some, None, refl, sym, ap, subst, ◌∙◌, arith, length-append}
 use Rattle.std.specs.Prelude.{slice_get, is_some, ◌&&◌, ◌==◌}
 use Rattle.std.specs.Option.{option_map}
 use Rattle.std.proofs.lemmas.Bool.{eqb-true, eq-eqb, and_parts}
@@ -27,13 +27,6 @@ keys_split bs i (x ∷ xs) ys h =
     let r = keys_split bs (i + 1) xs ys h.1 in
     let e : i + 1 + length xs ≡ i + suc (length xs) = omega arith in
     ((h.0, r.0), subst (λ k. HasKeys bs k ys) e r.1)
-
-pub keys_joined : (bs : List NewBlock) (i : ℕ) (xs ys : List Key) → HasKeys bs i xs → HasKeys bs (i + length xs) ys → HasKeys bs i (xs ++ ys)
-unfolding HasKeys
-keys_joined bs i [] ys h k = subst (λ n. HasKeys bs n ys) (let e : i + 0 ≡ i = omega arith in e) k
-keys_joined bs i (x ∷ xs) ys h k =
-    let e : i + suc (length xs) ≡ i + 1 + length xs = omega arith in
-    (h.0, keys_joined bs (i + 1) xs ys h.1 (subst (λ n. HasKeys bs n ys) e k))
 
 -- the keys of a place, and those of the places before it, where two batches make the same at the place
 pub keys_here : (f f' : ℕ → Option Part → List Key) (j back : ℕ) (os : List (Option Part)) (kid : Option Part) (bs : List NewBlock) (i : ℕ) → back < 16 → length os ≡ 16 → kid ≡ get_or os (15 - back) None

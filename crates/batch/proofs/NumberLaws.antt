@@ -258,14 +258,6 @@ young_first y need ds none first e a =
     let c = young_all y ds in
     (omega (arith, n, l, k), omega (arith, n, l, k, c), λ h. omega (arith, n, l, k, c))
 
-pub free_then : (need k : ℕ) (first second : List BlockNo) (fs : List ℕ) → length first ≤ need → numbers second ≡ numbers first ++ take (need - length first) fs → length second ≤ need
-free_then need k first second fs h e =
-    let n = length-numbers first in let m = length-numbers second in
-    let l = ap length e in
-    let a = length-append (numbers first) (take (need - length first) fs) in
-    let t = length-take (need - length first) fs in
-    omega (arith, n, m, l, a, t)
-
 pub push_number : (old new : List BlockNo) (b : BlockNo) → new ≡ old ++ b ∷ [] → numbers new ≡ numbers old ++ b.0 ∷ []
 push_number old new b e = ap numbers e ∙ map-append (λ (b : BlockNo). b.0) old (b ∷ [])
 

@@ -47,7 +47,7 @@ fn root_of(root: &Option<Arc<Root>>) -> Option<&Root>
 }
 
 /// What a batch does to a root, with room for so many new blocks at first.
-pub(crate) fn plan_of(
+pub(crate) fn findings_of(
     alloc: Global,
     root: &Option<Arc<Root>>,
     updates: &[Update],
@@ -94,7 +94,7 @@ pub fn draft_of(
     ensures never_lower { meter.old ≤ meter.new }
 {
     let room = write_count(updates).saturating_add(5);
-    let (plan, touched) = plan_of(alloc, root, updates, room, young, meter)?;
+    let (plan, touched) = findings_of(alloc, root, updates, room, young, meter)?;
     let need = fresh_count(&plan.claims);
     let taken = match choose(alloc, allocator, &plan.released, young, need) {
         Ok(taken) => taken,

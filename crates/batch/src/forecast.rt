@@ -8,7 +8,7 @@ ghost use Rattle.node.specs.Entries.{map_of};
 ghost use Rattle.node.specs.Node.{root_forest};
 ghost use Rattle.node.specs.Sound.{IsSoundTree};
 
-use crate::draft::plan_of;
+use crate::draft::findings_of;
 use crate::few::Few;
 use crate::plan::Claim;
 use crate::update::{Update, write_count};
@@ -56,7 +56,7 @@ pub fn forecast_of(
     ensures never_lower { meter.old ≤ meter.new }
 {
     let room = write_count(updates).saturating_add(5);
-    let (plan, _touched) = plan_of(alloc, root, updates, room, Group(0), meter)?;
+    let (plan, _touched) = findings_of(alloc, root, updates, room, Group(0), meter)?;
     let made = plan.claims.len();
     let mut dropped = plan.released;
     add_kept(&plan.claims, &mut dropped)?;

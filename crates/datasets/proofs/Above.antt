@@ -18,10 +18,10 @@ use Rattle.world.specs.Shapes.{Name, lineages, IsGood}
 use Rattle.world.specs.Worlds.{shapes}
 use Rattle.world.specs.Dead.{base_of, below_of, IsThere}
 use Rattle.world.specs.Tables.{Datasets, world_of}
-use Rattle.world.proofs.Bridge.{no_block, in_middle, map_of_live, map_of_kept, previous_of_live, previous_of_kept}
-use Rattle.world.proofs.Dead.{in_line, there_row, row_base, row_below}
-use Rattle.world.proofs.Finding.{in_left}
-use Rattle.world.proofs.Lineage.{below_born}
+use Rattle.world.proofs.lineage.Bridge.{no_block, in_middle, map_of_live, map_of_kept, previous_of_live, previous_of_kept}
+use Rattle.world.proofs.lineage.Dead.{in_line, there_row, row_base, row_below}
+use Rattle.world.proofs.lists.Finding.{in_left}
+use Rattle.world.proofs.lineage.Lineage.{below_born}
 use Rattle.datasets.specs.Table.{IsTable}
 
 -- ---- a snapshot by its identity, with the name of its file system or without

@@ -1,7 +1,7 @@
 -- A file system of a table that has other bookmarks, or another limit; and what of a table is of closed groups.
 use Rattle.std.proofs.Common.{◌≡◌, ◌<◌, ℕ, List, Option, Some, refl}
 use Rattle.std.specs.FinMap.{FinMap, get}
-use Rattle.name.specs.Names.{name_cmp}
+use Rattle.base.specs.Names.{name_cmp}
 use Rattle.model.specs.declared.limits.Limit.{Limit}
 use Rattle.model.specs.Limits.{limited}
 use Rattle.model.specs.World.{Bookmark, id_of}
@@ -10,8 +10,8 @@ use Rattle.datasets.specs.Limited.{limited_of}
 use Rattle.world.specs.Shapes.{Name}
 use Rattle.world.specs.Worlds.{snap_shape, shape_of, shapes}
 use Rattle.world.specs.Tables.{Datasets}
-use Rattle.world.proofs.Bridge.{shape_at, among}
-use Rattle.world.proofs.Requests.{lineage_facts}
+use Rattle.world.proofs.lineage.Bridge.{shape_at, among}
+use Rattle.world.proofs.lineage.Requests.{lineage_facts}
 use Rattle.datasets.specs.Table.{IsTable, AreBookmarksClosed, AreSnapshotsClosed}
 use Rattle.datasets.proofs.Changed.{changed_table}
 

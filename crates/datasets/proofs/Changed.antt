@@ -10,7 +10,7 @@ use Rattle.model.specs.Edits.{with_file_system}
 use Rattle.world.specs.Shapes.{Name}
 use Rattle.world.specs.Worlds.{FileSystems, IsTidy, shape_of}
 use Rattle.world.specs.Tables.{Datasets, world_of}
-use Rattle.world.proofs.Views.{label_systems, label_from}
+use Rattle.world.proofs.changes.Views.{label_systems, label_from}
 use Rattle.datasets.specs.Table.{IsTable}
 use Rattle.datasets.proofs.Kept.{numbers_from}
 

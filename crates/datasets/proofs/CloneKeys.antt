@@ -15,7 +15,7 @@ use Rattle.std.specs.List.Sorted.{IsSearchInRange, IsBinarySearchResult, IsNonDe
 use Rattle.std.specs.FinMap as finmap
 use Rattle.std.specs.FinMap.{get, entries, find, put, is_sorted, from_sorted, get-from_sorted, entries-from_sorted, entries-insert, same_entries_map, same_map, get-insert, get-remove, get-empty}
 use Rattle.std.specs.FinMap.Entries.{is_sorted-put}
-use Rattle.name.specs.Names.{name_cmp}
+use Rattle.base.specs.Names.{name_cmp}
 use Rattle.model.specs.World.{SnapId, same_id}
 use Rattle.world.specs.Sets.{IsExactOrder}
 use Rattle.world.specs.Shapes.{Name, name_order}

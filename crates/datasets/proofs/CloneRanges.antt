@@ -11,9 +11,9 @@ use Rattle.std.specs.declared.cmp.Ordering.TheVariants.{Less, Equal, Greater}
 use Rattle.std.specs.Ordering.{is_lt, ordering_then}
 use Rattle.std.specs.Cmp.{tied_itself}
 use Rattle.std.specs.FinMap.{is_sorted}
-use Rattle.name.specs.Names.{name_cmp}
+use Rattle.base.specs.Names.{name_cmp}
 use Rattle.model.specs.World.{SnapId, same_id}
-use Rattle.world.proofs.Finding.{same_id_is}
+use Rattle.world.proofs.lists.Finding.{same_id_is}
 use Rattle.datasets.specs.declared.clones.CloneName.{CloneName}
 use Rattle.datasets.specs.CloneNames.{CloneKey, CloneEntry, id_cmp, key_cmp, key_of, key_in, name_of, names_in, IsInOrder}
 use Rattle.datasets.proofs.CloneKeys.{id_total, key_order, exact_ids}

@@ -4,8 +4,8 @@ use Rattle.std.specs.List.{find}
 use Rattle.std.specs.Option.{option_map, option_and_then}
 use Rattle.std.specs.FinMap.{get, insert}
 use Rattle.base.specs.Surveys.{IsIn}
-use Rattle.name.specs.declared.member.Member.{Member}
-use Rattle.name.specs.Names.{same_name}
+use Rattle.base.specs.declared.name.member.Member.{Member}
+use Rattle.base.specs.Names.{same_name}
 use Rattle.model.specs.World.{FileSystem, Snap, id_of, empty_file_system, snap_named, map_of_snap}
 use Rattle.model.specs.requests.Create.{create_refusal}
 use Rattle.world.specs.Shapes.{Name, before_next}
@@ -13,13 +13,13 @@ use Rattle.world.specs.Worlds.{snap_shape, shape_of, shapes}
 use Rattle.world.specs.Tables.{Datasets, world_of}
 use Rattle.datasets.specs.Clones.{all_snaps, snap_in, IsTied}
 use Rattle.file_system.specs.Promotions.{clone_row, clone_system}
-use Rattle.world.proofs.Maps.{no_value}
-use Rattle.world.proofs.Finding.{from_find}
-use Rattle.world.proofs.Listed.{map_in}
-use Rattle.world.proofs.Requests.{lineage_facts}
-use Rattle.world.proofs.Bridge.{shape_at, among, map_of_kept, snap_is_at}
-use Rattle.world.proofs.Put.{put_maps}
-use Rattle.world.proofs.Creations.{make_systems}
+use Rattle.world.proofs.lists.Maps.{no_value}
+use Rattle.world.proofs.lists.Finding.{from_find}
+use Rattle.world.proofs.lists.Listed.{map_in}
+use Rattle.world.proofs.lineage.Requests.{lineage_facts}
+use Rattle.world.proofs.lineage.Bridge.{shape_at, among, map_of_kept, snap_is_at}
+use Rattle.world.proofs.lineage.Put.{put_maps}
+use Rattle.world.proofs.changes.Creations.{make_systems}
 use Rattle.datasets.specs.Table.{IsTable}
 use Rattle.datasets.specs.Clones.{with_clone_of}
 use Rattle.datasets.proofs.Kept.{numbers_from, can_add}

@@ -4,7 +4,7 @@ use Rattle.std.specs.Prelude.{nat_lt}
 use Rattle.std.proofs.lemmas.List.{length-map}
 use Rattle.model.specs.World.{World, SnapId, clones_of}
 use Rattle.world.specs.Dead.{HasNoCloneIn}
-use Rattle.world.proofs.States.{positive, in_clones}
+use Rattle.world.proofs.steps.States.{positive, in_clones}
 
 -- there is one where their names are some
 pub counted : {A B : Type 0} (f : A → B) (xs : List A) (ys : List B) → map f xs ≡ ys → nat_lt 0 (length xs) ≡ nat_lt 0 (length ys)

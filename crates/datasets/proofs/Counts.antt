@@ -3,7 +3,7 @@ use Rattle.std.proofs.Common.{◌≡◌, ℕ, zero, suc, ◌+◌, ◌<◌, ◌�
 use Rattle.std.specs.List.{flat_map, insert}
 use Rattle.std.specs.Prelude.{IsTrue}
 use Rattle.std.specs.FinMap.{is_sorted, from_sorted}
-use Rattle.name.specs.Names.{name_cmp}
+use Rattle.base.specs.Names.{name_cmp}
 use Rattle.model.specs.World.{Snap}
 use Rattle.file_system.specs.Rows.{Entry, snap_count}
 use Rattle.datasets.proofs.Rows.{entries_are}

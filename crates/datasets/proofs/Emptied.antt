@@ -16,17 +16,17 @@ use Rattle.file_system.specs.Origins.{origin_group}
 use Rattle.file_system.specs.Rows.{live_of, snaps_at}
 use Rattle.file_system.specs.Writes.{newest_group}
 use Rattle.world.specs.Blocks.{after, block_order as o}
-use Rattle.world.specs.Shapes.{Name, Before, before_live, nothing_before, Makes, Unmakes, IsGood}
+use Rattle.world.specs.Shapes.{Name, Before, before_live, nothing_before, Makes, RemovesFileSystem, IsGood}
 use Rattle.world.specs.Worlds.{FileSystems, snap_shape, shape_of, shapes, AreMapsFrom}
 use Rattle.world.specs.Tables.{Datasets, world_of, with_system, without_system, lost_between}
-use Rattle.world.proofs.SetCounts.{same_members}
-use Rattle.world.proofs.Moves.{make_keeps, unmake_keeps}
-use Rattle.world.proofs.Bridge.{no_block, shape_at, shape_none, union_is, start, starts, live_row, live_there, previous_of_live}
-use Rattle.world.proofs.Dead.{row_base}
-use Rattle.world.proofs.Drawn.{union_from}
-use Rattle.world.proofs.Put.{put_shape, put_shapes, put_other, put_cases, put_tidy, put_maps, put_hierarchy, gone_here, gone_other, gone_cases}
-use Rattle.world.proofs.Creations.{bare_tidy}
-use Rattle.world.proofs.StateSteps.{begun}
+use Rattle.world.proofs.lists.SetCounts.{same_members}
+use Rattle.world.proofs.lineage.Moves.{make_keeps, unmake_keeps}
+use Rattle.world.proofs.lineage.Bridge.{no_block, shape_at, shape_none, union_is, start, starts, live_row, live_there, previous_of_live}
+use Rattle.world.proofs.lineage.Dead.{row_base}
+use Rattle.world.proofs.changes.Drawn.{union_from}
+use Rattle.world.proofs.lineage.Put.{put_shape, put_shapes, put_other, put_cases, put_tidy, put_maps, put_hierarchy, gone_here, gone_other, gone_cases}
+use Rattle.world.proofs.changes.Creations.{bare_tidy}
+use Rattle.world.proofs.steps.StateSteps.{begun}
 use Rattle.datasets.specs.Table.{IsTable}
 use Rattle.datasets.specs.Rollbacks.{Loses}
 use Rattle.datasets.proofs.Kept.{numbers_from}
@@ -40,7 +40,7 @@ module _ (t : Datasets) (sound : IsTable t) (name : Name) (f : FileSystem) (at :
   abbrev q : Before
   q = start t.file_systems t.group lines_t name f at
 
-  abbrev unmakes : Unmakes (shapes t.file_systems) (shapes (remove t.file_systems name)) name
+  abbrev unmakes : RemovesFileSystem (shapes t.file_systems) (shapes (remove t.file_systems name)) name
   unmakes = record {
     system = shape_of f;
     at = shape_at t.file_systems name f at;

@@ -8,7 +8,7 @@ use Rattle.std.specs.FinMap.{get, insert, len, contains_key, entries}
 use Rattle.std.proofs.lemmas.Bool.Decides.{nat_tests}
 use Rattle.base.specs.declared.refusal.Refusal.{Refusal}
 use Rattle.base.specs.declared.refusal.Refusal.TheVariants.{Exists, NoParent, TooMany}
-use Rattle.name.specs.Names.{root_name}
+use Rattle.base.specs.Names.{root_name}
 use Rattle.model.specs.World.{FileSystem, Snap, Live, id_of, same_id, empty_file_system, map_of}
 use Rattle.model.specs.State.{fresh_world, fresh_state}
 use Rattle.model.specs.Hierarchy.{has_parent, file_system_limit}
@@ -18,17 +18,17 @@ use Rattle.file_system.specs.Rows.{live_of, plain_snap, with_snap}
 use Rattle.world.specs.Shapes.{Name, name_order, before_live, nothing_before}
 use Rattle.world.specs.Worlds.{FileSystems, snap_shape, AreFileSystems, AreMapsFrom, InNow, maps_of_both}
 use Rattle.world.specs.Tables.{Datasets, world_of, CanSnap}
-use Rattle.world.proofs.Maps.{at_entry}
-use Rattle.world.proofs.Finding.{find_none, from_flat, same_id_is}
-use Rattle.world.proofs.Bridge.{no_block, from_entries, start, live_row, live_there}
-use Rattle.world.proofs.Drawn.{cells_from, drawn}
-use Rattle.world.proofs.Put.{put_maps}
-use Rattle.world.proofs.Creations.{make_systems}
-use Rattle.world.proofs.StateSteps.{begun}
-use Rattle.world.proofs.Slices.{fresh_keeps}
-use Rattle.world.proofs.Groups.{raise_systems, same_maps}
-use Rattle.world.proofs.Snapshots.{take_systems, taken_from}
-use Rattle.world.proofs.Dead.{row_base}
+use Rattle.world.proofs.lists.Maps.{at_entry}
+use Rattle.world.proofs.lists.Finding.{find_none, from_flat, same_id_is}
+use Rattle.world.proofs.lineage.Bridge.{no_block, from_entries, start, live_row, live_there}
+use Rattle.world.proofs.changes.Drawn.{cells_from, drawn}
+use Rattle.world.proofs.lineage.Put.{put_maps}
+use Rattle.world.proofs.changes.Creations.{make_systems}
+use Rattle.world.proofs.steps.StateSteps.{begun}
+use Rattle.world.proofs.removals.Slices.{fresh_keeps}
+use Rattle.world.proofs.steps.Groups.{raise_systems, same_maps}
+use Rattle.world.proofs.steps.Snapshots.{take_systems, taken_from}
+use Rattle.world.proofs.lineage.Dead.{row_base}
 use Rattle.datasets.specs.Table.{AreNumbersOne, IsTable}
 use Rattle.datasets.proofs.Rows.{none_from}
 

@@ -3,15 +3,18 @@
 use Rattle.std.proofs.Common.{◌≡◌, ℕ, Bool, true, false, cond, List, [], ◌∷◌, length, get_or, set, map, Option, Some, is_some, refl, sym, ap, subst, ◌∙◌, true≢false}
 use Rattle.std.proofs.lemmas.List.{map-set, length-map}
 use Rattle.std.proofs.Math.Seq.{map-set_same}
-use Rattle.std.specs.Prelude.{IsTrue, IsSome, IfSome, ◌==◌}
+use Rattle.std.specs.Prelude.{IsTrue, IsSome, IfSome, Result, Ok, Err, IsOk, OnOk, OnErr, is_ok, ◌==◌}
 use Rattle.std.specs.Arc.{arc_value}
+use Rattle.std.specs.Result.{IsErrAnd}
 use Rattle.std.specs.declared.sync.Arc.{Arc}
 use Rattle.std.specs.declared.alloc.Global.{Global}
 use Rattle.std.specs.List.{find}
 use Rattle.std.specs.Option.{option_map, option_map_or}
 use Rattle.std.specs.FinMap.{get, insert, contains_key, is_sorted, from_sorted}
-use Rattle.name.specs.Names.{name_cmp}
+use Rattle.base.specs.Names.{name_cmp}
 use Rattle.base.specs.Map.{Map}
+use Rattle.base.specs.declared.refusal.Refusal.{Refusal}
+use Rattle.base.specs.declared.refusal.Refusal.TheVariants.{NoDataset, NoMemory}
 use Rattle.model.specs.World.{FileSystem, Snap, SnapId, id_of, same_id}
 use Rattle.file_system.specs.Rows.{FileSystems, Entry, Row, entry_in, entry_of, snaps_at, snap_count, with_system}
 use Rattle.file_system.specs.Deferred.{edited_if, edited_at}
@@ -25,6 +28,19 @@ use Rattle.datasets.proofs.Rows.{row_of, get_gap, placed_sorted, made_is, rule_h
 use Rattle.datasets.proofs.Counts.{set_counted_same}
 use Rattle.datasets.proofs.Ties.{after_first, row_place, row_within, tied_set, below_is}
 use Rattle.datasets.proofs.Listing.{listed_set}
+
+-- ---- what was lent, and what wasn't
+
+pub lent : {X E P : Type 0} (r : Result X E) (v : X) → r ≡ Ok v → (IsOk r → P) → P
+lent r v is h = h (ap is_ok is)
+
+pub not_lent : {X E P : Type 0} (r : Result X E) (e : E) → r ≡ Err e → OnErr r P → P
+not_lent {P = P} r e is h = subst (λ x. OnErr x P) is h
+
+-- who had no memory doesn't tell of names
+pub not_missing : {X : Type 0} (r : Result X Refusal) (e : Refusal) → IsErrAnd r (λ y. y ≡ e) → e ≡ NoMemory → r ≡ Err NoDataset → ⊥
+not_missing (Ok v) e is only h = absurd is
+not_missing (Err y) e is only h = cc
 
 -- ---- other labels
 
@@ -142,3 +158,23 @@ module _ (t : Inside) (sound : IsSorted t) (m : FileSystems) (view : from_sorted
 
       pub same_is : from_sorted {R = name_cmp} (map entry_in (set t.rows.items i b)) ≡ m
       same_is = ap (from_sorted {R = name_cmp}) (map-set_same entry_in t.rows.items i b a (ap entry_of same ∙ ap entry_in is)) ∙ view
+
+    -- one with other labels, or where that was refused the same: the row's file system was y, and has become x
+    module _ (change : FileSystem → FileSystem) (like : IsLabelled (arc_value a).system (change (arc_value a).system))
+        (b : Arc Row Global) (x y : Row) (now : arc_value b ≡ x) (was : y ≡ arc_value a) where
+      done : x ≡ with_system y (change y.system) → arc_value b ≡ with_system (arc_value a) (change (arc_value a).system)
+      done e = now ∙ e ∙ ap (λ (r : Row). with_system r (change r.system)) was
+
+      pub tried_sorted : {X E : Type 0} (r : Result X E) → OnOk r (x ≡ with_system y (change y.system)) → OnErr r (x ≡ y)
+          → (u : Inside) → u.rows.items ≡ set t.rows.items i b → u.snapshot_count ≡ t.snapshot_count → u.clones ≡ t.clones → IsSorted u
+      tried_sorted (Ok v) ok err = labelled_sorted change like b (done ok)
+      tried_sorted (Err e) ok err = same_sorted b (now ∙ err ∙ was)
+
+      pub tried_is : {X E : Type 0} (r : Result X E) → OnOk r (x ≡ with_system y (change y.system))
+          → OnOk r (from_sorted {R = name_cmp} (map entry_in (set t.rows.items i b)) ≡ option_map_or (λ f. insert m q (change f)) (get m q) m)
+      tried_is (Ok v) ok = labelled_is change like b (done ok)
+      tried_is (Err e) ok = tt
+
+      pub tried_same : {X E : Type 0} (r : Result X E) → OnErr r (x ≡ y) → OnErr r (from_sorted {R = name_cmp} (map entry_in (set t.rows.items i b)) ≡ m)
+      tried_same (Ok v) err = tt
+      tried_same (Err e) err = same_is b (now ∙ err ∙ was)

@@ -9,6 +9,7 @@ pub mod Emptied
 pub mod Children
 pub mod Marked
 pub mod Placed
+pub mod Holders
 pub mod Cloned
 pub mod Promoted
 pub mod ClonesOf

@@ -10,11 +10,11 @@ use Rattle.std.specs.Cmp.Lexicographic.{nat_list_cmp_total}
 use Rattle.std.specs.FinMap as finmap
 use Rattle.std.specs.FinMap.{get, entries, entries_sorted, contains_key, find, is_sorted, from_sorted, get-from_sorted, get-entries, entries-from_sorted, same_map, insert, remove, get-insert, get-remove, get-empty}
 use Rattle.std.specs.FinMap.Entries.{below_all}
-use Rattle.name.specs.Names.{name_cmp}
+use Rattle.base.specs.Names.{name_cmp}
 use Rattle.model.specs.World.{FileSystem, SnapId, same_id, empty_file_system}
 use Rattle.world.specs.Shapes.{Name, name_order}
-use Rattle.world.proofs.Finding.{same_id_is}
-use Rattle.world.proofs.Maps.{key_cases, get-insert_same, get-insert_other, get-remove_same, get-remove_other}
+use Rattle.world.proofs.lists.Finding.{same_id_is}
+use Rattle.world.proofs.lists.Maps.{key_cases, get-insert_same, get-insert_other, get-remove_same, get-remove_other}
 use Rattle.datasets.specs.CloneNames.{CloneKey, CloneEntry, CloneSet, id_cmp, key_cmp, with_origin, without_origin, promoted_set, names_in, clones_in, IsListed}
 use Rattle.datasets.specs.Clones.{origin_at}
 use Rattle.datasets.specs.Places.{IsAt}

@@ -7,21 +7,21 @@ use Rattle.std.proofs.lemmas.Bool.{eq-eqb}
 use Rattle.base.specs.Map.{Map, blocks}
 use Rattle.base.specs.Surveys.{IsIn}
 use Rattle.base.specs.declared.refusal.Refusal.{Refusal}
-use Rattle.name.specs.declared.member.Member.{Member}
+use Rattle.base.specs.declared.name.member.Member.{Member}
 use Rattle.model.specs.World.{FileSystem, Snap, SnapId, id_of, same_id, snap_named, maps_of}
 use Rattle.model.specs.Edits.{with_file_systems}
 use Rattle.file_system.specs.Deferred.{edited_if, edited_at, edited_of, with_deferred, with_tags}
 use Rattle.world.specs.Shapes.{Name, name_order}
 use Rattle.world.specs.Worlds.{FileSystems, AreRising, IsTidy, snap_shape, shape_of}
 use Rattle.world.specs.Tables.{Datasets, world_of}
-use Rattle.world.proofs.Bridge.{one_snap, in_middle}
-use Rattle.world.proofs.Finding.{is_same_id, same_id_is, in_either}
-use Rattle.world.proofs.Promotions.{split_at}
-use Rattle.world.proofs.Listed.{in_map}
-use Rattle.world.proofs.Maps.{key_cases}
-use Rattle.world.proofs.Put.{put_here, put_other}
-use Rattle.world.proofs.Sweep.{get-with_file_systems}
-use Rattle.world.proofs.Views.{label_systems, label_from, same_shapes_mapped, same_maps_mapped}
+use Rattle.world.proofs.lineage.Bridge.{one_snap, in_middle}
+use Rattle.world.proofs.lists.Finding.{is_same_id, same_id_is, in_either}
+use Rattle.world.proofs.changes.Promotions.{split_at}
+use Rattle.world.proofs.lists.Listed.{in_map}
+use Rattle.world.proofs.lists.Maps.{key_cases}
+use Rattle.world.proofs.lineage.Put.{put_here, put_other}
+use Rattle.world.proofs.removals.Sweep.{get-with_file_systems}
+use Rattle.world.proofs.changes.Views.{label_systems, label_from, same_shapes_mapped, same_maps_mapped}
 use Rattle.datasets.specs.Table.{IsTable}
 use Rattle.datasets.proofs.Kept.{numbers_from, added_table}
 use Rattle.datasets.proofs.Removed.{IsOf, of, older_differ, newer_differ, rising_at}

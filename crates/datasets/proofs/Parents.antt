@@ -3,7 +3,7 @@ use Rattle.std.proofs.Common.{◌≡◌, ◌<◌, ℕ, ◌+◌, false, List, [],
 use Rattle.std.specs.Prelude.{◌==◌}
 use Rattle.std.proofs.lemmas.Bool.Decides.{nat_tests}
 use Rattle.std.proofs.Math.Seq.{take-suc}
-use Rattle.name.specs.Names.{parent_of, before_slash, slash}
+use Rattle.base.specs.Names.{parent_of, before_slash, slash}
 
 -- a slash at the end ends the parent's name
 parent-slash : (xs : List ℕ) → parent_of (xs ++ slash ∷ []) ≡ Some xs

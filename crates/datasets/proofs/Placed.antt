@@ -6,8 +6,8 @@ use Rattle.std.specs.FinMap.{get, entries}
 use Rattle.base.specs.Surveys.{IsIn}
 use Rattle.world.specs.Worlds.{FileSystems, AreFileSystems, AreRising}
 use Rattle.world.specs.Shapes.{name_order}
-use Rattle.world.proofs.Maps.{at_entry}
-use Rattle.world.proofs.Bridge.{from_entries, start, rising}
+use Rattle.world.proofs.lists.Maps.{at_entry}
+use Rattle.world.proofs.lineage.Bridge.{from_entries, start, rising}
 use Rattle.datasets.proofs.Removed.{from_zero}
 use Rattle.std.specs.List.{find, flat_map}
 use Rattle.std.specs.Option.{option_map}
@@ -15,7 +15,7 @@ use Rattle.datasets.specs.Clones.{row_in}
 use Rattle.file_system.specs.Rows.{Entry, Row}
 use Rattle.model.specs.World.{Snap, SnapId, id_of, same_id, snap_at}
 use Rattle.world.specs.Tables.{Datasets, world_of}
-use Rattle.world.proofs.Listed.{in_map}
+use Rattle.world.proofs.lists.Listed.{in_map}
 use Rattle.world.specs.Shapes.{Name}
 
 find_in : (n : Name) (id : SnapId) (ts : List Snap)
@@ -98,6 +98,11 @@ module _ {A : Type 0} (value : A → Row) (xs : List A) (i : ℕ) (lt : i < leng
     row_there =
         let e = in_map (row_in ss) (entries ss) r (subst (λ l. IsIn l r) all (dropped_in i (map value xs) r (drop (i + 1) (map value xs)) first_of_left)) in
         ap (λ (x : Row). get ss x.name) e.2 ∙ at_entry name_order ss e.0.0 e.0.1 (from_entries (entries ss) e.0 e.1) ∙ ap (λ (x : Row). Some x.system) (sym e.2)
+
+    pub row_here : r ≡ row_in ss (r.name, r.system)
+    row_here =
+        let e = in_map (row_in ss) (entries ss) r (subst (λ l. IsIn l r) all (dropped_in i (map value xs) r (drop (i + 1) (map value xs)) first_of_left)) in
+        e.2 ∙ ap (λ (x : Row). row_in ss (x.name, x.system)) (sym e.2)
 
     -- and its snapshots stand in order of their groups
     pub row_rising : AreRising 0 r.system.snaps

@@ -11,13 +11,13 @@ use Rattle.world.specs.Worlds.{FileSystems, AreMapsFrom}
 use Rattle.world.specs.Outcomes.{Promotion, promotion_of, promoted_snaps, snaps_after, promoted, demoted}
 use Rattle.world.specs.Tables.{Datasets, world_of, CanPromote}
 use Rattle.datasets.specs.Promoted.{IsPromotion, CanPromoteIn, promoted_in}
-use Rattle.world.proofs.Maps.{same_value}
-use Rattle.world.proofs.Finding.{from_filter, in_either}
-use Rattle.world.proofs.Listed.{in_map, map_in}
-use Rattle.world.proofs.Put.{put_cases}
-use Rattle.world.proofs.Bridge.{one_snap, from_snap_at}
-use Rattle.world.proofs.Promotions.{promotion_is, promote_systems}
-use Rattle.world.proofs.Promotions.{IsPromotion as IsOfWorld}
+use Rattle.world.proofs.lists.Maps.{same_value}
+use Rattle.world.proofs.lists.Finding.{from_filter, in_either}
+use Rattle.world.proofs.lists.Listed.{in_map, map_in}
+use Rattle.world.proofs.lineage.Put.{put_cases}
+use Rattle.world.proofs.lineage.Bridge.{one_snap, from_snap_at}
+use Rattle.world.proofs.changes.Promotions.{promotion_is, promote_systems}
+use Rattle.world.proofs.changes.Promotions.{IsPromotion as IsOfWorld}
 use Rattle.datasets.specs.Table.{IsTable}
 use Rattle.datasets.specs.Clones.{with_promoted}
 use Rattle.datasets.proofs.Kept.{numbers_from}

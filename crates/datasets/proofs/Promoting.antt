@@ -11,15 +11,15 @@ use Rattle.std.specs.List.{find}
 use Rattle.std.specs.Option.{option_and_then, option_map}
 use Rattle.std.specs.FinMap.{get, is_sorted, from_sorted}
 use Rattle.std.specs.FinMap as finmap
-use Rattle.name.specs.Names.{name_cmp}
+use Rattle.base.specs.Names.{name_cmp}
 use Rattle.base.specs.Map.{Map}
 use Rattle.base.specs.Surveys.{IsIn}
 use Rattle.model.specs.World.{FileSystem, Snap, SnapId, id_of, same_id}
 use Rattle.world.specs.Outcomes.{Promotion, snaps_upto, snaps_after}
-use Rattle.world.proofs.Finding.{from_find, find_only, in_filter, from_filter, in_left, in_right, in_either, in_flat, from_flat, same_id_is, is_same_id}
+use Rattle.world.proofs.lists.Finding.{from_find, find_only, in_filter, from_filter, in_left, in_right, in_either, in_flat, from_flat, same_id_is, is_same_id}
 use Rattle.world.specs.Usage.{IsEntry}
 use Rattle.world.specs.Shapes.{name_order}
-use Rattle.world.proofs.Maps.{same_value, entry_of as entry_from}
+use Rattle.world.proofs.lists.Maps.{same_value, entry_of as entry_from}
 use Rattle.datasets.specs.CloneNames.{CloneSet, promoted_set, IsListed}
 use Rattle.datasets.proofs.Listing.{listed_promoted}
 use Rattle.datasets.specs.Clones.{map_found, below_in, IsTied, AreTied}

@@ -11,8 +11,8 @@ use Rattle.base.specs.declared.refusal.Refusal.{Refusal}
 use Rattle.base.specs.Map.{Map, Block, BlockSet, blocks}
 use Rattle.base.specs.Surveys.{IsIn, dead_block}
 use Rattle.deadlist.specs.declared.deadlist.Deadlist.{Deadlist}
-use Rattle.name.specs.declared.member.Member.{Member}
-use Rattle.name.specs.Names.{same_name}
+use Rattle.base.specs.declared.name.member.Member.{Member}
+use Rattle.base.specs.Names.{same_name}
 use Rattle.model.specs.World.{FileSystem, Snap, Live, Snapped, id_of, newest_or_origin, previous_of, map_of, snap_named}
 use Rattle.datasets.specs.Clones.{below_in, below_at}
 use Rattle.file_system.specs.Dead.{newest_blocks}
@@ -27,14 +27,14 @@ use Rattle.world.specs.Shapes.{Name}
 use Rattle.world.specs.Worlds.{FileSystems, AreRising}
 use Rattle.world.specs.Dead.{below_of, dead_of, IsThere, HasNoCloneIn, next_in}
 use Rattle.world.specs.Tables.{Datasets, world_of, without_snap, lost_between}
-use Rattle.world.proofs.SetCounts.{same_members, in_difference, from_difference}
-use Rattle.world.proofs.Lineage.{in_after, from_after}
-use Rattle.world.proofs.Maps.{same_value, no_value}
-use Rattle.world.proofs.Finding.{from_find, in_left, filter_all, filter_join}
-use Rattle.world.proofs.Promotions.{split_at, append_assoc}
-use Rattle.world.proofs.WithoutSnaps.{dropped}
-use Rattle.world.proofs.Bridge.{start, starts, start_is, in_middle, rising, rising_once, rising_above, rising_below, rising_after, map_of_live, map_of_kept, previous_of_live, previous_of_kept}
-use Rattle.world.proofs.Removals.{dropped_from, drop_systems, drop_loses}
+use Rattle.world.proofs.lists.SetCounts.{same_members, in_difference, from_difference}
+use Rattle.world.proofs.lineage.Lineage.{in_after, from_after}
+use Rattle.world.proofs.lists.Maps.{same_value, no_value}
+use Rattle.world.proofs.lists.Finding.{from_find, in_left, filter_all, filter_join}
+use Rattle.world.proofs.changes.Promotions.{split_at, append_assoc}
+use Rattle.world.proofs.removals.WithoutSnaps.{dropped}
+use Rattle.world.proofs.lineage.Bridge.{start, starts, start_is, in_middle, rising, rising_once, rising_above, rising_below, rising_after, map_of_live, map_of_kept, previous_of_live, previous_of_kept}
+use Rattle.world.proofs.removals.Removals.{dropped_from, drop_systems, drop_loses}
 use Rattle.datasets.specs.Table.{IsTable}
 use Rattle.datasets.proofs.Kept.{numbers_from}
 use Rattle.datasets.proofs.Above.{below_is, base_at, closed, kept, live_above, snap_above}

@@ -20,10 +20,10 @@ use Rattle.world.specs.Blocks.{after}
 use Rattle.world.specs.Shapes.{Name}
 use Rattle.world.specs.Worlds.{FileSystems}
 use Rattle.world.specs.Tables.{Datasets, world_of, lost_between}
-use Rattle.world.proofs.Bridge.{in_middle, previous_of_live}
-use Rattle.world.proofs.Listed.{map_in}
-use Rattle.world.proofs.Put.{put_maps}
-use Rattle.world.proofs.Rollbacks.{back_systems, back_loses}
+use Rattle.world.proofs.lineage.Bridge.{in_middle, previous_of_live}
+use Rattle.world.proofs.lists.Listed.{map_in}
+use Rattle.world.proofs.lineage.Put.{put_maps}
+use Rattle.world.proofs.removals.Rollbacks.{back_systems, back_loses}
 use Rattle.datasets.specs.Table.{IsTable}
 use Rattle.datasets.specs.Rollbacks.{Loses}
 use Rattle.datasets.proofs.Kept.{numbers_from}

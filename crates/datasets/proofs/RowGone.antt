@@ -10,7 +10,7 @@ use Rattle.std.specs.Cmp.Lexicographic.{nat_list_cmp_total}
 use Rattle.std.specs.FinMap as finmap
 use Rattle.std.specs.FinMap.{find, is_sorted, from_sorted, get-from_sorted, get-remove, same_map}
 use Rattle.std.specs.FinMap.Entries.{below_all}
-use Rattle.name.specs.Names.{name_cmp}
+use Rattle.base.specs.Names.{name_cmp}
 use Rattle.datasets.specs.Places.{IsAt}
 use Rattle.file_system.specs.Rows.{Entry, snap_count}
 use Rattle.datasets.proofs.Rows.{same_name, true_from}

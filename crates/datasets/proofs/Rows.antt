@@ -15,9 +15,10 @@ use Rattle.std.specs.List.{insert}
 use Rattle.std.specs.FinMap as finmap
 use Rattle.std.specs.FinMap.{get, contains_key, len, entries, empty, find, put, is_sorted, from_sorted, get-from_sorted, entries-from_sorted, entries-insert, same_entries_map, get-insert, len-entries, len-empty, nat_cmp-IsAntisymmetric, slice_cmp-IsAntisymmetric, IsAntisymmetric}
 use Rattle.std.specs.FinMap.Entries.{is_sorted-put}
-use Rattle.name.specs.Names.{name_cmp}
+use Rattle.base.specs.Names.{name_cmp}
 use Rattle.base.specs.Map.{Map}
 use Rattle.model.specs.World.{FileSystem, empty_file_system}
+use Rattle.file_system.specs.Losses.{newest_map}
 use Rattle.file_system.specs.Rows.{Entry, FileSystems, live_of, snaps_at, with_live}
 use Rattle.datasets.specs.Places.{IsAt, IsGapFor}
 use Rattle.datasets.proofs.Sorted.{comparisons_rise, find_at, put_at, find_gap, put_gap}
@@ -131,6 +132,16 @@ live_changed m k s was live =
     ap (λ o. live_of (option_map_or (λ (f : FileSystem). finmap.insert m k (record f { live = live })) o m) k) was
     ∙ ap (λ o. option_map_or (λ (f : FileSystem). f.live) o finmap.empty)
     (get-insert nat_list_cmp_total m k (record s { live = live }) k ∙ ap (λ t. cond (is_eq t) (Some (record s { live = live })) (get m k)) (tied_itself nat_list_cmp_total k))
+
+-- a live map that became that of the newest snapshot
+pub rolled_live : (m : FileSystems) (k : List ℕ) → option_map_or (λ (f : FileSystem). finmap.insert m k (record f { live = newest_map f.live f.snaps })) (get m k) m
+    ≡ with_live m k (newest_map (live_of m k) (snaps_at m k))
+rolled_live m k = at (get m k)
+  where
+    at : (o : Option FileSystem) → option_map_or (λ (f : FileSystem). finmap.insert m k (record f { live = newest_map f.live f.snaps })) o m
+        ≡ option_map_or (λ (f : FileSystem). finmap.insert m k (record f { live = newest_map (option_map_or (λ (g : FileSystem). g.live) o finmap.empty) (option_map_or (λ (g : FileSystem). g.snaps) o []) })) o m
+    at None = refl
+    at (Some f) = refl
 
 -- the row at a place
 module _ (es : List Entry) (sorted : IsTrue (is_sorted name_cmp es)) (q : List ℕ) (i : ℕ) (at : IsAt es q i) (e : Entry) (is : e ≡ get_or es i e) where

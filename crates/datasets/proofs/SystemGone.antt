@@ -17,16 +17,16 @@ use Rattle.file_system.specs.Writes.{newest_group}
 use Rattle.world.specs.Blocks.{after}
 use Rattle.world.specs.Shapes.{Name}
 use Rattle.world.specs.Dead.{base_of}
-use Rattle.world.specs.Tables.{Datasets, world_of, without_system, lost_between, CanRemove}
-use Rattle.world.proofs.Bridge.{previous_of_live}
-use Rattle.world.proofs.Put.{gone_maps}
-use Rattle.world.proofs.Removals.{unmake_good, unmake_loses}
+use Rattle.world.specs.Tables.{Datasets, world_of, without_system, lost_between, CanRemoveFileSystem}
+use Rattle.world.proofs.lineage.Bridge.{previous_of_live}
+use Rattle.world.proofs.lineage.Put.{gone_maps}
+use Rattle.world.proofs.removals.Removals.{unmake_good, unmake_loses}
 use Rattle.datasets.specs.Table.{IsTable}
 use Rattle.datasets.specs.Rollbacks.{Loses}
 use Rattle.datasets.proofs.Kept.{numbers_from}
 use Rattle.datasets.proofs.Above.{base_at}
 
-module _ (t : Datasets) (sound : IsTable t) (name : Name) (can : CanRemove t name) where
+module _ (t : Datasets) (sound : IsTable t) (name : Name) (can : CanRemoveFileSystem t name) where
   pub system_there : IsSome (get t.file_systems name)
   system_there = ap (λ (x : Option FileSystem). is_some x) can.there
 

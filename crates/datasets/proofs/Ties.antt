@@ -10,15 +10,15 @@ use Rattle.std.specs.List.{find, flat_map, insert}
 use Rattle.std.specs.Option.{option_map, option_or, option_and_then}
 use Rattle.std.specs.FinMap.{get, entries, is_sorted, from_sorted}
 use Rattle.std.specs.FinMap as finmap
-use Rattle.name.specs.Names.{name_cmp}
+use Rattle.base.specs.Names.{name_cmp}
 use Rattle.base.specs.Map.{Map}
 use Rattle.base.specs.Surveys.{IsIn}
 use Rattle.model.specs.World.{FileSystem, Snap, SnapId, id_of, same_id}
 use Rattle.world.specs.Usage.{IsEntry}
-use Rattle.world.proofs.Finding.{same_id_is}
-use Rattle.world.proofs.Listed.{map_in}
+use Rattle.world.proofs.lists.Finding.{same_id_is}
+use Rattle.world.proofs.lists.Listed.{map_in}
 use Rattle.world.specs.Shapes.{name_order}
-use Rattle.world.proofs.Maps.{at_entry}
+use Rattle.world.proofs.lists.Maps.{at_entry}
 use Rattle.datasets.specs.Clones.{all_snaps, map_found, below_from, below_in, origin_at, below_at, row_in, IsTied, AreTied}
 use Rattle.datasets.specs.Places.{IsAt}
 use Rattle.file_system.specs.Rows.{Entry, Row, entry_in, entry_of, new_row}

@@ -29,16 +29,16 @@ use Rattle.world.specs.Shapes.{Name}
 use Rattle.world.specs.Worlds.{FileSystems, AreFileSystems}
 use Rattle.world.specs.Dead.{base_of}
 use Rattle.world.specs.Tables.{Datasets, world_of}
-use Rattle.world.proofs.Maps.{no_value}
-use Rattle.world.proofs.SetCounts.{Has-cases}
-use Rattle.world.proofs.Cells.{in_blocks, from_blocks, from_new_blocks}
-use Rattle.world.proofs.Rewrites.{rewrite_is_change}
-use Rattle.world.proofs.Bridge.{in_world, from_world}
-use Rattle.world.proofs.Dead.{in_line}
-use Rattle.world.proofs.StateSteps.{begun}
-use Rattle.world.proofs.FreshNumbers.{fresh_apart, cells_after}
-use Rattle.world.proofs.LiveMaps.{live_alone, live_new, live_rest}
-use Rattle.world.proofs.TableWrites.{live_systems}
+use Rattle.world.proofs.lists.Maps.{no_value}
+use Rattle.world.proofs.lists.SetCounts.{Has-cases}
+use Rattle.world.proofs.maps.Cells.{in_blocks, from_blocks, from_new_blocks}
+use Rattle.world.proofs.maps.Rewrites.{rewrite_is_change}
+use Rattle.world.proofs.lineage.Bridge.{in_world, from_world}
+use Rattle.world.proofs.lineage.Dead.{in_line}
+use Rattle.world.proofs.steps.StateSteps.{begun}
+use Rattle.world.proofs.changes.FreshNumbers.{fresh_apart, cells_after}
+use Rattle.world.proofs.changes.LiveMaps.{live_alone, live_new, live_rest}
+use Rattle.world.proofs.changes.TableWrites.{live_systems}
 use Rattle.datasets.specs.Table.{IsTable}
 use Rattle.datasets.specs.Writes.{young_of, AllowsWrite, HasWritten}
 use Rattle.datasets.proofs.Above.{newest_alone}

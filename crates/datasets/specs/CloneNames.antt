@@ -10,7 +10,7 @@ use Rattle.std.specs.FinMap.{FinMap, entries, contains_key, is_sorted}
 use Rattle.std.specs.FinMap as finmap
 use Rattle.std.specs.FinSet as set
 use Rattle.std.specs.List.{filter}
-use Rattle.name.specs.Names.{name_cmp}
+use Rattle.base.specs.Names.{name_cmp}
 use Rattle.model.specs.Codes.{id_code}
 use Rattle.model.specs.Ids.{snap_id}
 use Rattle.model.specs.World.{SnapId, same_id}

@@ -10,6 +10,8 @@ pub mod Sorted
 pub mod Promoted
 pub mod Bookmarked
 pub mod Limited
+pub mod Owned
+pub mod Holders
 pub use Rattle.file_system.specs.Dead
 pub use Rattle.file_system.specs.Gone
 pub use Rattle.file_system.specs.Losses

@@ -1,7 +1,7 @@
 -- Where a name stands among file systems in byte order.
 use Rattle.std.specs.Prelude.{◌≡◌, ◌<◌, ◌≤◌, ℕ, List, length, slice_index_or}
 use Rattle.std.specs.declared.cmp.Ordering.TheVariants.{Less, Greater}
-use Rattle.name.specs.Names.{name_cmp}
+use Rattle.base.specs.Names.{name_cmp}
 use Rattle.file_system.specs.Rows.{Entry}
 
 -- the name stands at place i (profile)

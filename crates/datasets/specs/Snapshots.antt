@@ -2,7 +2,7 @@
 use Rattle.std.specs.Prelude.{◌+◌, ℕ, List}
 use Rattle.std.specs.Option.{option_map_or}
 use Rattle.std.specs.FinMap.{get}
-use Rattle.name.specs.declared.member.Member.{Member}
+use Rattle.base.specs.declared.name.member.Member.{Member}
 use Rattle.model.specs.requests.Snapshot.{with_snapshots}
 use Rattle.world.specs.Tables.{Datasets, world_of, with_system}
 use Rattle.file_system.specs.Rows.{with_snap}

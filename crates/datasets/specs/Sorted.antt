@@ -2,7 +2,7 @@
 use Rattle.std.specs.Prelude.{◌≡◌, IsTrue, map}
 use Rattle.std.specs.Arc.{arc_value}
 use Rattle.std.specs.FinMap.{is_sorted, from_sorted}
-use Rattle.name.specs.Names.{name_cmp}
+use Rattle.base.specs.Names.{name_cmp}
 use Rattle.datasets.specs.CloneNames.{IsListed}
 use Rattle.datasets.specs.Clones.{AreTied}
 use Rattle.file_system.specs.Rows.{entry_in, snap_count}

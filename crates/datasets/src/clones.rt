@@ -10,10 +10,10 @@ ghost use Rattle.model.specs.Ids.{snap_id};
 ghost use Rattle.model.specs.World.{same_id};
 ghost use Rattle.datasets.specs.CloneNames.{id_cmp, key_cmp, key_of, key_in, name_of, set_of, with_origin, without_origin, promoted_set, names_in, IsInOrder, IsCloneAt, IsCloneGap};
 
+use base::name::DsName;
 use base::refusal::Refusal;
 use file_system::FileSystem;
 use model::snapshot_id::SnapshotId;
-use name::DsName;
 use std::alloc::Global;
 use std::cmp::Ordering;
 use std::marker::Model;

@@ -32,21 +32,18 @@ ghost use Rattle.tree.specs.Updates.{changes_of};
 
 use crate::clones::{CloneIndex, CloneName};
 use crate::place::{gap, place};
-use crate::row::{
-    apply, defer, owner_place, promoted, put, rollback, set_bookmarks, set_limit, set_tags, shared,
-    splice, take,
-};
+use crate::row::{own, owner_place, promoted, put, shared};
 use base::limit::Blocks;
 use base::meter::{Meter, SegMeter};
+use base::name::{Component, DsName};
 use base::number::{Group, Guid};
 use base::refusal::Refusal;
-use bookmarks::Bookmarks;
 use deadlist::deadlist::Deadlist;
 use file_system::{FileSystem, Lost};
-use holds::Holds;
 use model::limits::Limit;
 use model::snapshot_id::SnapshotId;
-use name::{Component, DsName};
+use snapshots::bookmarks::Bookmarks;
+use snapshots::holds::Holds;
 use std::alloc::Global;
 use std::marker::Model;
 use std::sync::Arc;
@@ -243,10 +240,8 @@ impl FileSystems {
         let Ok(place) = place(&self.rows, name.as_bytes()) else {
             return Err(Refusal::NoDataset);
         };
-        let row = &mut self.rows[place];
-        apply(
-            row, alloc, updates, group, synced, allocator, meter, segments,
-        )
+        let file_system = own(&mut self.rows[place], alloc)?;
+        file_system.apply(alloc, updates, group, synced, allocator, meter, segments)
     }
 
     /// A snapshot of the live map of this file system after its others, as `Table::take_snapshot` says, of a group and guid that no other
@@ -272,12 +267,13 @@ impl FileSystems {
         let Some(count) = self.snapshot_count.checked_add(1) else {
             return Err(Refusal::NoMemory);
         };
-        take(&mut self.rows[place], alloc, component, guid, group)?;
+        let file_system = own(&mut self.rows[place], alloc)?;
+        file_system.take(alloc, component, guid, group)?;
         self.snapshot_count = count;
         Ok(())
     }
 
-    /// Takes the snapshot of this group, which is there and no clone's origin, out of this file system, as `Table::destroy_snapshot` says, and
+    /// Takes the snapshot of this group, which is there and no clone's origin, out of this file system, as `Table::remove_snapshot` says, and
     /// answers the blocks that are lost with it, which neither what stands before it has nor what comes after it. Where others share the file
     /// system, a copy of it takes its place.
     pub(crate) fn splice(
@@ -298,7 +294,8 @@ impl FileSystems {
         let Ok(place) = place(&self.rows, name.as_bytes()) else {
             unreachable!()
         };
-        let lost = splice(&mut self.rows[place], alloc, group, segments)?;
+        let file_system = own(&mut self.rows[place], alloc)?;
+        let lost = file_system.splice(alloc, group, segments)?;
         self.snapshot_count -= 1;
         Ok(lost)
     }
@@ -320,8 +317,8 @@ impl FileSystems {
         let Ok(place) = place(&self.rows, name.as_bytes()) else {
             unreachable!()
         };
-        defer(&mut self.rows[place], alloc, group)?;
-        Ok(())
+        let file_system = own(&mut self.rows[place], alloc)?;
+        file_system.defer(alloc, group)
     }
 
     /// From now on the snapshot of this group, which is there, of this file system has these tags, as `Table::set_tags` says. Where others share
@@ -342,32 +339,31 @@ impl FileSystems {
         let Ok(place) = place(&self.rows, name.as_bytes()) else {
             unreachable!()
         };
-        set_tags(&mut self.rows[place], alloc, group, tags)?;
-        Ok(())
+        let file_system = own(&mut self.rows[place], alloc)?;
+        file_system.set_tags(alloc, group, tags)
     }
 
-    /// From now on this file system, which is there, has these bookmarks, as `Table::set_bookmarks` says. Where others share it, a copy of it
-    /// takes its place.
+    /// From now on this file system has these bookmarks, as `Table::set_bookmarks` says. Where others share it, a copy of it takes its place.
     pub(crate) fn set_bookmarks(
         &mut self,
         alloc: Global,
         name: &DsName,
         bookmarks: Arc<Bookmarks>,
     ) -> Result<(), Refusal>
-        requires there { IsSome (get self.old name.now) }
         ensures ok { OnOk result (self.new ≡ bookmarked_of self.old name.now (arc_value bookmarks)) }
+        ensures no_dataset { (result ≡ Err Refusal.NoDataset) ↔ (get self.old name.now ≡ None) }
         ensures err { OnErr result (self.new ≡ self.old) }
-        ensures only { IfErr result (λ e. e ≡ Refusal.NoMemory) }
+        ensures only { IfErr result (λ e. (e ≡ Refusal.NoDataset) ⊎ (e ≡ Refusal.NoMemory)) }
     {
         let Ok(place) = place(&self.rows, name.as_bytes()) else {
-            unreachable!()
+            return Err(Refusal::NoDataset);
         };
-        set_bookmarks(&mut self.rows[place], alloc, bookmarks)?;
+        let file_system = own(&mut self.rows[place], alloc)?;
+        file_system.set_bookmarks(bookmarks);
         Ok(())
     }
 
-    /// From now on this file system, which is there, has this limit, or none, as `Table::set_limit` says. Where others share it, a copy of it
-    /// takes its place.
+    /// From now on this file system has this limit, or none, as `Table::set_limit` says. Where others share it, a copy of it takes its place.
     pub(crate) fn set_limit(
         &mut self,
         alloc: Global,
@@ -375,15 +371,16 @@ impl FileSystems {
         limit: Limit,
         amount: Option<Blocks>,
     ) -> Result<(), Refusal>
-        requires there { IsSome (get self.old name.now) }
         ensures ok { OnOk result (self.new ≡ limited_of self.old name.now limit amount) }
+        ensures no_dataset { (result ≡ Err Refusal.NoDataset) ↔ (get self.old name.now ≡ None) }
         ensures err { OnErr result (self.new ≡ self.old) }
-        ensures only { IfErr result (λ e. e ≡ Refusal.NoMemory) }
+        ensures only { IfErr result (λ e. (e ≡ Refusal.NoDataset) ⊎ (e ≡ Refusal.NoMemory)) }
     {
         let Ok(place) = place(&self.rows, name.as_bytes()) else {
-            unreachable!()
+            return Err(Refusal::NoDataset);
         };
-        set_limit(&mut self.rows[place], alloc, limit, amount)?;
+        let file_system = own(&mut self.rows[place], alloc)?;
+        file_system.set_limit(limit, amount);
         Ok(())
     }
 
@@ -405,8 +402,8 @@ impl FileSystems {
         let Ok(place) = place(&self.rows, name.as_bytes()) else {
             unreachable!()
         };
-        let lost = rollback(&mut self.rows[place], alloc, segments)?;
-        Ok(lost)
+        let file_system = own(&mut self.rows[place], alloc)?;
+        file_system.rollback(alloc, segments)
     }
 
     /// What is lost with this file system, which is there and has no snapshot, where it goes, as `Table::lost_with` says: the blocks of its live

@@ -1,7 +1,7 @@
 //! The search for a name among file systems in byte order.
 ghost use Rattle.std.specs.Prelude.{◌≡◌, None, IsTrue, IfOk, IfErr, map};
 ghost use Rattle.std.specs.FinMap.{get, is_sorted, from_sorted};
-ghost use Rattle.name.specs.Names.{name_cmp};
+ghost use Rattle.base.specs.Names.{name_cmp};
 ghost use Rattle.datasets.specs.Places.{IsAt, IsGapFor};
 ghost use Rattle.file_system.specs.Rows.{entry_in};
 

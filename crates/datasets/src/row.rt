@@ -1,42 +1,23 @@
 //! The rows of a list of file systems, each of which other lists may own too.
-ghost use Rattle.std.specs.Prelude.{◌≡◌, ◌+◌, ◌<◌, ◌≤◌, ◌++◌, ◌==◌, Some, None, IsSome, IfSome, IfNone, slice_get, IfOk, IfErr, OnOk, OnErr, map, length, vec_len, vec_capacity};
+ghost use Rattle.std.specs.Prelude.{◌≡◌, ◌+◌, ◌<◌, ◌≤◌, ◌++◌, ◌==◌, Some, None, IsSome, IfSome, IfNone, slice_get, IfOk, IfErr, OnOk, map, length, vec_len, vec_capacity};
 ghost use Rattle.std.specs.Arc.{arc_value};
+ghost use Rattle.std.specs.Borrow.{sem};
 ghost use Rattle.std.specs.List.{find, insert};
-ghost use Rattle.base.specs.Map.{blocks};
-ghost use Rattle.base.specs.Surveys.{IsIn, dead_block};
+ghost use Rattle.base.specs.Surveys.{IsIn};
+ghost use Rattle.base.specs.declared.refusal.Refusal.{Refusal};
 ghost use Rattle.model.specs.World.{id_of, same_id};
 ghost use Rattle.model.specs.Ids.{snap_id};
-ghost use Rattle.model.specs.Limits.{limited};
 ghost use Rattle.world.specs.Worlds.{AreRising};
+ghost use Rattle.datasets.specs.Owned.{LendsRow};
 ghost use Rattle.file_system.specs.Promotions.{promoted_row, demoted_row, CanPromote};
-ghost use Rattle.base.specs.declared.refusal.Refusal.{Refusal};
-ghost use Rattle.tree.specs.Asking.{IsNoSpaceOrNoMemory};
-ghost use Rattle.tree.specs.Change.{HasRoom, LacksRoom, CountsDropped};
-ghost use Rattle.tree.specs.Updates.{changes_of};
-ghost use Rattle.file_system.specs.Dead.{AllowsLive};
-ghost use Rattle.file_system.specs.Losses.{newest_map, IsLost};
-ghost use Rattle.file_system.specs.Origins.{origin_group};
-ghost use Rattle.file_system.specs.Rows.{Row, with_system, with_snap};
-ghost use Rattle.file_system.specs.Splices.{lost_from, without_group, AreAbove};
-ghost use Rattle.file_system.specs.Deferred.{deferred_at, tagged_at};
-ghost use Rattle.world.specs.Deadlists.{Lists};
-ghost use Rattle.file_system.specs.Writes.{young_after, IsWritten};
+ghost use Rattle.file_system.specs.Rows.{Row};
 
-use base::limit::Blocks;
-use base::meter::{Meter, SegMeter};
-use base::number::{Group, Guid};
+use base::meter::SegMeter;
 use base::refusal::Refusal;
-use bookmarks::Bookmarks;
-use deadlist::deadlist::Deadlist;
-use file_system::{FileSystem, Lost};
-use holds::Holds;
-use model::limits::Limit;
+use file_system::FileSystem;
 use model::snapshot_id::SnapshotId;
-use name::Component;
 use std::alloc::Global;
 use std::sync::Arc;
-use tree::{Changed, Update};
-use zalloc::Allocator;
 
 // Adds one more owner of each of these rows, for which there is room. NoMemory where there is none for one. It costs their number.
 fn share(rows: &[Arc<FileSystem>], owners: &mut Vec<Arc<FileSystem>>) -> Result<(), Refusal>
@@ -77,190 +58,21 @@ pub(crate) fn put(rows: &mut Vec<Arc<FileSystem>>, place: usize, added: Arc<File
     };
 }
 
-/// Puts a batch of changes of a row's live tree in force at once, as `FileSystem::apply` does: where the row is, if it has no other
-/// owner, and else in a copy of it, which comes to its place. It costs the change.
-pub(crate) fn apply(
-    row: &mut Arc<FileSystem>,
-    alloc: Global,
-    updates: &[Update],
-    group: Group,
-    synced: Group,
-    allocator: &Allocator,
-    meter: &mut Meter,
-    segments: &mut SegMeter,
-) -> Result<Changed, Refusal>
-    requires allowed { AllowsLive (blocks (arc_value row.old).below) (origin_group (arc_value row.old).system.origin) (arc_value row.old).system.live (arc_value row.old).system.snaps updates.now group.0 synced.0 allocator.now }
-    requires above { AreAbove (arc_value row.old).below (arc_value row.old).system }
-    ensures ok { IfOk result (IsWritten (arc_value row.old).system.live (arc_value row.new).system.live (origin_group (arc_value row.old).system.origin) (arc_value row.old).system.snaps (changes_of updates.now) group.0 synced.0 allocator.now) }
-    ensures others { arc_value row.new ≡ with_system (arc_value row.old) (record (arc_value row.old).system { live = (arc_value row.new).system.live }) }
-    ensures room { OnOk result (HasRoom (arc_value row.old).system.live (changes_of updates.now) (young_after (origin_group (arc_value row.old).system.origin) (arc_value row.old).system.snaps synced.0) allocator.now) }
-    ensures err { OnErr result (arc_value row.new ≡ arc_value row.old) }
-    ensures no_space { result ≡ Err Refusal.NoSpace → LacksRoom (arc_value row.old).system.live (changes_of updates.now) (young_after (origin_group (arc_value row.old).system.origin) (arc_value row.old).system.snaps synced.0) allocator.now }
-    ensures only { IfErr result IsNoSpaceOrNoMemory }
-    ensures metered { OnOk result (CountsDropped (arc_value row.old).system.live (changes_of updates.now) meter.old meter.new) }
-    ensures never_lower { meter.old ≤ meter.new }
-{
-    if let Some(file_system) = Arc::get_mut(row) {
-        return file_system.apply(alloc, updates, group, synced, allocator, meter, segments);
-    }
-    let mut file_system = row.copy()?;
-    let changed = file_system.apply(alloc, updates, group, synced, allocator, meter, segments)?;
-    *row = Arc::new(alloc, file_system)?;
-    Ok(changed)
-}
-
-/// Puts a snapshot of a row's live map after its others, as `FileSystem::take` does: in the row, if it has no other owner, and else in
-/// a copy of it, which comes to its place. It costs the logarithm of the number of the row's snapshots; and where others share these, a
-/// 32nd of their number.
-pub(crate) fn take(
-    row: &mut Arc<FileSystem>,
-    alloc: Global,
-    name: &Component,
-    guid: Guid,
-    group: Group,
-) -> Result<(), Refusal>
-    ensures ok { OnOk result (arc_value row.new ≡ with_system (arc_value row.old) (with_snap (arc_value row.old).system name.now guid.0 group.0)) }
-    ensures err { OnErr result (arc_value row.new ≡ arc_value row.old) }
+/// A row's file system, to be changed: where the row has other owners, a copy of it comes to its place first. NoMemory where there is none
+/// for that; then it is as it was. Constant time.
+pub(crate) fn own(row: &mut Arc<FileSystem>, alloc: Global) -> Result<&mut FileSystem, Refusal>
+    ensures* writes_back { sem 𝓛 (LendsRow row.entry result) }
+    ensures value { IfOk result (λ f. f.now ≡ arc_value row.old) }
     ensures only { IfErr result (λ e. e ≡ Refusal.NoMemory) }
 {
-    if let Some(file_system) = Arc::get_mut(row) {
-        return file_system.take(alloc, name, guid, group);
+    if Arc::strong_count(row) != 1 {
+        let copy = row.copy()?;
+        *row = Arc::new(alloc, copy)?;
     }
-    let mut file_system = row.copy()?;
-    file_system.take(alloc, name, guid, group)?;
-    *row = Arc::new(alloc, file_system)?;
-    Ok(())
-}
-
-/// Takes the snapshot of this group out of a row, as `FileSystem::splice` does: in the row, if it has no other owner, and else in a copy of
-/// it, which comes to its place.
-pub(crate) fn splice(
-    row: &mut Arc<FileSystem>,
-    alloc: Global,
-    group: Group,
-    segments: &mut SegMeter,
-) -> Result<Deadlist, Refusal>
-    requires there { IsSome (find (λ t. t.group == group.0) (arc_value row.old).system.snaps) }
-    requires above { AreAbove (arc_value row.old).below (arc_value row.old).system }
-    ensures ok { OnOk result (arc_value row.new ≡ with_system (arc_value row.old) (without_group (arc_value row.old).system group.0)) }
-    ensures lost { IfOk result (λ d. Lists (map dead_block d.entries) (lost_from (blocks (arc_value row.old).below) (arc_value row.old).system.snaps (arc_value row.old).system.live group.0)) }
-    ensures err { OnErr result (arc_value row.new ≡ arc_value row.old) }
-    ensures only { IfErr result (λ e. e ≡ Refusal.NoMemory) }
-{
-    if let Some(file_system) = Arc::get_mut(row) {
-        return file_system.splice(alloc, group, segments);
+    match Arc::get_mut(row) {
+        Some(file_system) => Ok(file_system),
+        None => Err(Refusal::NoMemory),
     }
-    let mut file_system = row.copy()?;
-    let lost = file_system.splice(alloc, group, segments)?;
-    *row = Arc::new(alloc, file_system)?;
-    Ok(lost)
-}
-
-/// Makes the map of its newest snapshot a row's live map, as `FileSystem::rollback` does: in the row, if it has no other owner, and else in
-/// a copy of it, which comes to its place. It costs the number of the row's snapshots, and the segments of their dead lists.
-pub(crate) fn rollback(
-    row: &mut Arc<FileSystem>,
-    alloc: Global,
-    segments: &mut SegMeter,
-) -> Result<Lost, Refusal>
-    requires there { 0 < length (arc_value row.old).system.snaps }
-    requires above { AreAbove (arc_value row.old).below (arc_value row.old).system }
-    ensures ok { OnOk result (arc_value row.new ≡ with_system (arc_value row.old) (record (arc_value row.old).system { live = newest_map (arc_value row.old).system.live (arc_value row.old).system.snaps })) }
-    ensures lost { IfOk result (IsLost (blocks (arc_value row.old).below) (origin_group (arc_value row.old).system.origin) (arc_value row.old).system.live (arc_value row.old).system.snaps) }
-    ensures err { OnErr result (arc_value row.new ≡ arc_value row.old) }
-    ensures only { IfErr result (λ e. e ≡ Refusal.NoMemory) }
-{
-    if let Some(file_system) = Arc::get_mut(row) {
-        return file_system.rollback(alloc, segments);
-    }
-    let mut file_system = row.copy()?;
-    let lost = file_system.rollback(alloc, segments)?;
-    *row = Arc::new(alloc, file_system)?;
-    Ok(lost)
-}
-
-/// Defers the destroy of the snapshot of this group of a row, as `FileSystem::defer` does: in the row, if it has no other owner, and else in
-/// a copy of it, which comes to its place.
-pub(crate) fn defer(row: &mut Arc<FileSystem>, alloc: Global, group: Group) -> Result<(), Refusal>
-    requires there { IsSome (find (λ t. t.group == group.0) (arc_value row.old).system.snaps) }
-    requires above { AreAbove (arc_value row.old).below (arc_value row.old).system }
-    ensures ok { OnOk result (arc_value row.new ≡ with_system (arc_value row.old) (deferred_at (arc_value row.old).system group.0)) }
-    ensures err { OnErr result (arc_value row.new ≡ arc_value row.old) }
-    ensures only { IfErr result (λ e. e ≡ Refusal.NoMemory) }
-{
-    if let Some(file_system) = Arc::get_mut(row) {
-        return file_system.defer(alloc, group);
-    }
-    let mut file_system = row.copy()?;
-    file_system.defer(alloc, group)?;
-    *row = Arc::new(alloc, file_system)?;
-    Ok(())
-}
-
-/// From now on the snapshot of this group of a row has these tags, as `FileSystem::set_tags` says: in the row, if it has no other owner,
-/// and else in a copy of it, which comes to its place.
-pub(crate) fn set_tags(
-    row: &mut Arc<FileSystem>,
-    alloc: Global,
-    group: Group,
-    tags: Arc<Holds>,
-) -> Result<(), Refusal>
-    requires there { IsSome (find (λ t. t.group == group.0) (arc_value row.old).system.snaps) }
-    requires above { AreAbove (arc_value row.old).below (arc_value row.old).system }
-    ensures ok { OnOk result (arc_value row.new ≡ with_system (arc_value row.old) (tagged_at (arc_value row.old).system group.0 (arc_value tags))) }
-    ensures err { OnErr result (arc_value row.new ≡ arc_value row.old) }
-    ensures only { IfErr result (λ e. e ≡ Refusal.NoMemory) }
-{
-    if let Some(file_system) = Arc::get_mut(row) {
-        return file_system.set_tags(alloc, group, tags);
-    }
-    let mut file_system = row.copy()?;
-    file_system.set_tags(alloc, group, tags)?;
-    *row = Arc::new(alloc, file_system)?;
-    Ok(())
-}
-
-/// From now on a row has these bookmarks, as `FileSystem::set_bookmarks` says: itself, if it has no other owner, and else a copy of it,
-/// which comes to its place. NoMemory where there is none for that; then it is as it was.
-pub(crate) fn set_bookmarks(
-    row: &mut Arc<FileSystem>,
-    alloc: Global,
-    bookmarks: Arc<Bookmarks>,
-) -> Result<(), Refusal>
-    ensures ok { OnOk result (arc_value row.new ≡ with_system (arc_value row.old) (record (arc_value row.old).system { bookmarks = arc_value bookmarks })) }
-    ensures err { OnErr result (arc_value row.new ≡ arc_value row.old) }
-    ensures only { IfErr result (λ e. e ≡ Refusal.NoMemory) }
-{
-    if let Some(file_system) = Arc::get_mut(row) {
-        file_system.set_bookmarks(bookmarks);
-        return Ok(());
-    }
-    let mut file_system = row.copy()?;
-    file_system.set_bookmarks(bookmarks);
-    *row = Arc::new(alloc, file_system)?;
-    Ok(())
-}
-
-/// From now on a row has this limit, or none, as `FileSystem::set_limit` says: itself, if it has no other owner, and else a copy of it,
-/// which comes to its place. NoMemory where there is none for that; then it is as it was.
-pub(crate) fn set_limit(
-    row: &mut Arc<FileSystem>,
-    alloc: Global,
-    limit: Limit,
-    amount: Option<Blocks>,
-) -> Result<(), Refusal>
-    ensures ok { OnOk result (arc_value row.new ≡ with_system (arc_value row.old) (limited (arc_value row.old).system limit amount)) }
-    ensures err { OnErr result (arc_value row.new ≡ arc_value row.old) }
-    ensures only { IfErr result (λ e. e ≡ Refusal.NoMemory) }
-{
-    if let Some(file_system) = Arc::get_mut(row) {
-        file_system.set_limit(limit, amount);
-        return Ok(());
-    }
-    let mut file_system = row.copy()?;
-    file_system.set_limit(limit, amount);
-    *row = Arc::new(alloc, file_system)?;
-    Ok(())
 }
 
 /// A clone and the file system that has its origin, as rows, after a promote, as `FileSystem::promoted` makes them. It costs the number of

@@ -6,7 +6,7 @@ ghost use Rattle.std.specs.Option.{option_map, option_map_or, option_copied};
 ghost use Rattle.std.specs.FinMap as finmap;
 ghost use Rattle.std.specs.FinMap.{get, insert, entries, len};
 ghost use Rattle.base.specs.declared.refusal.Refusal.{Refusal};
-ghost use Rattle.name.specs.Names.{root_name, same_name, parent_of};
+ghost use Rattle.base.specs.Names.{root_name, same_name, parent_of};
 ghost use Rattle.base.specs.Surveys.{dead_block};
 ghost use Rattle.model.specs.World.{Bookmark, empty_file_system, id_of, snap_at, snap_named, children_of, clones_of};
 ghost use Rattle.model.specs.Ids.{snap_id};
@@ -19,12 +19,13 @@ ghost use Rattle.world.specs.Worlds.{AreFileSystems};
 ghost use Rattle.world.specs.Dead.{HasNoCloneIn};
 ghost use Rattle.world.specs.Deadlists.{Lists};
 ghost use Rattle.world.specs.Outcomes.{promotion_of};
-ghost use Rattle.world.specs.Tables.{world_of, with_system, without_snap, deferred_snap, tagged_snap, with_bookmarks, without_system, lost_between, CanSnap, CanRemove, CanPromote};
+ghost use Rattle.world.specs.Tables.{world_of, with_system, without_snap, deferred_snap, tagged_snap, with_bookmarks, without_system, lost_between, CanSnap, CanRemoveFileSystem, CanPromote};
 ghost use Rattle.datasets.specs.CloneNames.{name_of};
 ghost use Rattle.datasets.specs.Clones.{row_in};
 ghost use Rattle.file_system.specs.Losses.{newest_map};
 ghost use Rattle.file_system.specs.Rows.{Row, live_of, snaps_at, with_live, snap_count, plain_snap};
 ghost use Rattle.datasets.specs.Clones.{with_clone_of, with_promoted};
+ghost use Rattle.datasets.specs.Holders.{snapshot_place, IsPlace};
 ghost use Rattle.datasets.specs.Limits.{with_limit_of};
 ghost use Rattle.datasets.specs.Rollbacks.{Loses};
 ghost use Rattle.datasets.specs.Table.{AreNumbersOne, AreBookmarksClosed, AreSnapshotsClosed};
@@ -36,15 +37,15 @@ use crate::file_systems::FileSystems;
 use crate::parent::parent_of;
 use base::limit::Blocks;
 use base::meter::{Meter, SegMeter};
+use base::name::{Component, DsName, Member};
 use base::number::{Group, Guid};
 use base::refusal::Refusal;
-use bookmarks::Bookmarks;
 use deadlist::deadlist::Deadlist;
 use file_system::{FileSystem, Lost, Snapshot};
-use holds::Holds;
 use model::limits::Limit;
 use model::snapshot_id::SnapshotId;
-use name::{Component, DsName, Member};
+use snapshots::bookmarks::Bookmarks;
+use snapshots::holds::Holds;
 use std::alloc::Global;
 use std::marker::Model;
 use std::sync::Arc;
@@ -109,13 +110,20 @@ impl Table {
         })
     }
 
-    /// How many file systems there are, the root among them: 1 to `FILE_SYSTEM_LIMIT`. Constant time.
-    pub fn len(&self) -> usize
-        ensures len { result ≡ len self.now.file_systems }
+    /// What holds of every table, for a proof that needs it: each file system but the root has its parent, a snapshot its group in order and
+    /// an identity of its own, a number names one block, and all snapshots and bookmarks are of closed groups. It does nothing.
+    pub fn facts(&self)
         ensures good { AreFileSystems self.now.file_systems self.now.group }
         ensures numbers { AreNumbersOne self.now }
         ensures bookmarks_closed { AreBookmarksClosed self.now }
         ensures snapshots_closed { AreSnapshotsClosed self.now }
+    {
+        let _group = self.group;
+    }
+
+    /// How many file systems there are, the root among them: 1 to `FILE_SYSTEM_LIMIT`. Constant time.
+    pub fn len(&self) -> usize
+        ensures { result ≡ len self.now.file_systems }
     {
         self.systems.len()
     }
@@ -148,22 +156,36 @@ impl Table {
         self.systems.find(name)
     }
 
-    /// The snapshot of this name, or none. It costs the logarithm of the number of file systems, and that of the number of snapshots of its
-    /// own.
+    /// The snapshot of this name, or none. It costs what `snapshot_named` does.
     pub fn snapshot(&self, name: &Member) -> Option<&Snapshot>
         ensures { option_copied result ≡ snap_named (world_of self.now) name.now }
     {
-        let file_system = self.systems.find(&name.file_system)?;
-        file_system.snapshot_named(name.component.as_bytes())
+        let (_, snapshot) = self.snapshot_named(&name.file_system, &name.component)?;
+        Some(snapshot)
+    }
+
+    /// The snapshot of this name with its file system, or none. It costs the logarithm of the number of file systems, and that of the number
+    /// of snapshots of its own.
+    pub fn snapshot_named(
+        &self,
+        file_system: &DsName,
+        component: &Component,
+    ) -> Option<(&FileSystem, &Snapshot)>
+        ensures place { option_map (λ p. (p.0.now, p.1.now)) result ≡ snapshot_place self.now (record { file_system = file_system.now; component = component.now }) }
+        ensures named { option_map (λ p. p.1.now) result ≡ snap_named (world_of self.now) (record { file_system = file_system.now; component = component.now }) }
+    {
+        let file_system = self.systems.find(file_system)?;
+        let snapshot = file_system.snapshot_named(component.as_bytes())?;
+        Some((file_system, snapshot))
     }
 
     /// The snapshot of this identity with its file system, or none (On-Disk Specification, chapter 4: ds_creation_txg, ds_guid). It costs
     /// the number of file systems times the logarithm of that of the snapshots of one.
     pub fn snapshot_of(&self, id: SnapshotId) -> Option<(&FileSystem, &Snapshot)>
-        ensures { option_map (λ p. (p.0.now.name, p.1.now)) result ≡ snap_at (world_of self.now) (snap_id id) }
+        ensures found { option_map (λ p. (p.0.now.name, p.1.now)) result ≡ snap_at (world_of self.now) (snap_id id) }
+        ensures place { IfSome result (λ p. IsPlace self.now p.0.now (Some p.1.now) × (id_of p.1.now ≡ snap_id id)) }
     {
-        // It tells of the snapshots that their groups rise.
-        let _count = self.len();
+        self.facts();
         for file_system in self.file_systems() {
             if let Some(snapshot) = file_system.snapshot_of(id) {
                 return Some((file_system, snapshot));
@@ -330,7 +352,7 @@ impl Table {
     /// snapshot of this name; else NoMemory where there is none for it. At `Err` the table is as it was. It costs the logarithms of the
     /// numbers of file systems and of snapshots, the segments of two dead lists with the entries of at most one of them, and a 32nd of the
     /// number of snapshots of its file system.
-    pub fn destroy_snapshot(
+    pub fn remove_snapshot(
         &mut self,
         alloc: Global,
         name: &Member,
@@ -400,9 +422,6 @@ impl Table {
         ensures err { OnErr result (self.new ≡ self.old) }
         ensures only { IfErr result (λ e. (e ≡ Refusal.NoDataset) ⊎ (e ≡ Refusal.NoMemory)) }
     {
-        if !self.systems.contains(name.as_bytes()) {
-            return Err(Refusal::NoDataset);
-        }
         self.systems.set_bookmarks(alloc, name, bookmarks)
     }
 
@@ -421,9 +440,6 @@ impl Table {
         ensures err { OnErr result (self.new ≡ self.old) }
         ensures only { IfErr result (λ e. (e ≡ Refusal.NoDataset) ⊎ (e ≡ Refusal.NoMemory)) }
     {
-        if !self.systems.contains(name.as_bytes()) {
-            return Err(Refusal::NoDataset);
-        }
         self.systems.set_limit(alloc, name, limit, amount)
     }
 
@@ -454,7 +470,7 @@ impl Table {
     /// (zfs-destroy(8)): the blocks of its live tree. Nobody has walked them. NoMemory where there is none for one more owner of that tree. It
     /// costs the logarithm of the number of file systems.
     pub fn lost_with(&self, name: &DsName) -> Result<Lost, Refusal>
-        requires there { CanRemove self.now name.now }
+        requires there { CanRemoveFileSystem self.now name.now }
         ensures lost { IfOk result (Loses self.now (without_system self.now name.now)) }
         ensures err { IfErr result (λ e. e ≡ Refusal.NoMemory) }
     {
@@ -464,7 +480,7 @@ impl Table {
     /// Takes out this file system, which is there and has no snapshot, and is neither the root nor a parent (zfs-destroy(8)); what is lost
     /// with it, `lost_with` tells before. It costs the number of file systems, and where it is a clone, that of clones.
     pub fn remove(&mut self, name: &DsName)
-        requires there { CanRemove self.old name.now }
+        requires there { CanRemoveFileSystem self.old name.now }
         ensures { self.new ≡ without_system self.old name.now }
     {
         self.systems.take_out(name);
@@ -557,7 +573,7 @@ fn any_child(file_systems: &[Arc<FileSystem>], parent: &DsName) -> bool
 }
 
 // The name of the root.
-#[tactic(auto, unfolding(name::specs::Reading::name_of))]
+#[tactic(auto, unfolding(base::specs::Reading::name_of))]
 fn root_of(alloc: Global) -> Result<DsName, Refusal>
     ensures ok { IfOk result (λ name. name ≡ root_name) }
     ensures err { IfErr result (λ e. e ≡ Refusal.NoMemory) }

@@ -5,14 +5,14 @@ use Rattle.std.specs.Option.{option_map_or}
 use Rattle.std.specs.FinMap.{get, keys, entries}
 use Rattle.std.proofs.lemmas.Bool.{lt-ltb}
 use Rattle.base.specs.Surveys.{IsIn}
-use Rattle.name.specs.Names.{root_name, same_name, parent_of}
+use Rattle.base.specs.Names.{root_name, same_name, parent_of}
 use Rattle.model.specs.World.{FileSystem, children_of}
 use Rattle.file_system.specs.Rows.{Entry}
 use Rattle.world.specs.Shapes.{name_order}
-use Rattle.world.specs.Tables.{Datasets, CanRemove, world_of}
-use Rattle.world.proofs.Maps.{some_of, entry_of}
-use Rattle.world.proofs.Listed.{map_in}
-use Rattle.world.proofs.Finding.{in_filter, name_itself}
+use Rattle.world.specs.Tables.{Datasets, CanRemoveFileSystem, world_of}
+use Rattle.world.proofs.lists.Maps.{some_of, entry_of}
+use Rattle.world.proofs.lists.Listed.{map_in}
+use Rattle.world.proofs.lists.Finding.{in_filter, name_itself}
 use Rattle.removals.proofs.SystemsGone.{in_entries}
 use Rattle.removals.proofs.Refused.{other_name}
 
@@ -30,7 +30,7 @@ not_true false e = refl
 
 -- one that is there, isn't the root, and has neither a snapshot nor a child
 pub can_go : (t : Datasets) (name : List ℕ) (f : FileSystem) → get t.file_systems name ≡ Some f → same_name name root_name ≡ false → length f.snaps ≡ 0
-    → nat_lt 0 (length (children_of (world_of t) name)) ≡ false → CanRemove t name
+    → nat_lt 0 (length (children_of (world_of t) name)) ≡ false → CanRemoveFileSystem t name
 can_go t name f at other bare none = record {
   system = f;
   there = at;

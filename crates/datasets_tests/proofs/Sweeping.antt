@@ -7,8 +7,8 @@ use Rattle.model.specs.Outcome.{is_needed}
 use Rattle.file_system.specs.Rows.{Entry}
 use Rattle.world.specs.Shapes.{name_order}
 use Rattle.world.specs.Tables.{Datasets, world_of}
-use Rattle.world.proofs.Maps.{entry_of}
-use Rattle.world.proofs.Finding.{any_none}
+use Rattle.world.proofs.lists.Maps.{entry_of}
+use Rattle.world.proofs.lists.Finding.{any_none}
 use Rattle.removals.specs.Requests.{IsSweptBy}
 use Rattle.removals.proofs.SystemsGone.{in_entries}
 use Rattle.datasets_tests.specs.Sweeping.{is_unneeded}

@@ -2,10 +2,10 @@
 use crate::now::{cloned, take};
 use crate::tables::is_out_of_memory;
 use base::meter::SegMeter;
+use base::name::DsName;
 use base::refusal::Refusal;
-use clones::promote;
 use datasets::Table;
-use name::DsName;
+use snap::clones::promote;
 use std::alloc::Global;
 use toll::Toll;
 

@@ -5,10 +5,10 @@ ghost use Rattle.std.specs.FinSet as set;
 use crate::free::is_free;
 use crate::now::take;
 use base::meter::SegMeter;
+use base::name::SnapName;
 use base::refusal::Refusal;
 use datasets::Table;
 use destroyer::Freeing;
-use name::SnapName;
 use removals::Edit;
 use std::alloc::Global;
 use toll::Toll;
@@ -36,7 +36,7 @@ fn left_without(alloc: Global, table: &Table, bytes: &[u8]) -> Result<(usize, u6
         return Err(Refusal::HasClones);
     }
     let mut segments = SegMeter::new(Toll::new());
-    edit.lose_snapshot(alloc, name.member(), &mut segments)?;
+    edit.remove_snapshot(alloc, name.member(), &mut segments)?;
     Ok((edit.to.snapshot_count(), edit.freeing.len()))
 }
 

@@ -2,15 +2,15 @@
 ghost use Rattle.std.specs.Prelude.{◌≡◌, true, false, IfSome, IsSome};
 ghost use Rattle.model.specs.World.{id_of, snap_named};
 ghost use Rattle.world.specs.Dead.{HasNoCloneIn};
-ghost use Rattle.world.specs.Tables.{world_of, CanRemove};
-ghost use Rattle.removals.specs.Named.{is_named_cloned};
+ghost use Rattle.world.specs.Tables.{world_of, CanRemoveFileSystem};
+ghost use Rattle.removals.specs.Named.{has_clone_named};
 
+use base::name::{DsName, Member};
 use datasets::Table;
-use name::{DsName, Member};
 
 /// Whether the snapshot of this name, if it is there, has no clone.
 pub fn is_free(table: &Table, name: &Member) -> bool
-    ensures named { result ≡ true → is_named_cloned table.now name.now ≡ false }
+    ensures named { result ≡ true → has_clone_named table.now name.now ≡ false }
     ensures free { result ≡ true → IfSome (snap_named (world_of table.now) name.now) (λ t. HasNoCloneIn table.now.file_systems (id_of t)) }
 {
     let Some(file_system) = table.find(&name.file_system) else {
@@ -36,7 +36,7 @@ pub fn has_snapshot(table: &Table, name: &Member) -> bool
 
 /// Whether this file system is there, without a snapshot and without a child, and isn't the root.
 pub fn may_go(table: &Table, name: &DsName) -> bool
-    ensures { result ≡ true → CanRemove table.now name.now }
+    ensures { result ≡ true → CanRemoveFileSystem table.now name.now }
 {
     let Some(file_system) = table.find(name) else {
         return false;

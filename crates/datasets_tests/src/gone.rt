@@ -2,9 +2,9 @@
 use crate::free::is_free;
 use crate::tables::is_out_of_memory;
 use base::meter::SegMeter;
+use base::name::SnapName;
 use base::refusal::Refusal;
 use datasets::Table;
-use name::SnapName;
 use snap::{Guids, snapshot};
 use std::alloc::Global;
 use std::slice::from_ref;
@@ -16,7 +16,7 @@ fn loses_or_keeps(alloc: Global, table: &mut Table, first: &SnapName, second: &S
         return false;
     }
     let mut segments = SegMeter::new(Toll::new());
-    let gone = table.destroy_snapshot(alloc, first.member(), &mut segments);
+    let gone = table.remove_snapshot(alloc, first.member(), &mut segments);
     let count = if gone.is_ok() { 1 } else { 2 };
     let is_refused = is_out_of_memory(gone);
     is_refused

@@ -2,9 +2,9 @@
 use crate::free::{has_snapshot, may_go};
 use crate::now::take;
 use crate::tables::name;
+use base::name::{DsName, Member, SnapName};
 use base::refusal::Refusal;
 use datasets::Table;
-use name::{DsName, Member, SnapName};
 use std::alloc::Global;
 
 /// Adds a file system of this name, or says why not.

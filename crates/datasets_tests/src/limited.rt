@@ -1,10 +1,10 @@
 //! Limits of a table's file systems.
 use crate::now::with_child;
 use base::limit::Blocks;
+use base::name::DsName;
 use base::refusal::Refusal;
 use datasets::Table;
 use model::limits::{Limit, Limits};
-use name::DsName;
 use std::alloc::Global;
 
 /// This limit in blocks, 0 for none.

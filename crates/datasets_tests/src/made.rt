@@ -1,8 +1,8 @@
 //! A file system and a table are made, or memory is all that is wanting.
 use crate::tables::{is_out_of_memory, name};
+use base::name::DsName;
 use base::refusal::Refusal;
 use datasets::{FileSystem, Table};
-use name::DsName;
 use std::alloc::Global;
 
 fn is_copied_or_refused(table: &Table) -> bool {

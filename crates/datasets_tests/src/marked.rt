@@ -1,12 +1,12 @@
 //! Tags and bookmarks in a table.
 use crate::now::{take, with_child};
 use crate::removing::{destroy_named, release_named};
+use base::name::{DsName, MarkName, SnapName, Tag, Target};
 use base::refusal::Refusal;
-use bookmarks::Bookmarks;
 use datasets::{FileSystem, Table};
-use holds::Holds;
 use marks::{bookmark, hold};
-use name::{DsName, MarkName, SnapName, Tag, Target};
+use snapshots::bookmarks::Bookmarks;
+use snapshots::holds::Holds;
 use std::alloc::Global;
 use std::sync::Arc;
 use views::Views;

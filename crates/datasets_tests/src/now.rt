@@ -1,9 +1,9 @@
 //! File systems that are destroyed in place.
 use crate::removing::destroy_named;
+use base::name::{DsName, SnapName, Target};
 use base::refusal::Refusal;
-use clones::clone_snapshot;
 use datasets::Table;
-use name::{DsName, SnapName, Target};
+use snap::clones::clone_snapshot;
 use snap::{Guids, snapshot};
 use std::alloc::Global;
 use std::slice::from_ref;

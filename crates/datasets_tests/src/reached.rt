@@ -1,10 +1,10 @@
 //! How many segments of dead lists a question on space reads.
 use crate::starts::with_history;
 use base::meter::SegMeter;
+use base::name::{SnapName, Target};
 use base::refusal::Refusal;
 use datasets::Table;
-use name::{SnapName, Target};
-use space::written_since;
+use lookups::space::written_since;
 use std::alloc::Global;
 use toll::Toll;
 

@@ -1,11 +1,11 @@
 //! Removals by name, where nothing is to be freed before.
 use crate::swept::is_swept;
 use base::meter::SegMeter;
+use base::name::{Tag, Target};
 use base::refusal::Refusal;
 use datasets::Table;
 use destroyer::Freeing;
 use marks::release;
-use name::{Tag, Target};
 use removals::destroy;
 use std::alloc::Global;
 use toll::Toll;

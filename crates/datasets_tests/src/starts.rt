@@ -2,12 +2,12 @@
 use crate::marked::bookmark_named;
 use crate::now::{cloned, take, with_child};
 use base::meter::SegMeter;
+use base::name::{DsName, SnapName};
 use base::refusal::Refusal;
-use clones::promote;
 use datasets::Table;
-use model::source::Source;
-use name::{DsName, SnapName, Target};
-use sources::sources_of;
+use model::source::{Source, SourceName};
+use sends::sources::sources_of;
+use snap::clones::promote;
 use std::alloc::Global;
 use toll::Toll;
 
@@ -37,9 +37,8 @@ fn with_promoted(alloc: Global) -> Result<Table, Refusal> {
 /// Adds the name of a source with its group, which has one digit, and a blank.
 fn push_source(text: &mut Vec<u8>, source: &Source) -> Result<(), Refusal> {
     let (name, mark) = match &source.name {
-        Target::FileSystem(_) => return Err(Refusal::BadName),
-        Target::Snapshot(name) => (name.member(), b'@'),
-        Target::Bookmark(name) => (name.member(), b'#'),
+        SourceName::Snapshot(name) => (name, b'@'),
+        SourceName::Bookmark(name) => (name, b'#'),
     };
     text.extend_from_slice(name.file_system.as_bytes())?;
     text.push(mark)?;

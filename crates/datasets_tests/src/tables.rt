@@ -1,7 +1,7 @@
 //! A table of datasets.
+use base::name::DsName;
 use base::refusal::Refusal;
 use datasets::Table;
-use name::DsName;
 use std::alloc::Global;
 use std::process::Abort;
 

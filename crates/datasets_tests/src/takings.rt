@@ -1,10 +1,10 @@
 //! The snapshots of a request.
 use crate::now::with_child;
 use crate::tables::{family, fresh};
+use base::name::SnapName;
 use base::number::Group;
 use base::refusal::Refusal;
 use datasets::Table;
-use name::SnapName;
 use snap::{Guids, snapshot};
 use std::alloc::Global;
 use std::process::Abort;

@@ -38,11 +38,6 @@ last_with_past [] i last p h = refl
 last_with_past (s ∷ ss) zero last p h = absurd (omega arith)
 last_with_past (s ∷ ss) (suc i) last p h = last_with_past ss i last p (omega arith)
 
-pub length-with_pile : (xs : List Segment) (i : ℕ) (p : List Dead) → length (with_pile xs i p) ≡ length xs
-length-with_pile [] i p = refl
-length-with_pile (s ∷ ss) zero p = refl
-length-with_pile (s ∷ ss) (suc i) p = omega (arith, length-with_pile ss i p)
-
 -- cuts are no lower than where the segments begin
 pub uppers_from : (xs : List Segment) (from : ℕ) (last : List Dead) → AreCut from xs last → (j : ℕ) (d : Segment) → j < length xs → from ≤ upper_of (get_or xs j d)
 uppers_from [] from last c j d h = absurd (omega arith)

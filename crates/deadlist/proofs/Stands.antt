@@ -19,9 +19,6 @@ has_cut_from (s ∷ ss) from g last c e =
           omega (arith, c.0, k)
     ]
 
-pub has_no_cut : (xs : List Segment) (from g : ℕ) (last : List Dead) → AreCut from xs last → g < from → has_cut g xs ≡ false
-has_no_cut xs from g last c lt = false_from_ne_true (has_cut g xs) (λ e. let k = has_cut_from xs from g last c e in absurd (omega arith))
-
 pub ended_none : (xs : List Segment) (from g : ℕ) (last : List Dead) → AreCut from xs last → g < from → ended g xs ≡ 0
 ended_none [] from g last c lt = refl
 ended_none (s ∷ ss) from g last c lt =

@@ -13,7 +13,7 @@ use Rattle.tree.specs.Branch.{Branch, branch_blocks, place_blocks}
 use Rattle.world.specs.Deadlists.{entries_after}
 use Rattle.world.specs.Shapes.{key_order}
 use Rattle.world.specs.Usage.{IsEntry}
-use Rattle.world.proofs.Maps.{at_entry}
+use Rattle.world.proofs.lists.Maps.{at_entry}
 use Rattle.destroyer.specs.Members.{born_after, tops_after, somes}
 
 -- what stands at the places from n on

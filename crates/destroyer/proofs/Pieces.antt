@@ -1,7 +1,7 @@
 -- Blocks of pieces as they are taken off.
-use Rattle.std.proofs.Common.{◌≡◌, ℕ, zero, suc, ◌+◌, ◌-◌, ◌<◌, ◌≤◌, List, [], ◌∷◌, ◌++◌, ◌⊎◌, length, take, drop, sym, ap, ◌∙◌, arith, append_assoc, append-nil}
+use Rattle.std.proofs.Common.{◌≡◌, ℕ, zero, suc, ◌+◌, ◌-◌, ◌<◌, List, [], ◌∷◌, ◌++◌, take, drop, sym, ap, ◌∙◌, arith, append_assoc, append-nil}
 use Rattle.std.specs.List.{flat_map}
-use Rattle.std.proofs.lemmas.List.{reverse-append, map-append, take-append-drop, drop-drop, length-append, length-map}
+use Rattle.std.proofs.lemmas.List.{reverse-append, map-append, take-append-drop, drop-drop}
 use Rattle.base.specs.declared.number.Dead.{Dead}
 use Rattle.base.specs.Map.{Block}
 use Rattle.base.specs.Surveys.{dead_block}
@@ -28,20 +28,6 @@ entries_off olds news entries later more is =
 abbrev pub left_to : ℕ → ℕ → ℕ
 left_to zero n = 0
 left_to (suc k) n = suc n
-
-pub nearer : (a b m n : ℕ) → 0 < a → (b ≡ 0) ⊎ (suc n ≡ m) → left_to b n < left_to a m
-nearer zero b m n some h = absurd (omega arith)
-nearer (suc a) zero m n some h = omega arith
-nearer (suc a) (suc b) m n some h = omega arith
-
--- as many as are wanted, where nothing is left
-pub enough : (taken : List Dead) (rest all : List Block) (wanted : ℕ) → dead_blocks taken ++ rest ≡ all → rest ≡ [] → wanted ≤ length all → wanted ≤ length taken
-enough taken rest all wanted is none few =
-    let whole : length (dead_blocks taken ++ rest) ≡ length all = ap length is in
-    let parts = length-append (dead_blocks taken) rest in
-    let zero_left : length rest ≡ 0 = ap length none in
-    let long = length-map taken dead_block in
-    omega arith
 
 -- one more entry
 pub one_more : (ds olds news later : List Dead) (d : Dead) (whole : List Dead) (count counter : ℕ) → counter < count → news ≡ olds ++ d ∷ [] → ds ≡ d ∷ later

@@ -14,11 +14,11 @@ use Rattle.world.specs.Deadlists.{Lists, entries_after}
 use Rattle.world.specs.Sets.{Has, IsSubset, AreDisjoint}
 use Rattle.world.specs.Shapes.{key_order}
 use Rattle.world.specs.Usage.{IsEntry, AreApart}
-use Rattle.world.proofs.Bridge.{no_block}
-use Rattle.world.proofs.Deadlists.{dead_counts}
-use Rattle.world.proofs.Lists.{in_listed, from_listed, from_list-append, once_append, stands_left, stands_right, stands_either, len-from_list}
-use Rattle.world.proofs.Maps.{at_entry, entries_apart}
-use Rattle.world.proofs.SetCounts.{no-empty, same_members, in_union_left, in_union_right, from_union, in_difference, from_difference, from_retain}
+use Rattle.world.proofs.lineage.Bridge.{no_block}
+use Rattle.world.proofs.lineage.Deadlists.{dead_counts}
+use Rattle.world.proofs.lists.Lists.{in_listed, from_listed, from_list-append, once_append, stands_left, stands_right, stands_either, len-from_list}
+use Rattle.world.proofs.lists.Maps.{at_entry, entries_apart}
+use Rattle.world.proofs.lists.SetCounts.{no-empty, same_members, in_union_left, in_union_right, from_union, in_difference, from_difference, from_retain}
 use Rattle.destroyer.specs.Members.{born_after}
 
 -- the blocks of a map of different numbers are different

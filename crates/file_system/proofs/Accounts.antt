@@ -16,7 +16,7 @@ use Rattle.base.specs.Rewrite.{Changes}
 use Rattle.base.specs.declared.number.Dead.{Dead}
 use Rattle.zalloc.specs.declared.BlockState.{BlockState}
 use Rattle.deadlist.specs.Entries.{is_upto}
-use Rattle.name.specs.Names.{same_name}
+use Rattle.base.specs.Names.{same_name}
 use Rattle.node.specs.Unique.{IsUnique}
 use Rattle.model.specs.World.{Snap}
 use Rattle.model.specs.Sums.{size_without}
@@ -24,10 +24,10 @@ use Rattle.snapshots.specs.declared.kept.Kept.{Kept}
 use Rattle.tree.specs.Change.{Shown, IsChange}
 use Rattle.world.specs.Blocks.{block_order as o}
 use Rattle.world.specs.Deadlists.{Lists, entries_upto}
-use Rattle.world.proofs.SetCounts.{same_members, from_difference, no-empty}
-use Rattle.world.proofs.BlockCounts.{len-blocks}
-use Rattle.world.proofs.DeadChanges.{dead_after}
-use Rattle.world.proofs.Shuffled.{lists_shuffled, written_is, written_few}
+use Rattle.world.proofs.lists.SetCounts.{same_members, from_difference, no-empty}
+use Rattle.world.proofs.maps.BlockCounts.{len-blocks}
+use Rattle.world.proofs.lineage.DeadChanges.{dead_after}
+use Rattle.world.proofs.lineage.Shuffled.{lists_shuffled, written_is, written_few}
 use Rattle.file_system.specs.Dead.{blocks_kept, group_kept, newest_blocks, written_from, snaps_in, IsAccounted, AreAccounted, IsAbove, HasGained}
 use Rattle.file_system.specs.Writes.{newest_group}
 use Rattle.file_system.proofs.Newest.{last_is}

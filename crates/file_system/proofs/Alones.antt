@@ -19,9 +19,9 @@ use Rattle.world.specs.Sets.{Has}
 use Rattle.world.specs.Blocks.{block_order as o}
 use Rattle.world.specs.Deadlists.{Lists}
 use Rattle.world.specs.Worlds.{AreRising}
-use Rattle.world.proofs.Finding.{in_filter, from_filter, in_either, in_left, in_right, append_none}
-use Rattle.world.proofs.Lists.{in_listed, from_listed}
-use Rattle.world.proofs.SetCounts.{same_members, in_difference, from_difference}
+use Rattle.world.proofs.lists.Finding.{in_filter, from_filter, in_either, in_left, in_right, append_none}
+use Rattle.world.proofs.lists.Lists.{in_listed, from_listed}
+use Rattle.world.proofs.lists.SetCounts.{same_members, in_difference, from_difference}
 use Rattle.file_system.specs.Alone.{entries_at, dead_cmp, HasJust}
 use Rattle.file_system.specs.Dead.{snaps_in, newest_blocks, IsAbove, AreAccounted}
 use Rattle.file_system.specs.Splices.{AreStacked, AreJoined, CanJoin, lost_from, oldest_blocks, blocks_before}

@@ -7,9 +7,9 @@ use Rattle.model.specs.Sums.{size_without}
 use Rattle.snapshots.specs.declared.kept.Kept.{Kept}
 use Rattle.world.specs.Sets.{Has}
 use Rattle.world.specs.Blocks.{block_order as o}
-use Rattle.world.proofs.Deadlists.{dead_counts}
-use Rattle.world.proofs.SetCounts.{same_members, in_union_left, in_union_right, from_union, in_difference, from_difference, no-empty}
-use Rattle.world.proofs.Shuffled.{written_few}
+use Rattle.world.proofs.lineage.Deadlists.{dead_counts}
+use Rattle.world.proofs.lists.SetCounts.{same_members, in_union_left, in_union_right, from_union, in_difference, from_difference, no-empty}
+use Rattle.world.proofs.lineage.Shuffled.{written_few}
 use Rattle.file_system.specs.Counts.{IsCounted, dataset_count, snapshots_count}
 use Rattle.file_system.specs.Dead.{snaps_in}
 use Rattle.file_system.specs.declared.counts.Counts.{Counts}

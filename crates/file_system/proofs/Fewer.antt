@@ -13,8 +13,8 @@ use Rattle.world.specs.Sets.{Has}
 use Rattle.world.specs.Blocks.{block_order as o}
 use Rattle.world.specs.Deadlists.{Lists}
 use Rattle.world.specs.Worlds.{AreRising}
-use Rattle.world.proofs.Deadlists.{dead_counts}
-use Rattle.world.proofs.SetCounts.{Has-cases, len-two_parts, in_union_left, in_union_right, from_union, in_difference, from_difference, no-empty}
+use Rattle.world.proofs.lineage.Deadlists.{dead_counts}
+use Rattle.world.proofs.lists.SetCounts.{Has-cases, len-two_parts, in_union_left, in_union_right, from_union, in_difference, from_difference, no-empty}
 use Rattle.file_system.specs.Counts.{AreInLine, AreLined, snapshots_count}
 use Rattle.file_system.specs.Splices.{oldest_blocks, lost_from}
 use Rattle.file_system.proofs.Lines.{live_reaches, snap_reaches}

@@ -13,8 +13,8 @@ use Rattle.world.specs.Lineage.{Row}
 use Rattle.world.specs.Space.{AreBornBy, Follow, newest, dead_upto, dead_after, between}
 use Rattle.world.specs.Space as space
 use Rattle.world.specs.Worlds.{AreRising}
-use Rattle.world.proofs.SetCounts.{same_members, no-empty, put_in, equal_keys, set_induction, in_union_left, in_union_right, from_union, in_difference, from_difference}
-use Rattle.world.proofs.Space.{len_between, written_since, each_reaches_down, reaches_down}
+use Rattle.world.proofs.lists.SetCounts.{same_members, no-empty, put_in, equal_keys, set_induction, in_union_left, in_union_right, from_union, in_difference, from_difference}
+use Rattle.world.proofs.space.Space.{len_between, written_since, each_reaches_down, reaches_down}
 use Rattle.std.proofs.lemmas.Bool.{or_cases}
 use Rattle.std.proofs.lemmas.List.Sums.{sum_by-cons}
 use Rattle.file_system.specs.Counts.{AreInLine, AreLined, snapshots_count}
@@ -149,11 +149,6 @@ snaps_among base bs (t ∷ ts) live b h = ⊎_elim
     (λ i. in_union_left o (blocks t.map) _ b i)
     (λ i. in_union_right o (blocks t.map) _ b (snaps_among t.group (blocks t.map) ts live b i))
     (from_union o (blocks t.map) (blocks_of_all (map (λ (t : Snap). t.map) ts)) b h)
-
-live_among : (base : ℕ) (bs : BlockSet) (ts : List Snap) (live : Map) (b : Block) → Has (blocks live) b → Has (space.blocks_of_all (rows_of base bs ts live)) b
-unfolding rows_of row_at
-live_among base bs [] live b h = in_union_left o (blocks live) _ b h
-live_among base bs (t ∷ ts) live b h = in_union_right o (blocks t.map) _ b (live_among t.group (blocks t.map) ts live b h)
 
 among_them : (base : ℕ) (bs : BlockSet) (ts : List Snap) (live : Map) (b : Block) → Has (space.blocks_of_all (rows_of base bs ts live)) b
     → Has (blocks_of_all (map (λ (t : Snap). t.map) ts)) b ⊎ Has (blocks live) b

@@ -7,8 +7,8 @@ use Rattle.base.specs.Map.{Map, BlockSet, blocks}
 use Rattle.model.specs.World.{Snap}
 use Rattle.snapshots.specs.declared.kept.Kept.{Kept}
 use Rattle.world.specs.Blocks.{block_order as o, after}
-use Rattle.world.proofs.SetCounts.{same_members, in_difference, from_difference}
-use Rattle.world.proofs.Lineage.{in_after, from_after}
+use Rattle.world.proofs.lists.SetCounts.{same_members, in_difference, from_difference}
+use Rattle.world.proofs.lineage.Lineage.{in_after, from_after}
 use Rattle.file_system.specs.Dead.{snaps_in, newest_blocks, IsAbove}
 use Rattle.file_system.specs.Losses.{newest_map}
 use Rattle.file_system.specs.Writes.{newest_group}

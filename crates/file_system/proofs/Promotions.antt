@@ -12,7 +12,7 @@ use Rattle.snapshots.specs.declared.kept.Kept.{Kept}
 use Rattle.snapshots.specs.Index.{AreNamesOnce}
 use Rattle.world.specs.Outcomes.{snaps_upto, snaps_after}
 use Rattle.world.specs.Worlds.{AreRising}
-use Rattle.world.proofs.Finding.{in_either, from_filter}
+use Rattle.world.proofs.lists.Finding.{in_either, from_filter}
 use Rattle.file_system.specs.Dead.{snaps_in, newest_blocks, AreAccounted}
 use Rattle.file_system.specs.Origins.{origin_group}
 use Rattle.file_system.specs.Promotions.{CanPromote}

@@ -17,13 +17,13 @@ use Rattle.world.specs.Sets.{Has}
 use Rattle.world.specs.Blocks.{block_order as o}
 use Rattle.world.specs.Deadlists.{Lists, entries_upto}
 use Rattle.world.specs.Space.{AreBornBy}
-use Rattle.world.proofs.SetCounts.{set_induction, Has-cases, len-two_parts, len-subset, len-difference, in_intersection, in_union_left, in_union_right, from_union, in_difference, from_difference, no-empty}
-use Rattle.world.proofs.DeadChanges.{dead_after}
-use Rattle.world.proofs.Deadlists.{dead_counts}
-use Rattle.world.proofs.Cells.{in_blocks}
-use Rattle.world.proofs.Finding.{from_filter}
-use Rattle.world.proofs.Lists.{in_listed, from_listed, len-from_list, once_filter}
-use Rattle.world.proofs.Shuffled.{written_is}
+use Rattle.world.proofs.lists.SetCounts.{set_induction, Has-cases, len-two_parts, len-subset, len-difference, in_intersection, in_union_left, in_union_right, from_union, in_difference, from_difference, no-empty}
+use Rattle.world.proofs.lineage.DeadChanges.{dead_after}
+use Rattle.world.proofs.lineage.Deadlists.{dead_counts}
+use Rattle.world.proofs.maps.Cells.{in_blocks}
+use Rattle.world.proofs.lists.Finding.{from_filter}
+use Rattle.world.proofs.lists.Lists.{in_listed, from_listed, len-from_list, once_filter}
+use Rattle.world.proofs.lineage.Shuffled.{written_is}
 use Rattle.file_system.specs.Counts.{AreLined, dataset_count, snapshots_count, upto_count}
 use Rattle.file_system.specs.Dead.{newest_blocks, IsAbove}
 use Rattle.file_system.specs.Writes.{newest_group}

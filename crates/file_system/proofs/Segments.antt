@@ -8,7 +8,7 @@ use Rattle.base.specs.Counting.{counted, most}
 use Rattle.base.specs.Map.{Map, BlockSet, blocks}
 use Rattle.deadlist.proofs.Filters.{filter_le}
 use Rattle.deadlist.specs.Segments.{reached_upto, reached_after, without_cut}
-use Rattle.world.proofs.Maps.{same_value, no_value}
+use Rattle.world.proofs.lists.Maps.{same_value, no_value}
 use Rattle.snapshots.specs.declared.kept.Kept.{Kept}
 use Rattle.file_system.specs.Dead.{snaps_in, AreAccounted}
 use Rattle.file_system.specs.Gone.{Gone, gone_in, is_asked, asked_segments, kept_segments, segment_count}

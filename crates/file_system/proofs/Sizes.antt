@@ -11,8 +11,8 @@ use Rattle.base.specs.Surveys.{dead_block}
 use Rattle.base.specs.declared.number.Dead.{Dead}
 use Rattle.snapshots.specs.declared.kept.Kept.{Kept}
 use Rattle.world.specs.Deadlists.{Lists}
-use Rattle.world.proofs.Deadlists.{dead_counts}
-use Rattle.world.proofs.Finding.{append_none}
+use Rattle.world.proofs.lineage.Deadlists.{dead_counts}
+use Rattle.world.proofs.lists.Finding.{append_none}
 use Rattle.file_system.specs.Dead.{snaps_in, newest_blocks, AreAccounted}
 use Rattle.file_system.specs.Gone.{Gone, gone_in, is_asked, count_on, size_on, asked_count, kept_count, entry_count, gone_size}
 use Rattle.file_system.specs.declared.gone.Asked.{Asked}

@@ -6,9 +6,9 @@ use Rattle.base.specs.Map.{Block, BlockSet}
 use Rattle.world.specs.Sets.{Has, AreDisjoint}
 use Rattle.world.specs.Blocks.{block_order as o, after, upto}
 use Rattle.world.specs.Deadlists.{Lists, entries_after, entries_upto}
-use Rattle.world.proofs.SetCounts.{Has-cases, same_members, in_union_left, in_union_right, from_union, in_difference, from_difference}
-use Rattle.world.proofs.Lineage.{in_upto, from_upto, in_after, from_after}
-use Rattle.world.proofs.Deadlists.{dead_counts, dead_join}
+use Rattle.world.proofs.lists.SetCounts.{Has-cases, same_members, in_union_left, in_union_right, from_union, in_difference, from_difference}
+use Rattle.world.proofs.lineage.Lineage.{in_upto, from_upto, in_after, from_after}
+use Rattle.world.proofs.lineage.Deadlists.{dead_counts, dead_join}
 
 -- What stands before has the blocks `below`, born by its group; the snapshot has the blocks `it`, and what comes after it has `next`
 module _ (below it next : BlockSet) (base group : ℕ) (closed : (b : Block) → Has below b → b.birth ≤ base) (rises : base < group)

@@ -13,14 +13,14 @@ use Rattle.base.specs.Map.{Map, Block, BlockSet, blocks}
 use Rattle.base.specs.Surveys.{IsIn, dead_block}
 use Rattle.base.specs.declared.number.Dead.{Dead}
 use Rattle.deadlist.specs.Entries.{is_upto}
-use Rattle.name.specs.Names.{same_name}
+use Rattle.base.specs.Names.{same_name}
 use Rattle.model.specs.World.{Snap, SnapId, FileSystem, id_of, same_id}
 use Rattle.snapshots.specs.declared.kept.Kept.{Kept}
 use Rattle.snapshots.specs.Index.{AreNamesOnce}
 use Rattle.world.specs.Sets.{Has}
 use Rattle.world.specs.Deadlists.{Lists, entries_upto}
 use Rattle.world.specs.Worlds.{AreRising}
-use Rattle.world.proofs.Shuffled.{lists_shuffled}
+use Rattle.world.proofs.lineage.Shuffled.{lists_shuffled}
 use Rattle.file_system.specs.Dead.{snaps_in, newest_blocks, blocks_kept, group_kept, IsAbove, IsAccounted, AreAccounted}
 use Rattle.file_system.specs.Splices.{oldest_blocks, lost_from, blocks_before, AreStacked, AreAbove, AreJoined, CanJoin, IsNext}
 use Rattle.file_system.specs.Origins.{origin_group}

@@ -8,7 +8,7 @@ use Rattle.base.specs.Map.{Map, Block, BlockSet, blocks}
 use Rattle.base.specs.Surveys.{dead_block}
 use Rattle.base.specs.declared.number.Dead.{Dead}
 use Rattle.deadlist.specs.Entries.{is_upto}
-use Rattle.name.specs.Names.{same_name}
+use Rattle.base.specs.Names.{same_name}
 use Rattle.model.specs.World.{Snap}
 use Rattle.model.specs.Sums.{size_without}
 use Rattle.snapshots.specs.declared.kept.Kept.{Kept}

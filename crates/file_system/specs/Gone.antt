@@ -40,8 +40,8 @@ abbrev pub is_between : Option ℕ → Option ℕ → Option ℕ → Bool
 is_between from until group = is_later from group && is_by until group
 
 -- what has gone with the datasets of a row that stand between the two (profile)
-abbrev pub gone_between : Option ℕ → Option ℕ → Row → List Gone
-gone_between from until r = filter (λ g. is_between from until g.group) (gone_in (blocks r.below) r.system.snaps r.system.live)
+abbrev pub dead_between : Option ℕ → Option ℕ → Row → List Gone
+dead_between from until r = filter (λ g. is_between from until g.group) (gone_in (blocks r.below) r.system.snaps r.system.live)
 
 -- how many blocks of a set were born by a group, or after it (profile)
 abbrev pub size_on : Side → ℕ → BlockSet → ℕ

@@ -9,3 +9,4 @@ pub mod Promotions
 pub mod Counts
 pub mod Gone
 pub mod Alone
+pub mod Owned

@@ -10,7 +10,7 @@ use Rattle.std.specs.FinMap.{FinMap, get, insert, entries}
 use Rattle.std.specs.FinMap as finmap
 use Rattle.base.specs.Map.{Map}
 use Rattle.base.specs.Codes.{map_code}
-use Rattle.name.specs.Names.{name_cmp}
+use Rattle.base.specs.Names.{name_cmp}
 use Rattle.model.specs.World.{FileSystem, Snap, SnapId, Bookmark, Limits, empty_file_system}
 pub use Rattle.model.specs.Hierarchy.{FileSystems}
 pub use Rattle.snapshots.specs.Snaps.{plain_snap}

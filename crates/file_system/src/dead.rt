@@ -7,7 +7,7 @@ ghost use Rattle.deadlist.specs.Entries.{is_upto};
 ghost use Rattle.tree.specs.Drafting.{CanPut, HasPut};
 ghost use Rattle.file_system.specs.Dead.{HasGained};
 
-use base::meter::SegMeter;
+use base::meter::{Meter, SegMeter};
 use base::number::{Dead, Group};
 use base::refusal::Refusal;
 use deadlist::deadlist::Deadlist;
@@ -28,7 +28,8 @@ pub fn count_upto(entries: &[Dead], newest: Group) -> usize
 /// Puts a draft of a batch of changes of a live tree in force, and of what it lets go those blocks onto the dead list that were born by
 /// the group of the newest snapshot: where the list is, if it has no other owner, and else onto a copy of it, which comes to its place.
 /// NoMemory where there is none for the nodes or the list; then the tree is as it was, and so is the list but for the order of its
-/// entries. It costs what `Tree::put` does, the blocks let go, and where one is put onto the list now and then its segments.
+/// entries. It costs what `Tree::put` does, whose nodes the meter counts, the blocks let go, and where one is put
+/// onto the list now and then its segments.
 pub fn put(
     dead: &mut Arc<Deadlist>,
     live: &mut Tree,
@@ -37,6 +38,7 @@ pub fn put(
     group: Group,
     draft: Draft,
     newest: Group,
+    meter: &mut Meter,
     segments: &mut SegMeter,
 ) -> Result<Changed, Refusal>
     requires { CanPut live.old updates.now group.0 draft }
@@ -46,16 +48,19 @@ pub fn put(
     ensures err { OnErr result (live.new ≡ live.old) }
     ensures dead_err { OnErr result (IsPermutation (arc_value dead.old).entries (arc_value dead.new).entries) }
     ensures only { OnErr result (result ≡ Err Refusal.NoMemory) }
+    ensures never_lower { meter.old ≤ meter.new }
 {
     let few = count_upto(&draft.released, newest);
     if few == 0 {
-        return live.put(alloc, updates, group, draft);
+        return live.put(alloc, updates, group, draft, meter);
     }
     if let Some(list) = Arc::get_mut(dead) {
-        return put_onto(list, live, alloc, updates, group, draft, newest, segments);
+        return put_onto(
+            list, live, alloc, updates, group, draft, newest, meter, segments,
+        );
     }
     let longer = longer(dead, alloc, &draft.released, newest, segments)?;
-    let changed = live.put(alloc, updates, group, draft)?;
+    let changed = live.put(alloc, updates, group, draft, meter)?;
     *dead = longer;
     Ok(changed)
 }
@@ -69,6 +74,7 @@ fn put_onto(
     group: Group,
     draft: Draft,
     newest: Group,
+    meter: &mut Meter,
     segments: &mut SegMeter,
 ) -> Result<Changed, Refusal>
     requires { CanPut live.old updates.now group.0 draft }
@@ -78,10 +84,11 @@ fn put_onto(
     ensures err { OnErr result (live.new ≡ live.old) }
     ensures dead_err { OnErr result (IsPermutation list.old.entries list.new.entries) }
     ensures only { OnErr result (result ≡ Err Refusal.NoMemory) }
+    ensures never_lower { meter.old ≤ meter.new }
 {
     let few = count_upto(&draft.released, newest);
     list.reserve(few, segments)?;
-    let changed = live.put(alloc, updates, group, draft)?;
+    let changed = live.put(alloc, updates, group, draft, meter)?;
     list.push_upto(&changed.released, newest);
     Ok(changed)
 }

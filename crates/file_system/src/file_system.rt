@@ -2,9 +2,10 @@
 ghost use Rattle.std.specs.Prelude.{◌≡◌, ◌≤◌, ◌<◌, ◌+◌, ◌^◌, ◌==◌, max, nat_lt, ◌++◌, ◌∷◌, [], Some, IsSome, List, IfOk, IfErr, OnOk, OnErr, length, map, remove, slice_get, slice_set};
 ghost use Rattle.std.specs.Option.{option_map, option_copied};
 ghost use Rattle.std.specs.Arc.{arc_value};
+ghost use Rattle.std.specs.Borrow.{sem};
 ghost use Rattle.std.specs.FinMap as finmap;
 ghost use Rattle.std.specs.List.{find};
-ghost use Rattle.name.specs.Names.{name_cmp, same_name};
+ghost use Rattle.base.specs.Names.{name_cmp, same_name};
 ghost use Rattle.base.specs.declared.refusal.Refusal.{Refusal};
 ghost use Rattle.base.specs.Map.{blocks};
 ghost use Rattle.base.specs.Surveys.{dead_block};
@@ -21,6 +22,7 @@ ghost use Rattle.snapshots.specs.Index.{AreNamesOnce};
 ghost use Rattle.world.specs.Deadlists.{Lists};
 ghost use Rattle.world.specs.Worlds.{AreRising};
 ghost use Rattle.file_system.specs.Origins.{origin_group};
+ghost use Rattle.file_system.specs.Owned.{LendsLine};
 ghost use Rattle.file_system.specs.Promotions.{clone_row};
 ghost use Rattle.file_system.specs.Rows.{new_row, with_system, with_snap};
 ghost use Rattle.file_system.specs.Splices.{lost_from, without_group, AreAbove};
@@ -36,15 +38,15 @@ use crate::splice::{joined, joined_next, kept_of, place_of};
 use crate::written::{group_of, written_over};
 use base::limit::Blocks;
 use base::meter::{Meter, SegMeter};
+use base::name::{Component, DsName};
 use base::number::{Dead, Group, Guid};
 use base::refusal::Refusal;
-use bookmarks::Bookmarks;
 use deadlist::deadlist::Deadlist;
-use holds::Holds;
 use model::limits::{Limit, Limits};
 use model::snapshot_id::SnapshotId;
-use name::{Component, DsName};
 use shared_list::SharedList;
+use snapshots::bookmarks::Bookmarks;
+use snapshots::holds::Holds;
 use snapshots::{Kept, Line, Snapshot};
 use std::alloc::Global;
 use std::cmp::Ordering;
@@ -344,7 +346,7 @@ impl FileSystem {
             dead,
             written,
         };
-        push(&mut self.snapshots, alloc, kept)?;
+        own(&mut self.snapshots, alloc)?.push(alloc, kept)?;
         self.dead = fresh;
         Ok(())
     }
@@ -370,13 +372,13 @@ impl FileSystem {
         let (place, count) = (place_of(kept, group), kept.len());
         if place + 1 < count {
             let (next, lost) = joined_next(kept, origin, alloc, place, segments)?;
-            splice_in(&mut self.snapshots, alloc, place, next)?;
+            own(&mut self.snapshots, alloc)?.splice(alloc, place, next)?;
             self.counts.by_snapshots -= lost.len();
             return Ok(lost);
         }
         let (dead, lost) = joined(kept, base_group(origin), place, &self.dead, segments)?;
         let dead = Arc::new(alloc, dead)?;
-        remove_from(&mut self.snapshots, alloc, place)?;
+        own(&mut self.snapshots, alloc)?.remove(place)?;
         self.dead = dead;
         self.counts.by_snapshots -= lost.len();
         Ok(lost)
@@ -418,7 +420,7 @@ impl FileSystem {
         let kept = self.snapshots.list();
         let place = place_of(kept, group);
         let next = edited(kept, place, edit)?;
-        set_in(&mut self.snapshots, alloc, place, next)?;
+        own(&mut self.snapshots, alloc)?.set(alloc, place, next)?;
         Ok(())
     }
 
@@ -493,7 +495,9 @@ impl FileSystem {
         let nodes = self.live.node_count();
         let rest = rest_of(self.counts, nodes, &draft.released, base, newest)?;
         let (dead, live) = (&mut self.dead, &mut self.live);
-        let mut changed = put(dead, live, alloc, updates, group, draft, newest, segments)?;
+        let mut changed = put(
+            dead, live, alloc, updates, group, draft, newest, meter, segments,
+        )?;
         self.counts = counts_with(rest, self.live.node_count());
         changed.released.retain(|dead| is_born_after(dead, newest));
         Ok(changed)
@@ -515,56 +519,24 @@ fn is_born_after(dead: &Dead, group: Group) -> bool
     dead.birth.0 > group.0
 }
 
-// Puts a snapshot behind others: where they are, if they have no other owner, and else behind a copy of them, which comes to their
-// place.
-fn push(line: &mut Arc<Line>, alloc: Global, kept: Kept) -> Result<(), Refusal>
-    ensures ok { OnOk result (arc_value line.new ≡ arc_value line.old ++ kept ∷ []) }
-    ensures err { OnErr result (arc_value line.new ≡ arc_value line.old) }
+// The snapshots to change: where they are, if they have no other owner, and else in a copy of them, which comes to their place. NoMemory
+// where there is none for the copy. By then they have one owner, so that they are there; but no contract says how many there are.
+fn own(line: &mut Arc<Line>, alloc: Global) -> Result<&mut Line, Refusal>
+    ensures* lends { sem 𝓛 (LendsLine line.entry result) }
+    ensures value { IfOk result (λ l. l.now ≡ arc_value line.old) }
     ensures only { IfErr result (λ e. e ≡ Refusal.NoMemory) }
 {
-    if let Some(line) = Arc::get_mut(line) {
-        return line.push(alloc, kept);
+    match Arc::get_mut(line) {
+        Some(_own) => {}
+        None => {
+            let copy = line.copy()?;
+            *line = Arc::new(alloc, copy)?;
+        }
     }
-    let mut longer = line.copy()?;
-    longer.push(alloc, kept)?;
-    *line = Arc::new(alloc, longer)?;
-    Ok(())
-}
-
-// Takes out the snapshot at that place: where they are, if they have no other owner, and else from a copy of them, which comes to their
-// place.
-fn remove_from(line: &mut Arc<Line>, alloc: Global, place: usize) -> Result<(), Refusal>
-    requires there { place < length (arc_value line.old) }
-    requires once { AreNamesOnce (arc_value line.old) }
-    ensures ok { OnOk result (arc_value line.new ≡ remove (arc_value line.old) place) }
-    ensures err { OnErr result (arc_value line.new ≡ arc_value line.old) }
-    ensures only { IfErr result (λ e. e ≡ Refusal.NoMemory) }
-{
-    if let Some(line) = Arc::get_mut(line) {
-        return line.remove(place);
+    match Arc::get_mut(line) {
+        Some(own) => Ok(own),
+        None => Err(Refusal::NoMemory),
     }
-    let mut shorter = line.copy()?;
-    shorter.remove(place)?;
-    *line = Arc::new(alloc, shorter)?;
-    Ok(())
-}
-
-// Takes out the snapshot at that place, and puts this one in place of the one after it, which has its name: where they are, if they have
-// no other owner, and else in a copy of them, which comes to their place.
-fn splice_in(line: &mut Arc<Line>, alloc: Global, place: usize, next: Kept) -> Result<(), Refusal>
-    requires next { option_map (λ k. k.snapshot.name) (slice_get (arc_value line.old) (place + 1)) ≡ Some next.snapshot.name }
-    requires once { AreNamesOnce (arc_value line.old) }
-    ensures ok { OnOk result (arc_value line.new ≡ slice_set (remove (arc_value line.old) place) place next) }
-    ensures err { OnErr result (arc_value line.new ≡ arc_value line.old) }
-    ensures only { IfErr result (λ e. e ≡ Refusal.NoMemory) }
-{
-    if let Some(line) = Arc::get_mut(line) {
-        return line.splice(alloc, place, next);
-    }
-    let mut shorter = line.copy()?;
-    shorter.splice(alloc, place, next)?;
-    *line = Arc::new(alloc, shorter)?;
-    Ok(())
 }
 
 // No bookmark, which others can own too.
@@ -598,22 +570,4 @@ fn copy_of(name: &Component) -> Result<Component, Refusal>
     ensures err { IfErr result (λ e. e ≡ Refusal.NoMemory) }
 {
     Ok(name.clone()?)
-}
-
-// Puts a snapshot in place of the one at that place, which has its name: where they are, if they have no other owner, and else in a copy
-// of them, which comes to their place.
-fn set_in(line: &mut Arc<Line>, alloc: Global, place: usize, next: Kept) -> Result<(), Refusal>
-    requires same { option_map (λ k. k.snapshot.name) (slice_get (arc_value line.old) place) ≡ Some next.snapshot.name }
-    requires once { AreNamesOnce (arc_value line.old) }
-    ensures ok { OnOk result (arc_value line.new ≡ slice_set (arc_value line.old) place next) }
-    ensures err { OnErr result (arc_value line.new ≡ arc_value line.old) }
-    ensures only { IfErr result (λ e. e ≡ Refusal.NoMemory) }
-{
-    if let Some(line) = Arc::get_mut(line) {
-        return line.set(alloc, place, next);
-    }
-    let mut changed = line.copy()?;
-    changed.set(alloc, place, next)?;
-    *line = Arc::new(alloc, changed)?;
-    Ok(())
 }

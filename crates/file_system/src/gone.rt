@@ -4,7 +4,7 @@ ghost use Rattle.std.specs.List.{sum_by};
 ghost use Rattle.std.specs.Option.{option_map};
 ghost use Rattle.std.specs.FinSet.{len};
 ghost use Rattle.world.specs.Blocks.{upto, after};
-ghost use Rattle.file_system.specs.Gone.{count_on, is_asked, asked_count, kept_count, entry_count, gone_between, size_on, kept_segments, segment_count};
+ghost use Rattle.file_system.specs.Gone.{count_on, is_asked, asked_count, kept_count, entry_count, dead_between, size_on, kept_segments, segment_count};
 
 use crate::file_system::FileSystem;
 use base::meter::SegMeter;
@@ -101,8 +101,8 @@ pub fn count_gone(
 impl FileSystem {
     // How many blocks on the side of the cut have gone with the datasets that are asked for, counted as by `gone_upto`, at the same cost.
     fn gone_with(&self, asked: Asked, segments: &mut SegMeter) -> u64
-        ensures count { result ≡ min (2 ^ 64 - 1) (sum_by (λ g. size_on asked.side asked.cut.0 g.blocks) (gone_between (option_map (λ g. g.0) asked.from) (option_map (λ g. g.0) asked.until) self.now)) }
-        ensures meter { segments.new ≤ segments.old + 2 * length (gone_between (option_map (λ g. g.0) asked.from) (option_map (λ g. g.0) asked.until) self.now) }
+        ensures count { result ≡ min (2 ^ 64 - 1) (sum_by (λ g. size_on asked.side asked.cut.0 g.blocks) (dead_between (option_map (λ g. g.0) asked.from) (option_map (λ g. g.0) asked.until) self.now)) }
+        ensures meter { segments.new ≤ segments.old + 2 * length (dead_between (option_map (λ g. g.0) asked.from) (option_map (λ g. g.0) asked.until) self.now) }
     {
         count_gone(self.snapshots.list(), &self.dead, asked, segments)
     }
@@ -118,8 +118,8 @@ impl FileSystem {
         cut: Group,
         segments: &mut SegMeter,
     ) -> u64
-        ensures count { result ≡ min (2 ^ 64 - 1) (sum_by (λ g. len (upto cut.0 g.blocks)) (gone_between (option_map (λ g. g.0) from) (option_map (λ g. g.0) until) self.now)) }
-        ensures meter { segments.new ≤ segments.old + 2 * length (gone_between (option_map (λ g. g.0) from) (option_map (λ g. g.0) until) self.now) }
+        ensures count { result ≡ min (2 ^ 64 - 1) (sum_by (λ g. len (upto cut.0 g.blocks)) (dead_between (option_map (λ g. g.0) from) (option_map (λ g. g.0) until) self.now)) }
+        ensures meter { segments.new ≤ segments.old + 2 * length (dead_between (option_map (λ g. g.0) from) (option_map (λ g. g.0) until) self.now) }
     {
         let side = Side::Upto;
         let asked = Asked {
@@ -140,8 +140,8 @@ impl FileSystem {
         cut: Group,
         segments: &mut SegMeter,
     ) -> u64
-        ensures count { result ≡ min (2 ^ 64 - 1) (sum_by (λ g. len (after cut.0 g.blocks)) (gone_between (option_map (λ g. g.0) from) (option_map (λ g. g.0) until) self.now)) }
-        ensures meter { segments.new ≤ segments.old + 2 * length (gone_between (option_map (λ g. g.0) from) (option_map (λ g. g.0) until) self.now) }
+        ensures count { result ≡ min (2 ^ 64 - 1) (sum_by (λ g. len (after cut.0 g.blocks)) (dead_between (option_map (λ g. g.0) from) (option_map (λ g. g.0) until) self.now)) }
+        ensures meter { segments.new ≤ segments.old + 2 * length (dead_between (option_map (λ g. g.0) from) (option_map (λ g. g.0) until) self.now) }
     {
         let side = Side::After;
         let asked = Asked {

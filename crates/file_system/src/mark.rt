@@ -4,8 +4,8 @@ ghost use Rattle.base.specs.declared.refusal.Refusal.{Refusal};
 ghost use Rattle.file_system.specs.Deferred.{IsEdited, edit_of};
 
 use base::refusal::Refusal;
-use holds::Holds;
 use shared_list::SharedList;
+use snapshots::holds::Holds;
 use snapshots::{Kept, Snapshot};
 use std::sync::Arc;
 

@@ -10,8 +10,8 @@ use Rattle.base.specs.Map.{Map, Cell}
 use Rattle.base.specs.Surveys.{IsIn}
 use Rattle.model.specs.World.{World, FileSystem, Snap, SnapId, Dataset, Live, Snapped, id_of, snap_at, map_of}
 use Rattle.world.specs.Shapes.{Name}
-use Rattle.world.proofs.Bridge.{from_snap_at, map_of_live, map_of_gone, map_of_absent, map_of_found}
-use Rattle.world.proofs.Maps.{no_value}
+use Rattle.world.proofs.lineage.Bridge.{from_snap_at, map_of_live, map_of_gone, map_of_absent, map_of_found}
+use Rattle.world.proofs.lists.Maps.{no_value}
 use Rattle.laws.specs.Lineages.{IsOrdered, AreBirthsRising, HasBirths}
 use Rattle.laws.proofs.Keys.{IsSameBelow, itself_below}
 use Rattle.laws.proofs.Lineages.{kept_map}

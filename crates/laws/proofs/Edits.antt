@@ -10,8 +10,8 @@ use Rattle.base.specs.Key.{key_cmp}
 use Rattle.base.specs.Map.{Cell}
 use Rattle.base.specs.Rewrite.{Changes, rewrite, is_touched}
 use Rattle.base.specs.Surveys.{IsIn}
-use Rattle.name.specs.Names.{name_cmp, same_name}
-use Rattle.name.specs.declared.member.Member.{Member}
+use Rattle.base.specs.Names.{name_cmp, same_name}
+use Rattle.base.specs.declared.name.member.Member.{Member}
 use Rattle.model.specs.World.{World, FileSystem, Snap, SnapId, Bookmark, Snapped, id_of, same_id, map_of, empty_file_system}
 use Rattle.model.specs.requests.Create.{with_new_file_system}
 use Rattle.model.specs.Edits.{with_file_system, with_file_systems, with_tags, without_snaps}
@@ -23,13 +23,13 @@ use Rattle.world.specs.Dead.{IsThere}
 use Rattle.world.specs.Numbering.{ChangesKeys}
 use Rattle.world.specs.Shapes.{Name, name_order}
 use Rattle.world.specs.Usage.{IsEntry}
-use Rattle.world.proofs.Families.{from_retained}
-use Rattle.world.proofs.Finding.{from_filter, in_either}
-use Rattle.world.proofs.Listed.{in_map}
-use Rattle.world.proofs.Maps.{same_value, no_value, entry_from_find, at_entry}
-use Rattle.world.proofs.Put.{put_cases}
-use Rattle.world.proofs.Rewrites.{rewrite_is_change}
-use Rattle.world.proofs.Sweep.{get-with_file_systems}
+use Rattle.world.proofs.removals.Families.{from_retained}
+use Rattle.world.proofs.lists.Finding.{from_filter, in_either}
+use Rattle.world.proofs.lists.Listed.{in_map}
+use Rattle.world.proofs.lists.Maps.{same_value, no_value, entry_from_find, at_entry}
+use Rattle.world.proofs.lineage.Put.{put_cases}
+use Rattle.world.proofs.maps.Rewrites.{rewrite_is_change}
+use Rattle.world.proofs.removals.Sweep.{get-with_file_systems}
 use Rattle.laws.proofs.Keys.{IsSameBelow}
 use Rattle.laws.proofs.Walking.{IsNewest, WentOn, ComesFrom, IsLater}
 

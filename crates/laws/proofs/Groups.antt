@@ -5,9 +5,9 @@ use Rattle.std.specs.Option.{option_map_or}
 use Rattle.std.specs.FinMap.{insert, remove}
 use Rattle.base.specs.declared.number.Key.{Key}
 use Rattle.base.specs.Rewrite.{Changes, rewrite}
-use Rattle.name.specs.declared.member.Member.{Member}
-use Rattle.name.specs.declared.target.Target.{Target}
-use Rattle.name.specs.declared.target.Target.TheVariants.{FileSystem as OfFileSystem, Snapshot as OfSnapshot, Bookmark as OfBookmark}
+use Rattle.base.specs.declared.name.member.Member.{Member}
+use Rattle.base.specs.declared.name.target.Target.{Target}
+use Rattle.base.specs.declared.name.target.Target.TheVariants.{FileSystem as OfFileSystem, Snapshot as OfSnapshot, Bookmark as OfBookmark}
 use Rattle.stream.specs.Records.{changes_of}
 use Rattle.stream.specs.Spelling.{Sending}
 use Rattle.model.specs.Limits.{limited}

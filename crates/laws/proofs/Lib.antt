@@ -15,3 +15,12 @@ pub mod Groups
 pub mod Lasting
 pub mod Marks
 pub mod Pools
+pub mod RecordKeys
+pub mod Lists
+pub mod Sent
+pub mod Ordered
+pub mod Changed
+pub mod Applied
+pub mod Blocks
+pub mod Received
+pub mod Sends

@@ -13,11 +13,11 @@ use Rattle.model.specs.World.{World, FileSystem, Snap, SnapId, Dataset, Live, Sn
 use Rattle.world.specs.Dead.{IsThere, group_of, next_in}
 use Rattle.world.specs.Shapes.{Name}
 use Rattle.world.specs.Worlds.{AreRising}
-use Rattle.world.proofs.Bridge.{from_snap_at, map_of_gone, map_of_absent, map_of_found, in_middle, rising_above, rising_below, rising_after}
-use Rattle.world.proofs.Finding.{append_none, filter_front, in_left}
-use Rattle.world.proofs.Maps.{same_value, no_value}
-use Rattle.world.proofs.Promotions.{split_at, append_assoc}
-use Rattle.world.proofs.Viewed.{snap_found}
+use Rattle.world.proofs.lineage.Bridge.{from_snap_at, map_of_gone, map_of_absent, map_of_found, in_middle, rising_above, rising_below, rising_after}
+use Rattle.world.proofs.lists.Finding.{append_none, filter_front, in_left}
+use Rattle.world.proofs.lists.Maps.{same_value, no_value}
+use Rattle.world.proofs.changes.Promotions.{split_at, append_assoc}
+use Rattle.world.proofs.views.Viewed.{snap_found}
 use Rattle.laws.specs.Lineages.{IsBefore, SharesUntil, origin_group, IsOrdered, HasLineages}
 use Rattle.laws.specs.Bookmarks.{IsSource}
 use Rattle.laws.proofs.Keys.{itself_below}
@@ -48,12 +48,6 @@ place w (Live name) (f, at) = record { name = name; system = f; at = at; older =
 place w (Snapped id) (name, f, t, at, h, ids) =
     let l = split_at f.snaps t h in
     record { name = name; system = f; at = at; older = l.0; newer = t ∷ l.1; snaps_are = l.2; is = ap Snapped (sym ids) }
-
--- and what has a place is there
-pub next_there : (w : World) (name : Name) (f : FileSystem) → get w.file_systems name ≡ Some f → (older newer : List Snap) → f.snaps ≡ older ++ newer
-    → IsThere w (next_in name newer)
-next_there w name f at older [] is = (f, at)
-next_there w name f at older (t ∷ ts) is = (name, f, t, at, subst (λ l. IsIn l t) (sym is) (in_middle older t ts), refl)
 
 pub live_or_snap : (name : Name) (id : SnapId) → Live name ≡ Snapped id → ⊥
 live_or_snap name id e = cc

@@ -8,10 +8,10 @@ use Rattle.base.specs.declared.number.Key.{Key}
 use Rattle.base.specs.declared.refusal.Refusal.TheVariants.{NotAncestor}
 use Rattle.base.specs.Rewrite.{Changes, rewrite}
 use Rattle.base.specs.Surveys.{IsIn}
-use Rattle.name.specs.Names.{name_cmp, same_name}
-use Rattle.name.specs.declared.member.Member.{Member}
-use Rattle.name.specs.declared.target.Target.{Target}
-use Rattle.name.specs.declared.target.Target.TheVariants.{FileSystem as OfFileSystem, Snapshot as OfSnapshot, Bookmark as OfBookmark}
+use Rattle.base.specs.Names.{name_cmp, same_name}
+use Rattle.base.specs.declared.name.member.Member.{Member}
+use Rattle.base.specs.declared.name.target.Target.{Target}
+use Rattle.base.specs.declared.name.target.Target.TheVariants.{FileSystem as OfFileSystem, Snapshot as OfSnapshot, Bookmark as OfBookmark}
 use Rattle.stream.specs.Records.{changes_of}
 use Rattle.stream.specs.Spelling.{Sending}
 use Rattle.model.specs.Limits.{limited}
@@ -39,13 +39,13 @@ use Rattle.model.specs.requests.Rollback.{placed, back_at, after_rollback, rolle
 use Rattle.model.specs.requests.Snapshot.{snap_of_live, with_snapshots, snapshots_taken, snapshot_names, guid_by}
 use Rattle.world.specs.RunLaws.{HasSnap}
 use Rattle.world.specs.Shapes.{Name, name_order}
-use Rattle.world.proofs.Families.{from_retained}
-use Rattle.world.proofs.Finding.{from_find, one_name}
-use Rattle.world.proofs.Maps.{same_value, no_value, key_cases, get-insert_same, get-insert_other, get-remove_same, get-remove_other}
-use Rattle.world.proofs.Promotions.{IsPromotion, promotion_is}
-use Rattle.world.proofs.Put.{put_cases}
-use Rattle.world.proofs.Sweep.{get-with_file_systems}
-use Rattle.world.proofs.ViewedRequests.{row_false}
+use Rattle.world.proofs.removals.Families.{from_retained}
+use Rattle.world.proofs.lists.Finding.{from_find, one_name}
+use Rattle.world.proofs.lists.Maps.{same_value, no_value, key_cases, get-insert_same, get-insert_other, get-remove_same, get-remove_other}
+use Rattle.world.proofs.changes.Promotions.{IsPromotion, promotion_is}
+use Rattle.world.proofs.lineage.Put.{put_cases}
+use Rattle.world.proofs.removals.Sweep.{get-with_file_systems}
+use Rattle.world.proofs.views.ViewedRequests.{row_false}
 use Rattle.laws.proofs.Edits.{marks_left}
 
 -- the file system of that name has the bookmark, under this name

@@ -7,9 +7,9 @@ use Rattle.base.specs.declared.refusal.Refusal.{Refusal}
 use Rattle.base.specs.declared.refusal.Refusal.TheVariants.{NotAncestor, NoMemory}
 use Rattle.base.specs.Map.{Map}
 use Rattle.base.specs.Surveys.{IsIn}
-use Rattle.name.specs.Names.{same_name}
-use Rattle.name.specs.declared.member.Member.{Member}
-use Rattle.name.specs.declared.target.Target.TheVariants.{Snapshot as OfSnapshot}
+use Rattle.base.specs.Names.{same_name}
+use Rattle.base.specs.declared.name.member.Member.{Member}
+use Rattle.base.specs.declared.name.target.Target.TheVariants.{Snapshot as OfSnapshot}
 use Rattle.model.specs.declared.request.Request.{Request}
 use Rattle.model.specs.declared.request.Request.TheVariants.{Bookmark as ToBookmark}
 use Rattle.model.specs.declared.reply.Reply.{Reply}
@@ -26,11 +26,11 @@ use Rattle.model.specs.requests.Rollback.{placed}
 use Rattle.world.specs.Dead.{IsThere}
 use Rattle.world.specs.RunLaws.{HasSnap}
 use Rattle.world.specs.Shapes.{name_order}
-use Rattle.world.proofs.Finding.{append_none, from_find, one_name}
-use Rattle.world.proofs.Maps.{no_value, get-insert_same}
-use Rattle.world.proofs.Put.{put_here}
-use Rattle.world.proofs.ViewedRequests.{row_false}
-use Rattle.world.proofs.WithoutSnaps.{without_at}
+use Rattle.world.proofs.lists.Finding.{append_none, from_find, one_name}
+use Rattle.world.proofs.lists.Maps.{no_value, get-insert_same}
+use Rattle.world.proofs.lineage.Put.{put_here}
+use Rattle.world.proofs.views.ViewedRequests.{row_false}
+use Rattle.world.proofs.removals.WithoutSnaps.{without_at}
 use Rattle.laws.specs.Lineages.{HasLineages}
 use Rattle.laws.specs.Bookmarks.{IsSource, IsRunWithin, IsMarkedBy, BookmarkMade, BookmarkStands, BookmarkLasts}
 use Rattle.laws.proofs.Groups.{step_group}

@@ -11,10 +11,10 @@ use Rattle.base.specs.declared.number.Key.{Key}
 use Rattle.base.specs.declared.refusal.Refusal.TheVariants.{Exists, HasClones}
 use Rattle.base.specs.Rewrite.{Changes, rewrite}
 use Rattle.base.specs.Surveys.{IsIn}
-use Rattle.name.specs.Names.{name_cmp, same_name}
-use Rattle.name.specs.declared.member.Member.{Member}
-use Rattle.name.specs.declared.target.Target.{Target}
-use Rattle.name.specs.declared.target.Target.TheVariants.{FileSystem as OfFileSystem, Snapshot as OfSnapshot, Bookmark as OfBookmark}
+use Rattle.base.specs.Names.{name_cmp, same_name}
+use Rattle.base.specs.declared.name.member.Member.{Member}
+use Rattle.base.specs.declared.name.target.Target.{Target}
+use Rattle.base.specs.declared.name.target.Target.TheVariants.{FileSystem as OfFileSystem, Snapshot as OfSnapshot, Bookmark as OfBookmark}
 use Rattle.stream.specs.Records.{changes_of}
 use Rattle.stream.specs.Spelling.{Sending}
 use Rattle.model.specs.Limits.{limited}
@@ -43,14 +43,14 @@ use Rattle.model.specs.requests.Snapshot.{snapshots_taken, snapshot_names, guid_
 use Rattle.world.specs.Dead.{HasNoCloneIn}
 use Rattle.world.specs.Shapes.{Name, name_order, view_order}
 use Rattle.world.specs.Usage.{IsEntry}
-use Rattle.world.proofs.Finding.{or_none, any_none, from_filter, in_filter, in_flat, one_name}
-use Rattle.world.proofs.Listed.{in_map, map_in}
-use Rattle.world.proofs.Maps.{same_value, no_value, at_entry, key_cases, get-insert_same, get-insert_other, get-remove_same, get-remove_other}
-use Rattle.world.proofs.States.{in_clones, positive, swept_bare}
-use Rattle.world.proofs.Viewed.{IsSafe, snap_found, one_changed}
-use Rattle.world.proofs.ViewedReceives.{receive_absent}
-use Rattle.world.proofs.ViewedRequests.{row_false, not_some, from_placed}
-use Rattle.world.proofs.WithoutSnaps.{any_from}
+use Rattle.world.proofs.lists.Finding.{or_none, any_none, from_filter, in_filter, in_flat, one_name}
+use Rattle.world.proofs.lists.Listed.{in_map, map_in}
+use Rattle.world.proofs.lists.Maps.{same_value, no_value, at_entry, key_cases, get-insert_same, get-insert_other, get-remove_same, get-remove_other}
+use Rattle.world.proofs.steps.States.{in_clones, positive, swept_bare}
+use Rattle.world.proofs.views.Viewed.{IsSafe, snap_found, one_changed}
+use Rattle.world.proofs.views.ViewedReceives.{receive_absent}
+use Rattle.world.proofs.views.ViewedRequests.{row_false, not_some, from_placed}
+use Rattle.world.proofs.removals.WithoutSnaps.{any_from}
 use Rattle.laws.specs.Lineages.{IsOrdered, origin_group}
 use Rattle.laws.proofs.Edits.{marks_left}
 use Rattle.laws.proofs.Orders.{same_followed, one_ordered, without_ordered, deferred_ordered, tagged_ordered, losses_ordered, added_ordered, left_ordered, taken_ordered}

@@ -6,8 +6,8 @@ use Rattle.std.specs.Option.{option_map, option_map_or}
 use Rattle.std.specs.FinMap.{get, insert}
 use Rattle.std.specs.FinMap as finmap
 use Rattle.base.specs.Surveys.{IsIn}
-use Rattle.name.specs.Names.{same_name}
-use Rattle.name.specs.declared.member.Member.{Member}
+use Rattle.base.specs.Names.{same_name}
+use Rattle.base.specs.declared.name.member.Member.{Member}
 use Rattle.model.specs.World.{World, FileSystem, Snap, SnapId, Bookmark, Snapped, id_of, same_id}
 use Rattle.model.specs.Edits.{with_file_system, with_file_systems, with_losses, with_tags, with_next_group, without_snaps}
 use Rattle.model.specs.requests.Destroy.{with_deferred, without_file_systems}
@@ -16,15 +16,15 @@ use Rattle.world.specs.Dead.{IsThere, HasNoCloneIn}
 use Rattle.world.specs.RunLaws.{HasSnap}
 use Rattle.world.specs.Shapes.{Name, name_order}
 use Rattle.world.specs.Worlds.{AreRising}
-use Rattle.world.proofs.Families.{retained_there, from_retained}
-use Rattle.world.proofs.Finding.{any_none, or_none, in_filter, from_filter, in_left, name_itself}
-use Rattle.world.proofs.Listed.{map_in}
-use Rattle.world.proofs.Maps.{same_value, no_value, key_cases}
-use Rattle.world.proofs.Put.{put_here, put_other, put_cases}
-use Rattle.world.proofs.Sweep.{get-with_file_systems}
-use Rattle.world.proofs.Viewed.{AreOnce, AreClosed, IsSafe, some_deferred, one_tagged}
-use Rattle.world.proofs.ViewedRequests.{added_safe}
-use Rattle.world.proofs.ViewedTakes.{taken_safe}
+use Rattle.world.proofs.removals.Families.{retained_there, from_retained}
+use Rattle.world.proofs.lists.Finding.{any_none, or_none, in_filter, from_filter, in_left, name_itself}
+use Rattle.world.proofs.lists.Listed.{map_in}
+use Rattle.world.proofs.lists.Maps.{same_value, no_value, key_cases}
+use Rattle.world.proofs.lineage.Put.{put_here, put_other, put_cases}
+use Rattle.world.proofs.removals.Sweep.{get-with_file_systems}
+use Rattle.world.proofs.views.Viewed.{AreOnce, AreClosed, IsSafe, some_deferred, one_tagged}
+use Rattle.world.proofs.views.ViewedRequests.{added_safe}
+use Rattle.world.proofs.views.ViewedTakes.{taken_safe}
 use Rattle.laws.specs.Lineages.{origin_group, IsOrdered}
 use Rattle.laws.proofs.Lineages.{there_closed}
 use Rattle.laws.proofs.Rising.{rising_filter, rising_mapped, rising_added}

@@ -7,22 +7,22 @@ use Rattle.base.specs.declared.number.Key.{Key}
 use Rattle.base.specs.Key.{key_cmp, is_at_or_below}
 use Rattle.base.specs.Map.{Block, Cell, block_of, blocks}
 use Rattle.base.specs.Surveys.{IsIn}
-use Rattle.name.specs.Names.{name_cmp, root_name}
+use Rattle.base.specs.Names.{name_cmp, root_name}
 use Rattle.model.specs.World.{World, FileSystem, SnapId, Dataset, Live, Snapped, id_of, map_of, map_of_snap, empty_file_system}
 use Rattle.model.specs.State.{State, fresh_world, fresh_state}
 use Rattle.world.specs.Dead.{IsThere, base_of, below_of}
 use Rattle.world.specs.Sets.{Has}
 use Rattle.world.specs.Shapes.{Name, IsGood, IsAmong, Starts}
 use Rattle.world.specs.Worlds.{shapes, shape_of, snap_shape, AreRising, IsPoolState}
-use Rattle.world.proofs.Bridge.{map_of_live, shape_at, from_shape, among, from_among, one_snap, start, starts, start_is, rising}
-use Rattle.world.proofs.Cells.{in_blocks, from_blocks}
-use Rattle.world.proofs.Dead.{in_line}
-use Rattle.world.proofs.Maps.{no_value}
-use Rattle.world.proofs.Put.{put_cases}
-use Rattle.world.proofs.Requests.{lineage_facts}
-use Rattle.world.proofs.Slices.{fresh_keeps}
-use Rattle.world.proofs.States.{state_numbered}
-use Rattle.world.proofs.StateSteps.{begun}
+use Rattle.world.proofs.lineage.Bridge.{map_of_live, shape_at, from_shape, among, from_among, one_snap, start, starts, start_is, rising}
+use Rattle.world.proofs.maps.Cells.{in_blocks, from_blocks}
+use Rattle.world.proofs.lineage.Dead.{in_line}
+use Rattle.world.proofs.lists.Maps.{no_value}
+use Rattle.world.proofs.lineage.Put.{put_cases}
+use Rattle.world.proofs.lineage.Requests.{lineage_facts}
+use Rattle.world.proofs.removals.Slices.{fresh_keeps}
+use Rattle.world.proofs.steps.States.{state_numbered}
+use Rattle.world.proofs.steps.StateSteps.{begun}
 use Rattle.laws.specs.Lineages.{origin_group, IsOrdered, HasBirths}
 use Rattle.laws.specs.Runs.{LineagesBegin, BlocksGiveLineages, PoolsHaveLineages, BirthsBegin, NumbersBegin}
 use Rattle.laws.specs.Views.{PoolsAreViewing}

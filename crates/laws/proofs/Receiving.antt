@@ -9,7 +9,7 @@ use Rattle.base.specs.Key.{key_cmp}
 use Rattle.base.specs.Map.{Cell}
 use Rattle.base.specs.Rewrite.{Changes, rewrite, is_touched}
 use Rattle.base.specs.Surveys.{IsIn}
-use Rattle.name.specs.declared.member.Member.{Member}
+use Rattle.base.specs.declared.name.member.Member.{Member}
 use Rattle.stream.specs.Records.{changes_of}
 use Rattle.stream.specs.Spelling.{Sending}
 use Rattle.model.specs.World.{World, FileSystem, Snap, empty_file_system}
@@ -20,10 +20,10 @@ use Rattle.model.specs.requests.Create.{with_new_file_system}
 use Rattle.model.specs.requests.Receive.{newest_of, back_to_newest, forced_back, before_receive, received, state_received, receive_rule}
 use Rattle.world.specs.Numbering.{ChangesKeys}
 use Rattle.world.specs.Shapes.{Name}
-use Rattle.world.proofs.Maps.{same_value, no_value}
-use Rattle.world.proofs.Put.{put_here}
-use Rattle.world.proofs.Rewrites.{rewrite_is_change}
-use Rattle.world.proofs.ViewedReceives.{receive_absent}
+use Rattle.world.proofs.lists.Maps.{same_value, no_value}
+use Rattle.world.proofs.lineage.Put.{put_here}
+use Rattle.world.proofs.maps.Rewrites.{rewrite_is_change}
+use Rattle.world.proofs.views.ViewedReceives.{receive_absent}
 use Rattle.laws.proofs.Edits.{went_written, went_to_newest, marks_left, same_later, put_later, with_later, one_later, empty_later, snapped_later, same_group}
 use Rattle.laws.specs.Lineages.{origin_group, IsOrdered}
 use Rattle.laws.proofs.Keys.{IsSameBelow}

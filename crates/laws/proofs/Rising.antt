@@ -5,8 +5,8 @@ use Rattle.std.specs.Option.{option_map, option_or}
 use Rattle.base.specs.Surveys.{IsIn}
 use Rattle.model.specs.World.{Snap, SnapId, id_of}
 use Rattle.world.specs.Worlds.{AreRising}
-use Rattle.world.proofs.Bridge.{rising_up}
-use Rattle.world.proofs.Maps.{same_value}
+use Rattle.world.proofs.lineage.Bridge.{rising_up}
+use Rattle.world.proofs.lists.Maps.{same_value}
 
 -- ---- the last of a list
 

@@ -8,10 +8,10 @@ use Rattle.world.specs.Dead.{IsThere, group_of, next_in}
 use Rattle.world.specs.RunLaws.{HasSnap}
 use Rattle.world.specs.Shapes.{Name}
 use Rattle.world.specs.Worlds.{AreRising}
-use Rattle.world.proofs.Bridge.{map_of_live, in_middle, rising_above}
-use Rattle.world.proofs.Finding.{append_none, in_left}
-use Rattle.world.proofs.Maps.{same_value, no_value}
-use Rattle.world.proofs.Promotions.{split_at, append_assoc}
+use Rattle.world.proofs.lineage.Bridge.{map_of_live, in_middle, rising_above}
+use Rattle.world.proofs.lists.Finding.{append_none, in_left}
+use Rattle.world.proofs.lists.Maps.{same_value, no_value}
+use Rattle.world.proofs.changes.Promotions.{split_at, append_assoc}
 use Rattle.laws.specs.Lineages.{IsBefore, SharesUntil, origin_group, IsOrdered, HasLineages}
 use Rattle.laws.specs.Bookmarks.{IsSource}
 use Rattle.laws.proofs.Lineages.{then_on, one_back, place, live_or_snap, kept_map, by_prev, live_reach, reach_older, there_closed, prev_there, prev_lower, before_there, before_lower, through, line_source}

@@ -7,9 +7,9 @@ use Rattle.base.specs.declared.refusal.Refusal.TheVariants.{Exists}
 use Rattle.base.specs.Map.{Map}
 use Rattle.base.specs.Rewrite.{Changes, rewrite}
 use Rattle.base.specs.Surveys.{IsIn}
-use Rattle.name.specs.declared.member.Member.{Member}
-use Rattle.name.specs.declared.target.Target.{Target}
-use Rattle.name.specs.declared.target.Target.TheVariants.{FileSystem as OfFileSystem, Snapshot as OfSnapshot, Bookmark as OfBookmark}
+use Rattle.base.specs.declared.name.member.Member.{Member}
+use Rattle.base.specs.declared.name.target.Target.{Target}
+use Rattle.base.specs.declared.name.target.Target.TheVariants.{FileSystem as OfFileSystem, Snapshot as OfSnapshot, Bookmark as OfBookmark}
 use Rattle.model.specs.Limits.{limited}
 use Rattle.model.specs.declared.limits.Limit.{Limit}
 use Rattle.model.specs.declared.request.Request.{Request}
@@ -36,8 +36,8 @@ use Rattle.model.specs.requests.Set.{after_set}
 use Rattle.model.specs.requests.Snapshot.{snapshots_taken, snapshot_names, guid_by}
 use Rattle.world.specs.Dead.{IsThere}
 use Rattle.world.specs.Shapes.{Name}
-use Rattle.world.proofs.Maps.{same_value, no_value}
-use Rattle.world.proofs.ViewedRequests.{row_false, from_placed}
+use Rattle.world.proofs.lists.Maps.{same_value, no_value}
+use Rattle.world.proofs.views.ViewedRequests.{row_false, from_placed}
 use Rattle.laws.specs.Lineages.{IsOrdered, HasLineages, HasBirths}
 use Rattle.laws.specs.Bookmarks.{IsSource}
 use Rattle.laws.proofs.Edits.{went_same, went_written, went_back, same_later, one_later, without_later, deferred_later, tagged_later, added_later, empty_later, left_later, taken_later}

@@ -15,14 +15,14 @@ use Rattle.model.specs.requests.Rollback.{snaps_after}
 use Rattle.world.specs.Dead.{IsThere, group_of, next_in}
 use Rattle.world.specs.Shapes.{Name, name_order, view_order}
 use Rattle.world.specs.Worlds.{AreRising, FileSystems}
-use Rattle.world.proofs.Bridge.{from_snap_at, map_of_live, map_of_found, rising_above, rising_after}
-use Rattle.world.proofs.Finding.{from_filter, in_either}
-use Rattle.world.proofs.Maps.{same_value, key_cases, get-insert_same}
-use Rattle.world.proofs.Promotions.{IsPromotion, promotion_is, split_at, append_assoc, upto_is, after_is}
-use Rattle.world.proofs.Put.{put_here, put_other, put_cases}
-use Rattle.world.proofs.Viewed.{IsSafe, kept_of, found_after}
-use Rattle.world.proofs.ViewedClones.{promoted_safe}
-use Rattle.world.proofs.ViewedSteps.{viewed}
+use Rattle.world.proofs.lineage.Bridge.{from_snap_at, map_of_live, map_of_found, rising_above, rising_after}
+use Rattle.world.proofs.lists.Finding.{from_filter, in_either}
+use Rattle.world.proofs.lists.Maps.{same_value, key_cases, get-insert_same}
+use Rattle.world.proofs.changes.Promotions.{IsPromotion, promotion_is, split_at, append_assoc, upto_is, after_is}
+use Rattle.world.proofs.lineage.Put.{put_here, put_other, put_cases}
+use Rattle.world.proofs.views.Viewed.{IsSafe, kept_of, found_after}
+use Rattle.world.proofs.views.ViewedClones.{promoted_safe}
+use Rattle.world.proofs.views.ViewedSteps.{viewed}
 use Rattle.laws.specs.Lineages.{IsBefore, SharesUntil, origin_group, IsOrdered, HasLineages, HasBirths}
 use Rattle.laws.specs.Bookmarks.{IsSource}
 use Rattle.laws.proofs.Lineages.{place, cell_there, found, prev_next, prev_there}

@@ -8,10 +8,10 @@ use Rattle.model.specs.World.{World, FileSystem, Snap, SnapId, Bookmark, Dataset
 use Rattle.world.specs.Dead.{IsThere, group_of, next_in}
 use Rattle.world.specs.RunLaws.{HasSnap}
 use Rattle.world.specs.Shapes.{Name}
-use Rattle.world.proofs.Bridge.{in_middle}
-use Rattle.world.proofs.Finding.{append_none, in_left}
-use Rattle.world.proofs.Maps.{no_value}
-use Rattle.world.proofs.Promotions.{split_at}
+use Rattle.world.proofs.lineage.Bridge.{in_middle}
+use Rattle.world.proofs.lists.Finding.{append_none, in_left}
+use Rattle.world.proofs.lists.Maps.{no_value}
+use Rattle.world.proofs.changes.Promotions.{split_at}
 use Rattle.laws.specs.Lineages.{IsBefore, IsOrdered}
 use Rattle.laws.proofs.Keys.{IsSameBelow}
 use Rattle.laws.proofs.Lineages.{then_on, IsPlaced, place, live_or_snap, by_prev, reach_older, reach_origin, older_than, there_closed, prev_there, prev_lower, before_there}

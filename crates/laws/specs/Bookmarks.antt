@@ -1,8 +1,8 @@
 -- What a bookmark promises in every run: the map that its snapshot had serves as a source for each later dataset of the lineage.
 use Rattle.std.specs.Prelude.{◌≡◌, ◌≤◌, ℕ, List, [], ◌∷◌, Some}
 use Rattle.base.specs.Map.{Map}
-use Rattle.name.specs.declared.member.Member.{Member}
-use Rattle.name.specs.declared.target.Target.TheVariants.{Snapshot as OfSnapshot}
+use Rattle.base.specs.declared.name.member.Member.{Member}
+use Rattle.base.specs.declared.name.target.Target.TheVariants.{Snapshot as OfSnapshot}
 use Rattle.model.specs.declared.request.Request.{Request}
 use Rattle.model.specs.declared.request.Request.TheVariants.{Bookmark as ToBookmark}
 use Rattle.model.specs.declared.reply.Reply.{Reply}

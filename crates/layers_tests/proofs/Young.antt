@@ -12,8 +12,8 @@ use Rattle.node.specs.Walk.{blocks_of, born_after}
 use Rattle.tree.specs.Branch.{branch_blocks}
 use Rattle.world.specs.Blocks.{block_order as o, after}
 use Rattle.world.specs.Sets.{Has, AreDisjoint}
-use Rattle.world.proofs.Lists.{from_listed}
-use Rattle.world.proofs.SetCounts.{no-empty, has_some, from_union, in_retain, from_retain}
+use Rattle.world.proofs.lists.Lists.{from_listed}
+use Rattle.world.proofs.lists.SetCounts.{no-empty, has_some, from_union, in_retain, from_retain}
 use Rattle.destroyer.specs.Members.{dead_blocks, dead_set}
 use Rattle.destroyer.proofs.Together.{tree_lists}
 use Rattle.layers_tests.specs.Rising.{AreRising}

@@ -1,11 +1,11 @@
 //! The bookmarks of a file system: by name, in order of their groups, after a group, as many as there may be, and with each allocation
 //! refused in turn.
 use crate::outcomes::{is_refused, is_shared};
+use base::name::Component;
 use base::number::{Group, Guid};
 use base::refusal::Refusal;
-use bookmarks::{BOOKMARK_LIMIT, Bookmarks, Mark};
 use model::snapshot_id::SnapshotId;
-use name::Component;
+use snapshots::bookmarks::{BOOKMARK_LIMIT, Bookmarks, Mark};
 use std::alloc::Global;
 use std::sync::Arc;
 

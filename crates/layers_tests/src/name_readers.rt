@@ -1,6 +1,6 @@
 //! Names, read and compared.
+use base::name::{Component, DsName, MarkName, Member, SnapName, Tag, Target};
 use base::refusal::Refusal;
-use name::{Component, DsName, MarkName, Member, SnapName, Tag, Target};
 use std::alloc::Global;
 use std::process::Abort;
 
@@ -142,6 +142,43 @@ fn parts_of_names(rt: HostRuntime) {
             && are_same_bookmarks(&rt, alloc, b"p/a#b", b"p/a#b")
             && have_same_members(&rt, alloc, b"p/a@s", b"p/a#s")
             && !have_same_members(&rt, alloc, b"p/a@s", b"p/b#s")
+    );
+}
+
+// `p` and this component: the whole name has two bytes more.
+fn parts(rt: &impl Abort, alloc: Global, bytes: &[u8]) -> Member {
+    Member {
+        file_system: name(rt, alloc, b"p"),
+        component: component(rt, alloc, bytes),
+    }
+}
+
+fn makes_snapshot(rt: &impl Abort, alloc: Global, bytes: &[u8]) -> bool {
+    let made = held(rt, SnapName::try_from(parts(rt, alloc, bytes)));
+    has_parts(made.member(), b"p", bytes)
+}
+
+fn makes_bookmark(rt: &impl Abort, alloc: Global, bytes: &[u8]) -> bool {
+    let made = held(rt, MarkName::try_from(parts(rt, alloc, bytes)));
+    has_parts(made.member(), b"p", bytes)
+}
+
+fn is_bad_name<T: Drop>(made: Result<T, Refusal>) -> bool {
+    match made {
+        Ok(_) => false,
+        Err(refusal) => refusal == Refusal::BadName,
+    }
+}
+
+#[test]
+fn names_of_parts(rt: HostRuntime) {
+    let alloc = rt.alloc();
+    let (fits, too_long) = ([b'n'; 253], [b'n'; 254]);
+    assert!(rt;
+        makes_snapshot(&rt, alloc, &fits)
+            && makes_bookmark(&rt, alloc, &fits)
+            && is_bad_name(SnapName::try_from(parts(&rt, alloc, &too_long)))
+            && is_bad_name(MarkName::try_from(parts(&rt, alloc, &too_long)))
     );
 }
 

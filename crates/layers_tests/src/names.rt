@@ -1,8 +1,8 @@
 //! Kept snapshots by name, put in at each place and looked up beside plain values, and with each allocation refused in turn.
+use base::name::Component;
 use base::number::{Group, Guid};
 use base::refusal::Refusal;
 use deadlist::deadlist::Deadlist;
-use name::Component;
 use snapshots::{ByName, Kept, Snapshot};
 use std::alloc::Global;
 use std::sync::Arc;

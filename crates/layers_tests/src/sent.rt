@@ -52,7 +52,7 @@ fn put(
         return Err(Refusal::BadKey);
     }
     let draft = tree.draft(alloc, updates, group, numbers, &mut meter())?;
-    let done = tree.put(alloc, updates, group, draft)?;
+    let done = tree.put(alloc, updates, group, draft, &mut meter())?;
     take(numbers, &done.taken)
 }
 

@@ -63,7 +63,7 @@ fn are_put(
         return Ok(false);
     }
     let draft = tree.draft(alloc, updates, group, numbers, &mut meter())?;
-    let done = tree.put(alloc, updates, group, draft)?;
+    let done = tree.put(alloc, updates, group, draft, &mut meter())?;
     Ok(are_taken(numbers, &done.taken))
 }
 

@@ -1,8 +1,8 @@
 //! A snapshot with its tags, which its copies keep, and with each allocation refused in turn.
 use crate::names::kept;
+use base::name::Tag;
 use base::refusal::Refusal;
-use holds::Holds;
-use name::Tag;
+use snapshots::holds::Holds;
 use snapshots::{Kept, Snapshot};
 use std::alloc::Global;
 use std::slice;

@@ -1,9 +1,9 @@
 //! The tags of a snapshot: in the order in which they were made, each once, as many as there may be, and with each allocation refused in
 //! turn.
 use crate::outcomes::{is_refused, is_shared};
+use base::name::Tag;
 use base::refusal::Refusal;
-use holds::{Holds, TAG_LIMIT};
-use name::Tag;
+use snapshots::holds::{Holds, TAG_LIMIT};
 use std::alloc::Global;
 
 fn add(alloc: Global, holds: &mut Holds, tag: &[u8]) -> Result<(), Refusal> {

@@ -1,15 +1,14 @@
 -- What the limits say of a world with a changed account, by the lines on the way up.
 use Rattle.std.proofs.Common.{◌≡◌, ℕ, zero, suc, ◌+◌, ◌≤◌, ◌<◌, ◌^◌, ◌≢◌, Bool, true, false, true≢false, List, [], ◌∷◌, length, get_or, is_some, refl, sym, ap, subst, ◌∙◌, inl, inr, ◌⊎◌, ⊎_elim, arith}
-use Rattle.std.specs.Prelude.{nat_le, not, Some}
+use Rattle.std.specs.Prelude.{nat_le, not}
 use Rattle.std.specs.Option.{option_map_or}
 use Rattle.std.specs.List.{All, list_all}
 use Rattle.std.specs.FinMap.{keys}
 use Rattle.std.proofs.lemmas.Bool.{cases_eq, and_from}
 use Rattle.std.proofs.lemmas.List.{get_or_default}
 use Rattle.std.proofs.lemmas.List.Folds.{list_all_at}
-use Rattle.base.specs.declared.refusal.Refusal.{Refusal}
 use Rattle.base.specs.declared.refusal.Refusal.TheVariants.{Quota, RefQuota, NoSpace}
-use Rattle.name.specs.Names.{root_name}
+use Rattle.base.specs.Names.{root_name}
 use Rattle.model.specs.World.{World}
 use Rattle.model.specs.Hierarchy.{IsHierarchy}
 use Rattle.model.specs.Fits.{quotas_hold, refquotas_hold, pool_holds}
@@ -203,13 +202,6 @@ module _ (old : World) (good : IsHierarchy old.file_systems) (lines : List Line)
 -- ---- the row of limits
 
 module _ (s : State) where
-  -- a broken quota or refquota is the answer
-  pub told_over : (e : Refusal) → IsOverQuota s.now e → first_of (limit_row s) ≡ Some e
-  told_over e (inl (is, q)) = ap (λ b. first_of ((not b, Quota) ∷ (not (refquotas_hold s.now), RefQuota) ∷ (not (pool_holds s), NoSpace) ∷ [])) q ∙ ap Some (sym is)
-  told_over e (inr (is, q, r)) =
-      ap (λ b. first_of ((not b, Quota) ∷ (not (refquotas_hold s.now), RefQuota) ∷ (not (pool_holds s), NoSpace) ∷ [])) q
-      ∙ ap (λ b. first_of ((not b, RefQuota) ∷ (not (pool_holds s), NoSpace) ∷ [])) r ∙ ap Some (sym is)
-
   -- else the pool's room is
   pub told_room : (space : Space) → IsSpaceOf s space → (charge : ℕ) → IsWithinQuotas s.now charge → (b : Bool) → b ≡ nat_le (charge + space.freeing + space.waiting) space.size
       → first_of (limit_row s) ≡ first_of ((not b, NoSpace) ∷ [])

@@ -5,14 +5,14 @@ use Rattle.std.specs.List.{filter}
 use Rattle.std.specs.Option.{option_map_or}
 use Rattle.std.specs.FinMap.{get, keys}
 use Rattle.base.specs.Surveys.{IsIn}
-use Rattle.name.specs.Names.{root_name, same_name, parent_of}
+use Rattle.base.specs.Names.{root_name, same_name, parent_of}
 use Rattle.model.specs.World.{World, children_of}
 use Rattle.model.specs.Hierarchy.{IsHierarchy}
 use Rattle.model.specs.Sums.{used_of, used_here, used_by_children, reservation_of}
 use Rattle.world.specs.Trees.{total}
-use Rattle.world.proofs.Finding.{name_itself, one_name}
-use Rattle.world.proofs.Maps.{same_value}
-use Rattle.world.proofs.Put.{parent_there}
+use Rattle.world.proofs.lists.Finding.{name_itself, one_name}
+use Rattle.world.proofs.lists.Maps.{same_value}
+use Rattle.world.proofs.lineage.Put.{parent_there}
 use Rattle.accounts.specs.Levels.{slashes, charge_of}
 use Rattle.accounts.proofs.Levels.{used_by_children_is, used-split}
 use Rattle.accounts.proofs.Names.{is_child, child_is, in_keys, keys_once, in_children, level_up}
@@ -34,9 +34,6 @@ total_small f [] h = omega arith
 total_small f (x ∷ xs) h = let a = h x (inl refl) in let r = total_small f xs (λ y i. h y (inr i)) in omega (arith, a, r)
 
 module _ (w : World) (good : IsHierarchy w.file_systems) where
-  abbrev names : List (List ℕ)
-  names = keys w.file_systems
-
   -- what a file system has and keeps of its own, and what is kept for it
   abbrev own : List ℕ → ℕ
   own name = used_here w name + reservation_of w name
@@ -75,9 +72,6 @@ module _ (w : World) (good : IsHierarchy w.file_systems) where
   -- the sum over all but the root
   abbrev below_root : (List ℕ → ℕ) → List ℕ → ℕ
   below_root = but root_name (same_name root_name) right (name_itself root_name)
-
-  root_alone : parent_of root_name ≡ None
-  root_alone = refl
 
   -- a charge is counted once at most, and that of the root not at all
   counted : (c : List ℕ) → total (λ name. cond (is_child name c) (charge_of w c) 0) (keys w.file_systems) ≤ below_root (charge_of w) c

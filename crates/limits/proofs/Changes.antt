@@ -4,12 +4,12 @@ use Rattle.std.specs.Prelude.{IsSome, max}
 use Rattle.std.specs.Option.{option_and_then}
 use Rattle.std.specs.FinMap.{get, entries, keys}
 use Rattle.std.proofs.lemmas.List.{get_or-map}
-use Rattle.name.specs.Names.{root_name, parent_of}
+use Rattle.base.specs.Names.{root_name, parent_of}
 use Rattle.model.specs.World.{World, FileSystem, Live}
 use Rattle.model.specs.Hierarchy.{IsHierarchy}
 use Rattle.model.specs.Sums.{used_of, used_here, used_by_children, referenced_of}
-use Rattle.world.proofs.Maps.{no_value, same_value}
-use Rattle.world.proofs.Put.{parent_there}
+use Rattle.world.proofs.lists.Maps.{no_value, same_value}
+use Rattle.world.proofs.lineage.Put.{parent_there}
 use Rattle.accounts.specs.Levels.{slashes, above, IsUnder, charge_of}
 use Rattle.accounts.proofs.Names.{level_up, above_is}
 use Rattle.accounts.proofs.Levels.{reserved_is, used-split}
@@ -162,9 +162,6 @@ module _ (old new : World) (good : IsHierarchy old.file_systems) (name : List �
 
     new_line : (d : Line) → get_or (ledger_of new) i d ≡ line_in new (key i, after)
     new_line d = line_at new i lt_new d ∙ (λ j. line_in new (named j, after))
-
-    new_used : (d : Line) → used_in (get_or (ledger_of new) i d) ≡ used_of new (key i)
-    new_used d = used_at new i lt_new d ∙ ap (used_of new) named
 
     pub new_charge : (d : Line) → charge_in (get_or (ledger_of new) i d) ≡ charge_of new (key i)
     new_charge d = charge_at new i lt_new d ∙ ap (charge_of new) named

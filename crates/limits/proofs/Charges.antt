@@ -6,12 +6,12 @@ use Rattle.std.specs.FinMap.{get, entries, keys}
 use Rattle.std.proofs.lemmas.Bool.{cases_eq}
 use Rattle.std.proofs.lemmas.List.{length-map, length-set, get_or-map, get_or_default, get_or-set_same, get_or-set_other, map-set, set-get_or, drop_more, drop_all, same_lists}
 use Rattle.std.proofs.lemmas.List.Elements.{All-set, All-map}
-use Rattle.name.specs.Names.{parent_of}
+use Rattle.base.specs.Names.{parent_of}
 use Rattle.model.specs.World.{World, FileSystem, no_limits}
 use Rattle.model.specs.Hierarchy.{FileSystems, IsHierarchy}
 use Rattle.model.specs.Sums.{used_here, used_by_children, reservation_of}
 use Rattle.world.specs.Trees.{total}
-use Rattle.world.proofs.Maps.{same_value, no_value}
+use Rattle.world.proofs.lists.Maps.{same_value, no_value}
 use Rattle.accounts.specs.Levels.{charge_of}
 use Rattle.accounts.proofs.Levels.{reserved_is, used_by_children_is, used-split}
 use Rattle.accounts.proofs.Names.{is_child, child_is, is_child_of}
@@ -119,9 +119,6 @@ children_in l = l.children
 -- ---- one line charged
 
 module _ (m : FileSystems) (k : ℕ) (ls : List Line) (as_long : length ls ≡ length (keys m)) (lt : k < length ls) (was : IsCharged m (k + 1) ls) where
-  abbrev key : List ℕ
-  key = get_or (keys m) k []
-
   next : (name : List ℕ) → children_from (keys m) k name
       ≡ cond (is_child name (get_or (keys m) k [])) (get_or (keys m) k [] ∷ children_from (keys m) (k + 1) name) (children_from (keys m) (k + 1) name)
   next name = ap (filter (is_child name)) (drop_more (keys m) k [] (omega (arith, as_long, lt)))
@@ -275,9 +272,6 @@ none_charged m bs n long as_long few here = record {
   here = All-map (λ (l : Line). l.account.here < 2 ^ 42) fresh bs here;
   few = let l = length-map bs fresh in omega (arith, l, long, few);
 }
-
-pub fresh_small : (bs : List Account) → All (λ a. a.here < 2 ^ 42) bs → All IsSmall (map fresh bs)
-fresh_small bs here = All-map IsSmall fresh bs (λ k d lt. let h = here k d lt in omega (arith, h))
 
 pub fresh_accounts : (bs : List Account) → map account_is (map fresh bs) ≡ bs
 fresh_accounts [] = refl

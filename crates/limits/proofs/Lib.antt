@@ -11,3 +11,5 @@ pub mod Alike
 pub mod Rooms
 pub mod Rows
 pub mod Places
+pub mod Ahead
+pub mod Kept

@@ -5,7 +5,7 @@ use Rattle.std.specs.List.{list_all}
 use Rattle.std.specs.FinMap.{get, entries}
 use Rattle.std.proofs.lemmas.List.Folds.{list_all-map}
 use Rattle.base.specs.declared.refusal.Refusal.TheVariants.{Quota, RefQuota, NoSpace}
-use Rattle.name.specs.Names.{root_name}
+use Rattle.base.specs.Names.{root_name}
 use Rattle.model.specs.World.{World, FileSystem}
 use Rattle.model.specs.Hierarchy.{IsHierarchy}
 use Rattle.model.specs.State.{State}
@@ -13,7 +13,7 @@ use Rattle.model.specs.Sums.{used_of}
 use Rattle.model.specs.Fits.{quotas_hold, refquotas_hold, pool_holds}
 use Rattle.model.specs.Rule.{first_of}
 use Rattle.model.specs.requests.Change.{limit_row}
-use Rattle.world.proofs.Maps.{same_value, no_value}
+use Rattle.world.proofs.lists.Maps.{same_value, no_value}
 use Rattle.accounts.proofs.Levels.{reserved_is}
 use Rattle.accounts.proofs.Pool.{pool_holds_is}
 use Rattle.limits.specs.declared.line.Line.{Line}

@@ -10,11 +10,11 @@ use Rattle.std.specs.FinMap.{get, entries, keys, len, entries_sorted, get-entrie
 use Rattle.std.proofs.lemmas.Bool.{cases_lt}
 use Rattle.std.proofs.lemmas.List.{length-map, get_or-map}
 use Rattle.base.specs.Surveys.{IsIn}
-use Rattle.name.specs.Names.{name_cmp, slash, before_slash, parent_of, root_name}
+use Rattle.base.specs.Names.{name_cmp, slash, before_slash, parent_of, root_name}
 use Rattle.model.specs.World.{FileSystem, empty_file_system}
 use Rattle.model.specs.Hierarchy.{FileSystems, IsHierarchy}
-use Rattle.world.proofs.Maps.{same_value, no_value}
-use Rattle.world.proofs.Put.{parent_there}
+use Rattle.world.proofs.lists.Maps.{same_value, no_value}
+use Rattle.world.proofs.lineage.Put.{parent_there}
 use Rattle.accounts.proofs.Names.{is_child, child_is, in_keys}
 use Rattle.limits.specs.Charges.{children_from}
 use Rattle.datasets.proofs.Sorted.{sorted_at, find_at}

@@ -10,10 +10,10 @@ use Rattle.std.specs.Cmp.Lexicographic.{nat_list_cmp_total}
 use Rattle.std.specs.FinMap.{get, entries, keys, len, is_sorted, entries_sorted, get-entries, len-entries, find}
 use Rattle.std.specs.List.Sorted.{IsSearchInRange, IsBinarySearchResult}
 use Rattle.std.proofs.lemmas.List.{length-map, get_or-map}
-use Rattle.name.specs.Names.{name_cmp, same_name, parent_of}
+use Rattle.base.specs.Names.{name_cmp, same_name, parent_of}
 use Rattle.model.specs.Hierarchy.{FileSystems, IsHierarchy}
-use Rattle.world.proofs.Finding.{one_name}
-use Rattle.world.proofs.Maps.{no_value}
+use Rattle.world.proofs.lists.Finding.{one_name}
+use Rattle.world.proofs.lists.Maps.{no_value}
 use Rattle.datasets.specs.Rows.{Row, Entry, entry_of, entry_in}
 use Rattle.datasets.specs.Clones.{row_in}
 use Rattle.datasets.specs.Places.{IsAt, IsGapFor}

@@ -4,14 +4,14 @@ use Rattle.std.specs.Prelude.{IsSome, IfSome}
 use Rattle.std.specs.Cmp.Lexicographic.{nat_list_cmp_total}
 use Rattle.std.specs.FinMap.{get, entries, entries_sorted, get-entries, find}
 use Rattle.std.proofs.lemmas.List.{length-map, get_or-map}
-use Rattle.name.specs.Names.{name_cmp, root_name, parent_of}
+use Rattle.base.specs.Names.{name_cmp, root_name, parent_of}
 use Rattle.model.specs.World.{World, FileSystem}
 use Rattle.model.specs.Hierarchy.{IsHierarchy}
 use Rattle.model.specs.State.{State}
 use Rattle.model.specs.Sums.{used_of, unspent_of, within_quota, pool_room, room_of}
 use Rattle.world.specs.Tables.{Datasets, world_of}
-use Rattle.world.proofs.Maps.{no_value, some_of}
-use Rattle.world.proofs.Put.{parent_there}
+use Rattle.world.proofs.lists.Maps.{no_value, some_of}
+use Rattle.world.proofs.lineage.Put.{parent_there}
 use Rattle.accounts.specs.Levels.{slashes}
 use Rattle.accounts.proofs.Names.{in_keys, from_keys, level_low, parent_in}
 use Rattle.accounts.proofs.Levels.{reserved_is}

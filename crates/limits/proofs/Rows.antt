@@ -12,8 +12,8 @@ use Rattle.world.specs.Tables.{Datasets, world_of}
 use Rattle.world.specs.Trees.{total}
 use Rattle.world.specs.Usage.{IsEntry}
 use Rattle.world.specs.Worlds.{AreFileSystems}
-use Rattle.world.proofs.Bridge.{map_of_live, previous_of_live}
-use Rattle.world.proofs.Maps.{at_entry, same_value, no_value}
+use Rattle.world.proofs.lineage.Bridge.{map_of_live, previous_of_live}
+use Rattle.world.proofs.lists.Maps.{at_entry, same_value, no_value}
 use Rattle.datasets.specs.Dead.{newest_blocks}
 use Rattle.datasets.specs.Rows.{Row, Entry}
 use Rattle.datasets.specs.Clones.{below_in, row_in}

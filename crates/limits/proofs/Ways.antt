@@ -16,7 +16,7 @@ use Rattle.limits.specs.Lines.{used_in, charge_in}
 use Rattle.limits.specs.Ledgers.{line_in, ledger_of}
 use Rattle.limits.specs.Places.{IsParentAt}
 use Rattle.limits.specs.Changes.{IsChanged, IsModest, IsNear, IsNext, IsTop, IsOnWay, amended, recharged}
-use Rattle.world.proofs.Maps.{same_value}
+use Rattle.world.proofs.lists.Maps.{same_value}
 use Rattle.limits.proofs.Order.{no_entry, keys_long, entry_at, one_place, child_later}
 use Rattle.limits.proofs.Bounds.{charge_low, little_used}
 use Rattle.limits.proofs.Changes.{under_parent, under_alone, line_at, used_at, charge_at, start_at, stopped_at, next_at, new_charge}

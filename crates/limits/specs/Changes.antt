@@ -3,7 +3,7 @@ use Rattle.std.specs.Prelude.{◌≡◌, ◌⊎◌, ℕ, ◌+◌, ◌-◌, ◌<�
 use Rattle.std.specs.FinMap.{get, keys}
 use Rattle.base.specs.declared.refusal.Refusal.{Refusal}
 use Rattle.base.specs.declared.refusal.Refusal.TheVariants.{Quota, RefQuota}
-use Rattle.name.specs.Names.{root_name, parent_of}
+use Rattle.base.specs.Names.{root_name, parent_of}
 use Rattle.model.specs.World.{World, FileSystem, Live}
 use Rattle.model.specs.Hierarchy.{IsHierarchy}
 use Rattle.model.specs.Sums.{used_here, referenced_of}

@@ -3,7 +3,7 @@ use Rattle.std.specs.Prelude.{◌≡◌, ℕ, ◌+◌, ◌*◌, ◌<◌, ◌≤�
 use Rattle.std.specs.List.{All, filter}
 use Rattle.std.specs.Option.{option_map_or}
 use Rattle.std.specs.FinMap.{keys}
-use Rattle.name.specs.Names.{same_name, parent_of}
+use Rattle.base.specs.Names.{same_name, parent_of}
 use Rattle.model.specs.World.{World}
 use Rattle.model.specs.Hierarchy.{FileSystems, IsHierarchy}
 use Rattle.world.specs.Trees.{total}

@@ -5,3 +5,5 @@ pub mod Ledgers
 pub mod Charges
 pub mod Places
 pub mod Rows
+-- What a change of a live map would do to the counts that limits are asked of.
+pub mod Outlooks

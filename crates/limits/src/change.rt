@@ -22,9 +22,9 @@ use crate::line::Line;
 use crate::near::Near;
 use crate::place::{parent_place, place_near};
 use crate::pool_space::Space;
+use base::name::DsName;
 use base::refusal::Refusal;
 use datasets::Table;
-use name::DsName;
 
 impl Ledger {
     /// The limit that would be broken where the file system of this name, which is there, has and keeps so much of its own (`here`) and its
@@ -144,8 +144,7 @@ fn charge_after(
     ensures ok { IfOk result (λ charge. (new : World) → IsChanged (world_of table.now) new name.now here referenced → AreQuotasMet (world_of table.now) → IsWithinQuotas new charge) }
     ensures err { IfErr result (λ e. (new : World) → IsChanged (world_of table.now) new name.now here referenced → AreQuotasMet (world_of table.now) → IsOverQuota new e) }
 {
-    // It tells what holds of the file systems.
-    let _count = table.len();
+    table.facts();
     let Some(start) = place_near(table, name.as_bytes(), near.last) else {
         unreachable!()
     };

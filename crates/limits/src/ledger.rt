@@ -22,9 +22,9 @@ use crate::near::Near;
 use crate::parent::parent_of;
 use crate::place::place_near;
 use crate::pool_space::Space;
+use base::name::DsName;
 use base::refusal::Refusal;
 use datasets::{FILE_SYSTEM_LIMIT, FileSystem, Table};
-use name::DsName;
 use std::alloc::Global;
 use std::marker::Model;
 
@@ -87,8 +87,7 @@ impl Ledger {
         requires few { len (union_of (world_of table.now)) < 2 ^ 32 }
         ensures { self.new ≡ ledger_of (world_of table.now) }
     {
-        // It tells what holds of the file systems.
-        let _count = table.len();
+        table.facts();
         refill(&mut self.lines, table.file_systems());
         self.near.fill(table.file_systems());
         charge_all(table, &mut self.lines, &self.near);
@@ -159,8 +158,7 @@ impl Ledger {
         ensures value { (s : State) → s.now.file_systems ≡ table.now.file_systems → IsSpaceOf s space → result ≡ room_of s name.now }
         ensures small { result < 2 ^ 55 }
     {
-        // It tells that there are few file systems.
-        let _count = table.len();
+        table.facts();
         self.room_at(table, name.as_bytes(), &space)
     }
 
@@ -171,8 +169,7 @@ impl Ledger {
         ensures value { (s : State) → s.now.file_systems ≡ table.now.file_systems → IsSpaceOf s space.now → result ≡ room_of s name.now }
         ensures most { result ≤ 2 ^ 32 + slashes name.now * 2 ^ 40 }
     {
-        // It tells that each file system's parent is there, and that there are few.
-        let _count = table.len();
+        table.facts();
         let line = self.line(table, name);
         let room = match parent_of(name) {
             Some(parent) => self.room_at(table, parent, space) + line.unspent(),

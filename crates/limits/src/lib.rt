@@ -10,6 +10,7 @@ mod charging;
 mod ledger;
 mod line;
 mod near;
+pub mod outlook;
 mod parent;
 mod place;
 mod pool_space;

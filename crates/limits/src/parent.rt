@@ -1,7 +1,7 @@
 //! The parent's name.
 ghost use Rattle.std.specs.Prelude.{◌≡◌};
 ghost use Rattle.std.specs.Option.{option_copied};
-ghost use Rattle.name.specs.Names.{parent_of as parent_name};
+ghost use Rattle.base.specs.Names.{parent_of as parent_name};
 
 /// What stands before the last `/` of a name, or none where it has a single component (zfs(8)). It costs its length.
 pub fn parent_of(name: &[u8]) -> Option<&[u8]>

@@ -1,7 +1,7 @@
 //! Where file systems stand in a table.
 ghost use Rattle.std.specs.Prelude.{◌≡◌, ◌<◌, [], None, IfSome, IfNone, slice_index_or};
 ghost use Rattle.std.specs.FinMap.{get, entries, keys, len};
-ghost use Rattle.name.specs.Names.{parent_of as parent_name};
+ghost use Rattle.base.specs.Names.{parent_of as parent_name};
 ghost use Rattle.datasets.specs.Places.{IsAt};
 ghost use Rattle.limits.specs.Places.{IsParentAt};
 
@@ -39,8 +39,7 @@ pub fn parent_place(table: &Table, place: usize, near: usize) -> Option<usize>
     ensures some { IfSome result (IsParentAt (keys table.now.file_systems) place) }
     ensures none { IfNone result (parent_name (slice_index_or (keys table.now.file_systems) place []) ≡ None) }
 {
-    // It tells that each file system's parent is there.
-    let _count = table.len();
+    table.facts();
     let file_system = &table.file_systems()[place];
     let parent = parent_of(file_system.name().as_bytes())?;
     place_near(table, parent, near)

@@ -8,8 +8,8 @@ use Rattle.model.specs.World.{World, FileSystem, Snap, SnapId, maps_of, blocks_o
 use Rattle.model.specs.Sums.{size_without, would_free}
 use Rattle.world.specs.Sets.{IsSubset}
 use Rattle.world.specs.Blocks.{block_order as o}
-use Rattle.world.proofs.Bridge.{in_union_of}
-use Rattle.world.proofs.SetCounts.{no-empty, from_union, len-difference, len-subset}
+use Rattle.world.proofs.lineage.Bridge.{in_union_of}
+use Rattle.world.proofs.lists.SetCounts.{no-empty, from_union, len-difference, len-subset}
 
 module _ (w : World) where
   -- what of the blocks of datasets others haven't

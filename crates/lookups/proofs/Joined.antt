@@ -2,7 +2,7 @@
 use Rattle.std.proofs.Common.{◌≡◌, ℕ, List, [], ◌∷◌, ◌++◌, sym, ap, ◌∙◌}
 use Rattle.std.proofs.lemmas.List.{append_assoc}
 use Rattle.std.specs.List.{flat_map, join_with_byte}
-use Rattle.world.proofs.Finding.{append_none}
+use Rattle.world.proofs.lists.Finding.{append_none}
 
 -- the byte before each of these
 abbrev pub each_after : ℕ → List (List ℕ) → List ℕ

@@ -3,7 +3,7 @@ use Rattle.std.proofs.Common.{◌≡◌, ℕ, ◌*◌, Bool, true, false, cond, 
 use Rattle.std.specs.List.{find}
 use Rattle.std.specs.Option.{option_map, option_and_then}
 use Rattle.base.specs.Map.{BlockSet, blocks}
-use Rattle.name.specs.Names.{same_name}
+use Rattle.base.specs.Names.{same_name}
 use Rattle.model.specs.Sums.{size_without}
 use Rattle.model.specs.World.{Snap}
 use Rattle.model.specs.declared.reply.Value.TheVariants.{Size}

@@ -3,15 +3,15 @@ use Rattle.std.proofs.Common.{◌≡◌, ◌≤◌, ℕ, List, [], ◌∷◌, �
 use Rattle.std.proofs.lemmas.List.{append_assoc, take_all}
 use Rattle.std.specs.declared.alloc.Global.{Global}
 use Rattle.std.specs.declared.sync.Arc.{Arc}
-use Rattle.bookmarks.specs.declared.mark.Mark.{Mark}
-use Rattle.bookmarks.specs.Marks.{name_in}
-use Rattle.name.specs.Names.{snap_text, mark_text}
+use Rattle.snapshots.specs.declared.bookmarks.mark.Mark.{Mark}
+use Rattle.snapshots.specs.Marks.{name_in}
+use Rattle.base.specs.Names.{snap_text, mark_text}
 use Rattle.model.specs.Properties.{bookmarks_in_order, names_of as own_names}
 use Rattle.model.specs.World.{FileSystem}
 use Rattle.snapshots.specs.declared.kept.Kept.{Kept}
 use Rattle.datasets.specs.Dead.{snaps_in}
 use Rattle.lookups.specs.Named.{snapshot_names, bookmark_names}
-use Rattle.world.proofs.Finding.{append_none}
+use Rattle.world.proofs.lists.Finding.{append_none}
 use Rattle.std.specs.Iterator.{Yields, YieldsFirstRef}
 
 -- the front of what was left

@@ -6,10 +6,10 @@ use Rattle.std.specs.FinMap.{get, len}
 use Rattle.base.specs.Map.{Map, blocks}
 use Rattle.base.specs.declared.refusal.Refusal.{Refusal}
 use Rattle.base.specs.declared.refusal.Refusal.TheVariants.{NoDataset, ReadOnly}
-use Rattle.name.specs.Names.{same_name, snap_text, mark_text}
-use Rattle.name.specs.declared.member.Member.{Member}
-use Rattle.name.specs.declared.target.Target.{Target}
-use Rattle.name.specs.declared.target.Target.TheVariants.{FileSystem as OfFileSystem, Snapshot as OfSnapshot, Bookmark as OfBookmark}
+use Rattle.base.specs.Names.{same_name, snap_text, mark_text}
+use Rattle.base.specs.declared.name.member.Member.{Member}
+use Rattle.base.specs.declared.name.target.Target.{Target}
+use Rattle.base.specs.declared.name.target.Target.TheVariants.{FileSystem as OfFileSystem, Snapshot as OfSnapshot, Bookmark as OfBookmark}
 use Rattle.model.specs.Hierarchy.{FileSystems, snap_in}
 use Rattle.model.specs.World.{Snap, SnapId, id_of, clones_of, bookmark_named, blocks_of_all}
 use Rattle.model.specs.Properties.{text_of_snap, bookmark_value, bookmarks_in_order}

@@ -3,6 +3,7 @@
 #![tactic(auto)]
 
 mod names;
+pub mod space;
 mod trees;
 mod values;
 

@@ -1,17 +1,17 @@
 //! Datasets and bookmarks by a name of any kind.
 ghost use Rattle.std.specs.Prelude.{◌≡◌, IfOk, IfErr};
 ghost use Rattle.std.specs.Option.{option_copied, option_map};
-ghost use Rattle.bookmarks.specs.Marks.{bookmark_of};
+ghost use Rattle.snapshots.specs.Marks.{bookmark_of};
 ghost use Rattle.model.specs.Hierarchy.{snap_in};
 ghost use Rattle.model.specs.World.{bookmark_named};
 ghost use Rattle.world.specs.Tables.{world_of};
-ghost use Rattle.name.specs.declared.target.Target.{Target};
+ghost use Rattle.base.specs.declared.name.target.Target.{Target};
 ghost use Rattle.lookups.specs.Named.{map_named, IsNoLive};
 
+use base::name::{DsName, Member, Target};
 use base::refusal::Refusal;
 use datasets::{FileSystem, Snapshot, Table};
 use model::snapshot_id::SnapshotId;
-use name::{DsName, Member, Target};
 use tree::Tree;
 
 /// The tree of the dataset that the name is of, a file system's live one or a snapshot's, or none. It costs the logarithm of the
@@ -46,9 +46,7 @@ pub fn live_name<'a>(table: &Table, target: &'a Target) -> Result<&'a DsName, Re
 pub fn snapshot_named<'a>(table: &'a Table, member: &Member) -> Option<&'a Snapshot>
     ensures { option_copied result ≡ snap_in table.now.file_systems member.now }
 {
-    table
-        .find(&member.file_system)?
-        .snapshot_named(member.component.as_bytes())
+    table.snapshot(member)
 }
 
 /// What the bookmark of this name keeps of its snapshot, or none where there is no such bookmark. It costs the logarithms of the numbers of

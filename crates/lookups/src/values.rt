@@ -6,7 +6,7 @@ ghost use Rattle.std.specs.FinMap.{get};
 ghost use Rattle.std.specs.FinSet.{len};
 ghost use Rattle.base.specs.declared.refusal.Refusal.{Refusal};
 ghost use Rattle.base.specs.Map.{blocks};
-ghost use Rattle.bookmarks.specs.Marks.{bookmark_of};
+ghost use Rattle.snapshots.specs.Marks.{bookmark_of};
 ghost use Rattle.datasets.specs.Dead.{newest_blocks, written_from};
 ghost use Rattle.datasets.specs.CloneNames.{name_of};
 ghost use Rattle.model.specs.Ids.{snap_id};
@@ -21,9 +21,11 @@ ghost use Rattle.lookups.specs.Accounted.{IsAccounted};
 ghost use Rattle.lookups.specs.Named.{amount_value, live_value, origin_value, snapshot_value, value_in, value_named, is_used, reads_lists};
 
 use crate::names::member_text;
+use crate::space::{used, used_by_children, used_by_snapshot};
 use crate::trees::bookmark_named;
 use base::limit::Blocks;
 use base::meter::SegMeter;
+use base::name::{DsName, Member, Target};
 use base::refusal::Refusal;
 use base::text::Bytes;
 use datasets::{CloneName, FileSystem, Table};
@@ -32,8 +34,6 @@ use model::limits::Limit;
 use model::reply::Value;
 use model::request::Property;
 use model::snapshot_id::SnapshotId;
-use name::{DsName, Member, Target};
-use space::{used, used_by_children, used_by_snapshot};
 use std::alloc::Global;
 
 // The name in print of the snapshot of this identity; empty where there is none. NoMemory where there is none for it. It costs the number

@@ -3,15 +3,15 @@ use Rattle.std.proofs.Common.{◌≡◌, ◌<◌, ℕ, List, Some, sym, ap, subs
 use Rattle.std.specs.Option.{option_map}
 use Rattle.std.specs.FinMap.{FinMap, get, insert}
 use Rattle.base.specs.Surveys.{IsIn}
-use Rattle.name.specs.Names.{name_cmp}
-use Rattle.name.specs.declared.target.Target.{Target}
-use Rattle.name.specs.declared.target.Target.TheVariants.{FileSystem as OfFileSystem, Snapshot as OfSnapshot, Bookmark as OfBookmark}
+use Rattle.base.specs.Names.{name_cmp}
+use Rattle.base.specs.declared.name.target.Target.{Target}
+use Rattle.base.specs.declared.name.target.Target.TheVariants.{FileSystem as OfFileSystem, Snapshot as OfSnapshot, Bookmark as OfBookmark}
 use Rattle.model.specs.World.{FileSystem, Snap, Bookmark}
 use Rattle.model.specs.requests.Bookmark.{bookmark_of_snap}
 use Rattle.model.specs.requests.Rollback.{placed}
 use Rattle.world.specs.Shapes.{name_order}
 use Rattle.world.specs.Tables.{Datasets, world_of}
-use Rattle.world.proofs.Maps.{no_value, same_value, key_cases, get-insert_same, get-insert_other}
+use Rattle.world.proofs.lists.Maps.{no_value, same_value, key_cases, get-insert_same, get-insert_other}
 use Rattle.datasets.specs.Table.{AreBookmarksClosed, AreSnapshotsClosed}
 use Rattle.marks.proofs.Placed.{placed_with}
 

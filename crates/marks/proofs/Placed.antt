@@ -4,14 +4,14 @@ use Rattle.std.specs.Option.{option_map, option_and_then}
 use Rattle.std.specs.List.{find}
 use Rattle.std.specs.FinMap.{get}
 use Rattle.base.specs.Surveys.{IsIn}
-use Rattle.name.specs.Names.{same_name}
-use Rattle.name.specs.declared.member.Member.{Member}
-use Rattle.name.specs.declared.target.Target.TheVariants.{Snapshot as OfSnapshot}
+use Rattle.base.specs.Names.{same_name}
+use Rattle.base.specs.declared.name.member.Member.{Member}
+use Rattle.base.specs.declared.name.target.Target.TheVariants.{Snapshot as OfSnapshot}
 use Rattle.model.specs.World.{FileSystem, Snap, snap_named}
 use Rattle.model.specs.requests.Rollback.{placed}
 use Rattle.world.specs.Tables.{Datasets, world_of}
-use Rattle.world.proofs.Maps.{no_value, same_value}
-use Rattle.world.proofs.Finding.{from_find}
+use Rattle.world.proofs.lists.Maps.{no_value, same_value}
+use Rattle.world.proofs.lists.Finding.{from_find}
 
 -- a snapshot of this name, with its file system
 pub record IsPlaced (t : Datasets) (m : Member) (u : Snap) : Type 0 where

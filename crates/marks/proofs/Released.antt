@@ -3,10 +3,10 @@ use Rattle.std.proofs.Common.{◌≡◌, ℕ, true, false, not, ◌&&◌, List, 
 use Rattle.std.specs.Prelude.{IfSome, OnOk}
 use Rattle.std.specs.Option.{option_map, option_map_or}
 use Rattle.base.specs.Map.{BlockSet}
-use Rattle.holds.specs.Tags.{without_tag}
-use Rattle.name.specs.declared.member.Member.{Member}
-use Rattle.name.specs.declared.target.Target.{Target}
-use Rattle.name.specs.declared.target.Target.TheVariants.{Snapshot as OfSnapshot}
+use Rattle.snapshots.specs.Tags.{without_tag}
+use Rattle.base.specs.declared.name.member.Member.{Member}
+use Rattle.base.specs.declared.name.target.Target.{Target}
+use Rattle.base.specs.declared.name.target.Target.TheVariants.{Snapshot as OfSnapshot}
 use Rattle.model.specs.World.{FileSystem, Snap, id_of, snap_named, union_of}
 use Rattle.model.specs.State.{Views}
 use Rattle.model.specs.Outcome.{is_needed}

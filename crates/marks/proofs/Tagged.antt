@@ -15,14 +15,14 @@ use Rattle.world.specs.Sets.{IsSubset, AreDisjoint}
 use Rattle.world.specs.Shapes.{Name, name_order}
 use Rattle.world.specs.Worlds.{AreFileSystems}
 use Rattle.world.specs.Tables.{Datasets, world_of, tagged_snap, without_snap}
-use Rattle.world.proofs.Bridge.{in_union_of, from_union_of, one_snap}
-use Rattle.world.proofs.Finding.{same_id_is}
-use Rattle.world.proofs.Listed.{in_map}
-use Rattle.world.proofs.Maps.{no_value, same_value}
-use Rattle.world.proofs.SetCounts.{same_members}
-use Rattle.world.proofs.Sweep.{get-with_file_systems}
-use Rattle.world.proofs.Views.{same_maps_mapped}
-use Rattle.world.proofs.WithoutSnaps.{get-without, without_none}
+use Rattle.world.proofs.lineage.Bridge.{in_union_of, from_union_of, one_snap}
+use Rattle.world.proofs.lists.Finding.{same_id_is}
+use Rattle.world.proofs.lists.Listed.{in_map}
+use Rattle.world.proofs.lists.Maps.{no_value, same_value}
+use Rattle.world.proofs.lists.SetCounts.{same_members}
+use Rattle.world.proofs.removals.Sweep.{get-with_file_systems}
+use Rattle.world.proofs.changes.Views.{same_maps_mapped}
+use Rattle.world.proofs.removals.WithoutSnaps.{get-without, without_none}
 use Rattle.removals.specs.Edits.{HasLost}
 use Rattle.removals.specs.Requests.{swept, IsSweptBy}
 use Rattle.removals.proofs.Losses.{lost_none}

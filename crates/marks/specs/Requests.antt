@@ -4,8 +4,8 @@ use Rattle.std.specs.Option.{option_map_or}
 use Rattle.std.specs.FinMap.{contains_key}
 use Rattle.base.specs.declared.refusal.Refusal.{Refusal}
 use Rattle.base.specs.declared.refusal.Refusal.TheVariants.{Deferred, TagExists, TooMany, Exists}
-use Rattle.name.specs.declared.member.Member.{Member}
-use Rattle.name.specs.declared.target.Target.{Target}
+use Rattle.base.specs.declared.name.member.Member.{Member}
+use Rattle.base.specs.declared.name.target.Target.{Target}
 use Rattle.model.specs.World.{Snap}
 use Rattle.model.specs.State.{Views}
 use Rattle.model.specs.Outcome.{is_needed}
@@ -15,7 +15,7 @@ use Rattle.model.specs.requests.Hold.{hold_row, held, has_tag, is_full}
 use Rattle.model.specs.requests.Release.{release_row, released}
 use Rattle.model.specs.requests.Holds.{holds_row}
 use Rattle.model.specs.requests.Bookmark.{bookmark_row, bookmarked, has_all_bookmarks}
-use Rattle.bookmarks.specs.Marks.{Marks}
+use Rattle.snapshots.specs.Marks.{Marks}
 use Rattle.world.specs.Tables.{Datasets, world_of}
 
 -- the datasets where the snapshot of this name has the tag behind its others (zfs-hold(8); the order is profile)

@@ -4,18 +4,18 @@ ghost use Rattle.std.specs.Arc.{arc_value};
 ghost use Rattle.std.specs.Option.{option_map};
 ghost use Rattle.std.specs.FinMap.{insert};
 ghost use Rattle.base.specs.declared.refusal.Refusal.{Refusal};
-ghost use Rattle.bookmarks.specs.Marks.{bookmark_of};
+ghost use Rattle.snapshots.specs.Marks.{bookmark_of};
 ghost use Rattle.model.specs.requests.Bookmark.{bookmark_of_snap, is_beside};
 ghost use Rattle.model.specs.requests.Rollback.{placed};
 ghost use Rattle.world.specs.Tables.{world_of};
 ghost use Rattle.marks.specs.Requests.{bookmarked_in, bookmark_refusal, mark_refusal};
 
 use crate::place::placed;
+use base::name::{Component, MarkName, Target};
 use base::refusal::Refusal;
-use bookmarks::Bookmarks;
 use datasets::Table;
 use model::snapshot_id::SnapshotId;
-use name::{Component, MarkName, Target};
+use snapshots::bookmarks::Bookmarks;
 use std::alloc::Global;
 use std::sync::Arc;
 
@@ -37,8 +37,7 @@ pub fn bookmark(
     ensures unchanged { OnErr result (table.new ≡ table.old) }
     ensures only { IfErr result (λ e. (bookmark_refusal table.old target.now mark.now ≡ Some e) ⊎ (e ≡ Refusal.NoMemory)) }
 {
-    // It tells of the bookmarks and of the snapshots that their groups are closed.
-    let _count = table.len();
+    table.facts();
     let bookmarks = bookmarks_with(alloc, table, target, mark)?;
     table.set_bookmarks(alloc, &mark.member().file_system, bookmarks)
 }

@@ -4,17 +4,17 @@ ghost use Rattle.std.specs.Arc.{arc_value};
 ghost use Rattle.std.specs.List.{list_any};
 ghost use Rattle.std.specs.Option.{option_map};
 ghost use Rattle.base.specs.declared.refusal.Refusal.{Refusal};
-ghost use Rattle.holds.specs.Tags.{has_tag};
-ghost use Rattle.name.specs.Names.{same_name};
+ghost use Rattle.snapshots.specs.Tags.{has_tag};
+ghost use Rattle.base.specs.Names.{same_name};
 ghost use Rattle.model.specs.requests.Rollback.{placed};
 ghost use Rattle.world.specs.Tables.{world_of};
 ghost use Rattle.marks.specs.Requests.{held_in, hold_refusal, tag_refusal};
 
 use crate::place::placed;
+use base::name::{Tag, Target};
 use base::refusal::Refusal;
 use datasets::{Snapshot, Table};
-use holds::{Holds, TAG_LIMIT};
-use name::{Tag, Target};
+use snapshots::holds::{Holds, TAG_LIMIT};
 use std::alloc::Global;
 use std::sync::Arc;
 

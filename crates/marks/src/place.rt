@@ -5,9 +5,9 @@ ghost use Rattle.model.specs.requests.Rollback.{placed};
 ghost use Rattle.world.specs.Tables.{world_of};
 ghost use Rattle.marks.specs.Requests.{holds_refusal};
 
+use base::name::Target;
 use base::refusal::Refusal;
 use datasets::{Snapshot, Table};
-use name::Target;
 
 /// The snapshot that a target names. NotSnapshot where the target isn't the name of a snapshot, else NoDataset where there is no such
 /// snapshot. It costs the logarithm of the number of file systems, and that of the number of snapshots of one.

@@ -2,24 +2,24 @@
 ghost use Rattle.std.specs.Prelude.{◌≡◌, ◌⊎◌, false, Some, None, IsSome, IfSome, IfOk, IfErr, OnOk, OnErr};
 ghost use Rattle.std.specs.Option.{option_map};
 ghost use Rattle.base.specs.declared.refusal.Refusal.{Refusal};
-ghost use Rattle.holds.specs.Tags.{without_tag};
+ghost use Rattle.snapshots.specs.Tags.{without_tag};
 ghost use Rattle.model.specs.World.{id_of, snap_named, union_of};
 ghost use Rattle.model.specs.requests.Rollback.{placed};
 ghost use Rattle.world.specs.Sets.{AreDisjoint};
 ghost use Rattle.world.specs.Tables.{world_of, without_snap};
 ghost use Rattle.removals.specs.Edits.{HasLost};
-ghost use Rattle.removals.specs.Named.{is_named_cloned};
+ghost use Rattle.removals.specs.Named.{has_clone_named};
 ghost use Rattle.removals.specs.Requests.{swept, IsSweptBy};
 ghost use Rattle.marks.specs.Requests.{released_in, release_refusal, is_due_with};
 
 use crate::place::placed;
 use base::meter::SegMeter;
+use base::name::{Member, Tag, Target};
 use base::refusal::Refusal;
 use datasets::Table;
 use destroyer::Freeing;
-use holds::Holds;
-use name::{Member, Tag, Target};
 use removals::Edit;
+use snapshots::holds::Holds;
 use std::alloc::Global;
 use std::sync::Arc;
 use views::Views;
@@ -30,7 +30,7 @@ use views::Views;
 /// the tag; NoMemory, where there is none for it, may come before this last one. At `Err` the table and what it has to free are as they
 /// were. It costs the logarithms of the numbers of file systems and of snapshots, a walk over the chunks of the snapshots of one, and the
 /// bytes of the snapshot's tags, which are at most 256; where the snapshot's destroy is deferred also the number of open views; and where
-/// it goes what `Edit::of` and `Edit::lose_snapshot` do.
+/// it goes what `Edit::of` and `Edit::remove_snapshot` do.
 pub fn release(
     alloc: Global,
     table: &mut Table,
@@ -50,8 +50,7 @@ pub fn release(
     ensures kept { OnErr result (freeing.new ≡ freeing.old) }
     ensures only { IfErr result (λ e. (release_refusal table.old tag.now target.now ≡ Some e) ⊎ (e ≡ Refusal.NoMemory)) }
 {
-    // It tells of the snapshots that each identity is one's.
-    let _count = table.len();
+    table.facts();
     let tags = tags_without(alloc, table, target, tag)?;
     let Target::Snapshot(name) = target else {
         unreachable!()
@@ -91,7 +90,7 @@ fn is_due_with(table: &Table, views: &Views, target: &Target, tags: &Holds) -> b
 }
 
 // Lets the snapshot of this name go, which is there and has no clone: what no dataset has then is to be freed. NoMemory where there is none
-// for it, and then the table and what it has to free are as they were. It costs what `Edit::of` and `Edit::lose_snapshot` do.
+// for it, and then the table and what it has to free are as they were. It costs what `Edit::of` and `Edit::remove_snapshot` do.
 fn lose(
     alloc: Global,
     table: &mut Table,
@@ -101,7 +100,7 @@ fn lose(
 ) -> Result<(), Refusal>
     requires apart { AreDisjoint (union_of (world_of table.old)) freeing.old }
     requires there { IsSome (snap_named (world_of table.old) name.now) }
-    requires no_clone { is_named_cloned table.old name.now ≡ false }
+    requires no_clone { has_clone_named table.old name.now ≡ false }
     ensures ok { IfSome (snap_named (world_of table.old) name.now) (λ u. OnOk result (table.new ≡ without_snap table.old (id_of u))) }
     ensures lost { OnOk result (HasLost table.old freeing.old table.new freeing.new) }
     ensures unchanged { OnErr result (table.new ≡ table.old) }
@@ -109,7 +108,7 @@ fn lose(
     ensures err { IfErr result (λ e. e ≡ Refusal.NoMemory) }
 {
     let mut edit = Edit::of(table, freeing)?;
-    edit.lose_snapshot(alloc, name, segments)?;
+    edit.remove_snapshot(alloc, name, segments)?;
     edit.put(table, freeing);
     Ok(())
 }

@@ -1,16 +1,16 @@
 //! The tags of a snapshot.
 ghost use Rattle.std.specs.Prelude.{◌≡◌, ◌⊎◌, Some, None, IfSome, IfOk, IfErr, OnOk};
 ghost use Rattle.base.specs.declared.refusal.Refusal.{Refusal};
-ghost use Rattle.holds.specs.Tags.{texts};
+ghost use Rattle.snapshots.specs.Tags.{texts};
 ghost use Rattle.model.specs.requests.Rollback.{placed};
 ghost use Rattle.world.specs.Tables.{world_of};
 ghost use Rattle.marks.specs.Requests.{holds_refusal};
 
 use crate::place::placed;
+use base::name::Target;
 use base::refusal::Refusal;
 use base::text::Bytes;
 use datasets::Table;
-use name::Target;
 use std::alloc::Global;
 
 /// The tags of the snapshot that the target names, in the order in which they were made (zfs-holds(8), without -r; the order is profile).

@@ -4,7 +4,7 @@ use Rattle.std.specs.Ordering.{nat_cmp}
 use Rattle.std.proofs.Common.{refl}
 use Rattle.std.specs.Coded.{Coded, code_by, coded×, coded_ℕ, coded_bool, coded_list, coded_option}
 use Rattle.std.specs.FinMap as finmap
-use Rattle.name.specs.Names.{name_cmp}
+use Rattle.base.specs.Names.{name_cmp}
 use Rattle.base.specs.Map.{Map, BlockSet}
 use Rattle.base.specs.Codes.{blocks_code, map_code}
 use Rattle.model.specs.World.{SnapId, Snap, Bookmark, Limits, FileSystem, World}

@@ -4,7 +4,7 @@ use Rattle.std.specs.List.{list_all}
 use Rattle.std.specs.Option.{option_map_or}
 use Rattle.std.specs.FinMap.{entries}
 use Rattle.std.specs.FinSet as set
-use Rattle.name.specs.Names.{root_name}
+use Rattle.base.specs.Names.{root_name}
 use Rattle.model.specs.World.{World, Live}
 use Rattle.model.specs.State.{State, waiting_of}
 use Rattle.model.specs.Sums.{used_of, referenced_of, reservation_of}

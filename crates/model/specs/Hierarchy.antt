@@ -3,8 +3,8 @@ use Rattle.std.specs.Prelude.{◌≡◌, ◌⊎◌, ◌≤◌, ℕ, Bool, false,
 use Rattle.std.specs.List.{find}
 use Rattle.std.specs.Option.{option_map_or, option_and_then}
 use Rattle.std.specs.FinMap.{FinMap, get, contains_key, len}
-use Rattle.name.specs.Names.{name_cmp, same_name, parent_of, root_name}
-use Rattle.name.specs.declared.member.Member.{Member}
+use Rattle.base.specs.Names.{name_cmp, same_name, parent_of, root_name}
+use Rattle.base.specs.declared.name.member.Member.{Member}
 use Rattle.model.specs.World.{FileSystem, Snap}
 
 -- a world's file systems, by their names (On-Disk Specification, chapter 4)

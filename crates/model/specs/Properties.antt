@@ -5,15 +5,15 @@ use Rattle.std.specs.declared.cmp.Ordering.{Ordering}
 use Rattle.std.specs.Ordering.{nat_cmp, ordering_then}
 use Rattle.std.specs.FinMap.{entries, keys, from_entries}
 use Rattle.std.specs.Option.{option_map_or, unwrap_or}
-use Rattle.name.specs.declared.target.Target.{Target}
-use Rattle.name.specs.declared.target.Target.TheVariants.{FileSystem as OfFileSystem, Snapshot as OfSnapshot, Bookmark as OfBookmark}
+use Rattle.base.specs.declared.name.target.Target.{Target}
+use Rattle.base.specs.declared.name.target.Target.TheVariants.{FileSystem as OfFileSystem, Snapshot as OfSnapshot, Bookmark as OfBookmark}
 use Rattle.model.specs.declared.request.Property.{Property}
 use Rattle.model.specs.declared.request.Property.TheVariants.{Used, Available, Referenced, Written, UsedByDataset, UsedBySnapshots, UsedByChildren, UsedByRefReservation, Quota, RefQuota, Reservation, RefReservation, Guid, CreateTxg, Origin, Clones, UserRefs, DeferDestroy}
 use Rattle.model.specs.declared.request.PoolProperty.{PoolProperty}
 use Rattle.model.specs.declared.request.PoolProperty.TheVariants.{Size as PoolSize, Allocated, Free, Freeing, Waiting, Group}
 use Rattle.model.specs.declared.reply.Value.{Value}
 use Rattle.model.specs.declared.reply.Value.TheVariants.{Size, Number, Named, Truth, NotApplicable}
-use Rattle.name.specs.Names.{name_cmp, snap_text, mark_text}
+use Rattle.base.specs.Names.{name_cmp, snap_text, mark_text}
 use Rattle.model.specs.World.{World, FileSystem, Snap, SnapId, Bookmark, Live, Snapped, id_of, file_system_at, snap_at, snap_named, bookmark_named, clones_of}
 use Rattle.model.specs.State.{State}
 use Rattle.model.specs.Sums.{used_of, room_of, referenced_of, written_of, used_by_snap, used_by_dataset, used_by_snapshots, used_by_children, used_by_refreservation, allocated_of, free_of, freeing_of, waiting_count}

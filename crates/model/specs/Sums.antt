@@ -5,7 +5,7 @@ use Rattle.std.specs.Option.{unwrap_or, option_map_or}
 use Rattle.std.specs.FinMap.{len, values}
 use Rattle.std.specs.FinSet as set
 use Rattle.base.specs.Map.{BlockSet, blocks}
-use Rattle.name.specs.Names.{root_name, parent_of}
+use Rattle.base.specs.Names.{root_name, parent_of}
 use Rattle.model.specs.World.{World, FileSystem, SnapId, Dataset, Live, Snapped, id_of, same_id, file_system_at, previous_of, map_of, map_of_snap, blocks_of_all, union_of, reach_of, children_of}
 use Rattle.zalloc.specs.States.{is_free}
 use Rattle.model.specs.State.{State, waiting_of, block_state}

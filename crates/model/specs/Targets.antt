@@ -2,9 +2,10 @@
 use Rattle.std.specs.Prelude.{ℕ, ◌+◌, ◌-◌, ◌^◌, Bool, true, false, ◌&&◌, List, Option, None, Some, is_some, nat_lt}
 use Rattle.std.specs.Option.{option_map}
 use Rattle.std.specs.FinMap.{contains_key}
-use Rattle.name.specs.declared.target.Target.{Target}
-use Rattle.name.specs.declared.target.Target.TheVariants.{FileSystem as OfFileSystem, Snapshot as OfSnapshot, Bookmark as OfBookmark}
-use Rattle.name.specs.declared.member.Member.{Member}
+use Rattle.base.specs.declared.name.target.Target.{Target}
+use Rattle.base.specs.declared.name.target.Target.TheVariants.{FileSystem as OfFileSystem, Snapshot as OfSnapshot, Bookmark as OfBookmark}
+use Rattle.base.specs.declared.name.member.Member.{Member}
+pub use Rattle.base.specs.Names.{name_limit}
 use Rattle.model.specs.World.{World, Dataset, Live, Snapped, id_of, snap_named, bookmark_named}
 use Rattle.model.specs.State.{State}
 
@@ -75,7 +76,3 @@ guid_limit = 4294967295
 -- the most snapshots of a pool (profile)
 abbrev pub snap_limit : ℕ
 snap_limit = 65536
-
--- the most bytes of a whole name (profile)
-abbrev pub name_limit : ℕ
-name_limit = 255

@@ -5,8 +5,8 @@ use Rattle.std.specs.Option.{option_map, option_or, option_and_then, option_map_
 use Rattle.std.specs.FinMap.{FinMap, get, entries, values, keys}
 use Rattle.std.specs.FinMap as finmap
 use Rattle.std.specs.FinSet as set
-use Rattle.name.specs.declared.member.Member.{Member}
-use Rattle.name.specs.Names.{name_cmp, same_name, parent_of, is_descendant}
+use Rattle.base.specs.declared.name.member.Member.{Member}
+use Rattle.base.specs.Names.{name_cmp, same_name, parent_of, is_descendant}
 use Rattle.base.specs.Map.{Map, BlockSet, blocks}
 
 -- a snapshot's identity, which it keeps through a promote: its creation group and guid. It is one snapshot's, since a request

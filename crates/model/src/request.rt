@@ -5,8 +5,8 @@ use crate::limits::Limit;
 use crate::snap_names::SnapNames;
 use base::data::Data;
 use base::limit::Blocks;
+use base::name::{Component, DsName, MarkName, SnapName, Tag, Target};
 use base::text::Bytes;
-use name::{Component, DsName, MarkName, SnapName, Tag, Target};
 
 /// What `Get` may ask of a dataset or bookmark (zfsprops(7)).
 #[derive(Clone, Copy, PartialEq, Eq, Debug)]

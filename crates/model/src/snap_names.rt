@@ -1,7 +1,7 @@
 //! Lists of snapshots' names.
 ghost use Rattle.std.specs.Prelude.{◌≡◌, ◌↔◌, IsTrue};
 
-use name::SnapName;
+use base::name::SnapName;
 use std::marker::Model;
 
 /// Names of snapshots to be made, in their order (zfs-snapshot(8)). Contracts see the list of their parts.
@@ -20,7 +20,7 @@ impl Drop for SnapNames {
 
 impl Model for SnapNames {
     ghost use Rattle.std.specs.Prelude.{List};
-    ghost use Rattle.name.specs.declared.member.Member.{Member};
+    ghost use Rattle.base.specs.declared.name.member.Member.{Member};
 
     ghost Value = { List Member };
 

@@ -1,6 +1,5 @@
 -- Lists of places, and the forests that they are.
-use Rattle.std.proofs.Common.{◌≡◌, ℕ, zero, suc, ◌+◌, ◌-◌, ◌<◌, ◌≤◌, List, [], ◌∷◌, ◌++◌, length, get_or, set, take, replicate, map, Option, Some, None, refl, ap, ◌∙◌, arith, add-one, sub-one}
-use Rattle.std.proofs.Math.Seq.{take-suc-set}
+use Rattle.std.proofs.Common.{◌≡◌, ℕ, zero, suc, ◌+◌, ◌-◌, ◌≤◌, List, [], ◌∷◌, length, get_or, replicate, map, Option, Some, None, refl, ap, ◌∙◌, arith, sub-one}
 use Rattle.std.specs.Option.{option_map}
 use Rattle.node.specs.Shape.{Forest, done, gap, grown, Part, forest_of, part_at}
 use Rattle.node.specs.Entries.{IsWell, width, cell_count}
@@ -23,14 +22,6 @@ forest_of-map f [] = refl
 forest_of-map f (None ∷ xs) = ap gap (forest_of-map f xs)
 forest_of-map f (Some x ∷ xs) = ap (grown (f x).cell (f x).below) (forest_of-map f xs)
 
--- the part at a place of a list of places
-pub part_at-forest : (os : List (Option Part)) (k : ℕ) → part_at (forest_of (λ p. p) os) k ≡ get_or os k None
-part_at-forest [] k = refl
-part_at-forest (None ∷ os) zero = refl
-part_at-forest (None ∷ os) (suc k) = part_at-forest os k
-part_at-forest (Some p ∷ os) zero = refl
-part_at-forest (Some p ∷ os) (suc k) = part_at-forest os k
-
 pub part_at-places : (f : Forest) (k : ℕ) → part_at f k ≡ get_or (places f) k None
 part_at-places done k = refl
 part_at-places (gap r) zero = refl
@@ -47,16 +38,6 @@ pub no_place : (n k : ℕ) → get_or {A = Option Part} (replicate n None) k Non
 no_place zero k = refl
 no_place (suc n) zero = refl
 no_place (suc n) (suc k) = no_place n k
-
--- lists
-pub take-set-next : {A : Type 0} (xs : List A) (i : ℕ) (y : A) → i < length xs → take (i + 1) (set xs i y) ≡ take i xs ++ y ∷ []
-take-set-next xs i y h = rw add-one (take-suc-set xs i y h)
-
-pub take_whole : {A : Type 0} (xs : List A) (n : ℕ) → length xs ≤ n → take n xs ≡ xs
-take_whole [] zero h = refl
-take_whole [] (suc n) h = refl
-take_whole (x ∷ xs) zero h = absurd (omega arith)
-take_whole (x ∷ xs) (suc n) h = ap (λ ys. x ∷ ys) (take_whole xs n (omega arith))
 
 -- parts that may be absent, under a parent born at g
 abbrev pub AreKids : ℕ → ℕ → List (Option Part) → Type 0
@@ -77,11 +58,6 @@ pub AreKids-at : (l g : ℕ) (os : List (Option Part)) (i : ℕ) → AreKids l g
 AreKids-at l g [] i a = tt
 AreKids-at l g (o ∷ os) zero a = a.0
 AreKids-at l g (o ∷ os) (suc i) a = AreKids-at l g os i a.1
-
-pub AreKids-set : (l g : ℕ) (os : List (Option Part)) (i : ℕ) (o : Option Part) → AreKids l g os → IsKid l g o → AreKids l g (set os i o)
-AreKids-set l g [] i o a k = tt
-AreKids-set l g (x ∷ os) zero o a k = (k, a.1)
-AreKids-set l g (x ∷ os) (suc i) o a k = (a.0, AreKids-set l g os i o a.1 k)
 
 pub length-places-width : (f : Forest) → length (places f) ≡ width f
 length-places-width done = refl
@@ -112,12 +88,6 @@ forest_well l g (Some p ∷ os) a = (a.0.0, a.0.1.0, a.0.1.1, forest_well l g os
 pub cells-cons : (o : Option Part) (os : List (Option Part)) → cell_count (forest_of (λ p. p) (o ∷ os)) ≡ cells o + cell_count (forest_of (λ p. p) os)
 cells-cons None os = omega arith
 cells-cons (Some p) os = omega arith
-
--- the cells once one place has another part
-pub cells-set : (os : List (Option Part)) (i : ℕ) (o : Option Part) → i < length os → cell_count (forest_of (λ p. p) (set os i o)) + cells (get_or os i None) ≡ cell_count (forest_of (λ p. p) os) + cells o
-cells-set [] i o h = absurd (omega arith)
-cells-set (x ∷ os) zero o h = let a = cells-cons x os in let b = cells-cons o os in omega (arith, a, b)
-cells-set (x ∷ os) (suc i) o h = let r = cells-set os i o (omega arith) in let a = cells-cons x os in let b = cells-cons x (set os i o) in omega (arith, r, a, b)
 
 pub cell_count-places : (f : Forest) → cell_count (forest_of (λ p. p) (places f)) ≡ cell_count f
 cell_count-places f = ap cell_count (forest-places f)

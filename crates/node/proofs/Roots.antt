@@ -1,21 +1,20 @@
 -- What the map of a root has at a key.
-use Rattle.std.proofs.Common.{◌≡◌, ℕ, ◌-◌, ◌^◌, ◌<◌, ◌≤◌, Option, Some, None, refl, sym, ap, ◌∙◌, arith, ⊎_elim, [], ◌∷◌}
+use Rattle.std.proofs.Common.{◌≡◌, ℕ, ◌-◌, ◌^◌, ◌<◌, ◌≤◌, Option, Some, None, refl, sym, ap, ◌∙◌, arith, [], ◌∷◌}
 use Rattle.std.specs.Option.{option_map}
 use Rattle.std.specs.FinMap as fin
 use Rattle.std.specs.declared.sync.Arc.{Arc}
 use Rattle.std.specs.declared.alloc.Global.{Global}
 use Rattle.base.specs.declared.number.Key.{Key}
-use Rattle.base.specs.Key.{key_cmp, IsKey}
+use Rattle.base.specs.Key.{key_cmp}
 use Rattle.node.specs.Shape.{Part, cell_below, done}
 use Rattle.node.specs.Entries.{map_of, cell_in, cell_count, IsWell}
 use Rattle.node.specs.Kid.{IsKid, birth_of, cells}
 use Rattle.node.specs.Node.{Root, whole, root_forest, root_part, shared_part}
 use Rattle.node.specs.Sound.{IsSoundTree}
-use Rattle.node.proofs.Options.{not_some, if_some}
+use Rattle.node.proofs.Options.{if_some}
 use Rattle.node.proofs.Parts.{cell_opt}
 use Rattle.node.proofs.Find.{get-map_at, get-map_of_high, cell_in-past, cell_in-root, cell_in-gap_here, map_of-empty}
-use Rattle.std.proofs.lemmas.Bool.{cases_lt}
-use Rattle.std.specs.Prelude.{IsSome, IfSome}
+use Rattle.std.specs.Prelude.{IfSome}
 use Rattle.base.specs.Map.{Map}
 use Rattle.node.specs.Shape.{forest_of}
 
@@ -65,12 +64,6 @@ module _ (root : Option (Arc Root Global)) (h : ℕ) (well : IsWell 5 h (root_fo
 
   pub none-past : (k : Key) → k.level ≤ 5 → 16 ^ (5 - k.level) ≤ k.index → fin.get m k ≡ None
   none-past k l b = get-past k root h l b well
-
-  pub keys_of : (k : Key) → IsSome (fin.get m k) → IsKey k
-  keys_of k s = ⊎_elim
-      (λ l. absurd (not_some _ (none-high k l) s))
-      (λ l. ⊎_elim (λ b. record { level = l; index = b }) (λ b. absurd (not_some _ (none-past k l b) s)) (cases_lt k.index (16 ^ (5 - k.level))))
-      (cases_lt 5 k.level)
 
 -- no block is younger than the newest cell of the map
 pub root_birth : (root : Option (Arc Root Global)) (h g : ℕ) → IsWell 5 h (root_forest root) → ((k : Key) → IfSome (fin.get (map_of (root_forest root)) k) (λ c. c.birth ≤ g)) → birth_of (whole root) ≤ g

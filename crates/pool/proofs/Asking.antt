@@ -3,12 +3,12 @@ use Rattle.std.proofs.Common.{◌≡◌, ◌≤◌, ◌↔◌, ℕ, List, Result
 use Rattle.std.specs.Prelude.{IfOk, IfErr}
 use Rattle.base.specs.Key.{leaf_index}
 use Rattle.base.specs.Rewrite.{writes_leaf, punches_leaf, frees_object}
-use Rattle.name.specs.declared.target.Target.{Target}
+use Rattle.base.specs.declared.name.target.Target.{Target}
 use Rattle.base.specs.declared.refusal.Refusal.{Refusal}
 use Rattle.base.specs.declared.refusal.Refusal.TheVariants.{BadKey}
 use Rattle.batch.specs.declared.update.Update.{Update}
 use Rattle.tree.specs.Updates.{changes_of}
-use Rattle.objset.specs.Blocks.{IsNoBlock}
+use Rattle.tree.specs.Blocks.{IsNoBlock}
 use Rattle.model.specs.declared.request.Request.TheVariants.{Write, Punch, FreeObject}
 use Rattle.model.specs.Targets.{is_object, is_block}
 use Rattle.pool.specs.Asked.{Asks}

@@ -2,8 +2,8 @@
 use Rattle.std.proofs.Common.{◌≡◌, ◌⊎◌, ◌↔◌, ℕ, true, false, List, Option, Result, Ok, Err, Some, None, refl, sym, ap, subst, ◌∙◌, [], ◌∷◌, map, ⊎_elim}
 use Rattle.std.specs.Prelude.{IfOk, IfErr, OnOk, is_some, IsSome}
 use Rattle.std.specs.FinMap.{get}
-use Rattle.name.specs.declared.target.Target.{Target}
-use Rattle.name.specs.declared.target.Target.TheVariants.{FileSystem as OfFileSystem}
+use Rattle.base.specs.declared.name.target.Target.{Target}
+use Rattle.base.specs.declared.name.target.Target.TheVariants.{FileSystem as OfFileSystem}
 use Rattle.base.specs.Rewrite.{Changes}
 use Rattle.base.specs.Surveys.{dead_block}
 use Rattle.base.specs.declared.refusal.Refusal.{Refusal}
@@ -28,11 +28,11 @@ use Rattle.steps.specs.Edits.{datasets_of, with_datasets, StaysUnlimited, CanCha
 use Rattle.steps.specs.Handed.{Outlook, Line, IsAccounted, IsNoLive}
 use Rattle.steps.specs.Limiting.{IsNoChange, MayChange, Foretells, CanSettle}
 use Rattle.steps.specs.Ruled.{HasRule}
-use Rattle.steps.proofs.Changing.{change_no_memory, change_no_dataset, change_read_only, change_bad_key}
-use Rattle.steps.proofs.Names.{found, absent, is_snapshot}
-use Rattle.steps.proofs.Putting.{release_them, take_them}
-use Rattle.steps.proofs.Settled.{can_settle}
-use Rattle.steps.proofs.Writing.{allows, written_can, written_can_within, written_unlimited, written_done, written_done_within, write_refused, write_refused_within, write_refused_by_limit}
+use Rattle.steps.proofs.requests.Changing.{change_no_memory, change_no_dataset, change_read_only, change_bad_key}
+use Rattle.steps.proofs.questions.Names.{found, absent, is_snapshot}
+use Rattle.steps.proofs.numbers.Putting.{release_them, take_them}
+use Rattle.steps.proofs.asked.Settled.{can_settle}
+use Rattle.steps.proofs.requests.Writing.{allows, written_can, written_can_within, written_unlimited, written_done, written_done_within, write_refused, write_refused_within, write_refused_by_limit}
 use Rattle.pool.specs.Asked.{Asks}
 use Rattle.pool.specs.Effects.{MaySettle}
 use Rattle.pool.specs.Pools.{IsSound}

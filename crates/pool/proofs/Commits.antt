@@ -13,14 +13,14 @@ use Rattle.steps.specs.Settles.{releases}
 use Rattle.steps.specs.Steady.{IsSteady}
 use Rattle.steps.specs.Edits.{datasets_of, with_datasets, put, lose, with_freeing, synced, viewing, closed, CanPut, CanLose, CanFree, CanChange, CanSync}
 use Rattle.steps.specs.Received.{put_freeing, CanReceive}
-use Rattle.steps.proofs.Balanced as balanced
-use Rattle.steps.proofs.Known.{states_of, of_states}
-use Rattle.steps.proofs.Losing.{lose_states}
-use Rattle.steps.proofs.Properties.{are_balanced}
-use Rattle.steps.proofs.Putting.{put_states, kept_states}
-use Rattle.steps.proofs.Receiving.{receive_states}
-use Rattle.steps.proofs.Slicing.{freed_states}
-use Rattle.steps.proofs.Syncing.{sync_steady, sync_states}
+use Rattle.steps.proofs.quotas.Balanced as balanced
+use Rattle.steps.proofs.numbers.Known.{states_of, of_states}
+use Rattle.steps.proofs.requests.Losing.{lose_states}
+use Rattle.steps.proofs.questions.Properties.{are_balanced}
+use Rattle.steps.proofs.numbers.Putting.{put_states, kept_states}
+use Rattle.steps.proofs.requests.Receiving.{receive_states}
+use Rattle.steps.proofs.requests.Slicing.{freed_states}
+use Rattle.steps.proofs.requests.Syncing.{sync_steady, sync_states}
 use Rattle.pool.specs.Pools.{IsSound}
 
 -- what datasets have can be counted by so many bits

@@ -6,8 +6,8 @@ use Rattle.std.proofs.lemmas.Bool.{ltb-false, lt-ltb}
 use Rattle.base.specs.Map.{BlockSet}
 use Rattle.base.specs.declared.refusal.Refusal.{Refusal}
 use Rattle.base.specs.declared.refusal.Refusal.TheVariants.{NoMemory}
-use Rattle.name.specs.declared.member.Member.{Member}
-use Rattle.name.specs.declared.target.Target.{Target}
+use Rattle.base.specs.declared.name.member.Member.{Member}
+use Rattle.base.specs.declared.name.target.Target.{Target}
 use Rattle.zalloc.specs.declared.BlockState.{BlockState}
 use Rattle.model.specs.declared.request.Request.TheVariants.{Snapshot, Promote, Rollback}
 use Rattle.model.specs.declared.reply.Reply.TheVariants.{Done, Refused}
@@ -19,19 +19,19 @@ use Rattle.model.specs.Step.{Step}
 use Rattle.model.specs.requests.Change.{limit_row}
 use Rattle.model.specs.requests.Snapshot.{snapshot_names, taking_row, guid_by}
 use Rattle.world.specs.Tables.{Datasets, world_of}
-use Rattle.world.proofs.Takings.{may_take}
+use Rattle.world.proofs.steps.Takings.{may_take}
 use Rattle.datasets.specs.Snapshots.{taken_of}
-use Rattle.clones.specs.Requests.{promoted, promote_refusal}
+use Rattle.snap.specs.Requests.{promoted, promote_refusal}
 use Rattle.removals.specs.Edits.{HasLost}
 use Rattle.removals.specs.Requests.{rolled, rollback_refusal}
 use Rattle.snap.specs.Taking.{after_taking}
 use Rattle.steps.specs.Asked.{asked_by_snapshot, asked_by_promote, asked_by_rollback}
 use Rattle.steps.specs.Edits.{datasets_of, put, lose, CanPut, CanLose, StaysUnlimited}
 use Rattle.steps.specs.Limiting.{IsOver}
-use Rattle.steps.proofs.Freeing.{joined_losses}
-use Rattle.steps.proofs.Promoting as promoting
-use Rattle.steps.proofs.Rolling as rolling
-use Rattle.steps.proofs.Snapping as snaps
+use Rattle.steps.proofs.numbers.Freeing.{joined_losses}
+use Rattle.steps.proofs.requests.Promoting as promoting
+use Rattle.steps.proofs.requests.Rolling as rolling
+use Rattle.steps.proofs.requests.Snapping as snaps
 use Rattle.pool.specs.Pools.{IsSound}
 use Rattle.pool.proofs.Limited.{few_unasked, over_is}
 
@@ -120,9 +120,6 @@ module _ (s : State) (numbers : List BlockState) (sound : IsSound s numbers) whe
     pub promote_few : set.len (union_of (world_of to)) < 2 ^ 32
     promote_few = few_unasked s numbers sound (asked_by_promote s name) (promoting.promote_unasked s sound.steady name none) to promoted_systems
 
-    pub promote_stays : StaysUnlimited s to
-    promote_stays = subst (StaysUnlimited s) (sym is) (promoting.promote_unlimited s name)
-
     promoted_row : (r : Option Refusal) → IsOver s to (set.len s.now.freeing) r → first_of (limit_row (asked_by_promote s name)) ≡ r
     promoted_row r over = over_is s numbers sound (asked_by_promote s name) (promoting.promote_unasked s sound.steady name none) to promoted_systems (set.len s.now.freeing) refl r over
         (λ bare. promoting.promote_fits s sound.steady name none bare numbers sound.states)
@@ -149,9 +146,6 @@ module _ (s : State) (numbers : List BlockState) (sound : IsSound s numbers) whe
 
     pub rollback_few : set.len (union_of (world_of to)) < 2 ^ 32
     rollback_few = few_unasked s numbers sound (asked_by_rollback s target) (rolling.rollback_unasked s sound.steady target later none) to rolled_systems
-
-    pub rollback_stays : StaysUnlimited s to
-    rollback_stays = subst (StaysUnlimited s) (sym is) (rolling.rollback_unlimited s sound.steady target later none)
 
     rolled_row : (r : Option Refusal) → IsOver s to (set.len freeing) r → first_of (limit_row (asked_by_rollback s target)) ≡ r
     rolled_row r over = over_is s numbers sound (asked_by_rollback s target) (rolling.rollback_unasked s sound.steady target later none) to rolled_systems (set.len freeing) freed r over

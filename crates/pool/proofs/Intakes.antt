@@ -1,7 +1,7 @@
 -- What a receive makes of a world.
 use Rattle.std.proofs.Common.{◌≡◌, ◌<◌, ◌^◌, ℕ, List, Bool, Option, None, Ok, false, subst}
 use Rattle.std.specs.FinSet as set
-use Rattle.name.specs.declared.member.Member.{Member}
+use Rattle.base.specs.declared.name.member.Member.{Member}
 use Rattle.zalloc.specs.declared.BlockState.{BlockState}
 use Rattle.model.specs.Numbers.{HasStates}
 use Rattle.model.specs.State.{State}
@@ -15,7 +15,7 @@ use Rattle.steps.specs.Intakes.{IsPresent, IsIntakeOf}
 use Rattle.steps.specs.Received.{put_freeing}
 use Rattle.steps.specs.declared.intake.Intake.{Intake}
 use Rattle.steps.specs.declared.intake.Present.{Present}
-use Rattle.steps.proofs.Receiving.{receive_release, receive_take}
+use Rattle.steps.proofs.requests.Receiving.{receive_release, receive_take}
 use Rattle.pool.specs.declared.effect.Effect.TheVariants.{Blocks}
 use Rattle.pool.specs.declared.keep.Keep.{Keep}
 use Rattle.pool.specs.declared.worlds.World.{World}

@@ -1,12 +1,13 @@
 pub mod Commits
 pub mod Performed
-pub mod Refusing
+pub mod Questions
+pub mod Metered
+pub mod Numbered
 pub mod Limited
 pub mod Fitting
 pub mod Asking
 pub mod Changes
 pub mod Slicing
 pub mod Sights
-pub mod Told
 pub mod Intakes
 pub mod Synced

@@ -19,7 +19,7 @@ use Rattle.model.specs.World.{union_of, reach_of}
 use Rattle.model.specs.requests.Change.{limit_row}
 use Rattle.world.specs.Blocks.{block_order as o}
 use Rattle.world.specs.Tables.{Datasets, world_of}
-use Rattle.world.proofs.SetCounts.{len-union}
+use Rattle.world.proofs.lists.SetCounts.{len-union}
 use Rattle.accounts.specs.Limits.{IsUnlimited}
 use Rattle.datasets.specs.Limits.{with_limit_of}
 use Rattle.steps.specs.Asked.{asked_by_set}
@@ -27,13 +27,13 @@ use Rattle.steps.specs.Counted.{IsCountOf}
 use Rattle.steps.specs.Edits.{datasets_of, put, CanPut}
 use Rattle.steps.specs.Handed.{Space, Line, IsAccounted}
 use Rattle.steps.specs.Limiting.{IsOver, IsStateWith}
-use Rattle.steps.proofs.Balanced as balanced
-use Rattle.steps.proofs.Bounded.{IsUnasked}
-use Rattle.steps.proofs.Counts as counts
-use Rattle.steps.proofs.Foretold.{ledger_alike}
-use Rattle.steps.proofs.Known.{states_of}
-use Rattle.steps.proofs.Properties.{are_balanced}
-use Rattle.steps.proofs.Setting as setting
+use Rattle.steps.proofs.quotas.Balanced as balanced
+use Rattle.steps.proofs.quotas.Bounded.{IsUnasked}
+use Rattle.steps.proofs.numbers.Counts as counts
+use Rattle.steps.proofs.quotas.Foretold.{ledger_alike}
+use Rattle.steps.proofs.numbers.Known.{states_of}
+use Rattle.steps.proofs.questions.Properties.{are_balanced}
+use Rattle.steps.proofs.requests.Setting as setting
 use Rattle.pool.specs.Pools.{IsSound}
 
 -- the ledger after the group is closed

@@ -15,15 +15,15 @@ use Rattle.model.specs.declared.request.Request.{Request}
 use Rattle.model.specs.declared.reply.Reply.TheVariants.{Done, Refused}
 use Rattle.world.specs.Sets.{Has, AreDisjoint}
 use Rattle.world.specs.Tables.{Datasets, world_of}
-use Rattle.world.proofs.Kept.{union-fields}
+use Rattle.world.proofs.changes.Kept.{union-fields}
 use Rattle.accounts.specs.Limits.{IsUnlimited}
 use Rattle.removals.specs.Edits.{HasLost}
 use Rattle.removals.specs.Requests.{IsSweptBy}
 use Rattle.steps.specs.Edits.{datasets_of, with_datasets, put, lose, CanPut, CanLose, StaysUnlimited}
 use Rattle.steps.specs.Handed.{IsAccounted, Line}
-use Rattle.steps.proofs.Asked.{nothing_kept}
-use Rattle.steps.proofs.Freeing.{joined_losses}
-use Rattle.steps.proofs.Putting.{put_none}
+use Rattle.steps.proofs.asked.Asked.{nothing_kept}
+use Rattle.steps.proofs.numbers.Freeing.{joined_losses}
+use Rattle.steps.proofs.numbers.Putting.{put_none}
 use Rattle.pool.specs.declared.effect.Effect.{Effect}
 use Rattle.pool.specs.declared.effect.Effect.TheVariants.{Nothing, Guids}
 use Rattle.pool.specs.declared.keep.Keep.{Keep}

@@ -4,9 +4,9 @@ use Rattle.std.specs.Prelude.{nat_lt, IfSome}
 use Rattle.std.specs.Option.{option_map, is_some}
 use Rattle.std.specs.FinMap.{get, len, remove}
 use Rattle.base.specs.declared.refusal.Refusal.TheVariants.{NotSnapshot, NoDataset, Deferred, TooMany, NoView}
-use Rattle.name.specs.declared.member.Member.{Member}
-use Rattle.name.specs.declared.target.Target.{Target}
-use Rattle.name.specs.declared.target.Target.TheVariants.{FileSystem as OfFileSystem, Snapshot as OfSnapshot, Bookmark as OfBookmark}
+use Rattle.base.specs.declared.name.member.Member.{Member}
+use Rattle.base.specs.declared.name.target.Target.{Target}
+use Rattle.base.specs.declared.name.target.Target.TheVariants.{FileSystem as OfFileSystem, Snapshot as OfSnapshot, Bookmark as OfBookmark}
 use Rattle.zalloc.specs.declared.BlockState.{BlockState}
 use Rattle.model.specs.declared.request.Request.TheVariants.{OpenView, CloseView}
 use Rattle.model.specs.declared.reply.Reply.{Reply}
@@ -24,8 +24,8 @@ use Rattle.world.specs.Tables.{Datasets, world_of}
 use Rattle.removals.specs.Requests.{swept}
 use Rattle.steps.specs.Edits.{datasets_of, lose, viewing, closed, CanLose, StaysUnlimited}
 use Rattle.steps.specs.Steady.{IsSteady, snap_in}
-use Rattle.steps.proofs.Sends.{sources_alike, sight_is}
-use Rattle.steps.proofs.Viewing as views
+use Rattle.steps.proofs.questions.Sends.{sources_alike, sight_is}
+use Rattle.steps.proofs.requests.Viewing as views
 use Rattle.pool.specs.Plans.{CanOpen}
 use Rattle.pool.specs.Pools.{IsSound}
 

@@ -20,8 +20,8 @@ use Rattle.removals.specs.Edits.{HasLost}
 use Rattle.removals.specs.Requests.{swept}
 use Rattle.steps.specs.Edits.{datasets_of, lose, synced, closed, CanLose, CanSync}
 use Rattle.steps.specs.Handed.{IsAccounted, Line}
-use Rattle.steps.proofs.Freeing.{joined_losses}
-use Rattle.steps.proofs.Syncing.{sync_done}
+use Rattle.steps.proofs.numbers.Freeing.{joined_losses}
+use Rattle.steps.proofs.requests.Syncing.{sync_done}
 use Rattle.pool.specs.declared.effect.Effect.TheVariants.{Synced, Closed}
 use Rattle.pool.specs.declared.keep.Keep.{Keep}
 use Rattle.pool.specs.declared.worlds.World.{World}
@@ -48,12 +48,6 @@ module _ (k : Keep) (w : World) (held : IsHeld k w) where
 
     can : CanSync s last
     can = record { is = next; next = not_last s.now.group below }
-
-    after : World
-    after = record w { table = now }
-
-    left : World
-    left = record copy { table = last }
 
     is : synced s last ≡ effected (with_now s (world_in (record w { table = now }))) (Synced (record copy { table = last }))
     is = λ i. record s {

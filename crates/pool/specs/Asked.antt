@@ -1,7 +1,7 @@
 -- What a request asks of the tree of a file system.
 use Rattle.std.specs.Prelude.{◌≡◌, ◌↔◌, Bool, false, Result, Err, [], ◌∷◌, IfOk, IfErr}
 use Rattle.base.specs.Rewrite.{Changes}
-use Rattle.name.specs.declared.target.Target.{Target}
+use Rattle.base.specs.declared.name.target.Target.{Target}
 use Rattle.base.specs.declared.refusal.Refusal.{Refusal}
 use Rattle.base.specs.declared.refusal.Refusal.TheVariants.{BadKey}
 use Rattle.batch.specs.declared.update.Update.{Update}

@@ -1,15 +1,18 @@
 -- What a pool keeps between two steps.
-use Rattle.std.specs.Prelude.{◌+◌, ◌≤◌, ◌<◌, ◌^◌, List}
+use Rattle.std.specs.Prelude.{◌≡◌, ◌+◌, ◌≤◌, ◌<◌, ◌^◌, ℕ, Some, List}
+use Rattle.std.specs.FinMap.{get}
 use Rattle.zalloc.specs.declared.BlockState.{BlockState}
-use Rattle.model.specs.State.{State}
+use Rattle.model.specs.State.{State, Views}
 use Rattle.model.specs.Targets.{guid_limit}
 use Rattle.model.specs.Numbers.{HasStates}
-use Rattle.model.specs.World.{World as OneWorld}
+use Rattle.model.specs.World.{World as OneWorld, SnapId}
 use Rattle.world.specs.Tables.{world_of}
 use Rattle.steps.specs.Handed.{IsAccounted}
 use Rattle.steps.specs.Steady.{IsSteady}
+use Rattle.pool.specs.Shown.{Shown, shown}
 use Rattle.pool.specs.declared.worlds.World.{World}
 use Rattle.pool.specs.declared.keep.Keep.{Keep}
+use Rattle.pool.specs.declared.keep.Meters.{Meters}
 
 -- a world that a pool keeps: its datasets, and what is to be freed (profile)
 abbrev pub world_in : World → OneWorld
@@ -27,6 +30,10 @@ state_in k w = record {
   pool = k.id;
 }
 
+-- what contracts see of a pool of these (profile)
+abbrev pub shown_in : Keep → World → Meters → Shown
+shown_in k w m = shown (state_in k w) k.allocator m.blocks m.segments
+
 -- the facts of the worlds hold, each number has the state that the worlds give it, the counter of guids is no further than past its last
 -- number, and blocks can be counted (profile)
 pub record IsSound (s : State) (numbers : List BlockState) : Type 0 where
@@ -39,8 +46,13 @@ pub record IsSound (s : State) (numbers : List BlockState) : Type 0 where
 abbrev pub IsKept : World → Type 0
 IsKept w = IsAccounted w.table w.ledger
 
--- the pool is sound with this present world, and both worlds have their ledgers (profile)
+-- each open view has a number below this one (profile)
+abbrev pub AreBelow : Views → ℕ → Type 0
+AreBelow views next = (v : ℕ) (id : SnapId) → get views v ≡ Some id → v < next
+
+-- the pool is sound with this present world, both worlds have their ledgers, and no open view has a number that is still to be given (profile)
 pub record IsHeld (k : Keep) (w : World) : Type 0 where
   pub sound : IsSound (state_in k w) k.allocator
   pub now : IsKept w
   pub last : IsKept k.last
+  pub views : AreBelow k.views.opened k.views.next

@@ -2,8 +2,13 @@
 use Rattle.std.specs.Prelude.{◌≡◌, Bool, true, false}
 use Rattle.model.specs.declared.request.Request.{Request}
 use Rattle.model.specs.declared.request.Request.TheVariants.{Write, Punch, FreeObject, Rollback, Promote, Destroy, Release, Receive, CloseView, Slice, Get, WrittenSince, WouldFree}
+use Rattle.model.specs.declared.reply.Reply.{Reply}
 use Rattle.lookups.specs.Named.{reads_lists}
-use Rattle.steps.specs.Reached.{reaches_nodes}
+use Rattle.steps.specs.Edits.{datasets_of}
+use Rattle.steps.specs.Reached.{reaches_nodes, HasRead}
+use Rattle.pool.specs.Kinds.{kind_of}
+use Rattle.pool.specs.Shown.{Shown}
+use Rattle.pool.specs.declared.kind.Kind.TheVariants.{Question}
 
 -- the request changes what a live map has, or frees blocks, and so may reach nodes of trees (profile)
 abbrev pub changes_blocks : Request → Bool
@@ -34,3 +39,10 @@ reaches_lists (Get target property) = reads_lists target property
 reaches_lists (WrittenSince target since) = true
 reaches_lists (WouldFree name first last) = true
 reaches_lists request = false
+
+-- What a request with this reply adds to the counts of a pool: no node and no segment where it reaches none, and where it only reads no more
+-- segments than its reply reads of the datasets (profile)
+pub record IsMetered (old : Shown) (q : Request) (r : Reply) (new : Shown) : Type 0 where
+  pub nodes : ReachesNoNode q → new.nodes ≡ old.nodes
+  pub segments : reaches_lists q ≡ false → new.segments ≡ old.segments
+  pub read : kind_of q ≡ Question → HasRead (datasets_of old.state) q r old.segments new.segments

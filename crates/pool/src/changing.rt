@@ -1,6 +1,6 @@
 //! Writes, punches and freed objects.
 ghost use Rattle.std.specs.Prelude.{◌≡◌, [], ◌∷◌, Err, IfOk, OnErr};
-ghost use Rattle.name.specs.declared.target.Target.{Target};
+ghost use Rattle.base.specs.declared.name.target.Target.{Target};
 ghost use Rattle.tree.specs.Updates.{IsBatch};
 ghost use Rattle.model.specs.declared.request.Request.{Request};
 ghost use Rattle.model.specs.declared.reply.Reply.{Reply};
@@ -12,8 +12,8 @@ ghost use Rattle.pool.specs.Effects.{IsPerformed};
 use crate::effect::Effect;
 use crate::keep::{Keep, Meters};
 use crate::worlds::World;
+use base::name::{DsName, Target};
 use base::refusal::Refusal;
-use name::{DsName, Target};
 use std::alloc::Global;
 use std::slice::from_ref;
 use steps::{ask_change, live_name, settle};

@@ -8,9 +8,9 @@ use crate::effect::Effect;
 use crate::keep::Keep;
 use crate::worlds::World;
 use base::meter::SegMeter;
+use base::name::{DsName, Target};
 use base::refusal::Refusal;
-use clones::{clone_snapshot, promote};
-use name::{DsName, Target};
+use snap::clones::{clone_snapshot, promote};
 use std::alloc::Global;
 use steps::renew;
 
@@ -29,7 +29,7 @@ impl Keep {
         Ok(Effect::Nothing)
     }
 
-    /// Adds a clone of the snapshot that the target names. At `Err` the world is as it was. It costs what `clones::clone_snapshot` does.
+    /// Adds a clone of the snapshot that the target names. At `Err` the world is as it was. It costs what `snap::clones::clone_snapshot` does.
     pub(crate) fn clone_snapshot(
         &self,
         world: &mut World,
@@ -46,7 +46,7 @@ impl Keep {
     }
 
     /// Promotes the clone of this name, and asks the limits of what that leads to. At `Err` the world is as it was, but of no use where it has
-    /// a ledger. It costs what `clones::promote` does.
+    /// a ledger. It costs what `snap::clones::promote` does.
     pub(crate) fn promote(
         &self,
         alloc: Global,

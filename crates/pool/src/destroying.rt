@@ -8,8 +8,8 @@ use crate::effect::Effect;
 use crate::keep::Keep;
 use crate::worlds::World;
 use base::meter::SegMeter;
+use base::name::Target;
 use base::refusal::Refusal;
-use name::Target;
 use removals::{destroy, rollback};
 use std::alloc::Global;
 use steps::renew;
@@ -39,8 +39,7 @@ impl Keep {
             defer,
             segments,
         )?;
-        // It tells of the file systems that are left what a table keeps.
-        let _count = world.table.len();
+        world.table.facts();
         renew(&mut world.ledger, &world.table);
         Ok(Effect::Nothing)
     }

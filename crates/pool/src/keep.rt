@@ -2,7 +2,7 @@
 ghost use Rattle.std.specs.Prelude.{◌≡◌, map};
 ghost use Rattle.base.specs.Surveys.{dead_block};
 ghost use Rattle.steps.specs.Settles.{AllAllocated, releases};
-ghost use Rattle.pool.specs.Pools.{state_in, IsKept};
+ghost use Rattle.pool.specs.Pools.{state_in, AreBelow, IsKept};
 ghost use Rattle.pool.specs.Effects.{effected, numbers_after, MaySettle};
 
 use crate::effect::Effect;
@@ -65,6 +65,7 @@ impl Keep {
         ensures state { (w : World) → state_in self.new w ≡ effected (state_in self.old w) effect }
         ensures numbers { self.new.allocator ≡ numbers_after self.old.last.table.group self.old.allocator effect }
         ensures kept { IsKept self.old.last → IsKept self.new.last }
+        ensures below { AreBelow self.old.views.opened self.old.views.next → AreBelow self.new.views.opened self.new.views.next }
     {
         match effect {
             Effect::Nothing => {}

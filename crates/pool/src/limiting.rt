@@ -1,5 +1,5 @@
 //! The limits of file systems: what they say of a request.
-ghost use Rattle.std.specs.Prelude.{◌≡◌, ◌<◌, ◌^◌, None, false, OnErr, count_by};
+ghost use Rattle.std.specs.Prelude.{◌≡◌, ◌<◌, ◌^◌, None, OnErr, count_by};
 ghost use Rattle.std.specs.FinSet as set;
 ghost use Rattle.zalloc.specs.States.{is_waiting};
 ghost use Rattle.model.specs.declared.request.Request.{Request};
@@ -10,22 +10,21 @@ ghost use Rattle.world.specs.Tables.{world_of};
 ghost use Rattle.accounts.specs.Limits.{IsUnlimited};
 ghost use Rattle.steps.specs.Handed.{IsAccounted};
 ghost use Rattle.steps.specs.Limiting.{IsOver};
-ghost use Rattle.steps.specs.Reached.{reaches_nodes};
-ghost use Rattle.pool.specs.Pools.{state_in, IsHeld, IsSound};
+ghost use Rattle.pool.specs.Pools.{state_in, shown_in, IsHeld, IsSound};
 ghost use Rattle.pool.specs.Effects.{IsPerformed};
 ghost use Rattle.pool.specs.Kinds.{kind_of};
-ghost use Rattle.pool.specs.Reached.{reaches_lists};
+ghost use Rattle.pool.specs.Reached.{IsMetered};
 ghost use Rattle.pool.specs.declared.kind.Kind.{Kind};
 
 use crate::effect::Effect;
 use crate::keep::{Keep, Meters};
 use crate::worlds::World;
 use base::limit::Blocks;
+use base::name::DsName;
 use base::refusal::Refusal;
 use model::limits::Limit;
 use model::reply::Reply;
 use model::request::Request;
-use name::DsName;
 use std::alloc::Global;
 use steps::{Space, answer, over, with_limit};
 
@@ -70,8 +69,7 @@ impl Keep {
         requires held { IsHeld self.now world.now }
         requires question { kind_of request.now ≡ Kind.Question }
         ensures step { Step (state_in self.now world.now) request.now result (state_in self.now world.now) }
-        ensures nodes { reaches_nodes request.now ≡ false → meters.new.blocks ≡ meters.old.blocks }
-        ensures segments { reaches_lists request.now ≡ false → meters.new.segments ≡ meters.old.segments }
+        ensures metered { IsMetered (shown_in self.now world.now meters.old) request.now result (shown_in self.now world.now meters.new) }
     {
         let space = self.space(world.freeing.len());
         answer(

@@ -8,9 +8,9 @@ use crate::effect::Effect;
 use crate::keep::Keep;
 use crate::worlds::World;
 use base::meter::SegMeter;
+use base::name::{MarkName, Tag, Target};
 use base::refusal::Refusal;
 use marks::{bookmark, hold, release};
-use name::{MarkName, Tag, Target};
 use std::alloc::Global;
 use steps::renew;
 

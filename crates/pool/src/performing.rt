@@ -11,8 +11,8 @@ use crate::keep::{Keep, Meters};
 use crate::worlds::World;
 use base::refusal::Refusal;
 use model::request::Request;
-use objset::{free_of, punch_of, write_of};
 use std::alloc::Global;
+use tree::objset::{free_of, punch_of, write_of};
 
 impl Keep {
     /// Changes this world as the request asks, which changes one, and tells what is left to be done beside it. At `Err` the world is as it was,

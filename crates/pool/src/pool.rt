@@ -1,5 +1,5 @@
 //! The pool and its steps.
-ghost use Rattle.std.specs.Prelude.{false, ◌≡◌, ◌≢◌, ◌<◌, ◌≤◌, ◌⊎◌, ◌↔◌, None, Err, IfOk, IfErr};
+ghost use Rattle.std.specs.Prelude.{◌≡◌, ◌≢◌, ◌<◌, ◌≤◌, ◌⊎◌, ◌↔◌, None, Err, IfOk, IfErr};
 ghost use Rattle.base.specs.declared.refusal.Refusal.{Refusal};
 ghost use Rattle.model.specs.State.{fresh_state};
 ghost use Rattle.model.specs.Step.{Step};
@@ -10,9 +10,9 @@ ghost use Rattle.world.specs.RunLaws.{IsViewing};
 ghost use Rattle.world.specs.Worlds.{IsPoolState};
 ghost use Rattle.accounts.specs.Limits.{AreQuotasMet};
 ghost use Rattle.pool.specs.Kinds.{kind_of};
-ghost use Rattle.pool.specs.Reached.{ReachesNoNode, changes_blocks, reaches_lists};
+ghost use Rattle.pool.specs.Reached.{IsMetered};
 ghost use Rattle.pool.specs.Plans.{state_after_plan, CanDo};
-ghost use Rattle.pool.specs.Pools.{state_in, IsHeld};
+ghost use Rattle.pool.specs.Pools.{state_in, shown_in, IsHeld};
 ghost use Rattle.pool.specs.declared.kind.Kind.{Kind};
 
 use crate::effect::Effect;
@@ -53,14 +53,14 @@ impl Drop for Pool {
 }
 
 impl Model for Pool {
-    ghost use Rattle.pool.specs.Shown.{Shown, shown, shown_code};
-    ghost use Rattle.pool.specs.Pools.{state_in, IsHeld};
+    ghost use Rattle.pool.specs.Shown.{Shown, shown_code};
+    ghost use Rattle.pool.specs.Pools.{shown_in, IsHeld};
 
     ghost Value = { Shown };
 
     ghost coded = { shown_code };
 
-    ghost view = { λ p. shown (state_in p.keep p.present) p.keep.allocator p.meters.blocks p.meters.segments };
+    ghost view = { λ p. shown_in p.keep p.present p.meters };
 
     ghost invariant = { λ p. IsHeld p.keep p.present };
 }
@@ -148,8 +148,7 @@ impl Pool {
         ensures same { self.new.state ≡ self.old.state }
         ensures same_numbers { self.new.numbers ≡ self.old.numbers }
         ensures from { result.1.from ≡ self.new }
-        ensures nodes { ReachesNoNode request.now → self.new.nodes ≡ self.old.nodes }
-        ensures segments { reaches_lists request.now ≡ false → self.new.segments ≡ self.old.segments }
+        ensures metered { IsMetered self.old request.now result.0 self.new }
         ensures step { Step self.old.state request.now result.0 result.1.to }
         ensures numbered { IsNumbered self.old.state }
         ensures states { HasStates self.old.state self.old.numbers }
@@ -158,8 +157,7 @@ impl Pool {
         ensures quotas { AreQuotasMet self.old.state.now }
         ensures viewing { IsViewing self.old.state }
     {
-        // It tells of the views that none has the next number.
-        let _count = self.keep.views.len();
+        self.facts();
         let (reply, plan) = self.planned(alloc, request);
         let from = Snapshot::of(self);
         (reply, Ready { plan, from })
@@ -168,8 +166,7 @@ impl Pool {
     fn planned(&mut self, alloc: Global, request: &Request) -> (Reply, Plan)
         ensures same { self.new.state ≡ self.old.state }
         ensures same_numbers { self.new.numbers ≡ self.old.numbers }
-        ensures nodes { ReachesNoNode request.now → self.new.nodes ≡ self.old.nodes }
-        ensures segments { reaches_lists request.now ≡ false → self.new.segments ≡ self.old.segments }
+        ensures metered { IsMetered self.old request.now result.0 self.new }
         ensures can { CanDo self.old.state self.old.numbers result.1 }
         ensures step { Step self.old.state request.now result.0 (state_after_plan self.old.state result.1) }
     {
@@ -210,8 +207,7 @@ impl Pool {
         requires no_view { kind_of request.now ≢ Kind.View }
         ensures same { self.new.state ≡ self.old.state }
         ensures same_numbers { self.new.numbers ≡ self.old.numbers }
-        ensures nodes { ReachesNoNode request.now → self.new.nodes ≡ self.old.nodes }
-        ensures segments { reaches_lists request.now ≡ false → self.new.segments ≡ self.old.segments }
+        ensures metered { IsMetered self.old request.now result.0 self.new }
         ensures can { CanDo self.old.state self.old.numbers result.1 }
         ensures step { Step self.old.state request.now result.0 (state_after_plan self.old.state result.1) }
     {
@@ -250,12 +246,11 @@ impl Pool {
     /// snapshot and a promote where a file system has a limit. A name costs the logarithm of the number of file systems, and a snapshot's also
     /// that of the number of its file system's snapshots. A write or a punch costs the path to its leaf, and to free an object its nodes; a
     /// sync costs a count for each file system; each other request costs what the function says that makes it, as `Table::create`,
-    /// `clones::promote`, `removals::destroy`. What only reads costs what `steps::answer` says, and the opening of a view what
+    /// `snap::clones::promote`, `removals::destroy`. What only reads costs what `steps::answer` says, and the opening of a view what
     /// `sources::sources_of` does.
     pub fn apply(&mut self, alloc: Global, request: &Request) -> Reply
         ensures step { Step self.old.state request.now result self.new.state }
-        ensures nodes { ReachesNoNode request.now → self.new.nodes ≡ self.old.nodes }
-        ensures segments { reaches_lists request.now ≡ false → self.new.segments ≡ self.old.segments }
+        ensures metered { IsMetered self.old request.now result self.new }
         ensures numbered { IsNumbered self.new.state }
         ensures states { HasStates self.new.state self.new.numbers }
         ensures balanced { IsBalanced self.new.state }
@@ -264,16 +259,26 @@ impl Pool {
         ensures viewing { IsViewing self.new.state }
     {
         let reply = self.answer(alloc, request);
-        // It tells of the views that none has the next number.
-        let _count = self.keep.views.len();
+        self.facts();
         reply
+    }
+
+    // What holds of a pool between two steps: it opens the pool to its proof, and reads nothing.
+    fn facts(&self)
+        ensures numbered { IsNumbered self.now.state }
+        ensures states { HasStates self.now.state self.now.numbers }
+        ensures balanced { IsBalanced self.now.state }
+        ensures kept { IsPoolState self.now.state }
+        ensures quotas { AreQuotasMet self.now.state.now }
+        ensures viewing { IsViewing self.now.state }
+    {
+        let _ = &self.keep;
     }
 
     // One step: in place, but for what must not be seen half done.
     fn answer(&mut self, alloc: Global, request: &Request) -> Reply
         ensures step { Step self.old.state request.now result self.new.state }
-        ensures nodes { ReachesNoNode request.now → self.new.nodes ≡ self.old.nodes }
-        ensures segments { reaches_lists request.now ≡ false → self.new.segments ≡ self.old.segments }
+        ensures metered { IsMetered self.old request.now result self.new }
     {
         match kind_of(request) {
             Kind::Question => self
@@ -305,8 +310,7 @@ impl Pool {
     #[inline(never)]
     fn prepared(&mut self, alloc: Global, request: &Request) -> Reply
         ensures step { Step self.old.state request.now result self.new.state }
-        ensures nodes { ReachesNoNode request.now → self.new.nodes ≡ self.old.nodes }
-        ensures segments { reaches_lists request.now ≡ false → self.new.segments ≡ self.old.segments }
+        ensures metered { IsMetered self.old request.now result self.new }
     {
         let (reply, ready) = self.prepare(alloc, request);
         self.commit(ready);
@@ -315,7 +319,8 @@ impl Pool {
 
     /// How many nodes of trees and how many segments of dead lists were reached since the pool was made. A count stops at the greatest u64.
     /// A request that only reads reaches nodes where it reads a block or makes a stream, and one that changes the world where it changes what
-    /// a live map has, or frees blocks: so a snapshot, a clone and a promote reach none, and nor does any property. Constant time.
+    /// a live map has, or frees blocks: so a snapshot, a clone and a promote reach none, and nor does any property. One that only reads reaches
+    /// no more segments than the clause of `steps::answer` says. Constant time.
     pub fn meters(&self) -> (u64, u64)
         ensures { result ≡ (self.now.nodes, self.now.segments) }
     {
@@ -349,8 +354,7 @@ fn in_place(
     requires kind { (kind_of request.now ≡ Kind.Change) ⊎ ((kind_of request.now ≡ Kind.Asking) × (world.old.ledger ≡ None)) }
     ensures held { IsHeld keep.new world.new }
     ensures step { Step (state_in keep.old world.old) request.now result (state_in keep.new world.new) }
-    ensures nodes { changes_blocks request.now ≡ false → meters.new.blocks ≡ meters.old.blocks }
-    ensures segments { reaches_lists request.now ≡ false → meters.new.segments ≡ meters.old.segments }
+    ensures metered { IsMetered (shown_in keep.old world.old meters.old) request.now result (shown_in keep.new world.new meters.new) }
 {
     match keep.perform(alloc, world, request, meters) {
         Ok(effect) => {

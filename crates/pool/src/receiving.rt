@@ -7,9 +7,9 @@ ghost use Rattle.pool.specs.Effects.{IsPerformed};
 use crate::effect::Effect;
 use crate::keep::{Keep, Meters};
 use crate::worlds::World;
+use base::name::SnapName;
 use base::refusal::Refusal;
 use base::text::Bytes;
-use name::SnapName;
 use std::alloc::Global;
 use steps::{Intake, Present, intake_of, renew};
 

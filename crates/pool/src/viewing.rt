@@ -13,10 +13,10 @@ use crate::effect::Effect;
 use crate::keep::Keep;
 use crate::worlds::World;
 use base::meter::SegMeter;
+use base::name::Target;
 use base::refusal::Refusal;
 use model::sight::Sight;
 use model::snapshot_id::SnapshotId;
-use name::Target;
 use removals::close_view;
 use std::alloc::Global;
 use std::sync::Arc;
@@ -37,8 +37,6 @@ impl Keep {
         ensures ok { IfOk result (λ p. Step (state_in self.now world.now) (Request.OpenView target.now) (Reply.Opened self.now.views.next p.1) (viewing (state_in self.now world.now) (snap_id p.0))) }
         ensures err { IfErr result (λ e. Step (state_in self.now world.now) (Request.OpenView target.now) (Reply.Refused e) (state_in self.now world.now)) }
     {
-        // It tells of the views that none has the next number.
-        let _count = self.views.len();
         let Target::Snapshot(name) = target else {
             return Err(Refusal::NotSnapshot);
         };

@@ -4,7 +4,7 @@ ghost use Rattle.std.specs.FinMap as finmap;
 ghost use Rattle.std.specs.FinMap.{insert};
 ghost use Rattle.std.specs.FinSet as set;
 ghost use Rattle.base.specs.declared.refusal.Refusal.{Refusal};
-ghost use Rattle.name.specs.Names.{root_name};
+ghost use Rattle.base.specs.Names.{root_name};
 ghost use Rattle.model.specs.World.{empty_file_system};
 
 use base::refusal::Refusal;

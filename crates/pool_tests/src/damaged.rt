@@ -1,11 +1,11 @@
 //! Streams that are cut short, go on or are changed: each is refused, and nothing has changed.
 use crate::pools::{allocated, answers, group};
 use crate::streams::push_named;
+use base::name::{SnapName, Target};
 use base::refusal::Refusal;
 use base::text::Bytes;
 use model::reply::{Reply, Value};
 use model::request::Request;
-use name::{SnapName, Target};
 use pool::Pool;
 use std::alloc::{AllocError, Global};
 use std::process::Abort;

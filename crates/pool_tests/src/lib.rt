@@ -4,8 +4,6 @@
 #[cfg(test)]
 mod damaged;
 #[cfg(test)]
-mod meters;
-#[cfg(test)]
 mod pools;
 #[cfg(test)]
 mod settings;

@@ -1,18 +1,22 @@
 //! What no line shows: a step that is prepared and left, runs of lists, and what no pool is made of.
 use base::data::Data;
+use base::name::{DsName, Target};
 use base::refusal::Refusal;
 use model::reply::{Reply, Value};
-use model::request::{PoolProperty, Request};
-use name::{DsName, Target};
+use model::request::{PoolProperty, Property, Request};
 use pool::Pool;
 use std::alloc::Global;
 use std::process::Abort;
+
+fn root(rt: &impl Abort, alloc: Global) -> Target {
+    Target::read(alloc, b"p").expect(rt, "memory for a name")
+}
 
 fn write_of(rt: &impl Abort, alloc: Global) -> Request {
     let mut bytes = [0; 512];
     bytes[0] = 0x61;
     Request::Write {
-        target: Target::read(alloc, b"p").expect(rt, "memory for a name"),
+        target: root(rt, alloc),
         object: 0,
         block: 0,
         bytes: Data::new(alloc, &bytes).expect(rt, "memory for a block"),
@@ -74,21 +78,40 @@ fn prepared_and_left(rt: HostRuntime) {
     );
 }
 
-/// Whether these are the replies to a write, a sync and a look at what is allocated.
+/// Whether a block is 61 and 511 times 00.
+fn is_written(bytes: &[u8; 512]) -> bool {
+    let mut wanted = [0; 512];
+    wanted[0] = 0x61;
+    *bytes == wanted
+}
+
+/// Whether these are the replies to a write of such a block, a read of it and a look at what the file system has.
 fn are_replies(replies: &[Reply]) -> bool {
     match replies {
         [
             Reply::Done,
-            Reply::Group(2),
+            Reply::Data(Some(bytes)),
             Reply::Value(Value::Size(3072)),
-        ] => true,
+        ] => is_written(bytes),
         _ => false,
     }
 }
 
+// As `zfsp 1000 1` answers `write p 0 0 61`, `read p 0 0` and `get referenced p`.
 fn is_run(rt: &impl Abort, alloc: Global) -> bool {
-    let requests = [write_of(rt, alloc), Request::Sync, allocated()];
-    let mut pool = Pool::create(alloc, 1, 6).expect(rt, "memory for a pool");
+    let requests = [
+        write_of(rt, alloc),
+        Request::Read {
+            target: root(rt, alloc),
+            object: 0,
+            block: 0,
+        },
+        Request::Get {
+            target: root(rt, alloc),
+            property: Property::Referenced,
+        },
+    ];
+    let mut pool = Pool::create(alloc, 1, 1000).expect(rt, "memory for a pool");
     match pool.run(alloc, &requests) {
         Ok(replies) => are_replies(replies.as_slice()),
         Err(_) => false,

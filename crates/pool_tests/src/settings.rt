@@ -1,11 +1,11 @@
 //! Limits set by requests: compared, prepared and left, in a list, and with memory refused.
 use base::data::Data;
 use base::limit::Blocks;
+use base::name::{DsName, Target};
 use base::refusal::Refusal;
 use model::limits::Limit;
 use model::reply::{Reply, Value};
 use model::request::{Property, Request};
-use name::{DsName, Target};
 use pool::Pool;
 use std::alloc::Global;
 use std::process::Abort;

@@ -1,5 +1,6 @@
 //! Requests, replies and entries, compared by value.
 use base::data::Data;
+use base::name::{DsName, SnapName, Target};
 use base::refusal::Refusal;
 use base::text::Bytes;
 use laws::{lineage_laws, run_laws};
@@ -8,7 +9,6 @@ use model::names::Names;
 use model::reply::{Reply, Value};
 use model::request::{PoolProperty, Property, Request};
 use model::snap_names::SnapNames;
-use name::{DsName, SnapName, Target};
 use std::alloc::Global;
 use std::process::Abort;
 

@@ -15,9 +15,9 @@ use Rattle.model.specs.requests.Receive.{same_cell, same_entry, same_map}
 use Rattle.world.specs.Shapes.{key_order}
 use Rattle.world.specs.Blocks.{block_order as o}
 use Rattle.world.specs.Sets.{Has, IsSubset}
-use Rattle.world.proofs.Cells.{in_blocks, from_blocks}
-use Rattle.world.proofs.Maps.{no_value}
-use Rattle.world.proofs.SetCounts.{has_some, Has-cases, in_difference, from_difference, in_intersection, from_intersection, no-empty, same_members, len-difference}
+use Rattle.world.proofs.maps.Cells.{in_blocks, from_blocks}
+use Rattle.world.proofs.lists.Maps.{no_value}
+use Rattle.world.proofs.lists.SetCounts.{has_some, Has-cases, in_difference, from_difference, in_intersection, from_intersection, no-empty, same_members, len-difference}
 use Rattle.datasets.proofs.Accounts.{count_is}
 
 -- ---- the test of two maps

@@ -10,10 +10,10 @@ use Rattle.model.specs.World.{FileSystem, maps_of, empty_file_system, union_of}
 use Rattle.world.specs.Blocks.{block_order as o}
 use Rattle.world.specs.Sets.{Has, IsSubset, AreDisjoint}
 use Rattle.world.specs.Tables.{Datasets, world_of, with_system}
-use Rattle.world.proofs.Bridge.{in_union_of, from_union_of, no_block}
-use Rattle.world.proofs.Maps.{no_value}
-use Rattle.world.proofs.Put.{put_cases, put_other}
-use Rattle.world.proofs.SetCounts.{same_members}
+use Rattle.world.proofs.lineage.Bridge.{in_union_of, from_union_of, no_block}
+use Rattle.world.proofs.lists.Maps.{no_value}
+use Rattle.world.proofs.lineage.Put.{put_cases, put_other}
+use Rattle.world.proofs.lists.SetCounts.{same_members}
 use Rattle.removals.specs.declared.edit.Edit.{Edit}
 use Rattle.removals.specs.Edits.{HasLost}
 use Rattle.removals.proofs.Losses.{lost_none, lost_alike}

@@ -1,5 +1,5 @@
 -- The live map after a write can be kept as a snapshot.
-use Rattle.std.proofs.Common.{◌≡◌, ℕ, ◌+◌, ◌<◌, ◌^◌, List, [], ◌∷◌, ◌++◌, Option, refl, sym, ap, subst, ◌∙◌}
+use Rattle.std.proofs.Common.{◌≡◌, ℕ, ◌+◌, List, [], ◌∷◌, ◌++◌, Option, refl, sym, ap, subst, ◌∙◌}
 use Rattle.std.specs.Option.{option_map_or}
 use Rattle.std.specs.FinMap.{insert}
 use Rattle.std.specs.FinMap as finmap
@@ -7,7 +7,7 @@ use Rattle.std.specs.FinSet.{empty}
 use Rattle.base.specs.declared.number.Key.{Key}
 use Rattle.base.specs.Map.{Map}
 use Rattle.base.specs.Rewrite.{Changes, rewrite}
-use Rattle.name.specs.declared.member.Member.{Member}
+use Rattle.base.specs.declared.name.member.Member.{Member}
 use Rattle.zalloc.specs.declared.BlockState.{BlockState}
 use Rattle.tree.specs.declared.change.Changed.{Changed}
 use Rattle.model.specs.Hierarchy.{FileSystems}
@@ -18,16 +18,13 @@ use Rattle.datasets.specs.Rows.{live_of, plain_snap, with_live, with_snap}
 use Rattle.world.specs.Takings.{AreTakable}
 use Rattle.world.specs.Worlds.{AreFileSystems}
 use Rattle.world.specs.Tables.{Datasets, CanSnap, world_of, with_system}
-use Rattle.world.proofs.Put.{put_here}
+use Rattle.world.proofs.lineage.Put.{put_here}
 use Rattle.datasets.specs.Snapshots.{with_snap_at}
 use Rattle.removals.proofs.Turns.{starts_taking, can_snap}
 use Rattle.receives.specs.Ends.{CanFinish, HasReceived, finished}
 use Rattle.receives.proofs.Ready.{takable_written}
 
 module _ (t u : Datasets) (m : Member) (new : Map) (can : CanFinish t m) (is : u ≡ record t { file_systems = with_live t.file_systems m.file_system new }) where
-  pub opens_next : u.group + 1 < 2 ^ 64
-  opens_next = subst (λ n. n + 1 < 2 ^ 64) (sym (ap (λ (x : Datasets). x.group) is)) can.opens
-
   pub can_keep : (guid : ℕ) → AreFileSystems u.file_systems u.group
       → CanSnap (record u { group = u.group + 1 }) m.file_system (plain_snap m.component (live_of u.file_systems m.file_system) guid u.group)
   can_keep guid good =

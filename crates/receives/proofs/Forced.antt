@@ -5,15 +5,15 @@ use Rattle.std.specs.Option.{option_map_or, option_and_then}
 use Rattle.std.specs.FinMap.{get, insert}
 use Rattle.base.specs.Map.{Map}
 use Rattle.base.specs.Surveys.{IsIn}
-use Rattle.bookmarks.specs.Marks.{without_newer}
+use Rattle.snapshots.specs.Marks.{without_newer}
 use Rattle.model.specs.World.{World, FileSystem, Snap}
 use Rattle.model.specs.Edits.{with_file_system, with_losses}
 use Rattle.model.specs.requests.Receive.{newest_of, back_to_newest}
 use Rattle.datasets.specs.Losses.{newest_map}
 use Rattle.datasets.specs.Rows.{live_of, snaps_at, with_live}
 use Rattle.world.specs.Tables.{Datasets, world_of}
-use Rattle.world.proofs.Maps.{same_value, no_value}
-use Rattle.world.proofs.Put.{put_here}
+use Rattle.world.proofs.lists.Maps.{same_value, no_value}
+use Rattle.world.proofs.lineage.Put.{put_here}
 use Rattle.removals.specs.Requests.{with_marks}
 use Rattle.removals.proofs.Marked.{marks_put}
 use Rattle.removals.proofs.Rolled.{insert_twice}

@@ -12,8 +12,8 @@ use Rattle.datasets.specs.Dead.{newest_blocks}
 use Rattle.datasets.proofs.Newest.{last_is}
 use Rattle.world.specs.Worlds.{AreFileSystems}
 use Rattle.world.specs.Tables.{Datasets, world_of}
-use Rattle.world.proofs.Bridge.{map_of_live, map_of_kept, in_middle}
-use Rattle.world.proofs.Maps.{same_value, no_value}
+use Rattle.world.proofs.lineage.Bridge.{map_of_live, map_of_kept, in_middle}
+use Rattle.world.proofs.lists.Maps.{same_value, no_value}
 use Rattle.datasets.specs.Table.{AreNumbersOne}
 
 last_snap : (p : Option Kept) (ks : List Kept) → option_map (λ (k : Kept). k.snapshot) (last_or p ks) ≡ last_or (option_map (λ (k : Kept). k.snapshot) p) (map (λ (k : Kept). k.snapshot) ks)

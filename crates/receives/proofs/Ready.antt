@@ -9,8 +9,8 @@ use Rattle.base.specs.declared.refusal.Refusal.{Refusal}
 use Rattle.base.specs.declared.refusal.Refusal.TheVariants.{NoDataset, Exists, NoParent, TooMany, WrongSource, Modified}
 use Rattle.base.specs.Map.{Map}
 use Rattle.base.specs.Surveys.{IsIn}
-use Rattle.name.specs.declared.member.Member.{Member}
-use Rattle.name.specs.Names.{same_name}
+use Rattle.base.specs.declared.name.member.Member.{Member}
+use Rattle.base.specs.Names.{same_name}
 use Rattle.stream.specs.Spelling.{Sending}
 use Rattle.model.specs.Hierarchy.{FileSystems, file_system_limit, has_parent}
 use Rattle.model.specs.Rule.{first_of}
@@ -22,9 +22,9 @@ use Rattle.model.specs.requests.Receive.{newest_of, back_to_newest, forced_back,
 use Rattle.datasets.specs.Rows.{with_live}
 use Rattle.world.specs.Takings.{AreTakable}
 use Rattle.world.specs.Tables.{Datasets, world_of}
-use Rattle.world.proofs.Finding.{or_none, found_none, name_itself}
-use Rattle.world.proofs.Maps.{some_of, no_value}
-use Rattle.world.proofs.Put.{put_here}
+use Rattle.world.proofs.lists.Finding.{or_none, found_none, name_itself}
+use Rattle.world.proofs.lists.Maps.{some_of, no_value}
+use Rattle.world.proofs.lineage.Put.{put_here}
 use Rattle.removals.specs.declared.edit.Edit.{Edit}
 use Rattle.receives.specs.Ends.{CanFinish}
 use Rattle.receives.specs.Requests.{begun, back, receive_refusal}

@@ -11,7 +11,7 @@ use Rattle.base.specs.Map.{Map, Cell, blocks}
 use Rattle.node.specs.Unique.{IsUnique}
 use Rattle.model.specs.Sums.{size_without}
 use Rattle.model.specs.World.{World}
-use Rattle.name.specs.declared.member.Member.{Member}
+use Rattle.base.specs.declared.name.member.Member.{Member}
 use Rattle.base.specs.declared.number.Guid.{Guid}
 use Rattle.stream.specs.Spelling.{Sending, source_guid}
 use Rattle.model.specs.Hierarchy.{file_system_limit, has_parent}
@@ -20,7 +20,7 @@ use Rattle.model.specs.requests.Create.{create_row, create_refusal}
 use Rattle.model.specs.requests.Receive.{same_map, has_no_room, full_row, incremental_row}
 use Rattle.datasets.specs.Rows.{snap_count}
 use Rattle.world.specs.Tables.{Datasets, world_of}
-use Rattle.world.proofs.Maps.{no_value}
+use Rattle.world.proofs.lists.Maps.{no_value}
 use Rattle.removals.proofs.Rooms.{snaps_counted}
 use Rattle.receives.specs.Requests.{receive_refusal}
 use Rattle.receives.proofs.Alike.{decides_map, same_by_counts, counts_of_same}

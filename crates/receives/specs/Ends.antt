@@ -2,7 +2,7 @@
 use Rattle.std.specs.Prelude.{◌≡◌, ◌<◌, ◌+◌, ◌^◌, ℕ, List, [], ◌∷◌}
 use Rattle.base.specs.declared.number.Key.{Key}
 use Rattle.base.specs.Rewrite.{Changes}
-use Rattle.name.specs.declared.member.Member.{Member}
+use Rattle.base.specs.declared.name.member.Member.{Member}
 use Rattle.zalloc.specs.declared.BlockState.{BlockState}
 use Rattle.tree.specs.declared.change.Changed.{Changed}
 use Rattle.model.specs.World.{World}

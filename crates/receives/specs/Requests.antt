@@ -1,7 +1,7 @@
 -- What a receive begins with, and why it is refused.
 use Rattle.std.specs.Prelude.{ℕ, List, Bool, Option}
 use Rattle.base.specs.declared.refusal.Refusal.{Refusal}
-use Rattle.name.specs.declared.member.Member.{Member}
+use Rattle.base.specs.declared.name.member.Member.{Member}
 use Rattle.stream.specs.Spelling.{Sending}
 use Rattle.model.specs.Rule.{first_of}
 use Rattle.model.specs.requests.Receive.{before_receive, forced_back, stream_row}

@@ -11,10 +11,10 @@ ghost use Rattle.world.specs.Tables.{world_of};
 ghost use Rattle.receives.specs.Ends.{CanFinish, HasReceived, finished};
 
 use base::meter::{Meter, SegMeter};
+use base::name::SnapName;
 use base::number::{Group, Guid};
 use base::refusal::Refusal;
 use datasets::Table;
-use name::SnapName;
 use std::alloc::Global;
 use tree::{Changed, Update};
 use zalloc::Allocator;
@@ -56,8 +56,7 @@ pub fn finish(
         meter,
         segments,
     )?;
-    // It tells of the file systems what a snapshot needs.
-    let _count = table.len();
+    table.facts();
     table.keep_live(alloc, &name.file_system, &name.component, target)?;
     Ok(changed)
 }

@@ -13,11 +13,11 @@ ghost use Rattle.receives.specs.Requests.{begun, back, receive_refusal};
 
 use crate::refused::{newest_of, receive_refusal};
 use base::meter::SegMeter;
+use base::name::{DsName, Member, SnapName};
 use base::refusal::Refusal;
 use datasets::{Snapshot, Table};
 use destroyer::Freeing;
-use name::{DsName, Member, SnapName};
-use removals::{Edit, lose_newer_bookmarks};
+use removals::{Edit, remove_newer_bookmarks};
 use std::alloc::Global;
 use stream::Stream;
 
@@ -112,7 +112,7 @@ fn forced_back(
     };
     let mut edit = Edit::of(table, freeing)?;
     edit.lose_live(alloc, name, segments)?;
-    lose_newer_bookmarks(alloc, &mut edit.to, name, newest.group())?;
+    remove_newer_bookmarks(alloc, &mut edit.to, name, newest.group())?;
     Ok(edit)
 }
 

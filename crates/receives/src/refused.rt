@@ -8,10 +8,10 @@ ghost use Rattle.model.specs.requests.Receive.{same_map, has_no_room, full_row, 
 ghost use Rattle.world.specs.Tables.{world_of};
 ghost use Rattle.receives.specs.Requests.{receive_refusal};
 
+use base::name::{Component, Member};
 use base::number::Guid;
 use base::refusal::Refusal;
 use datasets::{FileSystem, Snapshot, Table};
-use name::{Component, Member};
 use stream::Stream;
 
 // A pool has at most this many snapshots (profile).
@@ -110,8 +110,7 @@ fn is_modified(table: &Table, file_system: &FileSystem, newest: &Snapshot) -> bo
     requires newest { last_or None file_system.now.system.snaps ≡ Some newest.now }
     ensures { result ≡ not (same_map file_system.now.system.live newest.now.map) }
 {
-    // It tells that a number names one block.
-    let _count = table.len();
+    table.facts();
     let (live, kept) = (file_system.live(), newest.tree());
     file_system.written() > 0 || live.node_count() != kept.node_count()
 }

@@ -11,9 +11,9 @@ use Rattle.datasets.specs.Rows.{Entry}
 use Rattle.world.specs.Shapes.{Name, name_order}
 use Rattle.world.specs.Worlds.{AreFileSystems}
 use Rattle.world.specs.Tables.{Datasets, world_of, without_system}
-use Rattle.world.proofs.Maps.{no_value, key_cases, at_entry, get-remove_same, get-remove_other}
-use Rattle.world.proofs.Finding.{found_none, is_same_id}
-use Rattle.world.proofs.Bridge.{from_entries, from_snap_at, in_snaps}
+use Rattle.world.proofs.lists.Maps.{no_value, key_cases, at_entry, get-remove_same, get-remove_other}
+use Rattle.world.proofs.lists.Finding.{found_none, is_same_id}
+use Rattle.world.proofs.lineage.Bridge.{from_entries, from_snap_at, in_snaps}
 use Rattle.removals.specs.Named.{has_clone, is_held, is_kept}
 use Rattle.removals.specs.Families.{has_deferred_origin}
 use Rattle.removals.specs.Requests.{swept, without_family, IsSweptBy}

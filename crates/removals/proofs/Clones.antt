@@ -5,8 +5,8 @@ use Rattle.std.specs.List.{find, list_any}
 use Rattle.std.specs.Option.{option_map_or, option_and_then}
 use Rattle.std.specs.FinMap.{get, entries}
 use Rattle.std.proofs.lemmas.Bool.{lt-ltb}
-use Rattle.name.specs.declared.member.Member.{Member}
-use Rattle.name.specs.Names.{same_name}
+use Rattle.base.specs.declared.name.member.Member.{Member}
+use Rattle.base.specs.Names.{same_name}
 use Rattle.base.specs.Surveys.{IsIn}
 use Rattle.model.specs.World.{FileSystem, Snap, SnapId, id_of, same_id, snap_named, clones_of}
 use Rattle.model.specs.requests.Rollback.{has_clone_outside}
@@ -14,12 +14,12 @@ use Rattle.world.specs.Shapes.{Name, name_order}
 use Rattle.world.specs.Worlds.{AreFileSystems}
 use Rattle.world.specs.Dead.{HasNoCloneIn}
 use Rattle.world.specs.Tables.{Datasets, world_of, without_snap}
-use Rattle.world.proofs.Maps.{at_entry, no_value}
-use Rattle.world.proofs.Bridge.{from_entries}
-use Rattle.world.proofs.Finding.{from_find, find_only, from_filter, same_id_is, one_name}
-use Rattle.world.proofs.States.{positive, in_clones}
-use Rattle.world.proofs.WithoutSnaps.{from_without}
-use Rattle.removals.specs.Named.{without_named, has_clone, is_named_cloned}
+use Rattle.world.proofs.lists.Maps.{at_entry, no_value}
+use Rattle.world.proofs.lineage.Bridge.{from_entries}
+use Rattle.world.proofs.lists.Finding.{from_find, find_only, from_filter, same_id_is, one_name}
+use Rattle.world.proofs.steps.States.{positive, in_clones}
+use Rattle.world.proofs.removals.WithoutSnaps.{from_without}
+use Rattle.removals.specs.Named.{without_named, has_clone, has_clone_named}
 use Rattle.removals.proofs.Needed.{none_kept, any_alike}
 use Rattle.removals.proofs.Named.{AreNamesOnce, names_once, once_after}
 
@@ -53,7 +53,7 @@ outside_is t ids = any_alike (λ id. list_any (λ (clone : Name). not (list_any 
     any (x ∷ xs) = sym (lt-ltb 0 (length (x ∷ xs)) (omega arith))
 
 -- a snapshot that is let go by its name has none
-pub may_splice : (t : Datasets) (m : Member) → is_named_cloned t m ≡ false → IfSome (snap_named (world_of t) m) (λ (s : Snap). HasNoCloneIn t.file_systems (id_of s))
+pub may_splice : (t : Datasets) (m : Member) → has_clone_named t m ≡ false → IfSome (snap_named (world_of t) m) (λ (s : Snap). HasNoCloneIn t.file_systems (id_of s))
 may_splice t m e = by_snap (snap_named (world_of t) m) e
   where
     by_snap : (x : Option Snap) → option_map_or (λ (s : Snap). has_clone t (id_of s)) x false ≡ false → IfSome x (λ (s : Snap). HasNoCloneIn t.file_systems (id_of s))
@@ -86,7 +86,7 @@ module _ (t : Datasets) (once : AreNamesOnce t.file_systems) (id : SnapId) where
           ∙ find_only (λ (u : Snap). same_name u.name m.component) k.0.snaps s i.0 there.1
           (λ y j n. once m.file_system k.0 k.1 y s j i.0 (one_name y.name m.component n ∙ sym (one_name s.name m.component there.1)))
 
-  named_after : (m : Member) → is_named_cloned t m ≡ false → is_named_cloned (without_snap t id) m ≡ false
+  named_after : (m : Member) → has_clone_named t m ≡ false → has_clone_named (without_snap t id) m ≡ false
   named_after m e = by_snap (snap_named (world_of (without_snap t id)) m) refl
     where
       by_snap : (x : Option Snap) → snap_named (world_of (without_snap t id)) m ≡ x → option_map_or (λ (s : Snap). has_clone (without_snap t id) (id_of s)) x false ≡ false
@@ -96,7 +96,7 @@ module _ (t : Datasets) (once : AreNamesOnce t.file_systems) (id : SnapId) where
 -- What is left of datasets where snapshots go: a name is one snapshot's, and what had no clone has none
 pub record IsLeftOf (t u : Datasets) : Type 0 where
   pub once : AreNamesOnce u.file_systems
-  pub uncloned : (m : Member) → is_named_cloned t m ≡ false → is_named_cloned u m ≡ false
+  pub uncloned : (m : Member) → has_clone_named t m ≡ false → has_clone_named u m ≡ false
 
 pub left_whole : (t : Datasets) → AreFileSystems t.file_systems t.group → IsLeftOf t t
 left_whole t good = record { once = names_once t good; uncloned = λ m e. e }

@@ -6,18 +6,18 @@ use Rattle.std.specs.Option.{option_map, option_map_or, option_and_then}
 use Rattle.std.specs.FinMap.{get, remove, same_map}
 use Rattle.std.proofs.lemmas.Bool.{and_parts}
 use Rattle.base.specs.Surveys.{IsIn}
-use Rattle.name.specs.Names.{same_name}
+use Rattle.base.specs.Names.{same_name}
 use Rattle.model.specs.World.{FileSystem, Snap, SnapId, id_of, same_id, snap_at, snap_named}
 use Rattle.model.specs.State.{Views, is_viewed}
 use Rattle.model.specs.Outcome.{is_needed}
 use Rattle.world.specs.Shapes.{Name, name_order}
 use Rattle.world.specs.Worlds.{AreFileSystems}
 use Rattle.world.specs.Tables.{Datasets, world_of, without_snap}
-use Rattle.world.proofs.Maps.{no_value, same_value}
-use Rattle.world.proofs.Finding.{find_only, same_id_is, is_same_id, one_name, name_itself}
-use Rattle.world.proofs.Bridge.{from_snap_at, snap_is_at, one_snap}
-use Rattle.world.proofs.WithoutSnaps.{get-without, without_none}
-use Rattle.removals.specs.Named.{without_named, has_clone, is_named_cloned, is_kept}
+use Rattle.world.proofs.lists.Maps.{no_value, same_value}
+use Rattle.world.proofs.lists.Finding.{find_only, same_id_is, is_same_id, one_name, name_itself}
+use Rattle.world.proofs.lineage.Bridge.{from_snap_at, snap_is_at, one_snap}
+use Rattle.world.proofs.removals.WithoutSnaps.{get-without, without_none}
+use Rattle.removals.specs.Named.{without_named, has_clone, has_clone_named, is_kept}
 use Rattle.removals.specs.Families.{unneeded}
 use Rattle.removals.specs.Requests.{swept, gone_with, IsSweptBy}
 use Rattle.removals.proofs.Named.{names_once}
@@ -89,7 +89,7 @@ module _ (t : Datasets) (good : AreFileSystems t.file_systems t.group) (views : 
     named = named_at t good shown.0 p shown.2
 
     -- it has no clone
-    pub goes_uncloned : is_named_cloned t (record { file_system = p.0; component = p.1.name }) ≡ false
+    pub goes_uncloned : has_clone_named t (record { file_system = p.0; component = p.1.name }) ≡ false
     goes_uncloned = ap (λ (x : Option Snap). option_map_or (λ (s : Snap). has_clone t (id_of s)) x false) named ∙ (kept_parts t left p.1 shown.4).2
 
     pub one_goes : without_snap t (id_of p.1) ≡ swept t left

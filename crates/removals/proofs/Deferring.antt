@@ -3,20 +3,20 @@ use Rattle.std.proofs.Common.{◌≡◌, ℕ, Bool, true, false, cond, ◌||◌,
 use Rattle.std.specs.List.{find}
 use Rattle.std.specs.Option.{option_map, option_map_or, option_and_then}
 use Rattle.std.specs.FinMap.{get, same_map}
-use Rattle.name.specs.declared.member.Member.{Member}
-use Rattle.name.specs.Names.{same_name}
+use Rattle.base.specs.declared.name.member.Member.{Member}
+use Rattle.base.specs.Names.{same_name}
 use Rattle.base.specs.Surveys.{IsIn}
 use Rattle.model.specs.World.{World, FileSystem, Snap, SnapId, id_of, same_id, snap_named, maps_of, union_of}
 use Rattle.model.specs.requests.Destroy.{is_one_of, with_deferred}
 use Rattle.world.specs.Shapes.{Name, name_order}
 use Rattle.world.specs.Tables.{Datasets, world_of, deferred_snap}
-use Rattle.world.proofs.Sweep.{get-with_file_systems}
+use Rattle.world.proofs.removals.Sweep.{get-with_file_systems}
 use Rattle.base.specs.Map.{BlockSet}
 use Rattle.world.specs.Blocks.{block_order as o}
-use Rattle.world.proofs.Maps.{same_value, no_value}
-use Rattle.world.proofs.SetCounts.{same_members}
-use Rattle.world.proofs.Views.{same_maps_mapped}
-use Rattle.world.proofs.Bridge.{in_union_of, from_union_of}
+use Rattle.world.proofs.lists.Maps.{same_value, no_value}
+use Rattle.world.proofs.lists.SetCounts.{same_members}
+use Rattle.world.proofs.changes.Views.{same_maps_mapped}
+use Rattle.world.proofs.lineage.Bridge.{in_union_of, from_union_of}
 use Rattle.removals.specs.Edits.{HasLost}
 use Rattle.removals.specs.Named.{deferred_all}
 use Rattle.removals.proofs.Losses.{lost_alike}
@@ -83,9 +83,6 @@ find_marked p q (t ∷ ts) = by_test (same_name t.name q) (find_marked p q ts)
     by_test false ih = ih
 
 module _ (t : Datasets) (id : SnapId) where
-  is_it : Snap → Bool
-  is_it u = same_id (id_of u) id
-
   named_after : (m : Member) → snap_named (world_of (deferred_snap t id)) m ≡ option_map (marked_by (λ u. same_id (id_of u) id)) (snap_named (world_of t) m)
   named_after m = ap (option_and_then (λ (f : FileSystem). find (λ (u : Snap). same_name u.name m.component) f.snaps))
       (get-with_file_systems (world_of t) (λ _ f. record f { snaps = map (marked_by (λ u. same_id (id_of u) id)) f.snaps }) m.file_system)

@@ -8,8 +8,8 @@ use Rattle.std.specs.FinMap.{get, same_map}
 use Rattle.base.specs.declared.refusal.Refusal.TheVariants.{NoDataset, Busy, HasClones}
 use Rattle.base.specs.declared.refusal.Refusal.{Refusal}
 use Rattle.base.specs.Surveys.{IsIn}
-use Rattle.name.specs.declared.member.Member.{Member}
-use Rattle.name.specs.declared.target.Target.TheVariants.{Snapshot as OfSnapshot}
+use Rattle.base.specs.declared.name.member.Member.{Member}
+use Rattle.base.specs.declared.name.target.Target.TheVariants.{Snapshot as OfSnapshot}
 use Rattle.model.specs.World.{World, FileSystem, Snap, SnapId, id_of, same_id, snap_named}
 use Rattle.model.specs.State.{Views}
 use Rattle.model.specs.Outcome.{is_needed}
@@ -19,11 +19,11 @@ use Rattle.model.specs.requests.Destroy.{is_one_of, snaps_named, with_deferred}
 use Rattle.world.specs.Shapes.{Name, name_order}
 use Rattle.world.specs.Worlds.{AreFileSystems}
 use Rattle.world.specs.Tables.{Datasets, world_of}
-use Rattle.world.proofs.Sweep.{get-with_file_systems}
-use Rattle.world.proofs.Finding.{append_none, any_none, same_id_is}
-use Rattle.world.proofs.WithoutSnaps.{get-without, any_from}
+use Rattle.world.proofs.removals.Sweep.{get-with_file_systems}
+use Rattle.world.proofs.lists.Finding.{append_none, any_none, same_id_is}
+use Rattle.world.proofs.removals.WithoutSnaps.{get-without, any_from}
 use Rattle.snap.specs.Taking.{all_of}
-use Rattle.removals.specs.Named.{without_all, deferred_all, has_clone, is_held, is_named_held, is_named_cloned, is_kept, is_named_kept}
+use Rattle.removals.specs.Named.{without_all, deferred_all, has_clone, is_held, is_named_held, has_clone_named, is_kept, is_named_needed}
 use Rattle.removals.specs.Requests.{destroyed, destroy_refusal}
 use Rattle.removals.proofs.Clones.{outside_is}
 use Rattle.removals.proofs.Named.{names_once, ids_of, all_are, ids_left}
@@ -59,14 +59,14 @@ pub refusal_is : (t : Datasets) → AreFileSystems t.file_systems t.group → (v
     → destroy_refusal t views (OfSnapshot m) recursive defer
     ≡ cond (list_any (λ n. is_some (snap_named (world_of t) n)) (all_of t (m ∷ []) recursive))
     (cond (not defer && list_any (is_named_held t views) (all_of t (m ∷ []) recursive)) (Some Busy)
-    (cond (not defer && list_any (is_named_cloned t) (all_of t (m ∷ []) recursive)) (Some HasClones) None)) (Some NoDataset)
+    (cond (not defer && list_any (has_clone_named t) (all_of t (m ∷ []) recursive)) (Some HasClones) None)) (Some NoDataset)
 refusal_is t good views m recursive defer =
     first-of (nat_lt 0 (length (snaps_named (world_of t) m recursive))) _ _ _ _
     (ap (λ b. not defer && b) (any_held t good views (named_with (world_of t) recursive m) ∙ ap (list_any (is_named_held t views)) (sym (named_is t m recursive))))
     (ap (λ b. not defer && b) (outside_is t (snaps_named (world_of t) m recursive) ∙ any_named t (has_clone t) (named_with (world_of t) recursive m)
-    ∙ ap (list_any (is_named_cloned t)) (sym (named_is t m recursive))))
+    ∙ ap (list_any (has_clone_named t)) (sym (named_is t m recursive))))
     ∙ ap (λ b. cond {A = Option Refusal} b (cond (not defer && list_any (is_named_held t views) (all_of t (m ∷ []) recursive)) (Some Busy)
-    (cond (not defer && list_any (is_named_cloned t) (all_of t (m ∷ []) recursive)) (Some HasClones) None)) (Some NoDataset))
+    (cond (not defer && list_any (has_clone_named t) (all_of t (m ∷ []) recursive)) (Some HasClones) None)) (Some NoDataset))
     (sym (any_there t (named_with (world_of t) recursive m)) ∙ ap (list_any (λ n. is_some (snap_named (world_of t) n))) (sym (named_is t m recursive)))
   where
     first-of : (is_there busy held outside cloned : Bool) → busy ≡ held → outside ≡ cloned
@@ -79,12 +79,12 @@ refusal_is t good views m recursive defer =
 
 -- of those that are not kept, where each name's that has the identity of this snapshot is this one
 module _ (t : Datasets) (views : Views) (u : Snap) (one : (m : Member) (s : Snap) → snap_named (world_of t) m ≡ Some s → id_of u ≡ id_of s → u ≡ s) where
-  unkept_ids : (ms : List Member) → is_one_of (ids_of t (filter (λ m. not (is_named_kept t views m)) ms)) u ≡ (is_one_of (ids_of t ms) u && not (is_kept t views u))
+  unkept_ids : (ms : List Member) → is_one_of (ids_of t (filter (λ m. not (is_named_needed t views m)) ms)) u ≡ (is_one_of (ids_of t ms) u && not (is_kept t views u))
   unkept_ids [] = refl
   unkept_ids (m ∷ ms) = by_snap (snap_named (world_of t) m) (unkept_ids ms) refl
     where
       rest : List Member
-      rest = filter (λ m. not (is_named_kept t views m)) ms
+      rest = filter (λ m. not (is_named_needed t views m)) ms
 
       -- the one of the name is this, or another
       by_same : (s : Snap) → snap_named (world_of t) m ≡ Some s → (same kept : Bool) → same_id (id_of u) (id_of s) ≡ same → is_kept t views s ≡ kept
@@ -160,7 +160,7 @@ module _ (w : World) (p q : Snap → Bool) (p' q' : Snap → Bool)
 -- what the destroy of a name leaves
 module _ (t : Datasets) (good : AreFileSystems t.file_systems t.group) (views : Views) (m : Member) (recursive defer : Bool)
     (may : (not defer && list_any (is_named_held t views) (all_of t (m ∷ []) recursive)) ≡ false)
-    (uncloned : (not defer && list_any (is_named_cloned t) (all_of t (m ∷ []) recursive)) ≡ false) where
+    (uncloned : (not defer && list_any (has_clone_named t) (all_of t (m ∷ []) recursive)) ≡ false) where
   abbrev all : List Member
   all = named_with (world_of t) recursive m
 
@@ -168,7 +168,7 @@ module _ (t : Datasets) (good : AreFileSystems t.file_systems t.group) (views : 
   one u = is_one_of (ids_of t all) u
 
   abbrev gone : List Member
-  gone = filter (λ n. not (is_named_kept t views n)) all
+  gone = filter (λ n. not (is_named_needed t views n)) all
 
   abbrev needed : Snap → Bool
   needed u = defer && is_needed (world_of t) views u
@@ -180,12 +180,12 @@ module _ (t : Datasets) (good : AreFileSystems t.file_systems t.group) (views : 
       none_of : (p : SnapId → Bool) → list_any p (ids_of t all) ≡ false → p (id_of u) ≡ false
       none_of p none = any_none p (ids_of t all) none (id_of u) (any_from (ids_of t all) (id_of u) is)
 
-      by_defer : (d : Bool) → (not d && list_any (is_named_held t views) (all_of t (m ∷ []) recursive)) ≡ false → (not d && list_any (is_named_cloned t) (all_of t (m ∷ []) recursive)) ≡ false
+      by_defer : (d : Bool) → (not d && list_any (is_named_held t views) (all_of t (m ∷ []) recursive)) ≡ false → (not d && list_any (has_clone_named t) (all_of t (m ∷ []) recursive)) ≡ false
           → is_kept t views u ≡ (d && is_needed (world_of t) views u)
       by_defer true e k = sym (needed_is t views u)
       by_defer false e k = λ j.
           (sym (held_at t good views n f u at i) ∙ none_of (is_held_at t views) (any_held t good views all ∙ ap (list_any (is_named_held t views)) (sym (named_is t m recursive)) ∙ e)) j
-          || none_of (has_clone t) (any_named t (has_clone t) all ∙ ap (list_any (is_named_cloned t)) (sym (named_is t m recursive)) ∙ k) j
+          || none_of (has_clone t) (any_named t (has_clone t) all ∙ ap (list_any (has_clone_named t)) (sym (named_is t m recursive)) ∙ k) j
 
   when : (a b c : Bool) → (a ≡ true → b ≡ c) → (a && not b) ≡ (a && not c)
   when true b c e = ap not (e refl)

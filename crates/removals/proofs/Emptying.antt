@@ -10,8 +10,8 @@ use Rattle.std.proofs.lemmas.Bool.{lt-ltb}
 use Rattle.std.proofs.lemmas.List.Sorted.{IsPermutation-sym}
 use Rattle.base.specs.Map.{BlockSet}
 use Rattle.base.specs.Surveys.{IsIn}
-use Rattle.name.specs.declared.member.Member.{Member}
-use Rattle.name.specs.Names.{same_name}
+use Rattle.base.specs.declared.name.member.Member.{Member}
+use Rattle.base.specs.Names.{same_name}
 use Rattle.model.specs.World.{FileSystem, Snap, SnapId, id_of, empty_file_system, snap_named, union_of}
 use Rattle.datasets.specs.Origins.{origin_group}
 use Rattle.datasets.specs.Rows.{Entry, snaps_at}
@@ -21,17 +21,17 @@ use Rattle.world.specs.Sets.{IsSubset, AreDisjoint}
 use Rattle.world.specs.Shapes.{Name, name_order}
 use Rattle.world.specs.Worlds.{AreFileSystems, AreRising}
 use Rattle.world.specs.Tables.{Datasets, world_of, with_system, without_snap, lost_between}
-use Rattle.world.proofs.Bridge.{from_entries, start, starts, start_is, rising, rising_above}
-use Rattle.world.proofs.Drawn.{union_from}
-use Rattle.world.proofs.Finding.{from_find, from_filter, in_filter, filter_all}
-use Rattle.world.proofs.Listed.{in_map, map_in}
-use Rattle.world.proofs.Maps.{key_cases, no_value, same_value, entry_of, at_entry}
-use Rattle.world.proofs.Put.{put_here, put_other, put_maps}
-use Rattle.world.proofs.Shuffled.{stays_in}
-use Rattle.world.proofs.Sweep.{get-with_file_systems}
+use Rattle.world.proofs.lineage.Bridge.{from_entries, start, starts, start_is, rising, rising_above}
+use Rattle.world.proofs.changes.Drawn.{union_from}
+use Rattle.world.proofs.lists.Finding.{from_find, from_filter, in_filter, filter_all}
+use Rattle.world.proofs.lists.Listed.{in_map, map_in}
+use Rattle.world.proofs.lists.Maps.{key_cases, no_value, same_value, entry_of, at_entry}
+use Rattle.world.proofs.lineage.Put.{put_here, put_other, put_maps}
+use Rattle.world.proofs.lineage.Shuffled.{stays_in}
+use Rattle.world.proofs.removals.Sweep.{get-with_file_systems}
 use Rattle.removals.specs.Edits.{HasLost}
 use Rattle.removals.specs.Families.{emptied, AreClonesInside, IsBareFamily}
-use Rattle.removals.specs.Named.{without_all, has_clone, is_named_cloned, member_of, newer_members}
+use Rattle.removals.specs.Named.{without_all, has_clone, has_clone_named, member_of, newer_members}
 use Rattle.removals.specs.Requests.{without_family}
 use Rattle.removals.proofs.Clones.{is_uncloned}
 use Rattle.removals.proofs.Losses.{has_lost}
@@ -183,10 +183,10 @@ module _ (t : Datasets) (good : AreFileSystems t.file_systems t.group) (name : N
           (λ l. absurd (omega (arith, l, later, group)))
           (left (n, f) (in_entries (entries t.file_systems) n f (entry_of name_order t.file_systems n f there)) of_family)
 
-  pub none_cloned : list_any (is_named_cloned u) (newer_members r 0) ≡ false
-  none_cloned = none_any (is_named_cloned u) (newer_members r 0) (λ m i.
+  pub none_cloned : list_any (has_clone_named u) (newer_members r 0) ≡ false
+  none_cloned = none_any (has_clone_named u) (newer_members r 0) (λ m i.
       let s = in_map (member_of r) (filter (λ (v : Snap). nat_lt 0 v.group) r.1.snaps) m i in
-      ap (is_named_cloned u) s.2 ∙ by_named s.0 (snap_named (world_of u) (member_of r s.0)) refl)
+      ap (has_clone_named u) s.2 ∙ by_named s.0 (snap_named (world_of u) (member_of r s.0)) refl)
     where
       found : Snap → Option FileSystem → Option Snap
       found v x = option_and_then (λ (f : FileSystem). find (λ (w : Snap). same_name w.name v.name) f.snaps) x
@@ -197,7 +197,7 @@ module _ (t : Datasets) (good : AreFileSystems t.file_systems t.group) (name : N
           (λ k. absurd (no_value s (sym (ap (found v) k) ∙ e)))
           as_was
 
-      by_named : (v : Snap) (x : Option Snap) → snap_named (world_of u) (member_of r v) ≡ x → is_named_cloned u (member_of r v) ≡ false
+      by_named : (v : Snap) (x : Option Snap) → snap_named (world_of u) (member_of r v) ≡ x → has_clone_named u (member_of r v) ≡ false
       by_named v None e = ap (λ (x : Option Snap). option_map_or (λ (s : Snap). has_clone u (id_of s)) x false) e
       by_named v (Some s) e = ap (λ (x : Option Snap). option_map_or (λ (s : Snap). has_clone u (id_of s)) x false) e ∙ uncloned s (there v s e)
 
@@ -268,7 +268,7 @@ module _ {A : Type 0} (value : A → Entry) (t : Datasets) (good : AreFileSystem
       pub turn_as : (get u.file_systems (value a).0 ≡ Some (value a).1) ⊎ (get u.file_systems (value a).0 ≡ Some empty_file_system)
       turn_as = as_was t good name inside u (map value (drop left xs)) stage (value a) there its.1 latest
 
-      pub turn_uncloned : list_any (is_named_cloned u) (newer_members (value a) 0) ≡ false
+      pub turn_uncloned : list_any (has_clone_named u) (newer_members (value a) 0) ≡ false
       turn_uncloned = none_cloned t good name inside u (map value (drop left xs)) stage (value a) there its.1 latest
 
       pub turn_stage : (v : Datasets) → v ≡ with_system u (value a).0 empty_file_system → IsStage t name v (map value (drop (left - 1) xs))

@@ -7,7 +7,7 @@ use Rattle.std.specs.FinMap.Entries.{is_sorted, below_all}
 use Rattle.std.specs.declared.cmp.Ordering.TheVariants.{Equal, Greater}
 use Rattle.std.proofs.lemmas.Bool.{eqb-true}
 use Rattle.base.specs.Surveys.{IsIn}
-use Rattle.name.specs.Names.{name_cmp, slash, parent_of, before_slash}
+use Rattle.base.specs.Names.{name_cmp, slash, parent_of, before_slash}
 use Rattle.datasets.specs.Rows.{Entry}
 use Rattle.snap.specs.Taking.{is_in_family}
 use Rattle.snap.proofs.Families.{ends_component, begins, begins_not, joined, parted}

@@ -6,19 +6,19 @@ use Rattle.std.specs.FinSet.{union}
 use Rattle.std.proofs.lemmas.List.{take-append-drop}
 use Rattle.snap.proofs.Rests.{next_left, none_left}
 use Rattle.base.specs.Map.{BlockSet}
-use Rattle.name.specs.Names.{root_name, same_name}
+use Rattle.base.specs.Names.{root_name, same_name}
 use Rattle.model.specs.requests.Destroy.{file_systems_named}
 use Rattle.std.specs.List.{list_any}
-use Rattle.world.proofs.Families.{from_retained}
+use Rattle.world.proofs.removals.Families.{from_retained}
 use Rattle.model.specs.World.{union_of}
 use Rattle.datasets.specs.Rows.{Entry}
 use Rattle.snap.specs.Taking.{is_in_family}
 use Rattle.snap.proofs.Families.{ends_component}
 use Rattle.world.specs.Sets.{IsSubset, AreDisjoint}
 use Rattle.world.specs.Worlds.{AreFileSystems}
-use Rattle.world.specs.Tables.{Datasets, CanRemove, world_of, without_system, lost_between}
-use Rattle.world.proofs.Drawn.{union_from}
-use Rattle.world.proofs.Put.{gone_maps}
+use Rattle.world.specs.Tables.{Datasets, CanRemoveFileSystem, world_of, without_system, lost_between}
+use Rattle.world.proofs.changes.Drawn.{union_from}
+use Rattle.world.proofs.lineage.Put.{gone_maps}
 use Rattle.removals.specs.Edits.{HasLost}
 use Rattle.removals.specs.Families.{ArePartOf, IsBareFamily}
 use Rattle.removals.specs.Requests.{without_family}
@@ -63,8 +63,8 @@ module _ (t : Datasets) (name : List ℕ) (rows : List Entry) (is : rows ≡ ent
 
   module _ (within : is_in_family name r.0 ≡ true) (u : Datasets) (so_far : u ≡ left_by t name (drop (i + 1) rows)) where
     -- it may go
-    pub turn_can : ¬ (name ≡ root_name) → IsBareFamily t name → CanRemove u r.0
-    turn_can not_root bare = subst (λ v. CanRemove v r.0) (sym so_far)
+    pub turn_can : ¬ (name ≡ root_name) → IsBareFamily t name → CanRemoveFileSystem u r.0
+    turn_can not_root bare = subst (λ v. CanRemoveFileSystem v r.0) (sym so_far)
         (can_go t name (take i rows) r (drop (i + 1) rows) parts within (λ e. not_root (root_alone name (ap (is_in_family name) e ∙ within)))
         (bare r.0 r.1 (row_at t name (take i rows) r (drop (i + 1) rows) parts within) within))
 
@@ -107,7 +107,7 @@ module _ {A : Type 0} (value : A → Entry) (t : Datasets) (name : List ℕ) (xs
     stays out = turn_stays t name (map value xs) is (left - 1) r here out u before
 
     module _ (within : is_in_family name r.0 ≡ true) where
-      pub can : ¬ (name ≡ root_name) → IsBareFamily t name → CanRemove u r.0
+      pub can : ¬ (name ≡ root_name) → IsBareFamily t name → CanRemoveFileSystem u r.0
       can = turn_can t name (map value xs) is (left - 1) r here within u before
 
       pub goes : (v : Datasets) → v ≡ without_system u r.0 → v ≡ left_by t name (drop (left - 1) (map value xs))

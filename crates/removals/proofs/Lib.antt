@@ -20,4 +20,3 @@ pub mod Emptying
 pub mod Swept
 pub mod Outside
 pub mod Alone
-pub mod Left

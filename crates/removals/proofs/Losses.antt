@@ -14,11 +14,11 @@ use Rattle.world.specs.Sets.{Has, IsSubset, AreDisjoint}
 use Rattle.world.specs.Blocks.{block_order as o}
 use Rattle.world.specs.Worlds.{AreFileSystems}
 use Rattle.world.specs.Tables.{Datasets, world_of, without_snap, lost_between}
-use Rattle.world.proofs.SetCounts.{same_members, in_union_left, in_union_right, from_union, from_difference}
-use Rattle.world.proofs.Lists.{losses_add}
-use Rattle.world.proofs.Drawn.{union_from}
-use Rattle.world.proofs.Put.{put_maps}
-use Rattle.world.proofs.WithoutSnaps.{without_from}
+use Rattle.world.proofs.lists.SetCounts.{same_members, in_union_left, in_union_right, from_union, from_difference}
+use Rattle.world.proofs.lists.Lists.{losses_add}
+use Rattle.world.proofs.changes.Drawn.{union_from}
+use Rattle.world.proofs.lineage.Put.{put_maps}
+use Rattle.world.proofs.removals.WithoutSnaps.{without_from}
 use Rattle.removals.specs.Edits.{HasLost}
 
 -- what is lost isn't to be freed yet

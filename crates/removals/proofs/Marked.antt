@@ -6,8 +6,8 @@ use Rattle.std.specs.Option.{option_map, option_map_or}
 use Rattle.std.specs.FinMap.{get, insert, remove, entries, values, from_entries, same_map, get-entries, get-from_entries}
 use Rattle.base.specs.Map.{BlockSet}
 use Rattle.base.specs.Surveys.{IsIn}
-use Rattle.bookmarks.specs.Marks.{Marks, has_newer, without_newer}
-use Rattle.name.specs.Names.{name_cmp}
+use Rattle.snapshots.specs.Marks.{Marks, has_newer, without_newer}
+use Rattle.base.specs.Names.{name_cmp}
 use Rattle.model.specs.World.{FileSystem, Snap, Bookmark, id_of, maps_of, union_of}
 use Rattle.model.specs.State.{Views, is_viewed}
 use Rattle.model.specs.Outcome.{is_needed}
@@ -16,13 +16,13 @@ use Rattle.world.specs.Sets.{AreDisjoint}
 use Rattle.world.specs.Shapes.{Name, name_order}
 use Rattle.world.specs.Usage.{IsEntry}
 use Rattle.world.specs.Worlds.{AreFileSystems}
-use Rattle.world.specs.Tables.{Datasets, world_of, with_bookmarks}
-use Rattle.world.proofs.Bridge.{in_union_of, from_union_of}
-use Rattle.world.proofs.Finding.{any_none, filter_all}
-use Rattle.world.proofs.Listed.{map_in}
-use Rattle.world.proofs.Maps.{key_cases, no_value, same_value, at_entry, entry_from_find, get-remove_same, get-remove_other}
-use Rattle.world.proofs.Put.{put_here, put_other}
-use Rattle.world.proofs.SetCounts.{same_members}
+use Rattle.world.specs.Tables.{Datasets, world_of}
+use Rattle.world.proofs.lineage.Bridge.{in_union_of, from_union_of}
+use Rattle.world.proofs.lists.Finding.{any_none, filter_all}
+use Rattle.world.proofs.lists.Listed.{map_in}
+use Rattle.world.proofs.lists.Maps.{key_cases, no_value, same_value, at_entry, entry_from_find, get-remove_same, get-remove_other}
+use Rattle.world.proofs.lineage.Put.{put_here, put_other}
+use Rattle.world.proofs.lists.SetCounts.{same_members}
 use Rattle.removals.specs.Edits.{HasLost}
 use Rattle.removals.specs.Requests.{swept, with_marks, IsSweptBy}
 use Rattle.removals.proofs.Losses.{lost_none, lost_alike}
@@ -41,13 +41,6 @@ module _ (t : Datasets) (name : Name) (change : Marks → Marks) where
 
   pub marks_none : get t.file_systems name ≡ None → with_marks t name change ≡ t
   marks_none at = ap systems at
-
-  -- it is as if they were given
-  pub marks_given : (f : FileSystem) → get t.file_systems name ≡ Some f → (marks : Marks) → marks ≡ change f.bookmarks → with_bookmarks t name marks ≡ with_marks t name change
-  marks_given f at marks is =
-      ap (λ (x : Option FileSystem). record t { file_systems = (option_map_or (λ (g : FileSystem). record (world_of t) { file_systems = insert t.file_systems name (record g { bookmarks = marks }) }) x (world_of t)).file_systems }) at
-      ∙ ap (λ b. record t { file_systems = insert t.file_systems name (record f { bookmarks = b }) }) is
-      ∙ sym (marks_put f at)
 
   -- where they stay
   pub marks_idle : (f : FileSystem) → get t.file_systems name ≡ Some f → change f.bookmarks ≡ f.bookmarks → with_marks t name change ≡ t

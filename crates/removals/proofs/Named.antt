@@ -3,8 +3,8 @@ use Rattle.std.proofs.Common.{◌≡◌, Bool, true, false, not, ◌&&◌, ◌||
 use Rattle.std.specs.List.{find, filter, flat_map, list_any}
 use Rattle.std.specs.Option.{option_map, option_map_or, option_and_then}
 use Rattle.std.specs.FinMap.{get}
-use Rattle.name.specs.declared.member.Member.{Member}
-use Rattle.name.specs.Names.{same_name}
+use Rattle.base.specs.declared.name.member.Member.{Member}
+use Rattle.base.specs.Names.{same_name}
 use Rattle.base.specs.Surveys.{IsIn}
 use Rattle.model.specs.World.{FileSystem, Snap, SnapId, id_of, same_id, snap_named}
 use Rattle.model.specs.Edits.{without_snaps}
@@ -12,8 +12,8 @@ use Rattle.world.specs.Shapes.{Name}
 use Rattle.world.specs.Worlds.{FileSystems, AreFileSystems}
 use Rattle.world.specs.Outcomes.{is_one_of}
 use Rattle.world.specs.Tables.{Datasets, world_of, without_snap}
-use Rattle.world.proofs.Finding.{from_find, find_only, find_none, found_none, in_filter, from_filter, same_id_is, is_same_id, one_name}
-use Rattle.world.proofs.WithoutSnaps.{get-without, from_without, without_twice, without_none}
+use Rattle.world.proofs.lists.Finding.{from_find, find_only, find_none, found_none, in_filter, from_filter, same_id_is, is_same_id, one_name}
+use Rattle.world.proofs.removals.WithoutSnaps.{get-without, from_without, without_twice, without_none}
 use Rattle.removals.specs.Named.{without_named, without_all}
 
 -- a name within a file system is one snapshot's
@@ -46,9 +46,6 @@ once_after t id once n f at a b i j e =
 
 -- what is found by a name afterwards
 module _ (t : Datasets) (once : AreNamesOnce t.file_systems) (id : SnapId) (m : Member) (u : Snap) (other : same_id (id_of u) id ≡ false) where
-  abbrev after : Datasets
-  after = without_snap t id
-
   abbrev found_in : Option FileSystem → Option Snap
   found_in = option_and_then (λ (f : FileSystem). find (is_named m) f.snaps)
 

@@ -6,17 +6,17 @@ use Rattle.std.specs.Option.{option_map_or, option_and_then}
 use Rattle.std.specs.FinMap.{get}
 use Rattle.std.proofs.lemmas.Bool.{and_parts}
 use Rattle.base.specs.Surveys.{IsIn}
-use Rattle.name.specs.Names.{same_name}
-use Rattle.name.specs.declared.member.Member.{Member}
+use Rattle.base.specs.Names.{same_name}
+use Rattle.base.specs.declared.name.member.Member.{Member}
 use Rattle.model.specs.World.{FileSystem, Snap, SnapId, id_of, snap_at, snap_named}
 use Rattle.model.specs.State.{Views, is_viewed}
 use Rattle.model.specs.Outcome.{is_needed}
 use Rattle.world.specs.Shapes.{Name}
 use Rattle.world.specs.Worlds.{AreFileSystems}
 use Rattle.world.specs.Tables.{Datasets, world_of}
-use Rattle.world.proofs.Maps.{no_value, same_value}
-use Rattle.world.proofs.Finding.{or_none, from_find}
-use Rattle.world.proofs.Bridge.{from_snap_at, one_snap, snap_is_at}
+use Rattle.world.proofs.lists.Maps.{no_value, same_value}
+use Rattle.world.proofs.lists.Finding.{or_none, from_find}
+use Rattle.world.proofs.lineage.Bridge.{from_snap_at, one_snap, snap_is_at}
 use Rattle.removals.specs.Named.{has_clone, is_held, is_named_held, is_held_after, is_kept}
 use Rattle.removals.specs.Families.{unneeded}
 use Rattle.removals.proofs.Seen.{any_later}

@@ -5,7 +5,7 @@ use Rattle.std.specs.Option.{option_map_or}
 use Rattle.std.specs.FinMap.{get, entries, keys}
 use Rattle.std.proofs.lemmas.Bool.{and_parts, or_cases}
 use Rattle.base.specs.Surveys.{IsIn}
-use Rattle.name.specs.Names.{same_name}
+use Rattle.base.specs.Names.{same_name}
 use Rattle.model.specs.World.{FileSystem, Snap, SnapId, id_of, same_id, snap_at, clones_of, family_of}
 use Rattle.model.specs.requests.Destroy.{snaps_within}
 use Rattle.model.specs.requests.Rollback.{has_clone_outside}
@@ -14,11 +14,11 @@ use Rattle.snap.specs.Taking.{is_in_family}
 use Rattle.world.specs.Shapes.{Name, name_order}
 use Rattle.world.specs.Worlds.{AreFileSystems}
 use Rattle.world.specs.Tables.{Datasets, world_of}
-use Rattle.world.proofs.Maps.{entry_of, at_entry}
-use Rattle.world.proofs.Finding.{in_filter, from_filter, in_flat, from_flat, same_id_is, name_itself, one_name, any_none}
-use Rattle.world.proofs.Bridge.{from_entries, from_snap_at, snap_is_at}
-use Rattle.world.proofs.Listed.{in_map, map_in}
-use Rattle.world.proofs.States.{in_clones}
+use Rattle.world.proofs.lists.Maps.{entry_of, at_entry}
+use Rattle.world.proofs.lists.Finding.{in_filter, from_filter, in_flat, from_flat, same_id_is, name_itself, one_name, any_none}
+use Rattle.world.proofs.lineage.Bridge.{from_entries, from_snap_at, snap_is_at}
+use Rattle.world.proofs.lists.Listed.{in_map, map_in}
+use Rattle.world.proofs.steps.States.{in_clones}
 use Rattle.removals.specs.Families.{is_outside_clone, is_cloned_outside, AreClonesInside}
 use Rattle.removals.proofs.SystemsGone.{in_entries}
 use Rattle.removals.proofs.Swept.{any_in}

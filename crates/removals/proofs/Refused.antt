@@ -8,21 +8,21 @@ use Rattle.std.proofs.lemmas.Bool.{lt-ltb}
 use Rattle.base.specs.Surveys.{IsIn}
 use Rattle.base.specs.declared.refusal.Refusal.{Refusal}
 use Rattle.base.specs.declared.refusal.Refusal.TheVariants.{NoDataset, NotSnapshot, Busy, HasClones, HasChildren, IsRoot}
-use Rattle.name.specs.declared.target.Target.TheVariants.{FileSystem as OfFileSystem}
-use Rattle.name.specs.Names.{root_name, same_name, parent_of}
+use Rattle.base.specs.declared.name.target.Target.TheVariants.{FileSystem as OfFileSystem}
+use Rattle.base.specs.Names.{root_name, same_name, parent_of}
 use Rattle.model.specs.World.{FileSystem, Snap, SnapId, id_of, children_of, family_of}
 use Rattle.model.specs.State.{Views}
 use Rattle.model.specs.requests.Destroy.{file_systems_named, snaps_within}
 use Rattle.model.specs.requests.Rollback.{has_clone_outside}
 use Rattle.datasets.specs.Rows.{Entry}
 use Rattle.world.specs.Shapes.{name_order}
-use Rattle.world.specs.Tables.{Datasets, CanRemove, world_of}
+use Rattle.world.specs.Tables.{Datasets, CanRemoveFileSystem, world_of}
 use Rattle.world.specs.Worlds.{AreFileSystems}
-use Rattle.world.proofs.Bridge.{start, rising, rising_above, from_entries}
+use Rattle.world.proofs.lineage.Bridge.{start, rising, rising_above, from_entries}
 use Rattle.snap.specs.Taking.{is_in_family}
-use Rattle.world.proofs.Maps.{some_of, entry_of, at_entry}
-use Rattle.world.proofs.Listed.{map_in}
-use Rattle.world.proofs.Finding.{in_filter, filter_all, name_itself}
+use Rattle.world.proofs.lists.Maps.{some_of, entry_of, at_entry}
+use Rattle.world.proofs.lists.Listed.{map_in}
+use Rattle.world.proofs.lists.Finding.{in_filter, filter_all, name_itself}
 use Rattle.removals.specs.Named.{is_held_after}
 use Rattle.removals.specs.Families.{family_refusal, is_outside_clone, AreClonesInside}
 use Rattle.removals.specs.Requests.{destroy_refusal}
@@ -132,15 +132,6 @@ module _ (t : Datasets) (good : AreFileSystems t.file_systems t.group) (views : 
           ∙ sym (ap (λ b. cond {A = Option Refusal} b (Some HasChildren) None) (lt-ltb 0 (length (u ∷ us)) (omega arith)))
           ∙ sym (ap (λ (l : List Snap). cond {A = Option Refusal} (nat_lt 0 (length l)) (Some HasChildren) None) e)
 
-pub any_of : (p : List ℕ → Bool) (rows : List Entry) → list_any (λ (r : Entry). p r.0) rows ≡ nat_lt 0 (length (filter p (map (λ (r : Entry). r.0) rows)))
-any_of p [] = refl
-any_of p (r ∷ rows) = by_test (p r.0) (any_of p rows)
-  where
-    by_test : (b : Bool) → list_any (λ (r : Entry). p r.0) rows ≡ nat_lt 0 (length (filter p (map (λ (r : Entry). r.0) rows)))
-        → (b || list_any (λ (r : Entry). p r.0) rows) ≡ nat_lt 0 (length (cond b (r.0 ∷ filter p (map (λ (r : Entry). r.0) rows)) (filter p (map (λ (r : Entry). r.0) rows))))
-    by_test true ih = sym (lt-ltb 0 (length (r.0 ∷ filter p (map (λ (r : Entry). r.0) rows))) (omega arith))
-    by_test false ih = ih
-
 some_in : {A : Type 0} (xs : List A) (a : A) → IsIn xs a → nat_lt 0 (length xs) ≡ true
 some_in [] a i = absurd i
 some_in (x ∷ xs) a i = lt-ltb 0 (length (x ∷ xs)) (omega arith)
@@ -198,7 +189,7 @@ module _ (t : Datasets) (good : AreFileSystems t.file_systems t.group) (views : 
           (has_children t name) (length f.snaps)
           (sym (refused_there t good views name defer f at true) ∙ subst (λ b. destroy_refusal t views (OfFileSystem name) b defer ≡ None) all none))
 
-  pub may_remove : recursive ≡ false → CanRemove t name
+  pub may_remove : recursive ≡ false → CanRemoveFileSystem t name
   may_remove single = by_system (get t.file_systems name) refl
     where
       bare_of : (root d : Bool) (f : FileSystem) → refusal_with root false d (has_children t name) (length f.snaps) (family_refusal t views name) ≡ None → (has_children t name || nat_lt 0 (length f.snaps)) ≡ false
@@ -210,7 +201,7 @@ module _ (t : Datasets) (good : AreFileSystems t.file_systems t.group) (views : 
           by_test true k = absurd (no_refusal HasChildren k)
           by_test false k = refl
 
-      by_system : (x : Option FileSystem) → get t.file_systems name ≡ x → CanRemove t name
+      by_system : (x : Option FileSystem) → get t.file_systems name ≡ x → CanRemoveFileSystem t name
       by_system None at = absurd (no_refusal NoDataset (sym (refused_gone t views name recursive defer at) ∙ none))
       by_system (Some f) at =
           let free = bare_of (same_name name root_name) defer f (sym (refused_there t good views name defer f at false) ∙ subst (λ b. destroy_refusal t views (OfFileSystem name) b defer ≡ None) single none) in

@@ -8,11 +8,11 @@ use Rattle.std.proofs.lemmas.Bool.{lt-ltb, ltb-true}
 use Rattle.std.specs.Option.{option_map, option_map_or, option_and_then}
 use Rattle.std.specs.FinMap as finmap
 use Rattle.std.specs.FinMap.{get, insert, same_map}
-use Rattle.name.specs.declared.member.Member.{Member}
-use Rattle.name.specs.declared.target.Target.TheVariants.{Snapshot as OfSnapshot}
-use Rattle.name.specs.Names.{same_name}
+use Rattle.base.specs.declared.name.member.Member.{Member}
+use Rattle.base.specs.declared.name.target.Target.TheVariants.{Snapshot as OfSnapshot}
+use Rattle.base.specs.Names.{same_name}
 use Rattle.base.specs.Surveys.{IsIn}
-use Rattle.bookmarks.specs.Marks.{Marks, has_newer, without_newer}
+use Rattle.snapshots.specs.Marks.{Marks, has_newer, without_newer}
 use Rattle.base.specs.Map.{Map}
 use Rattle.model.specs.World.{World, FileSystem, Snap, SnapId, id_of, snap_named}
 use Rattle.model.specs.Edits.{without_snaps, with_file_system}
@@ -26,14 +26,14 @@ use Rattle.world.specs.Shapes.{Name, name_order}
 use Rattle.world.specs.Worlds.{FileSystems, AreRising, AreFileSystems}
 use Rattle.world.specs.Outcomes.{is_one_of}
 use Rattle.world.specs.Tables.{Datasets, world_of}
-use Rattle.world.proofs.Maps.{key_cases, same_value, no_value}
-use Rattle.world.proofs.Listed.{in_map, map_in, length-mapped}
-use Rattle.world.proofs.Finding.{from_find, find_only, filter_front, filter_all, in_filter, from_filter, in_right, one_name, name_itself}
-use Rattle.world.proofs.Promotions.{split_at, upto_is, after_is, append_assoc}
-use Rattle.world.proofs.Put.{put_here, put_other}
-use Rattle.world.proofs.Bridge.{start, rising, rising_above, one_snap, snap_is_at, in_middle}
-use Rattle.world.proofs.WithoutSnaps.{get-without, any_in, any_from}
-use Rattle.removals.specs.Named.{without_all, member_of, newer_members, has_clone, is_named_cloned, is_held_after, is_cloned_after}
+use Rattle.world.proofs.lists.Maps.{key_cases, same_value, no_value}
+use Rattle.world.proofs.lists.Listed.{in_map, map_in, length-mapped}
+use Rattle.world.proofs.lists.Finding.{from_find, find_only, filter_front, filter_all, in_filter, from_filter, in_right, one_name, name_itself}
+use Rattle.world.proofs.changes.Promotions.{split_at, upto_is, after_is, append_assoc}
+use Rattle.world.proofs.lineage.Put.{put_here, put_other}
+use Rattle.world.proofs.lineage.Bridge.{start, rising, rising_above, one_snap, snap_is_at, in_middle}
+use Rattle.world.proofs.removals.WithoutSnaps.{get-without, any_in, any_from}
+use Rattle.removals.specs.Named.{without_all, member_of, newer_members, has_clone, has_clone_named, is_held_after, has_clone_and_is_later}
 use Rattle.removals.specs.Requests.{rolled, rollback_refusal, refusal_at, with_marks}
 use Rattle.removals.proofs.Clones.{outside_is}
 use Rattle.removals.proofs.Marked.{marks_put}
@@ -56,13 +56,13 @@ module _ (t : Datasets) (once : AreNamesOnce t.file_systems) (r : Entry) (at : g
 
   -- those of a later group that have a clone
   pub later_named : (group : ℕ) (us : List Snap) → ((u : Snap) → IsIn us u → IsIn r.1.snaps u)
-      → list_any (is_named_cloned t) (map (member_of r) (filter (λ (u : Snap). nat_lt group u.group) us)) ≡ list_any (is_cloned_after t group) us
+      → list_any (has_clone_named t) (map (member_of r) (filter (λ (u : Snap). nat_lt group u.group) us)) ≡ list_any (has_clone_and_is_later t group) us
   later_named group [] each = refl
   later_named group (u ∷ us) each = by_test (nat_lt group u.group) (later_named group us (λ v i. each v (inr i)))
     where
-      by_test : (b : Bool) → list_any (is_named_cloned t) (map (member_of r) (filter (λ (u : Snap). nat_lt group u.group) us)) ≡ list_any (is_cloned_after t group) us
-          → list_any (is_named_cloned t) (map (member_of r) (cond b (u ∷ filter (λ (u : Snap). nat_lt group u.group) us) (filter (λ (u : Snap). nat_lt group u.group) us)))
-          ≡ ((b && has_clone t (id_of u)) || list_any (is_cloned_after t group) us)
+      by_test : (b : Bool) → list_any (has_clone_named t) (map (member_of r) (filter (λ (u : Snap). nat_lt group u.group) us)) ≡ list_any (has_clone_and_is_later t group) us
+          → list_any (has_clone_named t) (map (member_of r) (cond b (u ∷ filter (λ (u : Snap). nat_lt group u.group) us) (filter (λ (u : Snap). nat_lt group u.group) us)))
+          ≡ ((b && has_clone t (id_of u)) || list_any (has_clone_and_is_later t group) us)
       by_test true ih = λ i. option_map_or (λ (s : Snap). has_clone t (id_of s)) (found_itself u (each u (inl refl)) i) false || ih i
       by_test false ih = ih
 
@@ -313,9 +313,9 @@ module _ (t : Datasets) (views : Views) (m : Member) (later : Bool) where
           ∙ sym (is_newer s.group (origin_group f.origin) _ f.snaps s i (rising t.file_systems t.group good.lines name f at))
 
 -- where nothing refuses it, no newer snapshot has a clone
-pub none_cloned : (t : Datasets) (f : FileSystem) (group : ℕ) (views : Views) (later : Bool) → refusal_at t f group views later ≡ None → list_any (is_cloned_after t group) f.snaps ≡ false
+pub none_cloned : (t : Datasets) (f : FileSystem) (group : ℕ) (views : Views) (later : Bool) → refusal_at t f group views later ≡ None → list_any (has_clone_and_is_later t group) f.snaps ≡ false
 none_cloned t f group views later e =
-    by_tests (not later && (nat_lt group (newest_group (origin_group f.origin) f.snaps) || has_newer f.bookmarks group)) (list_any (is_held_after views group) f.snaps) (list_any (is_cloned_after t group) f.snaps) e
+    by_tests (not later && (nat_lt group (newest_group (origin_group f.origin) f.snaps) || has_newer f.bookmarks group)) (list_any (is_held_after views group) f.snaps) (list_any (has_clone_and_is_later t group) f.snaps) e
   where
     by_tests : (newer held cloned : Bool) → cond {A = Option Refusal} newer (Some NotNewest) (cond held (Some Busy) (cond cloned (Some HasClones) None)) ≡ None → cloned ≡ false
     by_tests true held cloned e = absurd (no_value NotNewest (sym e))

@@ -4,15 +4,15 @@ use Rattle.std.specs.Prelude.{nat_lt}
 use Rattle.std.specs.List.{filter, list_any}
 use Rattle.std.specs.Option.{option_map_or}
 use Rattle.std.specs.FinMap.{get, entries, remove}
-use Rattle.name.specs.declared.member.Member.{Member}
+use Rattle.base.specs.declared.name.member.Member.{Member}
 use Rattle.model.specs.World.{Snap, SnapId, id_of, same_id, snap_named}
 use Rattle.model.specs.State.{Views, is_viewed}
 use Rattle.world.specs.Shapes.{view_order}
 use Rattle.world.specs.Tables.{Datasets, world_of}
 use Rattle.world.specs.Usage.{IsEntry}
-use Rattle.world.proofs.Finding.{same_id_is}
-use Rattle.world.proofs.ViewedSteps.{viewed}
-use Rattle.world.proofs.Maps.{key_cases, at_entry, get-remove_other}
+use Rattle.world.proofs.lists.Finding.{same_id_is}
+use Rattle.world.proofs.views.ViewedSteps.{viewed}
+use Rattle.world.proofs.lists.Maps.{key_cases, at_entry, get-remove_other}
 use Rattle.removals.proofs.Named.{ids_of, id_named}
 
 -- ---- a view of a snapshot

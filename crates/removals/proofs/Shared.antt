@@ -9,7 +9,7 @@ use Rattle.model.specs.World.{FileSystem}
 use Rattle.datasets.specs.Rows.{Row, Entry, entry_of, entry_in}
 use Rattle.datasets.specs.Clones.{row_in}
 use Rattle.world.specs.Worlds.{FileSystems}
-use Rattle.world.proofs.Maps.{no_value, same_value}
+use Rattle.world.proofs.lists.Maps.{no_value, same_value}
 
 -- the file systems that shared rows are of
 pub shared_are : (m : FileSystems) (xs : List (Arc Row Global)) → map (arc_value {X = Row}) xs ≡ map (row_in m) (entries m) → map entry_in xs ≡ entries m

@@ -6,8 +6,8 @@ use Rattle.std.specs.Option.{option_map, option_map_or, option_and_then}
 use Rattle.std.specs.FinMap.{get, entries, same_map}
 use Rattle.std.proofs.lemmas.Bool.{and_parts}
 use Rattle.base.specs.Surveys.{IsIn}
-use Rattle.name.specs.declared.member.Member.{Member}
-use Rattle.name.specs.declared.target.Target.TheVariants.{Snapshot as OfSnapshot}
+use Rattle.base.specs.declared.name.member.Member.{Member}
+use Rattle.base.specs.declared.name.target.Target.TheVariants.{Snapshot as OfSnapshot}
 use Rattle.model.specs.World.{World, FileSystem, Snap, SnapId, id_of, same_id, snap_at, snaps_of, snap_named}
 use Rattle.model.specs.State.{Views, is_viewed}
 use Rattle.model.specs.Outcome.{is_needed}
@@ -17,14 +17,14 @@ use Rattle.datasets.specs.Rows.{Entry}
 use Rattle.world.specs.Shapes.{Name, name_order}
 use Rattle.world.specs.Worlds.{AreFileSystems}
 use Rattle.world.specs.Tables.{Datasets, world_of, without_snap}
-use Rattle.world.proofs.Maps.{no_value, same_value, at_entry}
-use Rattle.world.proofs.Finding.{or_none, found_none, from_filter, same_id_is, is_same_id}
-use Rattle.world.proofs.Bridge.{from_entries, from_snap_at, in_snaps, one_snap}
-use Rattle.world.proofs.Listed.{in_map}
-use Rattle.world.proofs.Sweep.{get-with_file_systems}
-use Rattle.world.proofs.WithoutSnaps.{get-without, from_without, without_twice, without_none}
-use Rattle.removals.specs.Named.{has_clone, is_held, is_kept, is_named_cloned}
-use Rattle.removals.specs.Families.{ArePartOf, unneeded, without_unneeded, gone_origin, without_origin, without_origins}
+use Rattle.world.proofs.lists.Maps.{no_value, same_value, at_entry}
+use Rattle.world.proofs.lists.Finding.{or_none, found_none, from_filter, same_id_is, is_same_id}
+use Rattle.world.proofs.lineage.Bridge.{from_entries, from_snap_at, in_snaps, one_snap}
+use Rattle.world.proofs.lists.Listed.{in_map}
+use Rattle.world.proofs.removals.Sweep.{get-with_file_systems}
+use Rattle.world.proofs.removals.WithoutSnaps.{get-without, from_without, without_twice, without_none}
+use Rattle.removals.specs.Named.{has_clone, is_held, is_kept, has_clone_named}
+use Rattle.removals.specs.Families.{ArePartOf, unneeded, without_unneeded, removed_origin, without_origin, without_origins}
 use Rattle.removals.specs.Requests.{swept, destroyed, IsSweptBy}
 use Rattle.removals.proofs.Clones.{uncloned_is, is_uncloned}
 use Rattle.removals.proofs.Closed.{filter_alike, named_at}
@@ -155,10 +155,10 @@ module _ (t : Datasets) (once : IsOneToAnId t) (views : Views) (id : SnapId) whe
 
 -- it is the origin of a file system that is gone
 abbrev pub is_gone_origin : Datasets → Snap → Entry → Bool
-is_gone_origin t u r = option_map_or (λ id. same_id (id_of u) id) (gone_origin t r) false
+is_gone_origin t u r = option_map_or (λ id. same_id (id_of u) id) (removed_origin t r) false
 
 origin_swept : (t : Datasets) → IsOneToAnId t → (views : Views) (r : Entry) → without_origin t views r ≡ without t (λ u. is_gone_origin t u r && is_due t views u)
-origin_swept t once views r = by_origin (gone_origin t r)
+origin_swept t once views r = by_origin (removed_origin t r)
   where
     by_origin : (x : Option SnapId) → option_map_or (without_unneeded t views) x t ≡ without t (λ u. option_map_or (λ id. same_id (id_of u) id) x false && is_due t views u)
     by_origin None = sym (none_without t (λ u. false) (λ n f u at i. refl))
@@ -309,7 +309,7 @@ module _ (t : Datasets) (good : AreFileSystems t.file_systems t.group) (views : 
   pub unneeded_named : snap_named (world_of t) (record { file_system = p.0; component = p.1.name }) ≡ Some p.1
   unneeded_named = named_at t good id p (unneeded_parts t views id p is).0
 
-  pub unneeded_uncloned : is_named_cloned t (record { file_system = p.0; component = p.1.name }) ≡ false
+  pub unneeded_uncloned : has_clone_named t (record { file_system = p.0; component = p.1.name }) ≡ false
   unneeded_uncloned =
       ap (λ (x : Option Snap). option_map_or (λ (s : Snap). has_clone t (id_of s)) x false) unneeded_named ∙ (kept_parts t views p.1 (unneeded_parts t views id p is).2).2
 

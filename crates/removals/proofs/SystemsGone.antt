@@ -6,16 +6,16 @@ use Rattle.std.specs.FinMap.{get, remove, entries, entries_sorted, keys, retain_
 use Rattle.std.specs.FinMap.Entries.{is_sorted, below_all}
 use Rattle.std.specs.declared.cmp.Ordering.TheVariants.{Equal, Greater}
 use Rattle.base.specs.Surveys.{IsIn}
-use Rattle.name.specs.Names.{name_cmp, same_name, root_name, parent_of}
+use Rattle.base.specs.Names.{name_cmp, same_name, root_name, parent_of}
 use Rattle.model.specs.World.{FileSystem, family_of}
 use Rattle.datasets.specs.Rows.{Entry}
 use Rattle.world.specs.Shapes.{Name, name_order}
-use Rattle.world.specs.Tables.{Datasets, CanRemove, world_of}
-use Rattle.world.proofs.Maps.{some_of, key_cases, entry_of, at_entry, get-remove_same, get-remove_other}
-use Rattle.world.proofs.Finding.{one_name, name_itself, in_either}
+use Rattle.world.specs.Tables.{Datasets, CanRemoveFileSystem, world_of}
+use Rattle.world.proofs.lists.Maps.{some_of, key_cases, entry_of, at_entry, get-remove_same, get-remove_other}
+use Rattle.world.proofs.lists.Finding.{one_name, name_itself, in_either}
 use Rattle.world.specs.Usage.{IsEntry}
-use Rattle.world.proofs.Bridge.{from_entries}
-use Rattle.world.proofs.Families.{retained, from_retained}
+use Rattle.world.proofs.lineage.Bridge.{from_entries}
+use Rattle.world.proofs.removals.Families.{retained, from_retained}
 use Rattle.snap.specs.Taking.{is_in_family}
 use Rattle.removals.specs.Requests.{without_family}
 use Rattle.removals.proofs.Families.{child_in_family, child_after, before_there, below_there}
@@ -148,7 +148,7 @@ module _ (t : Datasets) (name : List ℕ) (front : List Entry) (r : Entry) (rows
       not_tied : Greater ≡ Equal → ⊥
       not_tied e = cc
 
-  pub can_go : (not_root : ¬ (root_name ≡ r.0)) → r.1.snaps ≡ [] → CanRemove (left_by t name rows) r.0
+  pub can_go : (not_root : ¬ (root_name ≡ r.0)) → r.1.snaps ≡ [] → CanRemoveFileSystem (left_by t name rows) r.0
   can_go not_root bare = record {
     system = r.1;
     there = row_left;

@@ -6,15 +6,15 @@ use Rattle.std.proofs.lemmas.Bool.{cases_lt, lt-ltb, le-ltb}
 use Rattle.std.specs.Prelude.{nat_lt}
 use Rattle.std.specs.List.{filter}
 use Rattle.std.specs.Iterator.{Yields, YieldsFirstRef}
-use Rattle.name.specs.declared.member.Member.{Member}
+use Rattle.base.specs.declared.name.member.Member.{Member}
 use Rattle.model.specs.World.{Snap}
 use Rattle.snapshots.specs.declared.kept.Kept.{Kept}
 use Rattle.datasets.specs.Dead.{snaps_in}
 use Rattle.datasets.specs.Rows.{Entry}
 use Rattle.world.specs.Tables.{Datasets}
 use Rattle.base.specs.Surveys.{IsIn}
-use Rattle.world.proofs.Listed.{map_in}
-use Rattle.world.proofs.Finding.{append_none, in_filter}
+use Rattle.world.proofs.lists.Listed.{map_in}
+use Rattle.world.proofs.lists.Finding.{append_none, in_filter}
 use Rattle.removals.specs.Named.{without_named, without_all, member_of, newer_members}
 use Rattle.removals.proofs.Named.{all_then}
 

@@ -59,12 +59,12 @@ abbrev pub without_unneeded : Datasets → Views → SnapId → Datasets
 without_unneeded t views id = option_map_or (λ p. without_snap t (id_of p.1)) (unneeded t views id) t
 
 -- the origin of a file system that isn't there any more (zfs-destroy(8))
-abbrev pub gone_origin : Datasets → Entry → Option SnapId
-gone_origin t r = if is_some (get t.file_systems r.0) then None else r.1.origin
+abbrev pub removed_origin : Datasets → Entry → Option SnapId
+removed_origin t r = if is_some (get t.file_systems r.0) then None else r.1.origin
 
 -- the datasets without the origin of one that isn't there, as far as nothing needs it (zfs-destroy(8), -d)
 abbrev pub without_origin : Datasets → Views → Entry → Datasets
-without_origin t views r = option_map_or (without_unneeded t views) (gone_origin t r) t
+without_origin t views r = option_map_or (without_unneeded t views) (removed_origin t r) t
 
 -- the same of one file system after another (zfs-destroy(8), -d)
 abbrev pub without_origins : Datasets → Views → List Entry → Datasets

@@ -2,7 +2,7 @@
 use Rattle.std.specs.Prelude.{ℕ, Bool, false, ◌&&◌, ◌||◌, List, [], ◌∷◌, map, length, nat_lt}
 use Rattle.std.specs.List.{filter}
 use Rattle.std.specs.Option.{option_map_or}
-use Rattle.name.specs.declared.member.Member.{Member}
+use Rattle.base.specs.declared.name.member.Member.{Member}
 use Rattle.model.specs.World.{Snap, SnapId, id_of, snap_named, clones_of}
 use Rattle.model.specs.State.{Views, is_viewed}
 use Rattle.datasets.specs.Rows.{Entry}
@@ -43,20 +43,20 @@ abbrev pub has_clone : Datasets → SnapId → Bool
 has_clone t id = nat_lt 0 (length (clones_of (world_of t) id))
 
 -- the snapshot of this name has one (zfsprops(7): clones)
-abbrev pub is_named_cloned : Datasets → Member → Bool
-is_named_cloned t m = option_map_or (λ s. has_clone t (id_of s)) (snap_named (world_of t) m) false
+abbrev pub has_clone_named : Datasets → Member → Bool
+has_clone_named t m = option_map_or (λ s. has_clone t (id_of s)) (snap_named (world_of t) m) false
 
 -- a snapshot of a later group than this one that has a clone (zfsprops(7): clones)
-abbrev pub is_cloned_after : Datasets → ℕ → Snap → Bool
-is_cloned_after t group s = nat_lt group s.group && has_clone t (id_of s)
+abbrev pub has_clone_and_is_later : Datasets → ℕ → Snap → Bool
+has_clone_and_is_later t group s = nat_lt group s.group && has_clone t (id_of s)
 
 -- a tag, an open view or a clone needs the snapshot (zfs-destroy(8), -d; the view is profile)
 abbrev pub is_kept : Datasets → Views → Snap → Bool
 is_kept t views s = is_held views s || has_clone t (id_of s)
 
 -- the same of the snapshot of this name (zfs-destroy(8), -d; the view is profile)
-abbrev pub is_named_kept : Datasets → Views → Member → Bool
-is_named_kept t views m = is_named_held t views m || is_named_cloned t m
+abbrev pub is_named_needed : Datasets → Views → Member → Bool
+is_named_needed t views m = is_named_held t views m || has_clone_named t m
 
 -- a snapshot's name, under that of its file system (zfs(8))
 abbrev pub member_of : Entry → Snap → Member

@@ -6,8 +6,8 @@ use Rattle.std.specs.Option.{option_and_then}
 use Rattle.base.specs.Surveys.{IsIn}
 use Rattle.base.specs.declared.refusal.Refusal.{Refusal}
 use Rattle.base.specs.declared.refusal.Refusal.TheVariants.{NotNewest, Busy, HasClones}
-use Rattle.name.specs.declared.member.Member.{Member}
-use Rattle.name.specs.declared.target.Target.{Target}
+use Rattle.base.specs.declared.name.member.Member.{Member}
+use Rattle.base.specs.declared.name.target.Target.{Target}
 use Rattle.datasets.specs.Origins.{origin_group}
 use Rattle.datasets.specs.Writes.{newest_group}
 use Rattle.model.specs.World.{FileSystem, Snap}
@@ -18,8 +18,8 @@ use Rattle.model.specs.Rule.{first_of}
 use Rattle.model.specs.requests.Rollback.{rolled_back, back_row}
 use Rattle.model.specs.requests.Destroy.{file_systems_named, without_file_systems, after_destroy, destroy_row}
 use Rattle.world.specs.Tables.{Datasets, world_of}
-use Rattle.bookmarks.specs.Marks.{Marks, has_newer}
-use Rattle.removals.specs.Named.{is_held_after, is_cloned_after}
+use Rattle.snapshots.specs.Marks.{Marks, has_newer}
+use Rattle.removals.specs.Named.{is_held_after, has_clone_and_is_later}
 use Rattle.removals.specs.Families.{unneeded}
 
 -- the datasets after a rollback (zfs-rollback(8))
@@ -35,7 +35,7 @@ abbrev pub refusal_at : Datasets → FileSystem → ℕ → Views → Bool → O
 refusal_at t f group views later =
     if not later && (nat_lt group (newest_group (origin_group f.origin) f.snaps) || has_newer f.bookmarks group)
     then Some NotNewest
-    else if list_any (is_held_after views group) f.snaps then Some Busy else if list_any (is_cloned_after t group) f.snaps then Some HasClones else None
+    else if list_any (is_held_after views group) f.snaps then Some Busy else if list_any (has_clone_and_is_later t group) f.snaps then Some HasClones else None
 
 -- the datasets after a destroy (zfs-destroy(8))
 abbrev pub destroyed : Datasets → Views → Target → Bool → Bool → Datasets

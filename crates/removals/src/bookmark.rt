@@ -4,16 +4,16 @@ ghost use Rattle.std.specs.Arc.{arc_value};
 ghost use Rattle.std.specs.Option.{option_map};
 ghost use Rattle.std.specs.FinMap.{get, remove};
 ghost use Rattle.base.specs.declared.refusal.Refusal.{Refusal};
-ghost use Rattle.bookmarks.specs.Marks.{without_newer};
+ghost use Rattle.snapshots.specs.Marks.{without_newer};
 ghost use Rattle.model.specs.World.{bookmark_named};
 ghost use Rattle.world.specs.Tables.{world_of};
 ghost use Rattle.removals.specs.Requests.{with_marks, without_bookmark};
 
+use base::name::{DsName, MarkName, Member};
 use base::number::Group;
 use base::refusal::Refusal;
-use bookmarks::Bookmarks;
 use datasets::Table;
-use name::{DsName, MarkName, Member};
+use snapshots::bookmarks::Bookmarks;
 use std::alloc::Global;
 use std::sync::Arc;
 
@@ -39,7 +39,7 @@ fn others(alloc: Global, table: &Table, name: &Member) -> Result<Arc<Bookmarks>,
 /// Takes out the bookmark of this name (zfs-destroy(8)), and no block with it. NoDataset exactly where there is none; else NoMemory where
 /// there is none for it. At `Err` the table is as it was. It costs the logarithm of the number of file systems and the number of the file
 /// system's bookmarks.
-pub(crate) fn destroy_bookmark(
+pub(crate) fn remove_bookmark(
     alloc: Global,
     table: &mut Table,
     name: &MarkName,
@@ -49,8 +49,7 @@ pub(crate) fn destroy_bookmark(
     ensures unchanged { OnErr result (table.new ≡ table.old) }
     ensures only { IfErr result (λ e. (e ≡ Refusal.NoDataset) ⊎ (e ≡ Refusal.NoMemory)) }
 {
-    // It tells of the bookmarks that their groups are closed.
-    let _count = table.len();
+    table.facts();
     let name = name.member();
     let left = others(alloc, table, name)?;
     table.set_bookmarks(alloc, &name.file_system, left)
@@ -59,7 +58,7 @@ pub(crate) fn destroy_bookmark(
 /// Takes the bookmarks of later groups than this one from the file system of this name, where it is there (zfs-rollback(8), -r), and no
 /// block with them. NoMemory where there is none for it, and then the table is of no use. It costs the logarithm of the number of file
 /// systems and the number of the file system's bookmarks.
-pub fn lose_newer_bookmarks(
+pub fn remove_newer_bookmarks(
     alloc: Global,
     table: &mut Table,
     name: &DsName,
@@ -68,8 +67,7 @@ pub fn lose_newer_bookmarks(
     ensures ok { OnOk result (table.new ≡ with_marks table.old name.now (λ bookmarks. without_newer bookmarks group.0)) }
     ensures err { IfErr result (λ e. e ≡ Refusal.NoMemory) }
 {
-    // It tells of the bookmarks that their groups are closed.
-    let _count = table.len();
+    table.facts();
     let Some(file_system) = table.find(name) else {
         return Ok(());
     };

@@ -6,62 +6,59 @@ ghost use Rattle.datasets.specs.Rows.{entry_in};
 ghost use Rattle.datasets.specs.CloneNames.{name_of};
 ghost use Rattle.snap.specs.Taking.{is_in_family};
 ghost use Rattle.removals.specs.Families.{is_cloned_outside, is_outside_clone};
-ghost use Rattle.removals.specs.Named.{is_named_cloned, is_named_kept, is_cloned_after};
+ghost use Rattle.removals.specs.Named.{has_clone_named, is_named_needed, has_clone_and_is_later};
 
 use crate::held::is_named_held;
+use base::name::{Component, DsName};
 use base::number::Group;
 use datasets::{CloneName, FileSystem, Snapshot, Table};
-use name::{Component, DsName};
 use snap::{Named, is_in_family};
 use std::sync::Arc;
 use views::Views;
 
 /// Whether the snapshot of this name has a clone. It costs the logarithms of the numbers of file systems, of clones and of snapshots of
 /// its own.
-pub(crate) fn is_named_cloned(table: &Table, file_system: &DsName, component: &Component) -> bool
-    ensures { result ≡ is_named_cloned table.now (record { file_system = file_system.now; component = component.now }) }
+pub(crate) fn has_clone_named(table: &Table, file_system: &DsName, component: &Component) -> bool
+    ensures { result ≡ has_clone_named table.now (record { file_system = file_system.now; component = component.now }) }
 {
-    let Some(file_system) = table.find(file_system) else {
-        return false;
-    };
-    match file_system.snapshot_named(component.as_bytes()) {
-        Some(snapshot) => table.has_clone(snapshot.id()),
+    match table.snapshot_named(file_system, component) {
+        Some((_owner, snapshot)) => table.has_clone(snapshot.id()),
         None => false,
     }
 }
 
 // The same of a name that is lent.
 fn is_cloned(table: &Table, name: &Named) -> bool
-    ensures { result ≡ is_named_cloned table.now name.now }
+    ensures { result ≡ has_clone_named table.now name.now }
 {
-    is_named_cloned(table, name.file_system, name.component)
+    has_clone_named(table, name.file_system, name.component)
 }
 
-/// Whether the snapshot of one of these names has a clone. It costs what `is_named_cloned` does for each.
-pub(crate) fn any_named_cloned(table: &Table, all: &[Named]) -> bool
-    ensures { result ≡ list_any (is_named_cloned table.now) all.now }
+/// Whether the snapshot of one of these names has a clone. It costs what `has_clone_named` does for each.
+pub(crate) fn any_has_clone(table: &Table, all: &[Named]) -> bool
+    ensures { result ≡ list_any (has_clone_named table.now) all.now }
 {
     all.iter().any(|name| is_cloned(table, name))
 }
 
-/// Whether a tag or an open view keeps the snapshot of this name, or it has a clone. It costs what `is_named_held` and `is_named_cloned`
+/// Whether a tag or an open view keeps the snapshot of this name, or it has a clone. It costs what `is_named_held` and `has_clone_named`
 /// do.
-pub(crate) fn is_named_kept(
+pub(crate) fn is_named_needed(
     table: &Table,
     views: &Views,
     file_system: &DsName,
     component: &Component,
 ) -> bool
-    ensures { result ≡ is_named_kept table.now views.now.opened (record { file_system = file_system.now; component = component.now }) }
+    ensures { result ≡ is_named_needed table.now views.now.opened (record { file_system = file_system.now; component = component.now }) }
 {
     is_named_held(table, views, file_system, component)
-        || is_named_cloned(table, file_system, component)
+        || has_clone_named(table, file_system, component)
 }
 
 /// Whether a snapshot of this file system of a later group has a clone in the table. It costs the number of its snapshots, and for each
 /// that is later the logarithm of the number of clones.
-pub(crate) fn any_later_cloned(table: &Table, file_system: &FileSystem, group: Group) -> bool
-    ensures { result ≡ list_any (is_cloned_after table.now group.0) file_system.now.system.snaps }
+pub(crate) fn any_later_has_clone(table: &Table, file_system: &FileSystem, group: Group) -> bool
+    ensures { result ≡ list_any (has_clone_and_is_later table.now group.0) file_system.now.system.snaps }
 {
     for kept in file_system.snapshots().iter() {
         if kept.snapshot.group() > group && table.has_clone(kept.snapshot.id()) {
@@ -94,7 +91,7 @@ fn is_cloned_outside(table: &Table, name: &DsName, snapshot: &Snapshot) -> bool
 }
 
 // Whether that holds of a snapshot of this file system. It costs what `is_cloned_outside` does for each.
-fn any_snapshot_cloned_outside(table: &Table, name: &DsName, file_system: &FileSystem) -> bool
+fn any_has_clone_outside(table: &Table, name: &DsName, file_system: &FileSystem) -> bool
     ensures { result ≡ list_any (is_cloned_outside table.now name.now) file_system.now.system.snaps }
 {
     for kept in file_system.snapshots().iter() {
@@ -110,7 +107,7 @@ fn is_cloned_within(table: &Table, name: &DsName, file_system: &FileSystem) -> b
     ensures { result ≡ (is_in_family name.now file_system.now.name && list_any (is_cloned_outside table.now name.now) file_system.now.system.snaps) }
 {
     is_in_family(name.as_bytes(), file_system.name().as_bytes())
-        && any_snapshot_cloned_outside(table, name, file_system)
+        && any_has_clone_outside(table, name, file_system)
 }
 
 // Whether that holds of one of these file systems.
@@ -124,10 +121,9 @@ fn any_cloned_within(file_systems: &[Arc<FileSystem>], table: &Table, name: &DsN
 
 /// Whether a snapshot of the file system of this name or of a descendant has a clone that isn't one of these. It costs the number of file
 /// systems, and for each snapshot of these the logarithm of the number of clones, and the number of its own.
-pub(crate) fn any_cloned_outside(table: &Table, name: &DsName) -> bool
+pub(crate) fn family_has_clone_outside(table: &Table, name: &DsName) -> bool
     ensures { result ≡ list_any (is_outside_clone table.now name.now) (entries table.now.file_systems) }
 {
-    // It tells of the snapshots that each identity is one's.
-    let _count = table.len();
+    table.facts();
     any_cloned_within(table.file_systems(), table, name)
 }

@@ -20,7 +20,7 @@ use views::Views;
 // The snapshot that goes with the view of this number, with its file system: the one that it shows, where its destroy is deferred and no
 // tag, no other view and no clone needs it. It costs the number of open views, and the number of file systems times the logarithm of that
 // of the snapshots of one.
-fn goes_with<'a>(
+fn removed_with<'a>(
     table: &'a Table,
     views: &Views,
     number: u64,
@@ -42,7 +42,7 @@ fn goes_with<'a>(
 /// no tag, no other view and no clone needs it (zfs-destroy(8), -d); what no dataset has then is to be freed. Where none goes, all stays.
 /// NoMemory where there is none for it, and then the table and what it has to free are as they were. It costs the number of open views and
 /// the number of file systems times the logarithm of that of the snapshots of one; and where a snapshot goes, what `Edit::of` and
-/// `Edit::lose_snapshot` do.
+/// `Edit::remove_snapshot` do.
 pub fn close_view(
     alloc: Global,
     table: &mut Table,
@@ -59,13 +59,12 @@ pub fn close_view(
     ensures kept { OnErr result (freeing.new ≡ freeing.old) }
     ensures err { IfErr result (λ e. e ≡ Refusal.NoMemory) }
 {
-    // It tells of the snapshots that their groups rise.
-    let _count = table.len();
-    let Some((file_system, snapshot)) = goes_with(table, views, number) else {
+    table.facts();
+    let Some((file_system, snapshot)) = removed_with(table, views, number) else {
         return Ok(());
     };
     let mut edit = Edit::of(table, freeing)?;
-    edit.lose_named(alloc, file_system.name(), snapshot.name(), segments)?;
+    edit.remove_named(alloc, file_system.name(), snapshot.name(), segments)?;
     edit.put(table, freeing);
     Ok(())
 }

@@ -1,25 +1,25 @@
 //! What a destroy takes away.
 ghost use Rattle.std.specs.Prelude.{◌≡◌, ◌⊎◌, ◌&&◌, not, true, false, Some, None, IfSome, IfErr, OnOk, OnErr};
 ghost use Rattle.base.specs.declared.refusal.Refusal.{Refusal};
-ghost use Rattle.name.specs.declared.target.Target.{Target};
-ghost use Rattle.name.specs.Names.{root_name};
+ghost use Rattle.base.specs.declared.name.target.Target.{Target};
+ghost use Rattle.base.specs.Names.{root_name};
 ghost use Rattle.model.specs.World.{union_of};
 ghost use Rattle.world.specs.Sets.{AreDisjoint};
-ghost use Rattle.world.specs.Tables.{CanRemove, world_of};
+ghost use Rattle.world.specs.Tables.{CanRemoveFileSystem, world_of};
 ghost use Rattle.removals.specs.Edits.{HasLost};
 ghost use Rattle.removals.specs.Families.{has_deferred_origin, AreClonesInside};
 ghost use Rattle.removals.specs.Requests.{destroyed, destroy_refusal, without_family, swept, IsSweptBy};
 
-use crate::bookmark::destroy_bookmark;
+use crate::bookmark::remove_bookmark;
 use crate::edit::Edit;
-use crate::family::{lose_file_system, lose_systems, refusal_of};
+use crate::family::{refusal_of, remove_file_system, remove_file_systems};
 use crate::gone::destroy_snapshots;
 use crate::sweep::sweep;
 use base::meter::SegMeter;
+use base::name::{DsName, Target};
 use base::refusal::Refusal;
 use datasets::Table;
 use destroyer::Freeing;
-use name::{DsName, Target};
 use std::alloc::Global;
 use views::Views;
 
@@ -41,7 +41,7 @@ fn has_deferred_origin(table: &Table, name: &DsName) -> bool
 }
 
 // Whether nothing goes with the file system of this name. It costs what `has_deferred_origin` does.
-fn goes_alone(table: &Table, name: &DsName, recursive: bool) -> bool
+fn is_removed_alone(table: &Table, name: &DsName, recursive: bool) -> bool
     ensures { result ≡ (not recursive && not (has_deferred_origin table.now name.now)) }
 {
     !recursive && !has_deferred_origin(table, name)
@@ -49,7 +49,7 @@ fn goes_alone(table: &Table, name: &DsName, recursive: bool) -> bool
 
 // Takes out this file system, or with `recursive` its family, which nothing refuses, and then the snapshots that nothing needs any more.
 // NoMemory where there is none for it, and then the table and what it has to free are as they were. It costs what `destroy` does.
-fn lose_and_sweep(
+fn remove_and_sweep(
     alloc: Global,
     table: &mut Table,
     freeing: &mut Freeing,
@@ -62,7 +62,7 @@ fn lose_and_sweep(
     requires swept { IsSweptBy table.old views.now.opened }
     requires not_root { ¬ (name.now ≡ root_name) }
     requires inside { recursive ≡ true → AreClonesInside table.old name.now }
-    requires can { recursive ≡ false → CanRemove table.old name.now }
+    requires can { recursive ≡ false → CanRemoveFileSystem table.old name.now }
     ensures ok { OnOk result (table.new ≡ swept (without_family table.old name.now recursive) views.now.opened) }
     ensures lost { OnOk result (HasLost table.old freeing.old table.new freeing.new) }
     ensures unchanged { OnErr result (table.new ≡ table.old) }
@@ -70,7 +70,7 @@ fn lose_and_sweep(
     ensures err { IfErr result (λ e. e ≡ Refusal.NoMemory) }
 {
     let mut edit = Edit::of(table, freeing)?;
-    lose_systems(&mut edit, alloc, table, name, recursive, segments)?;
+    remove_file_systems(&mut edit, alloc, table, name, recursive, segments)?;
     sweep(&mut edit, alloc, table, views, segments)?;
     edit.put(table, freeing);
     Ok(())
@@ -98,15 +98,14 @@ fn destroy_file_systems(
     ensures kept { OnErr result (freeing.new ≡ freeing.old) }
     ensures only { IfErr result (λ e. (destroy_refusal table.old views.now.opened (Target.FileSystem name.now) recursive defer ≡ Some e) ⊎ (e ≡ Refusal.NoMemory)) }
 {
-    // It tells of the snapshots that each identity is one's.
-    let _count = table.len();
+    table.facts();
     if let Some(refusal) = refusal_of(table, views, name, recursive, defer) {
         return Err(refusal);
     }
-    if goes_alone(table, name, recursive) {
-        return lose_file_system(table, freeing, name);
+    if is_removed_alone(table, name, recursive) {
+        return remove_file_system(table, freeing, name);
     }
-    lose_and_sweep(alloc, table, freeing, views, name, recursive, segments)
+    remove_and_sweep(alloc, table, freeing, views, name, recursive, segments)
 }
 
 /// Destroys what this name is of (zfs-destroy(8)): what no dataset has any more is to be freed. With `recursive` a file system goes with
@@ -121,7 +120,7 @@ fn destroy_file_systems(
 /// A file system without `recursive` goes in place, unless its origin's destroy is deferred. That costs the number of file systems, and for
 /// a clone also that number times the logarithm of the number of snapshots of one. A bookmark goes in place too, which costs the logarithm
 /// of the number of file systems and the number of the file system's bookmarks. Everything else goes from an edit: it costs the number n of
-/// file systems times its logarithm, the chunks of pieces that are to be freed, for each snapshot that goes what `Edit::lose_snapshot` does
+/// file systems times its logarithm, the chunks of pieces that are to be freed, for each snapshot that goes what `Edit::remove_snapshot` does
 /// and the number of open views, for each clone that goes n times the logarithm of the number of snapshots of one, and with `recursive` for
 /// each snapshot of the family the logarithm of the number of clones and the number of its own.
 pub fn destroy(
@@ -151,6 +150,6 @@ pub fn destroy(
         Target::Snapshot(name) => destroy_snapshots(
             alloc, table, freeing, views, name, recursive, defer, segments,
         ),
-        Target::Bookmark(name) => destroy_bookmark(alloc, table, name),
+        Target::Bookmark(name) => remove_bookmark(alloc, table, name),
     }
 }

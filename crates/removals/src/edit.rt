@@ -1,5 +1,5 @@
 //! A table from which datasets go.
-ghost use Rattle.std.specs.Prelude.{◌≡◌, ◌⊎◌, ◌↔◌, false, not, filter, Some, None, IfSome, IfOk, IfErr, OnOk, is_some, length};
+ghost use Rattle.std.specs.Prelude.{◌≡◌, ◌⊎◌, ◌↔◌, false, not, filter, Some, None, IfSome, IfOk, IfErr, OnOk, length};
 ghost use Rattle.std.specs.List.{list_any};
 ghost use Rattle.base.specs.declared.refusal.Refusal.{Refusal};
 ghost use Rattle.datasets.specs.Losses.{newest_map};
@@ -8,15 +8,15 @@ ghost use Rattle.model.specs.World.{id_of, snap_named, union_of};
 ghost use Rattle.world.specs.Sets.{AreDisjoint};
 ghost use Rattle.world.specs.Tables.{world_of, without_snap};
 ghost use Rattle.removals.specs.Edits.{HasLost};
-ghost use Rattle.removals.specs.Named.{without_named, without_all, deferred_named, deferred_all, is_named_cloned, is_named_kept, newer_members};
+ghost use Rattle.removals.specs.Named.{without_named, without_all, deferred_named, deferred_all, has_clone_named, is_named_needed, newer_members};
 
-use crate::cloned::is_named_kept;
+use crate::cloned::is_named_needed;
 use base::meter::SegMeter;
+use base::name::{Component, DsName, Member};
 use base::number::Group;
 use base::refusal::Refusal;
 use datasets::{FileSystem, Table};
 use destroyer::Freeing;
-use name::{Component, DsName, Member};
 use snap::Named;
 use std::alloc::Global;
 use std::sync::Arc;
@@ -54,22 +54,22 @@ impl Edit {
 
     /// Lets the snapshot of this name go, which has no clone (zfs-destroy(8)): the blocks that no dataset has any more are to be freed.
     /// NoDataset exactly where there is none of that name; else NoMemory where there is none for it, and then the edit is of no use. It
-    /// costs what `Table::destroy_snapshot` does.
-    pub fn lose_snapshot(
+    /// costs what `Table::remove_snapshot` does.
+    pub fn remove_snapshot(
         &mut self,
         alloc: Global,
         name: &Member,
         segments: &mut SegMeter,
     ) -> Result<(), Refusal>
         requires apart { AreDisjoint (union_of (world_of self.old.to)) self.old.freeing }
-        requires no_clone { is_named_cloned self.old.to name.now ≡ false }
+        requires no_clone { has_clone_named self.old.to name.now ≡ false }
         ensures ok { IfSome (snap_named (world_of self.old.to) name.now) (λ t. OnOk result (self.new.to ≡ without_snap self.old.to (id_of t))) }
         ensures lost { OnOk result (HasLost self.old.to self.old.freeing self.new.to self.new.freeing) }
         ensures no_dataset { (result ≡ Err Refusal.NoDataset) ↔ (snap_named (world_of self.old.to) name.now ≡ None) }
         ensures only { IfErr result (λ e. (e ≡ Refusal.NoDataset) ⊎ (e ≡ Refusal.NoMemory)) }
     {
-        let _count = self.to.len();
-        let lost = self.to.destroy_snapshot(alloc, name, segments)?;
+        self.to.facts();
+        let lost = self.to.remove_snapshot(alloc, name, segments)?;
         let lost = Arc::new(alloc, lost)?;
         self.freeing.add_dead(lost)
     }
@@ -89,15 +89,15 @@ impl Edit {
         ensures no_dataset { (result ≡ Err Refusal.NoDataset) ↔ (length (snaps_at self.old.to.file_systems name.now) ≡ 0) }
         ensures only { IfErr result (λ e. (e ≡ Refusal.NoDataset) ⊎ (e ≡ Refusal.NoMemory)) }
     {
-        let _count = self.to.len();
+        self.to.facts();
         let lost = self.to.rollback(alloc, name, segments)?;
         self.freeing
             .add_tree(&lost.tree, lost.after, u64::from(lost.count))
     }
 
     // Lets the snapshot of this name go, which has no clone, and nothing where there is none. NoMemory where there is none for it, and then
-    // the edit is of no use. It costs what `lose_snapshot` does.
-    pub(crate) fn lose_named(
+    // the edit is of no use. It costs what `remove_snapshot` does.
+    pub(crate) fn remove_named(
         &mut self,
         alloc: Global,
         file_system: &DsName,
@@ -105,21 +105,21 @@ impl Edit {
         segments: &mut SegMeter,
     ) -> Result<(), Refusal>
         requires apart { AreDisjoint (union_of (world_of self.old.to)) self.old.freeing }
-        requires no_clone { is_named_cloned self.old.to (record { file_system = file_system.now; component = component.now }) ≡ false }
+        requires no_clone { has_clone_named self.old.to (record { file_system = file_system.now; component = component.now }) ≡ false }
         ensures ok { OnOk result (self.new.to ≡ without_named self.old.to (record { file_system = file_system.now; component = component.now })) }
         ensures lost { OnOk result (HasLost self.old.to self.old.freeing self.new.to self.new.freeing) }
         ensures err { IfErr result (λ e. e ≡ Refusal.NoMemory) }
     {
-        if !has_snapshot(&self.to, file_system, component) {
+        if self.to.snapshot_named(file_system, component).is_none() {
             return Ok(());
         }
         let name = member(file_system, component)?;
-        self.lose_snapshot(alloc, &name, segments)
+        self.remove_snapshot(alloc, &name, segments)
     }
 
     // Lets the snapshots of all these names go that are there, but for those that a tag or one of these views keeps or that have a clone;
     // the table is the one that the names are of. NoMemory where there is none for it, and then the edit is of no use. It costs what
-    // `lose_snapshot` does for each, and the number of open views.
+    // `remove_snapshot` does for each, and the number of open views.
     pub(crate) fn lose_unneeded(
         &mut self,
         alloc: Global,
@@ -130,16 +130,15 @@ impl Edit {
     ) -> Result<(), Refusal>
         requires apart { AreDisjoint (union_of (world_of self.old.to)) self.old.freeing }
         requires same { self.old.to ≡ table.now }
-        ensures ok { OnOk result (self.new.to ≡ without_all self.old.to (filter (λ m. not (is_named_kept table.now views.now.opened m)) all.now)) }
+        ensures ok { OnOk result (self.new.to ≡ without_all self.old.to (filter (λ m. not (is_named_needed table.now views.now.opened m)) all.now)) }
         ensures lost { OnOk result (HasLost self.old.to self.old.freeing self.new.to self.new.freeing) }
         ensures err { IfErr result (λ e. e ≡ Refusal.NoMemory) }
     {
-        // It tells of the snapshots that their names are different.
-        let _count = table.len();
+        table.facts();
         for name in all {
             let (file_system, component) = (name.file_system, name.component);
-            if !is_named_kept(table, views, file_system, component) {
-                self.lose_named(alloc, file_system, component, segments)?;
+            if !is_named_needed(table, views, file_system, component) {
+                self.remove_named(alloc, file_system, component, segments)?;
             }
         }
         Ok(())
@@ -157,7 +156,7 @@ impl Edit {
         ensures same { OnOk result (self.new.freeing ≡ self.old.freeing) }
         ensures err { IfErr result (λ e. e ≡ Refusal.NoMemory) }
     {
-        if !has_snapshot(&self.to, file_system, component) {
+        if self.to.snapshot_named(file_system, component).is_none() {
             return Ok(());
         }
         let name = member(file_system, component)?;
@@ -178,9 +177,9 @@ impl Edit {
     }
 
     // Lets the snapshots go that this file system has of a later group than this one, where they are there; none of them has a clone.
-    // NoMemory where there is none for it, and then the edit is of no use. It costs what `lose_snapshot` does for each, and the number of
+    // NoMemory where there is none for it, and then the edit is of no use. It costs what `remove_snapshot` does for each, and the number of
     // the file system's snapshots.
-    pub(crate) fn lose_newer(
+    pub(crate) fn remove_newer(
         &mut self,
         alloc: Global,
         file_system: &FileSystem,
@@ -188,31 +187,19 @@ impl Edit {
         segments: &mut SegMeter,
     ) -> Result<(), Refusal>
         requires apart { AreDisjoint (union_of (world_of self.old.to)) self.old.freeing }
-        requires no_clone { list_any (is_named_cloned self.old.to) (newer_members (entry_of file_system.now) group.0) ≡ false }
+        requires no_clone { list_any (has_clone_named self.old.to) (newer_members (entry_of file_system.now) group.0) ≡ false }
         ensures ok { OnOk result (self.new.to ≡ without_all self.old.to (newer_members (entry_of file_system.now) group.0)) }
         ensures lost { OnOk result (HasLost self.old.to self.old.freeing self.new.to self.new.freeing) }
         ensures err { IfErr result (λ e. e ≡ Refusal.NoMemory) }
     {
-        // It tells of the snapshots that their names are different.
-        let _count = self.to.len();
+        self.to.facts();
         let name = file_system.name();
         for kept in file_system.snapshots().iter() {
             if kept.snapshot.group() > group {
-                self.lose_named(alloc, name, kept.snapshot.name(), segments)?;
+                self.remove_named(alloc, name, kept.snapshot.name(), segments)?;
             }
         }
         Ok(())
-    }
-}
-
-// Whether a snapshot of this name is there. It costs the logarithm of the number of file systems, and that of the number of snapshots
-// of this one.
-fn has_snapshot(table: &Table, file_system: &DsName, component: &Component) -> bool
-    ensures { result ≡ is_some (snap_named (world_of table.now) (record { file_system = file_system.now; component = component.now })) }
-{
-    match table.find(file_system) {
-        Some(file_system) => file_system.snapshot_named(component.as_bytes()).is_some(),
-        None => false,
     }
 }
 

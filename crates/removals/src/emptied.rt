@@ -12,14 +12,14 @@ ghost use Rattle.world.specs.Sets.{AreDisjoint};
 ghost use Rattle.world.specs.Tables.{world_of, with_system};
 ghost use Rattle.removals.specs.Edits.{HasLost};
 ghost use Rattle.removals.specs.Families.{emptied, AreClonesInside};
-ghost use Rattle.removals.specs.Named.{is_named_cloned, newer_members};
+ghost use Rattle.removals.specs.Named.{has_clone_named, newer_members};
 
 use crate::edit::Edit;
 use base::meter::SegMeter;
+use base::name::DsName;
 use base::number::Group;
 use base::refusal::Refusal;
 use datasets::{FileSystem, Table};
-use name::DsName;
 use snap::is_in_family;
 use std::alloc::Global;
 
@@ -78,14 +78,14 @@ fn vacate(edit: &mut Edit, alloc: Global, name: &DsName) -> Result<(), Refusal>
     ensures lost { OnOk result (HasLost edit.old.to edit.old.freeing edit.new.to edit.new.freeing) }
     ensures err { IfErr result (λ e. e ≡ Refusal.NoMemory) }
 {
-    let _count = edit.to.len();
+    edit.to.facts();
     let lost = edit.to.vacate(alloc, name)?;
     edit.freeing
         .add_tree(&lost.tree, lost.after, u64::from(lost.count))
 }
 
 // Empties this file system, which is as it was or empty already, with its snapshots, none of which has a clone. NoMemory where there is
-// none for it, and then the edit is of no use. It costs what `Edit::lose_newer` does.
+// none for it, and then the edit is of no use. It costs what `Edit::remove_newer` does.
 fn empty_one(
     edit: &mut Edit,
     alloc: Global,
@@ -94,21 +94,20 @@ fn empty_one(
 ) -> Result<(), Refusal>
     requires apart { AreDisjoint (union_of (world_of edit.old.to)) edit.old.freeing }
     requires there { (get edit.old.to.file_systems file_system.now.name ≡ Some file_system.now.system) ⊎ (get edit.old.to.file_systems file_system.now.name ≡ Some empty_file_system) }
-    requires no_clone { list_any (is_named_cloned edit.old.to) (newer_members (entry_of file_system.now) 0) ≡ false }
+    requires no_clone { list_any (has_clone_named edit.old.to) (newer_members (entry_of file_system.now) 0) ≡ false }
     ensures ok { OnOk result (edit.new.to ≡ with_system edit.old.to file_system.now.name empty_file_system) }
     ensures lost { OnOk result (HasLost edit.old.to edit.old.freeing edit.new.to edit.new.freeing) }
     ensures err { IfErr result (λ e. e ≡ Refusal.NoMemory) }
 {
-    // It tells of the snapshots that their groups rise.
-    let _count = edit.to.len();
-    edit.lose_newer(alloc, file_system, Group(0), segments)?;
+    edit.to.facts();
+    edit.remove_newer(alloc, file_system, Group(0), segments)?;
     vacate(edit, alloc, file_system.name())
 }
 
 /// Empties the file systems of this family: what they and their snapshots have alone is to be freed. Each clone of such a snapshot is of
 /// the family, and is emptied before it: the group of its origin is later than that of the file system that has the snapshot. NoMemory
 /// where there is none for it, and then the edit is of no use. It costs the number of file systems, for n of the family n times its
-/// logarithm, and for each what `Edit::lose_newer` does.
+/// logarithm, and for each what `Edit::remove_newer` does.
 pub(crate) fn empty_family(
     edit: &mut Edit,
     alloc: Global,
@@ -123,8 +122,7 @@ pub(crate) fn empty_family(
     ensures lost { OnOk result (HasLost edit.old.to edit.old.freeing edit.new.to edit.new.freeing) }
     ensures err { IfErr result (λ e. e ≡ Refusal.NoMemory) }
 {
-    // It tells of the snapshots that their groups rise.
-    let _count = table.len();
+    table.facts();
     let rows = rows_in_order(alloc, table, name)?;
     let mut left = rows.len();
     while left > 0 {

@@ -1,44 +1,44 @@
 //! File systems that go, alone or with their descendants.
 ghost use Rattle.std.specs.Prelude.{◌≡◌, ◌||◌, true, false, IfErr, OnOk, OnErr, length, nat_lt};
 ghost use Rattle.base.specs.declared.refusal.Refusal.{Refusal};
-ghost use Rattle.name.specs.declared.target.Target.{Target};
-ghost use Rattle.name.specs.Names.{root_name};
+ghost use Rattle.base.specs.declared.name.target.Target.{Target};
+ghost use Rattle.base.specs.Names.{root_name};
 ghost use Rattle.model.specs.World.{union_of, children_of};
 ghost use Rattle.world.specs.Sets.{AreDisjoint};
-ghost use Rattle.world.specs.Tables.{CanRemove, world_of, without_system};
+ghost use Rattle.world.specs.Tables.{CanRemoveFileSystem, world_of, without_system};
 ghost use Rattle.removals.specs.Edits.{HasLost};
 ghost use Rattle.removals.specs.Families.{family_refusal, AreClonesInside, IsBareFamily};
 ghost use Rattle.removals.specs.Requests.{destroy_refusal, without_family};
 
-use crate::cloned::any_cloned_outside;
+use crate::cloned::family_has_clone_outside;
 use crate::edit::Edit;
 use crate::emptied::empty_family;
 use crate::held::any_of_family_held;
 use base::meter::SegMeter;
+use base::name::DsName;
 use base::refusal::Refusal;
 use datasets::{FileSystem, Table};
 use destroyer::Freeing;
-use name::DsName;
 use snap::is_in_family;
 use std::alloc::Global;
 use views::Views;
 
 /// Takes out this file system, which has no snapshot and no child and isn't the root: its blocks are to be freed. NoMemory where there
 /// is none for it, and then the table and what it has to free are as they were. It costs the number of file systems.
-pub(crate) fn lose_file_system(
+pub(crate) fn remove_file_system(
     table: &mut Table,
     freeing: &mut Freeing,
     name: &DsName,
 ) -> Result<(), Refusal>
     requires apart { AreDisjoint (union_of (world_of table.old)) freeing.old }
-    requires can { CanRemove table.old name.now }
+    requires can { CanRemoveFileSystem table.old name.now }
     ensures ok { OnOk result (table.new ≡ without_system table.old name.now) }
     ensures lost { OnOk result (HasLost table.old freeing.old table.new freeing.new) }
     ensures unchanged { OnErr result (table.new ≡ table.old) }
     ensures kept { OnErr result (freeing.new ≡ freeing.old) }
     ensures err { IfErr result (λ e. e ≡ Refusal.NoMemory) }
 {
-    let _count = table.len();
+    table.facts();
     let lost = table.lost_with(name)?;
     freeing.add_tree(&lost.tree, lost.after, u64::from(lost.count))?;
     table.remove(name);
@@ -48,7 +48,7 @@ pub(crate) fn lose_file_system(
 // Takes out the file systems of the family of this name, which isn't the root's, children before their parents: they are as the table has
 // them, without a snapshot. NoMemory where there is none for it, and then the edit is of no use. It costs the number of file systems, and
 // for each of the family once more.
-fn lose_family(edit: &mut Edit, table: &Table, name: &DsName) -> Result<(), Refusal>
+fn remove_family(edit: &mut Edit, table: &Table, name: &DsName) -> Result<(), Refusal>
     requires apart { AreDisjoint (union_of (world_of edit.old.to)) edit.old.freeing }
     requires same { edit.old.to ≡ table.now }
     requires bare { IsBareFamily table.now name.now }
@@ -63,15 +63,15 @@ fn lose_family(edit: &mut Edit, table: &Table, name: &DsName) -> Result<(), Refu
         left -= 1;
         let file_system: &FileSystem = &rows[left];
         if is_in_family(name.as_bytes(), file_system.name().as_bytes()) {
-            lose_file_system(&mut edit.to, &mut edit.freeing, file_system.name())?;
+            remove_file_system(&mut edit.to, &mut edit.freeing, file_system.name())?;
         }
     }
     Ok(())
 }
 
 // Takes out the file systems of the family of this name with their snapshots, of whose clones each is of the family. NoMemory where there
-// is none for it, and then the edit is of no use. It costs what `empty_family` and `lose_family` do.
-fn lose_whole(
+// is none for it, and then the edit is of no use. It costs what `empty_family` and `remove_family` do.
+fn empty_and_remove(
     edit: &mut Edit,
     alloc: Global,
     table: &Table,
@@ -89,13 +89,13 @@ fn lose_whole(
     empty_family(edit, alloc, table, name, segments)?;
     // Its rows are read while file systems go from the edit.
     let emptied = edit.to.copy()?;
-    lose_family(edit, &emptied, name)
+    remove_family(edit, &emptied, name)
 }
 
 /// Takes out this file system, which has no snapshot and no child, or with `recursive` its family with their snapshots, of whose clones
 /// each is of the family; it isn't the root. NoMemory where there is none for it, and then the edit is of no use. It costs the number of
-/// file systems, and with `recursive` what `empty_family` and `lose_family` do.
-pub(crate) fn lose_systems(
+/// file systems, and with `recursive` what `empty_family` and `remove_family` do.
+pub(crate) fn remove_file_systems(
     edit: &mut Edit,
     alloc: Global,
     table: &Table,
@@ -107,15 +107,15 @@ pub(crate) fn lose_systems(
     requires same { edit.old.to ≡ table.now }
     requires not_root { ¬ (name.now ≡ root_name) }
     requires inside { recursive ≡ true → AreClonesInside table.now name.now }
-    requires can { recursive ≡ false → CanRemove table.now name.now }
+    requires can { recursive ≡ false → CanRemoveFileSystem table.now name.now }
     ensures ok { OnOk result (edit.new.to ≡ without_family table.now name.now recursive) }
     ensures lost { OnOk result (HasLost edit.old.to edit.old.freeing edit.new.to edit.new.freeing) }
     ensures err { IfErr result (λ e. e ≡ Refusal.NoMemory) }
 {
     if recursive {
-        return lose_whole(edit, alloc, table, name, segments);
+        return empty_and_remove(edit, alloc, table, name, segments);
     }
-    lose_file_system(&mut edit.to, &mut edit.freeing, name)
+    remove_file_system(&mut edit.to, &mut edit.freeing, name)
 }
 
 // Whether a file system of this name has a child, or this one a snapshot. It costs the number of file systems.
@@ -126,14 +126,14 @@ fn has_parts(table: &Table, file_system: &FileSystem, name: &DsName) -> bool
 }
 
 // Why a family isn't destroyed, if it isn't: a tag or an open view keeps a snapshot of it, or a clone of one is outside. It costs what
-// `any_of_family_held` and `any_cloned_outside` do.
+// `any_of_family_held` and `family_has_clone_outside` do.
 fn family_refusal(table: &Table, views: &Views, name: &DsName) -> Option<Refusal>
     ensures { result ≡ family_refusal table.now views.now.opened name.now }
 {
     if any_of_family_held(table, views, name) {
         return Some(Refusal::Busy);
     }
-    if any_cloned_outside(table, name) {
+    if family_has_clone_outside(table, name) {
         return Some(Refusal::HasClones);
     }
     None
@@ -149,8 +149,7 @@ pub(crate) fn refusal_of(
 ) -> Option<Refusal>
     ensures { result ≡ destroy_refusal table.now views.now.opened (Target.FileSystem name.now) recursive defer }
 {
-    // It tells of the snapshots that none is of group 0.
-    let _count = table.len();
+    table.facts();
     let Some(file_system) = table.find(name) else {
         return Some(Refusal::NoDataset);
     };

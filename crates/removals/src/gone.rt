@@ -2,22 +2,22 @@
 ghost use Rattle.std.specs.Prelude.{◌≡◌, ◌⊎◌, ◌&&◌, not, Some, None, IfSome, IfErr, OnOk, OnErr};
 ghost use Rattle.std.specs.List.{list_any};
 ghost use Rattle.base.specs.declared.refusal.Refusal.{Refusal};
-ghost use Rattle.name.specs.declared.target.Target.{Target};
+ghost use Rattle.base.specs.declared.name.target.Target.{Target};
 ghost use Rattle.model.specs.World.{union_of};
 ghost use Rattle.world.specs.Sets.{AreDisjoint};
 ghost use Rattle.world.specs.Tables.{world_of};
 ghost use Rattle.removals.specs.Edits.{HasLost};
-ghost use Rattle.removals.specs.Named.{is_named_held, is_named_cloned};
+ghost use Rattle.removals.specs.Named.{is_named_held, has_clone_named};
 ghost use Rattle.removals.specs.Requests.{destroyed, destroy_refusal};
 
-use crate::cloned::any_named_cloned;
+use crate::cloned::any_has_clone;
 use crate::edit::Edit;
 use crate::held::any_named_held;
 use base::meter::SegMeter;
+use base::name::SnapName;
 use base::refusal::Refusal;
 use datasets::Table;
 use destroyer::Freeing;
-use name::SnapName;
 use snap::{Named, any_taken, expand};
 use std::alloc::Global;
 use std::slice::from_ref;
@@ -30,11 +30,11 @@ fn any_busy(table: &Table, views: &Views, all: &[Named], defer: bool) -> bool
     !defer && any_named_held(table, views, all)
 }
 
-// Whether one of these can't be destroyed, not even later, for it has a clone. It costs what `any_named_cloned` does.
+// Whether one of these can't be destroyed, not even later, for it has a clone. It costs what `any_has_clone` does.
 fn any_cloned(table: &Table, all: &[Named], defer: bool) -> bool
-    ensures { result ≡ (not defer && list_any (is_named_cloned table.now) all.now) }
+    ensures { result ≡ (not defer && list_any (has_clone_named table.now) all.now) }
 {
-    !defer && any_named_cloned(table, all)
+    !defer && any_has_clone(table, all)
 }
 
 /// Destroys the snapshot of this name, or with `recursive` those of that name of its file system and of each descendant; with `defer` those
@@ -42,7 +42,7 @@ fn any_cloned(table: &Table, all: &[Named], defer: bool) -> bool
 /// are to be freed. Refused are NoDataset where there is none of them; else, where not `defer`, Busy where a tag or one of these views
 /// keeps one of them, else HasClones where one of them has a clone; NoMemory, where there is none for it, may come before these
 /// (zfs-destroy(8)). At `Err` the table and what it has to free are as they were. It costs the number of file systems, the chunks of pieces
-/// that are to be freed, and for each name what `Edit::lose_snapshot` does and the number of open views.
+/// that are to be freed, and for each name what `Edit::remove_snapshot` does and the number of open views.
 pub(crate) fn destroy_snapshots(
     alloc: Global,
     table: &mut Table,
@@ -62,8 +62,7 @@ pub(crate) fn destroy_snapshots(
     ensures kept { OnErr result (freeing.new ≡ freeing.old) }
     ensures only { IfErr result (λ e. (destroy_refusal table.old views.now.opened (Target.Snapshot name.now) recursive defer ≡ Some e) ⊎ (e ≡ Refusal.NoMemory)) }
 {
-    // It tells of the snapshots that their names are different.
-    let _count = table.len();
+    table.facts();
     let all = expand(alloc, table, from_ref(name), recursive)?;
     if !any_taken(table, &all) {
         return Err(Refusal::NoDataset);

@@ -6,9 +6,9 @@ ghost use Rattle.datasets.specs.Rows.{entry_in};
 ghost use Rattle.snap.specs.Taking.{is_in_family};
 ghost use Rattle.removals.specs.Named.{is_held, is_named_held, is_held_after};
 
+use base::name::{Component, DsName};
 use base::number::Group;
 use datasets::{FileSystem, Snapshot, Table};
-use name::{Component, DsName};
 use snap::{Named, is_in_family};
 use std::sync::Arc;
 use views::Views;
@@ -30,11 +30,8 @@ pub(crate) fn is_named_held(
 ) -> bool
     ensures { result ≡ is_named_held table.now views.now.opened (record { file_system = file_system.now; component = component.now }) }
 {
-    let Some(file_system) = table.find(file_system) else {
-        return false;
-    };
-    match file_system.snapshot_named(component.as_bytes()) {
-        Some(snapshot) => is_held(views, snapshot),
+    match table.snapshot_named(file_system, component) {
+        Some((_owner, snapshot)) => is_held(views, snapshot),
         None => false,
     }
 }

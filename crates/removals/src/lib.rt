@@ -18,7 +18,7 @@ mod held;
 mod rolling;
 mod sweep;
 
-pub use bookmark::lose_newer_bookmarks;
+pub use bookmark::remove_newer_bookmarks;
 pub use close::close_view;
 pub use destroying::destroy;
 pub use edit::Edit;

@@ -4,29 +4,29 @@ ghost use Rattle.std.specs.Option.{option_map};
 ghost use Rattle.std.specs.List.{find, list_any};
 ghost use Rattle.std.specs.FinMap.{get};
 ghost use Rattle.base.specs.declared.refusal.Refusal.{Refusal};
-ghost use Rattle.bookmarks.specs.Marks.{has_newer};
+ghost use Rattle.snapshots.specs.Marks.{has_newer};
 ghost use Rattle.datasets.specs.Origins.{origin_group};
 ghost use Rattle.datasets.specs.Writes.{newest_group};
-ghost use Rattle.name.specs.declared.target.Target.{Target};
-ghost use Rattle.name.specs.Names.{same_name};
+ghost use Rattle.base.specs.declared.name.target.Target.{Target};
+ghost use Rattle.base.specs.Names.{same_name};
 ghost use Rattle.model.specs.World.{union_of};
 ghost use Rattle.model.specs.requests.Rollback.{placed};
 ghost use Rattle.world.specs.Sets.{AreDisjoint};
 ghost use Rattle.world.specs.Tables.{world_of};
 ghost use Rattle.removals.specs.Edits.{HasLost};
-ghost use Rattle.removals.specs.Named.{is_cloned_after};
+ghost use Rattle.removals.specs.Named.{has_clone_and_is_later};
 ghost use Rattle.removals.specs.Requests.{rolled, rollback_refusal, refusal_at};
 
-use crate::bookmark::lose_newer_bookmarks;
-use crate::cloned::any_later_cloned;
+use crate::bookmark::remove_newer_bookmarks;
+use crate::cloned::any_later_has_clone;
 use crate::edit::Edit;
 use crate::held::any_later_held;
 use base::meter::SegMeter;
+use base::name::{Component, Member, Target};
 use base::number::Group;
 use base::refusal::Refusal;
 use datasets::{FileSystem, Snapshot, Table};
 use destroyer::Freeing;
-use name::{Component, Member, Target};
 use std::alloc::Global;
 use views::Views;
 
@@ -63,13 +63,12 @@ pub fn rollback(
         return Err(Refusal::NoDataset);
     };
     let group = snapshot.group();
-    // It tells of the snapshots that their groups rise.
-    let _count = table.len();
+    table.facts();
     if let Some(refusal) = refusal_of(table, file_system, group, views, later) {
         return Err(refusal);
     }
     let mut edit = Edit::of(table, freeing)?;
-    go_back(&mut edit, alloc, file_system, component, group, segments)?;
+    roll_back(&mut edit, alloc, file_system, component, group, segments)?;
     edit.put(table, freeing);
     Ok(())
 }
@@ -93,7 +92,7 @@ fn has_newer(file_system: &FileSystem, group: Group) -> bool
 }
 
 // Why this file system of the table can't go back to its snapshot of this group, if it can't. It costs what `has_newer`, `any_later_held`
-// and `any_later_cloned` do.
+// and `any_later_has_clone` do.
 fn refusal_of(
     table: &Table,
     file_system: &FileSystem,
@@ -109,7 +108,7 @@ fn refusal_of(
     if any_later_held(file_system, group, views) {
         return Some(Refusal::Busy);
     }
-    if any_later_cloned(table, file_system, group) {
+    if any_later_has_clone(table, file_system, group) {
         return Some(Refusal::HasClones);
     }
     None
@@ -117,7 +116,7 @@ fn refusal_of(
 
 // Puts this file system back at its snapshot of this name, which is of this group; no newer one has a clone. NoMemory where there is none
 // for it, and then the edit is of no use. It costs what `rollback` does.
-fn go_back(
+fn roll_back(
     edit: &mut Edit,
     alloc: Global,
     file_system: &FileSystem,
@@ -128,14 +127,13 @@ fn go_back(
     requires apart { AreDisjoint (union_of (world_of edit.old.to)) edit.old.freeing }
     requires there { get edit.old.to.file_systems file_system.now.name ≡ Some file_system.now.system }
     requires group { option_map (λ s. s.group) (find (λ s. same_name s.name component.now) file_system.now.system.snaps) ≡ Some group.0 }
-    requires no_clone { list_any (is_cloned_after edit.old.to group.0) file_system.now.system.snaps ≡ false }
+    requires no_clone { list_any (has_clone_and_is_later edit.old.to group.0) file_system.now.system.snaps ≡ false }
     ensures ok { OnOk result (edit.new.to ≡ rolled edit.old.to (Target.Snapshot (record { file_system = file_system.now.name; component = component.now }))) }
     ensures lost { OnOk result (HasLost edit.old.to edit.old.freeing edit.new.to edit.new.freeing) }
     ensures err { IfErr result (λ e. e ≡ Refusal.NoMemory) }
 {
-    // It tells of the snapshots that their groups rise.
-    let _count = edit.to.len();
-    edit.lose_newer(alloc, file_system, group, segments)?;
+    edit.to.facts();
+    edit.remove_newer(alloc, file_system, group, segments)?;
     edit.lose_live(alloc, file_system.name(), segments)?;
-    lose_newer_bookmarks(alloc, &mut edit.to, file_system.name(), group)
+    remove_newer_bookmarks(alloc, &mut edit.to, file_system.name(), group)
 }

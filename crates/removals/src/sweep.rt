@@ -8,7 +8,7 @@ ghost use Rattle.model.specs.World.{union_of};
 ghost use Rattle.world.specs.Sets.{AreDisjoint};
 ghost use Rattle.world.specs.Tables.{world_of};
 ghost use Rattle.removals.specs.Edits.{HasLost};
-ghost use Rattle.removals.specs.Families.{ArePartOf, unneeded, gone_origin, without_origin, without_unneeded};
+ghost use Rattle.removals.specs.Families.{ArePartOf, unneeded, removed_origin, without_origin, without_unneeded};
 ghost use Rattle.removals.specs.Requests.{swept, IsSweptBy};
 
 use crate::edit::{Edit, member};
@@ -40,7 +40,7 @@ fn unneeded<'a>(
 }
 
 // Lets the snapshot of this identity go, where its destroy is deferred and nothing needs it. NoMemory where there is none for it, and
-// then the edit is of no use. It costs what `unneeded` does and, where it goes, what `Edit::lose_snapshot` does.
+// then the edit is of no use. It costs what `unneeded` does and, where it goes, what `Edit::remove_snapshot` does.
 fn lose_unneeded(
     edit: &mut Edit,
     alloc: Global,
@@ -53,18 +53,17 @@ fn lose_unneeded(
     ensures lost { OnOk result (HasLost edit.old.to edit.old.freeing edit.new.to edit.new.freeing) }
     ensures err { IfErr result (λ e. e ≡ Refusal.NoMemory) }
 {
-    // It tells of the snapshots that their groups rise.
-    let _count = edit.to.len();
+    edit.to.facts();
     let name = match unneeded(&edit.to, views, id) {
         Some((file_system, snapshot)) => member(file_system.name(), snapshot.name())?,
         None => return Ok(()),
     };
-    edit.lose_snapshot(alloc, &name, segments)
+    edit.remove_snapshot(alloc, &name, segments)
 }
 
 // The origin of a file system that the table hasn't any more. It costs the logarithm of the number of file systems.
-fn gone_origin(table: &Table, file_system: &FileSystem) -> Option<SnapshotId>
-    ensures { option_map snap_id result ≡ gone_origin table.now (entry_of file_system.now) }
+fn removed_origin(table: &Table, file_system: &FileSystem) -> Option<SnapshotId>
+    ensures { option_map snap_id result ≡ removed_origin table.now (entry_of file_system.now) }
 {
     if table.find(file_system.name()).is_some() {
         return None;
@@ -74,7 +73,7 @@ fn gone_origin(table: &Table, file_system: &FileSystem) -> Option<SnapshotId>
 
 // Lets the origin of this file system go, where the file system is gone, the origin's destroy is deferred and nothing needs it. NoMemory
 // where there is none for it, and then the edit is of no use. It costs what `lose_unneeded` does.
-fn lose_origin(
+fn remove_unneeded_origin(
     edit: &mut Edit,
     alloc: Global,
     views: &Views,
@@ -86,7 +85,7 @@ fn lose_origin(
     ensures lost { OnOk result (HasLost edit.old.to edit.old.freeing edit.new.to edit.new.freeing) }
     ensures err { IfErr result (λ e. e ≡ Refusal.NoMemory) }
 {
-    match gone_origin(&edit.to, file_system) {
+    match removed_origin(&edit.to, file_system) {
         Some(id) => lose_unneeded(edit, alloc, views, id, segments),
         None => Ok(()),
     }
@@ -94,7 +93,7 @@ fn lose_origin(
 
 /// Lets the snapshots go whose destroy is deferred and that nothing needs any more, once file systems of this table are gone
 /// (zfs-destroy(8), -d). NoMemory where there is none for it, and then the edit is of no use. It costs the number of file systems times
-/// its logarithm, for each clone that is gone what `unneeded` does, and for each snapshot that goes what `Edit::lose_snapshot` does.
+/// its logarithm, for each clone that is gone what `unneeded` does, and for each snapshot that goes what `Edit::remove_snapshot` does.
 pub(crate) fn sweep(
     edit: &mut Edit,
     alloc: Global,
@@ -109,10 +108,9 @@ pub(crate) fn sweep(
     ensures lost { OnOk result (HasLost edit.old.to edit.old.freeing edit.new.to edit.new.freeing) }
     ensures err { IfErr result (λ e. e ≡ Refusal.NoMemory) }
 {
-    // It tells of the snapshots that each identity is one's.
-    let _count = edit.to.len();
+    edit.to.facts();
     for file_system in table.file_systems() {
-        lose_origin(edit, alloc, views, file_system, segments)?;
+        remove_unneeded_origin(edit, alloc, views, file_system, segments)?;
     }
     Ok(())
 }

@@ -31,13 +31,20 @@ pub struct Asked {
     alloc: Global,
     pool: Pool,
     way: Way,
+    /// The pool's meters before the last line.
+    before: (u64, u64),
 }
 
 impl Asked {
     /// A fresh pool of so many blocks with this id; None where it can't be made.
     pub fn new(alloc: Global, blocks: u32, id: u32, way: Way) -> Option<Asked> {
         let pool = Pool::create(alloc, id, blocks).ok()?;
-        Some(Asked { alloc, pool, way })
+        Some(Asked {
+            alloc,
+            pool,
+            way,
+            before: (0, 0),
+        })
     }
 
     pub fn way(&self) -> Way {
@@ -47,10 +54,20 @@ impl Asked {
     /// What is printed for a line; None for want of memory.
     pub fn printed(&mut self, line: &[u8]) -> Option<Vec<u8>> {
         let alloc = self.alloc;
+        self.before = self.pool.meters();
         let mut reader = Counted::new(line);
         let mut writer = Counted::new(Vec::new(alloc));
         run_script(alloc, self, &mut reader, &mut writer, false).ok()?;
         Some(writer.inner)
+    }
+
+    /// How many nodes of trees and how many segments of dead lists the last line has reached.
+    pub fn reached(&self) -> (u64, u64) {
+        let (nodes, segments) = self.pool.meters();
+        (
+            nodes.saturating_sub(self.before.0),
+            segments.saturating_sub(self.before.1),
+        )
     }
 }
 

@@ -66,6 +66,23 @@ impl Case {
         }
         Ok(())
     }
+
+    /// Prints what the last line has reached in each way, where it isn't what was wanted: so many nodes at least and at most, and so many
+    /// segments at most.
+    fn measure(&mut self, rt: &impl Print, least: u64, most: u64, few: u64) -> Result<()> {
+        for pool in &self.pools {
+            let (nodes, segments) = pool.reached();
+            let is_within = least <= nodes && nodes <= most && segments <= few;
+            if !is_within && !self.is_wrong {
+                self.is_wrong = true;
+                let (name, way) = (&self.name, pool.way().text());
+                println!(rt;
+                    "{name}, {way}: the meters\n  came   {nodes} {segments}\n  wanted {least} {most} {few}"
+                )?;
+            }
+        }
+        Ok(())
+    }
 }
 
 /// Bytes as they are printed, without the line feed at their end.
@@ -127,6 +144,9 @@ impl Cases {
                 .context("a name and its words")?;
             return self.texts.define(name, words);
         }
+        if let Some(bounds) = line.strip_prefix("meters ") {
+            return self.measure(rt, bounds);
+        }
         match line.strip_prefix("for ") {
             Some(rows) => self.run_repeated(rt, rows),
             None => self.run_row(rt, line, 0),
@@ -152,6 +172,19 @@ impl Cases {
         match &mut self.current {
             Some(case) => case.ask(rt, &line, &wanted),
             None => bail!("a row stands before any case"),
+        }
+    }
+
+    /// Looks at what the row above has reached: `6 36 3` for 6 to 36 nodes, and 3 segments at most.
+    fn measure(&mut self, rt: &impl Print, bounds: &str) -> Result<()> {
+        let (least, bounds) = bounds.split_once(' ').context("a greatest number")?;
+        let (most, few) = bounds
+            .split_once(' ')
+            .context("a greatest number of segments")?;
+        let (least, most) = (least.parse::<u64>()?, most.parse::<u64>()?);
+        match &mut self.current {
+            Some(case) => case.measure(rt, least, most, few.parse::<u64>()?),
+            None => bail!("meters stand before any case"),
         }
     }
 

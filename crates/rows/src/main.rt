@@ -8,6 +8,7 @@
 //! | `pool 1000 1: a name` | a case begins, of a fresh pool of so many blocks with this id |
 //! | `list => p` | a script line and its reply, which may be `61..`, or `silent` where there is none |
 //! | `for 1 to 256: hold t{} p@s => ok` | the row for each of these numbers, which stand for `{}` |
+//! | `meters 6 36 3` | the row above reached 6 nodes of trees at least and 36 at most, and 3 segments of dead lists at most |
 //!
 //! In a row `{0x7f}` stands for that byte. Each case is asked of one pool by `apply`, and of another by `prepare` and then `commit`. Of a case
 //! that is wrong the first wrong row is printed: the line, what came, and what was wanted. The last line says how many cases and lines agree.

@@ -9,17 +9,17 @@ use Rattle.std.proofs.lemmas.List.{map-append}
 use Rattle.std.proofs.lemmas.List.Sorted.{IsPermutation-refl, IsPermutation-sym, IsPermutation-trans, IsPermutation-to_front, IsPermutation-swap_remove, IsPermutation-map}
 use Rattle.base.specs.declared.refusal.Refusal.{Refusal}
 use Rattle.base.specs.declared.refusal.Refusal.TheVariants.{NoView}
-use Rattle.name.specs.declared.target.Target.{Target}
+use Rattle.base.specs.declared.name.target.Target.{Target}
 use Rattle.model.specs.declared.request.Request.{Request}
 use Rattle.model.specs.declared.request.Request.TheVariants.{OpenView, CloseView}
 use Rattle.model.specs.declared.reply.Reply.{Reply}
 use Rattle.model.specs.declared.reply.Reply.TheVariants.{Done, Refused, Opened}
-use Rattle.session.specs.Handed.{Ran, IsFullOrNoMemory, is_opened, Placed, Kept}
+use Rattle.session.specs.Handed.{Ran, IsFullOrNoMemory, Placed, Kept}
 use Rattle.session.specs.ViewCalls.{is_of_views}
 use Rattle.session.specs.Views.{Viewed}
 use Rattle.runner.specs.Beside.{Gains, where_opened, where_done, opened_by, closed_by}
 use Rattle.runner.specs.Sitting.{Sitting}
-use Rattle.runner.proofs.Holding.{same_held, none_opened, none_done, any_number, no_position}
+use Rattle.runner.proofs.Holding.{same_held, none_done, any_number, no_position}
 
 -- the numbers of views
 abbrev pub numbers : List Viewed → List ℕ
@@ -67,10 +67,6 @@ held_opened vs v r e =
     let front : IsPermutation (v.number ∷ numbers vs) (numbers vs ++ v.number ∷ []) = IsPermutation-sym (numbers vs ++ v.number ∷ []) (v.number ∷ numbers vs) (IsPermutation-to_front (numbers vs) v.number) in
     let moved : IsPermutation (v.number ∷ numbers vs) (numbers (vs ++ v ∷ [])) = subst (λ ns. IsPermutation (v.number ∷ numbers vs) ns) (sym (map-append (λ (w : Viewed). w.number) vs (v ∷ []))) front in
     subst (λ w. IsPermutation (where_opened w ++ numbers vs) (numbers (vs ++ v ∷ []))) (sym e) moved
-
--- none
-pub held_refused : (held : List ℕ) (r : Reply) → is_opened r ≡ false → IsPermutation (where_opened r ++ held) held
-held_refused held r e = subst (λ ns. IsPermutation (ns ++ held) held) (sym (none_opened r e)) (IsPermutation-refl held)
 
 -- the view that is taken out
 pub held_taken : (vs : List Viewed) (i : ℕ) (v : Viewed) → i < length vs → v ≡ get_or vs i v → IsPermutation (numbers vs) (v.number ∷ numbers (swap_remove vs i v))

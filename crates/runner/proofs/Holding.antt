@@ -8,10 +8,9 @@ use Rattle.model.specs.declared.request.Request.{Request}
 use Rattle.model.specs.declared.request.Request.TheVariants.{Create, Write, Punch, FreeObject, Snapshot, Read, Get, PoolGet, List as ToList, Rollback, Destroy, Slice, Sync, OpenView, CloseView, Clone, Promote, Hold, Release, Holds, Bookmark, WrittenSince, WouldFree, Set, Send, Receive}
 use Rattle.model.specs.declared.reply.Reply.{Reply}
 use Rattle.model.specs.declared.reply.Reply.TheVariants.{Done, Refused, Data, Value, Group, Names, Count, Opened, Stream}
-use Rattle.session.specs.Handed.{is_opened}
 use Rattle.session.specs.ViewCalls.{is_of_views}
 use Rattle.session.specs.Views.{Viewed}
-use Rattle.runner.specs.Beside.{where_opened, where_done, opened_by, closed_by}
+use Rattle.runner.specs.Beside.{where_done, opened_by, closed_by}
 
 -- a request that isn't of views opens and closes none
 pub same_held : (q : Request) (r : Reply) (held : List ℕ) → is_of_views q ≡ false → IsPermutation (opened_by q r ++ held) (closed_by q r ++ held)
@@ -42,18 +41,6 @@ same_held (Set name limit amount) r held e = IsPermutation-refl held
 same_held (Send target from) r held e = IsPermutation-refl held
 same_held (Receive snapshot bytes force) r held e = IsPermutation-refl held
 
--- a reply that opened none
-pub none_opened : (r : Reply) → is_opened r ≡ false → where_opened r ≡ []
-none_opened Done e = refl
-none_opened (Refused refusal) e = refl
-none_opened (Data bytes) e = refl
-none_opened (Value v) e = refl
-none_opened (Group group) e = refl
-none_opened (Names names) e = refl
-none_opened (Count count) e = refl
-none_opened (Opened view sight) e = absurd (cc e)
-none_opened (Stream bytes) e = refl
-
 -- a reply that isn't Done
 pub none_done : (n : ℕ) (r : Reply) → r ≢ Done → where_done n r ≡ []
 none_done n Done e = absurd (e refl)
@@ -70,35 +57,6 @@ none_done n (Stream bytes) e = refl
 pub any_number : (vs : List Viewed) (n : ℕ) → list_any (λ k. k == n) (map (λ (v : Viewed). v.number) vs) ≡ list_any (λ (v : Viewed). v.number == n) vs
 any_number [] n = refl
 any_number (v ∷ vs) n = ap (λ b. (v.number == n) || b) (any_number vs n)
-
--- a request that is neither of the two
-pub not_of_views : (q : Request) → ((target : _) → q ≢ OpenView target) → ((view : _) → q ≢ CloseView view) → is_of_views q ≡ false
-not_of_views (Create name) to_open to_close = refl
-not_of_views (Write target object block bytes) to_open to_close = refl
-not_of_views (Punch target object block) to_open to_close = refl
-not_of_views (FreeObject target object) to_open to_close = refl
-not_of_views (Snapshot names recursive) to_open to_close = refl
-not_of_views (Read target object block) to_open to_close = refl
-not_of_views (Get target property) to_open to_close = refl
-not_of_views (PoolGet property) to_open to_close = refl
-not_of_views ToList to_open to_close = refl
-not_of_views (Rollback target later) to_open to_close = refl
-not_of_views (Destroy target recursive defer) to_open to_close = refl
-not_of_views (Slice count) to_open to_close = refl
-not_of_views Sync to_open to_close = refl
-not_of_views (OpenView target) to_open to_close = absurd (to_open target refl)
-not_of_views (CloseView view) to_open to_close = absurd (to_close view refl)
-not_of_views (Clone target name) to_open to_close = refl
-not_of_views (Promote name) to_open to_close = refl
-not_of_views (Hold tag target) to_open to_close = refl
-not_of_views (Release tag target) to_open to_close = refl
-not_of_views (Holds target) to_open to_close = refl
-not_of_views (Bookmark target mark) to_open to_close = refl
-not_of_views (WrittenSince target since) to_open to_close = refl
-not_of_views (WouldFree name first last) to_open to_close = refl
-not_of_views (Set name limit amount) to_open to_close = refl
-not_of_views (Send target from) to_open to_close = refl
-not_of_views (Receive snapshot bytes force) to_open to_close = refl
 
 -- ---- a view by its number
 

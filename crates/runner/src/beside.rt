@@ -1,6 +1,7 @@
 //! A script that runs beside workers.
 ghost use Rattle.std.specs.Prelude.{◌≡◌, ◌<◌, ◌≤◌, ℕ, List, [], ◌∷◌, IfSome};
-ghost use Rattle.session.specs.Handed.{CALL_LIMIT, Kept};
+ghost use Rattle.session.specs.Handed.{Kept};
+ghost use Rattle.session.specs.declared.book.book.TheConstants.{CALL_LIMIT};
 ghost use Rattle.runner.specs.Beside.{Gains, HasHistory, RanBeside};
 ghost use Rattle.runner.specs.Status.{RanTo};
 

@@ -7,10 +7,10 @@ ghost use Rattle.runner.specs.Beside.{Gains};
 
 use crate::copies::reply_of;
 use crate::turns::Lines;
+use base::name::Target;
 use base::refusal::Refusal;
 use model::reply::Reply;
 use model::request::Request;
-use name::Target;
 use script::run::Caller;
 use session::{ClosedView, OpenedView, Opening, Seat, Session, View};
 use std::alloc::Global;

@@ -2,13 +2,13 @@
 use Rattle.std.proofs.Common.{◌≡◌, ◌≢◌, ℕ, zero, suc, ◌+◌, ◌-◌, ◌<◌, ◌≤◌, min, Bool, true, false, eqb, not, List, [], ◌∷◌, ◌++◌, All, Option, None, Some, cond, length, take, refl, sym, ap, subst, ◌∙◌, arith, append_assoc, append-nil, get_or-take, length-take, length-take-le, eq-eqb, eqb-true, ne_eqb, zero-le}
 use Rattle.std.proofs.Math.Seq.{take-append-add}
 use Rattle.std.proofs.lemmas.List.{take_more, take_min}
-use Rattle.std.proofs.lemmas.List.Elements.{All-nil, All-append, All-weaker, All-from_get_or}
+use Rattle.std.proofs.lemmas.List.Elements.{All-append, All-weaker, All-from_get_or}
 use Rattle.std.proofs.lemmas.List.Splits.{slice_split_none, slice_split_at, length-slice_split}
 use Rattle.std.proofs.lemmas.Bool.{false≢true}
 use Rattle.std.proofs.Common.{MatchBool, IfSome}
 use Rattle.std.specs.Io.{StartsWith}
 use Rattle.std.specs.Io.KnownBytes.{Keeps, Consumes, IsAtEnd}
-use Rattle.std.proofs.KnownBytes.{Consumes-nil, Consumes-trans}
+use Rattle.std.proofs.KnownBytes.{Consumes-trans}
 use Rattle.memchr.specs.Find.{Nowhere, Passes, is_byte}
 use Rattle.script.specs.Lines.{without_empty_end, lines, kept_of, line_limit, HasNoFeed, TakesMore, TakesFeed, FindsEnd, GivesLine, GivesNone, HasMore}
 
@@ -44,10 +44,6 @@ take_through_feed hay k = take_through_byte 10 hay k
 pub kept-nil : kept_of [] ≡ []
 unfolding line_limit
 kept-nil = refl
-
--- nothing taken yet
-pub TakesMore-start : (a : Option (List ℕ)) → TakesMore a a [] []
-TakesMore-start a = record { bytes = []; no_feed = All-nil (λ b. b ≢ 10); taken = Consumes-nil a; kept = sym kept-nil }
 
 -- one look after others
 pub TakesMore-more : (a b c : Option (List ℕ)) (k k' : List ℕ) → TakesMore a b [] k → TakesMore b c k k' → TakesMore a c [] k'

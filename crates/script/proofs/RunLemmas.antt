@@ -3,7 +3,7 @@ use Rattle.std.proofs.Common.{◌≡◌, ◌≢◌, ℕ, suc, ◌+◌, ◌<◌, 
 use Rattle.std.proofs.lemmas.Bool.{cases_lt, lt-ltb}
 use Rattle.std.proofs.Common.{MatchBool, ◌&&◌, ◌||◌, IsTrue, IfOk, IfErr, Result, Ok, Err}
 use Rattle.std.specs.Io.KnownBytes.{Keeps, Appends}
-use Rattle.std.proofs.KnownBytes.{Appends-nil, Appends-trans, Appends-kept}
+use Rattle.std.proofs.KnownBytes.{Appends-trans, Appends-kept}
 use Rattle.base.specs.Failing.{HasRisen}
 use Rattle.base.specs.declared.refusal.Refusal.{Refusal}
 use Rattle.base.specs.declared.refusal.Refusal.TheVariants.{BadLine, NoMemory as WantsMemory}
@@ -152,14 +152,6 @@ module _ {C : Type 0} (asks : Relation C) (stop : Bool) where
         ap (λ b. b || later) h.6 ∙ or_assoc (is_refusal h.0) h.3 later,
         subst (λ b. MatchBool b (Stops h.1 (h.2 ++ more) t (h.3 || later)) (IsRun asks stop (front ++ ls) h.1 (h.2 ++ more) t (h.3 || later))) (sym first) tail,
       )
-
-  pub going-start : (told held : Option (List ℕ)) (s : C) → IsGoing asks stop told held s told held s false
-  going-start told held s = record {
-    written = [];
-    appended = Appends-nil held;
-    goes = refl;
-    ran = λ left kept. record { script = left; front = []; read = kept; parts = refl; run = record { nothing = refl; same = refl; none_refused = refl } };
-  }
 
   module _ (told0 held0 : Option (List ℕ)) (s0 : C) (told held : Option (List ℕ)) (s : C) (refused : Bool) (going : IsGoing asks stop told0 held0 s0 told held s refused) where
     begun : (left : List ℕ) → Keeps told (Some left) → HasBegun asks stop told0 s0 going.written s left

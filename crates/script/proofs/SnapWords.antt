@@ -2,8 +2,8 @@
 use Rattle.std.proofs.Common.{Bor, ◌≡◌, ◌<◌, ℕ, Bool, eqb, List, length, arith, [], ◌∷◌, ◌++◌, Option, None, Some, refl, sym, ap, ◌∙◌, append_assoc}
 use Rattle.std.proofs.lemmas.List.Splits.{length-slice_split}
 use Rattle.std.specs.Option.{option_map, option_and_then, option_copied}
-use Rattle.name.specs.declared.member.Member.{Member}
-use Rattle.name.specs.Reading.{snap_of}
+use Rattle.base.specs.declared.name.member.Member.{Member}
+use Rattle.base.specs.Reading.{snap_of}
 use Rattle.model.specs.declared.request.Request.TheVariants.{Snapshot}
 use Rattle.script.specs.Words.{words_of}
 use Rattle.script.specs.Reading.{words_left}

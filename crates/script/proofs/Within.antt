@@ -9,11 +9,11 @@ use Rattle.std.specs.Str.{bytes_eq}
 use Rattle.std.specs.Prelude.{codes}
 use Rattle.base.specs.declared.refusal.Refusal.{Refusal}
 use Rattle.base.specs.declared.refusal.Refusal.TheVariants.{BadName, NoMemory}
-use Rattle.name.specs.declared.member.Member.{Member}
-use Rattle.name.specs.declared.target.Target.{Target}
-use Rattle.name.specs.declared.target.Target.TheVariants.{FileSystem, Snapshot, Bookmark}
-use Rattle.name.specs.Names.{is_name_byte, is_component, is_name, is_mark, is_member, member_at, whole_length}
-use Rattle.name.specs.Reading.{name_of, component_of, target_of, target_at, snap_in, snap_of}
+use Rattle.base.specs.declared.name.member.Member.{Member}
+use Rattle.base.specs.declared.name.target.Target.{Target}
+use Rattle.base.specs.declared.name.target.Target.TheVariants.{FileSystem, Snapshot, Bookmark}
+use Rattle.base.specs.Names.{is_name_byte, is_component, is_name, is_mark, is_member, member_at, whole_length}
+use Rattle.base.specs.Reading.{name_of, component_of, target_of, target_at, snap_in, snap_of}
 use Rattle.model.specs.declared.request.Request.TheVariants.{WrittenSince, WouldFree}
 use Rattle.script.specs.Words.{file_system_of, within, word_within, snap_within}
 use Rattle.script.specs.Meaning.{Asks, Faulty, shaped, named, three_of, since_word_of, would_free_of}

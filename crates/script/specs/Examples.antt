@@ -3,7 +3,7 @@ use Rattle.std.specs.Prelude.{◌≡◌, ◌↔◌, ◌≤◌, ◌<◌, ◌^◌,
 use Rattle.std.specs.Fmt.{decimal}
 use Rattle.std.specs.FinMap as finmap
 use Rattle.base.specs.declared.refusal.Refusal.TheVariants.{BadName, NoDataset, BadLine}
-use Rattle.name.specs.declared.target.Target.TheVariants.{FileSystem, Snapshot, Bookmark}
+use Rattle.base.specs.declared.name.target.Target.TheVariants.{FileSystem, Snapshot, Bookmark}
 use Rattle.model.specs.declared.request.Property.TheVariants.{Used, Available, Referenced, Written, UsedByDataset, UsedBySnapshots, UsedByChildren, UsedByRefReservation, Quota, RefQuota, Reservation, RefReservation, Guid, CreateTxg, Origin, Clones, UserRefs, DeferDestroy}
 use Rattle.model.specs.declared.limits.Limit.TheVariants as limits
 use Rattle.model.specs.declared.request.PoolProperty.TheVariants.{Free, Freeing}
@@ -61,7 +61,7 @@ pub record WorkedLines : Type 0 where
   pub destroy_all_deferred :
       meaning (codes "destroy -r -d p@s")
       ≡ Asks (Destroy (Snapshot (record { file_system = codes "p"; component = codes "s" })) true true)
-  pub destroy_bookmark :
+  pub remove_bookmark :
       meaning (codes "destroy p#s")
       ≡ Asks (Destroy (Bookmark (record { file_system = codes "p"; component = codes "s" })) false false)
   pub destroy_turned : meaning (codes "destroy -d -r p@s") ≡ Faulty BadLine

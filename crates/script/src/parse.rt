@@ -4,7 +4,7 @@ ghost use Rattle.std.specs.Str.{bytes_eq};
 ghost use Rattle.std.specs.Bool.{OnTrue, OnFalse};
 ghost use Rattle.std.specs.Option.{option_copied};
 ghost use Rattle.hex.specs.Hex.{decode_of};
-ghost use Rattle.name.specs.Reading.{Reads};
+ghost use Rattle.base.specs.Reading.{Reads};
 ghost use Rattle.model.specs.declared.request.Request.{Request};
 ghost use Rattle.script.specs.Words.{words_of, number_of_word, number_up_to, number_without_zero, number_from, block_of_word, filled, pool_property_of_word};
 ghost use Rattle.script.specs.Meaning.{request_of, command_of, clone_of, tag_request_of, bookmark_of, name_request_of, write_of, block_request_of, free_object_of, snap_names_of, snapshots_of, snapshot_of, rollback_of, destroyed_of, destroy_of, number_request_of, target_request_of, pool_get_of, bare};
@@ -18,10 +18,10 @@ use crate::words::{
     four, has_only_words, is_all_printable, leading_option, next_word, one, three, two,
 };
 use base::data::Data;
+use base::name::{DsName, MarkName, SnapName, Tag, Target};
 use base::refusal::Refusal;
 use model::request::{PoolProperty, Request};
 use model::snap_names::SnapNames;
-use name::{DsName, MarkName, SnapName, Tag, Target};
 use std::alloc::Global;
 
 /// Reads the request of a line, or its fault; NoMemory where there is no memory for its name or its bytes.

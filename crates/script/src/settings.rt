@@ -9,10 +9,10 @@ ghost use Rattle.script.specs.Reading.{words_left, Means};
 use crate::parse::number_up_to;
 use crate::words::two;
 use base::limit::Blocks;
+use base::name::DsName;
 use base::refusal::Refusal;
 use model::limits::Limit;
 use model::request::Request;
-use name::DsName;
 use std::alloc::Global;
 
 /// A limit has at most this many bytes, those of 2^40 blocks (profile).

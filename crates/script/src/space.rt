@@ -1,15 +1,15 @@
 //! Lines that ask for a property, and for what snapshots take.
 ghost use Rattle.std.specs.Prelude.{◌≡◌, ◌++◌, ◌∷◌};
 ghost use Rattle.std.specs.Option.{option_copied};
-ghost use Rattle.name.specs.Reading.{Reads, snap_of};
+ghost use Rattle.base.specs.Reading.{Reads, snap_of};
 ghost use Rattle.script.specs.Words.{property_of_word, word_within, file_system_of};
 ghost use Rattle.script.specs.Meaning.{get_of, get_property_of, written_since_of, since_snap_of, since_word_of, would_free_of};
 ghost use Rattle.script.specs.Reading.{words_left, Means};
 
 use crate::words::{three, two};
+use base::name::{Component, DsName, NAME_LIMIT, SnapName, Target};
 use base::refusal::Refusal;
 use model::request::{Property, Request};
-use name::{Component, DsName, NAME_LIMIT, SnapName, Target};
 use std::alloc::Global;
 
 /// Reads `get PROP TARGET` (zfs-get(8)). PROP may be `written@` with a snapshot's whole name after it, or with one component, which names

@@ -6,11 +6,11 @@ ghost use Rattle.script.specs.Reading.{words_left, Means, Says};
 
 use crate::parse::lone_target;
 use crate::words::{leading_option, two};
+use base::name::{SnapName, Target};
 use base::refusal::Refusal;
 use base::text::Bytes;
 use hex::FromHexError;
 use model::request::Request;
-use name::{SnapName, Target};
 use std::alloc::Global;
 
 /// Reads `send [-i TARGET] TARGET` (zfs-send(8)); what stands after `-i` is the source. BadLine where another number of operands

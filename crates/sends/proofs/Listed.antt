@@ -11,15 +11,15 @@ use Rattle.base.specs.Key.{key_cmp, first_leaf, parent}
 use Rattle.base.specs.Map.{Map}
 use Rattle.base.specs.Surveys.{IsIn}
 use Rattle.world.specs.Shapes.{view_order}
-use Rattle.world.proofs.Maps.{no_value, entry_of, at_entry}
-use Rattle.world.proofs.Listed.{in_map, map_in}
+use Rattle.world.proofs.lists.Maps.{no_value, entry_of, at_entry}
+use Rattle.world.proofs.lists.Listed.{in_map, map_in}
 use Rattle.stream.specs.declared.record.Record.{Record}
 use Rattle.stream.specs.declared.record.Record.TheVariants.{Write, Free}
 use Rattle.stream.specs.Records.{start_of, end_of, records_since}
 use Rattle.tree.specs.Branch.{Branch}
-use Rattle.records.specs.Records.{root_key, leaf_key, IsSent}
-use Rattle.records.proofs.Lists.{from_found, is_found}
-use Rattle.records.proofs.Sent.{raw, made_sent, sent_made, entry_in, in_entry}
+use Rattle.laws.specs.Records.{root_key, leaf_key, IsSent}
+use Rattle.laws.proofs.Lists.{from_found, is_found}
+use Rattle.laws.proofs.Sent.{raw, made_sent, sent_made, entry_in, in_entry}
 use Rattle.sends.specs.Walk.{IsSentAt, AreRising, AddsSent}
 
 -- records by their first leaves

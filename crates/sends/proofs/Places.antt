@@ -17,11 +17,11 @@ use Rattle.stream.specs.declared.record.Record.TheVariants.{Write, Free}
 use Rattle.stream.specs.Records.{start_of, end_of}
 use Rattle.tree.specs.Branch.{Branch, map_below, child_key, child_of, IsKeyBelow, AreOwnOrBelow}
 use Rattle.laws.proofs.Sources.{itself_below}
-use Rattle.records.specs.Records.{leaf_key, IsSent, IsGap}
-use Rattle.records.proofs.Keys.{power_positive, same_key}
-use Rattle.records.proofs.Sent.{some_there, not_there}
-use Rattle.world.proofs.Finding.{in_left, in_right, in_either}
-use Rattle.world.proofs.Maps.{same_value, no_value}
+use Rattle.laws.specs.Records.{leaf_key, IsSent, IsGap}
+use Rattle.laws.proofs.RecordKeys.{power_positive, same_key}
+use Rattle.laws.proofs.Sent.{some_there, not_there}
+use Rattle.world.proofs.lists.Finding.{in_left, in_right, in_either}
+use Rattle.world.proofs.lists.Maps.{same_value, no_value}
 use Rattle.sends.specs.Walk.{IsAt, IsYoung, IsOld, IsSentAt, AreRising, AreSent, AddsSent}
 
 -- a record that a send has of one of the places before n

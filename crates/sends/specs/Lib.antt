@@ -1,1 +1,4 @@
 pub mod Walk
+-- Where sends may start in a table.
+pub mod Sources
+pub mod Starts

@@ -9,7 +9,7 @@ use Rattle.stream.specs.declared.record.Record.{Record}
 use Rattle.stream.specs.declared.record.Record.TheVariants.{Free}
 use Rattle.stream.specs.Records.{start_of, end_of}
 use Rattle.tree.specs.Branch.{Branch, child_of, AreOwnOrBelow}
-use Rattle.records.specs.Records.{IsSent}
+use Rattle.laws.specs.Records.{IsSent}
 
 -- a branch that stands at the key (On-Disk Specification, chapter 3)
 pub record IsAt (k : Key) (b : Branch) : Type 0 where

@@ -2,7 +2,7 @@
 ghost use Rattle.std.specs.Prelude.{◌≡◌, IfOk, OnErr};
 ghost use Rattle.base.specs.declared.refusal.Refusal.{Refusal};
 ghost use Rattle.stream.specs.Spelling.{spell, guid_number};
-ghost use Rattle.records.specs.Laws.{sending_of};
+ghost use Rattle.laws.specs.Laws.{sending_of};
 
 use crate::walk::records;
 use base::failing::Counted;

@@ -2,6 +2,7 @@
 #![tactic(auto)]
 
 mod bytes;
+pub mod sources;
 mod walk;
 
 pub use bytes::stream_bytes;

@@ -3,7 +3,7 @@ ghost use Rattle.std.specs.Prelude.{◌≡◌, ◌<◌, None, Some, IfOk, OnOk, 
 ghost use Rattle.base.specs.Key.{IsKey};
 ghost use Rattle.base.specs.declared.refusal.Refusal.{Refusal};
 ghost use Rattle.stream.specs.Records.{records_since};
-ghost use Rattle.records.specs.Records.{leaf_key};
+ghost use Rattle.laws.specs.Records.{leaf_key};
 ghost use Rattle.sends.specs.Walk.{AddsSent, IsYoung, IsOld, IsAt};
 
 use base::data::Data;

@@ -3,3 +3,8 @@ pub mod Works
 pub mod Reading
 pub mod Sending
 pub mod AtOpening
+pub mod Legal
+pub mod Stays
+pub mod Alls
+pub mod Decides
+pub mod Answered

@@ -7,7 +7,7 @@ use Rattle.base.specs.declared.refusal.Refusal.{Refusal}
 use Rattle.base.specs.declared.refusal.Refusal.TheVariants.{NoDataset, BadKey}
 use Rattle.base.specs.Key.{leaf_index}
 use Rattle.base.specs.Map.{Map, contents}
-use Rattle.name.specs.declared.target.Target.{Target}
+use Rattle.base.specs.declared.name.target.Target.{Target}
 use Rattle.model.specs.declared.request.Request.TheVariants.{Read}
 use Rattle.model.specs.declared.reply.Reply.TheVariants.{Refused, Data}
 use Rattle.model.specs.World.{Dataset, map_of}

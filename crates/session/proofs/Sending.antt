@@ -7,8 +7,8 @@ use Rattle.std.specs.FinSet as set
 use Rattle.base.specs.Map.{Map}
 use Rattle.base.specs.declared.refusal.Refusal.{Refusal}
 use Rattle.base.specs.declared.refusal.Refusal.TheVariants.{NoDataset, NotSnapshot, NotAncestor, NoMemory}
-use Rattle.name.specs.declared.target.Target.{Target}
-use Rattle.name.specs.declared.target.Target.TheVariants.{FileSystem as OfFileSystem, Snapshot as OfSnapshot, Bookmark as OfBookmark}
+use Rattle.base.specs.declared.name.target.Target.{Target}
+use Rattle.base.specs.declared.name.target.Target.TheVariants.{FileSystem as OfFileSystem, Snapshot as OfSnapshot, Bookmark as OfBookmark}
 use Rattle.stream.specs.Spelling.{spell}
 use Rattle.model.specs.declared.request.Request.TheVariants.{Send}
 use Rattle.model.specs.declared.reply.Reply.TheVariants.{Done, Refused, Stream}
@@ -22,7 +22,7 @@ use Rattle.model.specs.Outcome.{state_after}
 use Rattle.model.specs.Step.{Step, done, refused, out_of_memory}
 use Rattle.model.specs.requests.Rollback.{placed}
 use Rattle.model.specs.requests.Send.{Start, sight_of, sight_named, start_of, stream_of, send_rule}
-use Rattle.records.specs.Laws.{sending_of}
+use Rattle.laws.specs.Laws.{sending_of}
 use Rattle.session.specs.Views.{sent_reply}
 
 -- what the stream of a tree from a start on is, if there is one

@@ -4,10 +4,10 @@ use Rattle.std.proofs.Math.Seq.{take-append_seam}
 use Rattle.std.proofs.lemmas.List.{map-append, length-map}
 use Rattle.std.proofs.lemmas.List.Elements.{All-append}
 use Rattle.model.specs.declared.request.Request.{Request}
-use Rattle.book.specs.Receipts.{Placed, Kept}
-use Rattle.book.specs.Calls.{Ran}
+use Rattle.session.specs.Receipts.{Placed, Kept}
+use Rattle.session.specs.Entering.{Ran}
 use Rattle.session.specs.Calls.{FollowOn, IsAdded, IsBegun, IsPaced}
-use Rattle.book.proofs.Alls.{all_one}
+use Rattle.session.proofs.Alls.{all_one}
 
 abbrev pub request_in : Placed → Request
 request_in r = r.entry.request

@@ -1,15 +1,14 @@
 -- How a worker's requests add up.
-use Rattle.std.proofs.Common.{◌≡◌, ◌+◌, ◌<◌, ◌^◌, ◌∷◌, ◌++◌, [], ℕ, zero, suc, List, length, refl, sym, ap, arith, length-append, Bool, true, false, Some, None, inl, inr}
+use Rattle.std.proofs.Common.{◌≡◌, ◌+◌, ◌<◌, ◌^◌, ◌∷◌, ◌++◌, [], ℕ, zero, suc, List, length, refl, arith, length-append, Bool, true, false, Some, None, inl, inr}
 use Rattle.std.specs.Prelude.{All}
-use Rattle.std.proofs.lemmas.List.{append-nil}
 use Rattle.std.proofs.lemmas.List.Elements.{All-append}
 use Rattle.base.specs.declared.refusal.Refusal.{Refusal}
 use Rattle.base.specs.declared.refusal.Refusal.TheVariants.{NoMemory}
 use Rattle.model.specs.declared.request.Request.{Request}
 use Rattle.model.specs.declared.reply.Reply.TheVariants.{Refused}
-use Rattle.book.specs.Receipts.{Placed, Kept}
-use Rattle.book.specs.Calls.{Ran, IsFullOrNoMemory}
-use Rattle.book.proofs.Alls.{all_none, all_one}
+use Rattle.session.specs.Receipts.{Placed, Kept}
+use Rattle.session.specs.Entering.{Ran, IsFullOrNoMemory}
+use Rattle.session.proofs.Alls.{all_one}
 use Rattle.session.specs.Calls.{IsAdded}
 use Rattle.session.specs.Works.{HadMemory, IsWork}
 use Rattle.session.proofs.SoFar.{more_added}
@@ -24,12 +23,6 @@ pub record IsSteady (seat : Kept) (request : Request) (count : ℕ) (after : Kep
 
 abbrev IsFor : Request → Placed → Type 0
 IsFor request r = r.entry.request ≡ request
-
-none_added : (seat : Kept) → IsAdded seat [] seat
-none_added seat = record { kept = ap (λ rs. record { number = seat.number; receipts = rs }) (sym (append-nil seat.receipts)); seated = all_none (λ (r : Placed). r.entry.seat ≡ seat.number) }
-
-pub no_work : (seat : Kept) (request : Request) → IsSteady seat request 0 seat
-no_work seat request = record { receipts = []; added = none_added seat; counted = refl; asked = all_none (IsFor request); memory = all_none HadMemory }
 
 one_more : (seat now after : Kept) (request : Request) (rs : List Placed) (r : Placed) → IsAdded seat rs now → Ran now request r after → IsAdded seat (rs ++ r ∷ []) after
 one_more seat now after request rs r h ran = more_added seat now after rs r h (ran.0, refl, ran.2)

@@ -1,7 +1,7 @@
 -- What a batch adds to a seat, and when it ends.
 use Rattle.std.specs.Prelude.{◌≡◌, ◌⊎◌, ◌+◌, ◌-◌, ◌<◌, ◌≤◌, ℕ, List, [], ◌∷◌, ◌++◌, length, map, take, All, Bool, true, false}
 use Rattle.model.specs.declared.request.Request.{Request}
-use Rattle.book.specs.Receipts.{Placed, Kept}
+use Rattle.session.specs.Receipts.{Placed, Kept}
 
 -- receipts that follow one another from a number on (profile)
 abbrev pub FollowOn : ℕ → List Placed → Type 0

@@ -1,12 +1,12 @@
 -- What the calls on views give.
 use Rattle.std.specs.Prelude.{◌≡◌, ◌≢◌, Bool, true, false}
-use Rattle.name.specs.declared.target.Target.{Target}
+use Rattle.base.specs.declared.name.target.Target.{Target}
 use Rattle.model.specs.declared.request.Request.{Request}
 use Rattle.model.specs.declared.request.Request.TheVariants.{Create, Write, Punch, FreeObject, Snapshot, Read, Get, PoolGet, List, Rollback, Destroy, Slice, Sync, OpenView, CloseView, Clone, Promote, Hold, Release, Holds, Bookmark, WrittenSince, WouldFree, Set, Send, Receive}
 use Rattle.model.specs.declared.reply.Reply.TheVariants.{Opened as TheOpened, Done}
-use Rattle.book.specs.Calls.{Ran, IsFullOrNoMemory}
-use Rattle.book.specs.Entered.{is_opened}
-use Rattle.book.specs.Receipts.{Kept, Placed}
+use Rattle.session.specs.Entering.{Ran, IsFullOrNoMemory}
+use Rattle.session.specs.Entered.{is_opened}
+use Rattle.session.specs.Receipts.{Kept, Placed}
 use Rattle.session.specs.Views.{Viewed, opened_name}
 use Rattle.session.specs.declared.view.OpenedView.{OpenedView}
 use Rattle.session.specs.declared.view.OpenedView.TheVariants.{Opened, Refused}

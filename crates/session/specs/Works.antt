@@ -5,8 +5,8 @@ use Rattle.base.specs.declared.refusal.Refusal.TheVariants.{NoMemory}
 use Rattle.model.specs.declared.request.Request.{Request}
 use Rattle.model.specs.declared.request.Request.TheVariants.{Sync, Slice}
 use Rattle.model.specs.declared.reply.Reply.TheVariants.{Refused}
-use Rattle.book.specs.Calls.{IsFullOrNoMemory}
-use Rattle.book.specs.Receipts.{Placed, Kept}
+use Rattle.session.specs.Entering.{IsFullOrNoMemory}
+use Rattle.session.specs.Receipts.{Placed, Kept}
 use Rattle.session.specs.Calls.{IsAdded}
 use Rattle.session.specs.declared.workers.Work.{Work}
 use Rattle.session.specs.declared.workers.Work.TheVariants.{Syncs, Slices}

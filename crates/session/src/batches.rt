@@ -2,15 +2,15 @@
 ghost use Rattle.std.specs.Prelude.{◌≡◌, ◌+◌, ◌≤◌, ◌∷◌, ◌⊎◌, true, Err, length, IfOk, IfErr, IsOkAnd, OnErr, vec_len, vec_capacity, []};
 ghost use Rattle.std.specs.List.{list_any};
 ghost use Rattle.std.specs.Vec.Iter.{into_iter_items};
-ghost use Rattle.book.specs.Calls.{Ran, IsFullOrNoMemory};
-ghost use Rattle.book.specs.Receipts.{Kept};
+ghost use Rattle.session.specs.Entering.{Ran, IsFullOrNoMemory};
+ghost use Rattle.session.specs.Receipts.{Kept};
 ghost use Rattle.session.specs.Calls.{IsBatch, IsPaced, IsAdded, IsBegun, FollowOn};
 ghost use Rattle.session.specs.ViewCalls.{is_of_views};
 
+use crate::book::{Book, Opening, Receipt, Seat, enter};
 use crate::gate::Gate;
 use crate::shared::{Session, is_of_views};
 use base::refusal::Refusal;
-use book::{Book, Opening, Receipt, Seat, enter};
 use model::request::Request;
 use std::alloc::Global;
 use std::sync::Wait;

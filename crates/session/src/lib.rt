@@ -4,13 +4,14 @@
 #![tactic(auto)]
 
 mod batches;
+pub mod book;
 mod gate;
 mod shared;
 mod view;
 mod view_calls;
 mod workers;
 
-pub use book::{
+pub use crate::book::{
     Book, CALL_LIMIT, Call, Closed, Entered, Opening, Pool, Receipt, SEAT_LIMIT, Seat, enter,
     enter_call,
 };

@@ -1,12 +1,12 @@
 //! A session, which callers in threads of their own share.
 ghost use Rattle.std.specs.Prelude.{◌≡◌, ◌<◌, ◌≤◌, ◌⊎◌, true, [], Err, IfOk, IfErr, IfSome, OnErr, is_some};
-ghost use Rattle.book.specs.Calls.{Ran, IsFullOrNoMemory, IsNoLimit, IsUnopened};
-ghost use Rattle.book.specs.Entered.{is_opened};
-ghost use Rattle.book.specs.declared.book.TheConstants.{SEAT_LIMIT};
+ghost use Rattle.session.specs.Entering.{Ran, IsFullOrNoMemory, IsNoLimit, IsUnopened};
+ghost use Rattle.session.specs.Entered.{is_opened};
+ghost use Rattle.session.specs.declared.book.book.TheConstants.{SEAT_LIMIT};
 ghost use Rattle.session.specs.ViewCalls.{is_of_views};
 
+use crate::book::{Book, Call, Entered, Opening, Pool, Receipt, Seat, enter_call};
 use base::refusal::Refusal;
-use book::{Book, Call, Entered, Opening, Pool, Receipt, Seat, enter_call};
 use model::request::Request;
 use std::alloc::Global;
 use std::sync::{Mutex, Wait};

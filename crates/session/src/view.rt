@@ -7,20 +7,20 @@ ghost use Rattle.base.specs.Map.{contents};
 ghost use Rattle.model.specs.Targets.{is_block};
 ghost use Rattle.model.specs.requests.Send.{start_of, stream_of};
 ghost use Rattle.model.specs.declared.reply.Reply.TheVariants.{Opened as TheOpened};
-ghost use Rattle.book.specs.Entered.{is_opened};
+ghost use Rattle.session.specs.Entered.{is_opened};
 ghost use Rattle.model.specs.declared.request.Request.TheVariants.{Read as ToRead, Send as ToSend};
 ghost use Rattle.session.specs.Views.{ReadsAs, SendsAs, AnswersAtOpening, reply_of, sent_reply, opened_name};
 
+use crate::book::{Opening, Receipt};
 use base::meter::Meter;
+use base::name::Target;
 use base::refusal::Refusal;
 use base::text::Bytes;
-use book::{Opening, Receipt};
 use model::entry::Entry;
 use model::reply::Reply;
 use model::sight::Sight;
-use name::Target;
+use sends::sources::start_in;
 use sends::stream_bytes;
-use sources::start_in;
 use std::alloc::Global;
 use std::marker::{Model, PhantomData};
 use std::sync::Arc;
@@ -118,7 +118,7 @@ impl<K: Opening> View<K> {
     {
         let mut meter = Meter::new(Toll::new());
         let sight = self.sight();
-        let bytes = objset::read(sight.tree(), object, block, &mut meter)?;
+        let bytes = tree::objset::read(sight.tree(), object, block, &mut meter)?;
         Ok(bytes.copied())
     }
 

@@ -1,17 +1,17 @@
 //! Views opened and closed.
 ghost use Rattle.std.specs.Prelude.{◌≡◌, IfOk, IfErr, IfSome, OnErr, is_some};
-ghost use Rattle.book.specs.Calls.{IsFullOrNoMemory};
-ghost use Rattle.book.specs.Entered.{is_opened};
+ghost use Rattle.session.specs.Entering.{IsFullOrNoMemory};
+ghost use Rattle.session.specs.Entered.{is_opened};
 ghost use Rattle.session.specs.ViewCalls.{HasOpened, HasClosed, IsOpenedBy, IsClosedBy};
 
+use crate::book::{Entered, Opening, Receipt, Seat};
 use crate::shared::Session;
 use crate::view::{ClosedView, OpenedView, View};
+use base::name::Target;
 use base::refusal::Refusal;
-use book::{Entered, Opening, Receipt, Seat};
 use model::entry::Entry;
 use model::reply::Reply;
 use model::request::Request;
-use name::Target;
 use std::alloc::Global;
 use std::sync::{Arc, Wait};
 

@@ -5,10 +5,10 @@ ghost use Rattle.model.specs.declared.reply.Reply.TheVariants.{Refused};
 ghost use Rattle.model.specs.declared.request.Request.TheVariants.{Sync as ToSync, Slice as ToSlice};
 ghost use Rattle.session.specs.Works.{IsWork, work_request};
 
+use crate::book::{Entered, Opening, Receipt, Seat};
 use crate::gate::Gate;
 use crate::shared::Session;
 use base::refusal::Refusal;
-use book::{Entered, Opening, Receipt, Seat};
 use model::reply::Reply;
 use model::request::Request;
 use std::alloc::Global;

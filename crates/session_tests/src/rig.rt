@@ -2,11 +2,11 @@
 ghost use Rattle.std.specs.Prelude.{◌≡◌};
 
 use base::data::Data;
+use base::name::Target;
 use base::refusal::Refusal;
 use model::entry::KeptReply;
 use model::reply::Reply;
 use model::request::{Property, Request};
-use name::Target;
 use session::{Book, Gate, Opening, Pool, Receipt, Seat, Session};
 use std::alloc::Global;
 use std::process::Abort;

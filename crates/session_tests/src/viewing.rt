@@ -2,11 +2,11 @@
 ghost use Rattle.std.specs.Prelude.{◌≡◌};
 
 use crate::rig::{Wanted, closes, finds_no_room, opened, read_of, runs, seat_of, write_of};
+use base::name::{SnapName, Target};
 use base::refusal::Refusal;
 use model::reply::Reply;
 use model::request::Request;
 use model::snap_names::SnapNames;
-use name::{SnapName, Target};
 use session::{
     Book, Closed, ClosedView, Gate, OpenedView, Opening, Pool, Receipt, Seat, Session, View,
 };

@@ -3,11 +3,11 @@ ghost use Rattle.std.specs.Prelude.{◌≡◌};
 
 use crate::memory::closes_unless_refused;
 use crate::rig::{gate_of, opened, seat_of, write_to};
+use base::name::{DsName, Target};
 use base::refusal::Refusal;
 use model::entry::Entry;
 use model::reply::Reply;
 use model::request::Request;
-use name::{DsName, Target};
 use session::{Book, Opening, Pool, Seat, Session};
 use std::alloc::Global;
 use std::marker::Brand;

@@ -1,12 +1,12 @@
 //! Readers of a view, alone and beside a writer.
 ghost use Rattle.std.specs.Prelude.{◌≡◌};
-ghost use Rattle.session.specs.Handed.{CALL_LIMIT};
+ghost use Rattle.session.specs.declared.book.book.TheConstants.{CALL_LIMIT};
 
 use crate::writes::{place_of, write_of};
+use base::name::{SnapName, Target};
 use base::refusal::Refusal;
 use model::request::Request;
 use model::snap_names::SnapNames;
-use name::{SnapName, Target};
 use session::{CALL_LIMIT, OpenedView, Opening, Pool, Seat, Session, View};
 use std::alloc::Global;
 use std::mem;

@@ -1,9 +1,9 @@
 //! Writes all over the root.
 use base::data::Data;
+use base::name::Target;
 use base::refusal::Refusal;
 use model::reply::Reply;
 use model::request::Request;
-use name::Target;
 use session::Pool;
 use std::alloc::Global;
 use std::mem;

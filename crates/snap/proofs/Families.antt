@@ -4,8 +4,8 @@ use Rattle.std.proofs.lemmas.Bool.{eqb-true, and_parts}
 use Rattle.std.specs.Prelude.{◌==◌}
 use Rattle.std.specs.List.{filter, starts_with}
 use Rattle.std.specs.Cmp.Lexicographic.{pointwise}
-use Rattle.name.specs.Names.{same_name, slash}
-use Rattle.name.specs.declared.member.Member.{Member}
+use Rattle.base.specs.Names.{same_name, slash}
+use Rattle.base.specs.declared.name.member.Member.{Member}
 use Rattle.datasets.specs.Rows.{Row}
 use Rattle.model.specs.requests.Snapshot.{named_with}
 use Rattle.world.specs.Tables.{Datasets, world_of}

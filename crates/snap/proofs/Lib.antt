@@ -4,3 +4,6 @@ pub mod Twice
 pub mod Rooms
 pub mod Turns
 pub mod Taken
+pub mod Yielded
+pub mod Cloned
+pub mod Promoted

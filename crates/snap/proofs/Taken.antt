@@ -6,17 +6,17 @@ use Rattle.std.specs.List.{list_any}
 use Rattle.base.specs.declared.refusal.Refusal.TheVariants.{NoDataset}
 use Rattle.model.specs.Rule.{first_of}
 use Rattle.base.specs.Surveys.{IsIn}
-use Rattle.name.specs.declared.member.Member.{Member}
-use Rattle.name.specs.Names.{same_name, is_descendant}
+use Rattle.base.specs.declared.name.member.Member.{Member}
+use Rattle.base.specs.Names.{same_name, is_descendant}
 use Rattle.model.specs.World.{FileSystem, family_of}
 use Rattle.model.specs.requests.Snapshot.{has_twice, named_with}
 use Rattle.world.specs.Shapes.{Name, name_order}
 use Rattle.world.specs.Tables.{Datasets, world_of}
 use Rattle.world.specs.Usage.{IsEntry}
-use Rattle.world.proofs.Finding.{in_filter, in_flat, name_itself}
-use Rattle.world.proofs.Listed.{map_in}
-use Rattle.world.proofs.Maps.{some_of, entry_of}
-use Rattle.world.proofs.Takings.{may_take}
+use Rattle.world.proofs.lists.Finding.{in_filter, in_flat, name_itself}
+use Rattle.world.proofs.lists.Listed.{map_in}
+use Rattle.world.proofs.lists.Maps.{some_of, entry_of}
+use Rattle.world.proofs.steps.Takings.{may_take}
 use Rattle.snap.specs.Taking.{naming_row, all_of, refusal_of}
 
 -- fewer than two file systems are different

@@ -4,7 +4,7 @@ use Rattle.std.specs.Option.{option_map_or}
 use Rattle.std.specs.FinMap.{insert}
 use Rattle.std.specs.FinMap as finmap
 use Rattle.std.specs.FinSet.{empty}
-use Rattle.name.specs.declared.member.Member.{Member}
+use Rattle.base.specs.declared.name.member.Member.{Member}
 use Rattle.base.specs.Surveys.{IsIn}
 use Rattle.model.specs.World.{World, FileSystem, Live, id_of}
 use Rattle.model.specs.requests.Snapshot.{snap_of_live, with_snapshot, with_snapshots}
@@ -14,13 +14,13 @@ use Rattle.world.specs.Shapes.{Name}
 use Rattle.world.specs.Worlds.{FileSystems, snap_shape, shape_of, shapes, AreFileSystems}
 use Rattle.world.specs.Tables.{Datasets, CanSnap, world_of, with_system}
 use Rattle.world.specs.Takings.{AreTakable}
-use Rattle.world.proofs.Moves.{raised}
-use Rattle.world.proofs.Requests.{lineage_facts}
-use Rattle.world.proofs.Bridge.{shape_at, among, live_row, live_there}
-use Rattle.world.proofs.Put.{put_other}
-use Rattle.world.proofs.Groups.{raise_systems}
-use Rattle.world.proofs.Dead.{row_base}
-use Rattle.world.proofs.SnapshotLists.{IsReady, AreIdsBelow, here, r, fresh, good', below', ready'}
+use Rattle.world.proofs.lineage.Moves.{raised}
+use Rattle.world.proofs.lineage.Requests.{lineage_facts}
+use Rattle.world.proofs.lineage.Bridge.{shape_at, among, live_row, live_there}
+use Rattle.world.proofs.lineage.Put.{put_other}
+use Rattle.world.proofs.steps.Groups.{raise_systems}
+use Rattle.world.proofs.lineage.Dead.{row_base}
+use Rattle.world.proofs.steps.SnapshotLists.{IsReady, AreIdsBelow, here, r, fresh, good', below', ready'}
 
 -- these may be taken one after another, in the group of the world, which is closed, with guids from this one on
 pub record IsTaking (w : World) (guid : ℕ) (ms : List Member) : Type 0 where

@@ -7,8 +7,8 @@ use Rattle.std.specs.Cmp.Lexicographic.{slice_cmp}
 use Rattle.std.specs.BTreeSet.{insert_key}
 use Rattle.std.specs.List.{list_any}
 use Rattle.std.proofs.lemmas.Map.Text.{is_eq-slice_cmp}
-use Rattle.name.specs.declared.member.Member.{Member}
-use Rattle.name.specs.Names.{same_name}
+use Rattle.base.specs.declared.name.member.Member.{Member}
+use Rattle.base.specs.Names.{same_name}
 use Rattle.model.specs.requests.Snapshot.{has_twice}
 use Rattle.world.specs.Shapes.{name_order}
 

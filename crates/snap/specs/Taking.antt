@@ -3,8 +3,8 @@ use Rattle.std.specs.Prelude.{ℕ, ◌&&◌, ◌||◌, Bool, List, [], ◌∷◌
 use Rattle.std.specs.List.{list_any}
 use Rattle.base.specs.declared.refusal.Refusal.{Refusal}
 use Rattle.base.specs.declared.refusal.Refusal.TheVariants.{BadName, Exists, TooMany}
-use Rattle.name.specs.declared.member.Member.{Member}
-use Rattle.name.specs.Names.{whole_length, same_name, is_descendant}
+use Rattle.base.specs.declared.name.member.Member.{Member}
+use Rattle.base.specs.Names.{whole_length, same_name, is_descendant}
 use Rattle.model.specs.World.{World, snap_named}
 use Rattle.model.specs.Targets.{name_limit}
 use Rattle.model.specs.Rule.{Row, first_of}

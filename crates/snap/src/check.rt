@@ -2,7 +2,7 @@
 ghost use Rattle.std.specs.Prelude.{◌≡◌, ◌<◌, ◌⊎◌, Some, None, IfOk, IfErr, OnOk, is_some, nat_lt, not, length};
 ghost use Rattle.std.specs.List.{list_any};
 ghost use Rattle.std.specs.FinMap.{contains_key};
-ghost use Rattle.name.specs.Names.{whole_length};
+ghost use Rattle.base.specs.Names.{whole_length};
 ghost use Rattle.model.specs.World.{snap_named};
 ghost use Rattle.model.specs.Targets.{name_limit};
 ghost use Rattle.model.specs.Rule.{first_of};
@@ -11,14 +11,11 @@ ghost use Rattle.world.specs.Tables.{world_of};
 ghost use Rattle.snap.specs.Taking.{naming_row};
 
 use crate::named::Named;
+use base::name::{NAME_LIMIT, SnapName};
 use base::refusal::Refusal;
 use datasets::Table;
-use name::SnapName;
 use std::alloc::Global;
 use std::collections::BTreeSet;
-
-// A whole name has at most this many bytes (profile).
-const NAME_LIMIT: usize = 255;
 
 // A pool has at most this many snapshots (profile).
 const SNAPSHOT_LIMIT: usize = 65536;
@@ -64,12 +61,9 @@ fn any_too_long(all: &[Named]) -> bool
 fn is_taken(table: &Table, name: &Named) -> bool
     ensures { result ≡ is_some (snap_named (world_of table.now) name.now) }
 {
-    match table.find(name.file_system) {
-        Some(file_system) => file_system
-            .snapshot_named(name.component.as_bytes())
-            .is_some(),
-        None => false,
-    }
+    table
+        .snapshot_named(name.file_system, name.component)
+        .is_some()
 }
 
 /// Whether a snapshot of one of these names is there. It costs, for each name, the logarithm of the number of file systems and that of

@@ -10,6 +10,7 @@ ghost use Rattle.model.specs.requests.Snapshot.{guid_by};
 ghost use Rattle.snap.specs.Taking.{all_of, refusal_of, after_taking};
 
 mod check;
+pub mod clones;
 mod named;
 mod take;
 
@@ -17,9 +18,9 @@ pub use crate::check::any_taken;
 use crate::check::{any_missing, check};
 pub use crate::named::{Named, expand, is_in_family};
 use crate::take::{take_all, take_one};
+use base::name::SnapName;
 use base::refusal::Refusal;
 use datasets::Table;
-use name::SnapName;
 use std::alloc::Global;
 
 /// What the guids of new snapshots are made of: the pool's id, and the counter's number for the next one, 0 to 4294967295, or

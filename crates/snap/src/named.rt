@@ -5,9 +5,9 @@ ghost use Rattle.std.specs.List.{filter};
 ghost use Rattle.datasets.specs.Rows.{Row};
 ghost use Rattle.snap.specs.Taking.{all_of, is_in_family};
 
+use base::name::{Component, DsName, Member, SnapName};
 use base::refusal::Refusal;
 use datasets::{FileSystem, Table};
-use name::{Component, DsName, Member, SnapName};
 use std::alloc::Global;
 use std::marker::Model;
 use std::sync::Arc;
@@ -20,7 +20,7 @@ pub struct Named<'a> {
 }
 
 impl<'a> Model for Named<'a> {
-    ghost use Rattle.name.specs.declared.member.Member.{Member};
+    ghost use Rattle.base.specs.declared.name.member.Member.{Member};
 
     ghost Value = { Member };
 

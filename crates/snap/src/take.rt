@@ -9,10 +9,10 @@ ghost use Rattle.datasets.specs.Snapshots.{taken_of};
 
 use crate::Guids;
 use crate::named::Named;
+use base::name::Member;
 use base::number::Guid;
 use base::refusal::Refusal;
 use datasets::Table;
-use name::Member;
 use std::alloc::Global;
 
 // The guid of the snapshot at this place of a request. Constant time.
@@ -34,8 +34,7 @@ pub fn take_all(alloc: Global, table: &Table, all: &[Named], guids: Guids) -> Re
     ensures err { IfErr result (λ e. e ≡ Refusal.NoMemory) }
 {
     let group = table.group();
-    // It tells of the file systems what each snapshot needs.
-    let _count = table.len();
+    table.facts();
     let mut to = table.copy()?;
     to.close_group();
     for (place, name) in all.iter().enumerate() {
@@ -60,8 +59,7 @@ pub fn take_one(
     ensures err { OnErr result (table.new ≡ table.old) }
     ensures only { IfErr result (λ e. e ≡ Refusal.NoMemory) }
 {
-    // It tells of the file systems what a snapshot needs.
-    let _count = table.len();
+    table.facts();
     let guid = guid_at(guids, 0);
     table.keep_live(alloc, &name.file_system, &name.component, guid)
 }

@@ -7,7 +7,7 @@ use Rattle.std.specs.Option.{IsSome}
 use Rattle.std.specs.Global.{Global}
 use Rattle.std.specs.declared.sync.Arc.{Arc}
 use Rattle.std.proofs.lemmas.List.Edits.{insert_end}
-use Rattle.name.specs.Names.{same_name}
+use Rattle.base.specs.Names.{same_name}
 use Rattle.shared_list.specs.Elements.{elements}
 use Rattle.shared_list.specs.Places.{IsItem}
 use Rattle.shared_list.proofs.Points.{inside}

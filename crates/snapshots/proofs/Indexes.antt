@@ -6,7 +6,7 @@ use Rattle.std.specs.List.{find}
 use Rattle.std.specs.Borrow.{Bor}
 use Rattle.std.specs.Result.{is_err}
 use Rattle.std.specs.Option.{option_or, option_copied}
-use Rattle.name.specs.Names.{same_name}
+use Rattle.base.specs.Names.{same_name}
 use Rattle.snapshots.specs.declared.kept.Kept.{Kept}
 
 find_more : (p : Kept → Bool) (ks : List Kept) (k : Kept) → find p (ks ++ k ∷ []) ≡ option_or (find p ks) (cond (p k) (Some k) None)

@@ -3,3 +3,11 @@ pub mod Names
 pub mod Indexes
 pub mod Splices
 pub mod Moving
+pub mod Lists
+pub mod Sorted
+pub mod Places
+pub mod Orders
+pub mod Filters
+pub mod Ordering
+pub mod Rows
+pub mod Outcomes

@@ -5,7 +5,7 @@ use Rattle.std.specs.Option.{IsSome, IfSome}
 use Rattle.std.specs.Prelude.{Result, Ok, Err, IfOk}
 use Rattle.base.specs.declared.refusal.Refusal.{Refusal}
 use Rattle.std.proofs.lemmas.List.{append-nil, append_assoc}
-use Rattle.name.specs.Names.{same_name}
+use Rattle.base.specs.Names.{same_name}
 use Rattle.snapshots.specs.declared.kept.Kept.{Kept}
 use Rattle.snapshots.specs.Index.{IsIndex, AreNamesOnce}
 use Rattle.std.specs.Cmp.Lexicographic.{same_text}

@@ -9,7 +9,7 @@ use Rattle.std.specs.declared.cmp.Ordering.{Ordering}
 use Rattle.std.specs.declared.cmp.Ordering.TheVariants.{Less, Equal, Greater}
 use Rattle.std.specs.Cmp.Lexicographic.{nat_list_cmp_total, texts_ties, same_text}
 use Rattle.std.proofs.lemmas.List.{take-append-drop}
-use Rattle.name.specs.Names.{name_cmp, same_name}
+use Rattle.base.specs.Names.{name_cmp, same_name}
 use Rattle.snapshots.specs.declared.kept.Kept.{Kept}
 use Rattle.snapshots.specs.Order.{is_below, is_named, names_rise}
 
@@ -42,9 +42,6 @@ less_from Greater h = absurd (true≢false (sym h))
 
 below_on : (a b q : List ℕ) → is_lt (name_cmp a b) ≡ true → is_lt (name_cmp b q) ≡ true → is_lt (name_cmp a q) ≡ true
 below_on a b q e f = ap is_lt (nat_list_cmp_total.trans a b q (less_from _ e) (less_from _ f))
-
-above_on : (a b q : List ℕ) → is_lt (name_cmp a q) ≡ false → is_lt (name_cmp a b) ≡ true → is_lt (name_cmp b q) ≡ false
-above_on a b q h e = from_not _ (λ f. true≢false (sym (below_on a b q e f) ∙ h))
 
 below_differs : (a q : List ℕ) → is_lt (name_cmp a q) ≡ true → same_name a q ≡ false
 below_differs a q e = texts_ties a q ∙ ap is_eq (less_from _ e)

@@ -6,7 +6,7 @@ use Rattle.std.specs.Option.{IsSome, option_map}
 use Rattle.std.specs.Ordering.{is_eq}
 use Rattle.std.specs.Cmp.{tied_itself}
 use Rattle.std.specs.Cmp.Lexicographic.{nat_list_cmp_total, texts_ties, same_text}
-use Rattle.name.specs.Names.{same_name}
+use Rattle.base.specs.Names.{same_name}
 use Rattle.snapshots.specs.declared.kept.Kept.{Kept}
 use Rattle.snapshots.specs.Index.{IsIndex, AreNamesOnce}
 use Rattle.snapshots.specs.Order.{is_named}

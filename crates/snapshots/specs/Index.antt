@@ -1,7 +1,7 @@
 -- The index of kept snapshots by name (profile).
 use Rattle.std.specs.Prelude.{◌≡◌, ℕ, List, [], ◌∷◌, Option, None, Some}
 use Rattle.std.specs.List.{find}
-use Rattle.name.specs.Names.{same_name}
+use Rattle.base.specs.Names.{same_name}
 use Rattle.snapshots.specs.declared.kept.Kept.{Kept}
 
 -- an index, where there is one, finds by each name what a walk over the snapshots finds first (profile)

@@ -2,7 +2,7 @@
 use Rattle.std.specs.Prelude.{ℕ, Bool, true, ◌&&◌, List, [], ◌∷◌}
 use Rattle.std.specs.List.{list_all}
 use Rattle.std.specs.Ordering.{is_lt}
-use Rattle.name.specs.Names.{name_cmp, same_name}
+use Rattle.base.specs.Names.{name_cmp, same_name}
 use Rattle.snapshots.specs.declared.kept.Kept.{Kept}
 
 -- its name is below that one

@@ -6,7 +6,7 @@ ghost use Rattle.std.specs.Option.{option_copied};
 ghost use Rattle.shared_list.specs.Elements.{elements};
 ghost use Rattle.shared_list.specs.Places.{IsItem, place_index};
 ghost use Rattle.base.specs.declared.refusal.Refusal.{Refusal};
-ghost use Rattle.name.specs.Names.{same_name};
+ghost use Rattle.base.specs.Names.{same_name};
 ghost use Rattle.snapshots.specs.Order.{is_below, is_named, names_rise};
 
 use crate::kept::Kept;

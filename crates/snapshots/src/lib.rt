@@ -1,7 +1,9 @@
 //! Snapshots, as a file system keeps them.
 #![tactic(auto)]
 
+pub mod bookmarks;
 mod by_name;
+pub mod holds;
 mod kept;
 mod line;
 mod parts;

@@ -4,14 +4,14 @@ ghost use Rattle.std.specs.Option.{option_copied, option_map};
 ghost use Rattle.std.specs.Arc.{arc_value};
 ghost use Rattle.std.specs.List.{find};
 ghost use Rattle.base.specs.declared.refusal.Refusal.{Refusal};
-ghost use Rattle.name.specs.Names.{same_name};
+ghost use Rattle.base.specs.Names.{same_name};
 ghost use Rattle.snapshots.specs.declared.kept.Kept.{Kept};
 ghost use Rattle.snapshots.specs.Index.{IsIndex, AreNamesOnce};
 
 use crate::by_name::ByName;
 use crate::kept::Kept;
+use base::name::Component;
 use base::refusal::Refusal;
-use name::Component;
 use shared_list::SharedList;
 use std::alloc::Global;
 use std::marker::Model;

@@ -3,7 +3,7 @@ ghost use Rattle.std.specs.Prelude.{◌≡◌, ◌≤◌, ◌++◌, ◌∷◌, N
 ghost use Rattle.std.specs.Arc.{arc_value};
 ghost use Rattle.std.specs.List.{find};
 ghost use Rattle.base.specs.declared.refusal.Refusal.{Refusal};
-ghost use Rattle.name.specs.Names.{same_name};
+ghost use Rattle.base.specs.Names.{same_name};
 ghost use Rattle.snapshots.specs.declared.kept.Kept.{Kept};
 ghost use Rattle.snapshots.specs.Index.{IsIndex, AreNamesOnce};
 

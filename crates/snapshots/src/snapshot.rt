@@ -3,16 +3,16 @@ ghost use Rattle.std.specs.Prelude.{◌≡◌, true, IfOk, IfErr, length, nat_lt
 ghost use Rattle.std.specs.Arc.{arc_value};
 ghost use Rattle.std.specs.Option.{option_map};
 ghost use Rattle.base.specs.declared.refusal.Refusal.{Refusal};
-ghost use Rattle.holds.specs.Tags.{texts};
+ghost use Rattle.snapshots.specs.Tags.{texts};
 ghost use Rattle.model.specs.World.{id_of};
 ghost use Rattle.model.specs.Ids.{snap_id};
 ghost use Rattle.snapshots.specs.Snaps.{plain_snap};
 
+use crate::holds::Holds;
+use base::name::Component;
 use base::number::{Group, Guid};
 use base::refusal::Refusal;
-use holds::Holds;
 use model::snapshot_id::SnapshotId;
-use name::Component;
 use std::alloc::Global;
 use std::marker::Model;
 use std::sync::Arc;

@@ -1,8 +1,8 @@
 -- The states that requests ask limits of: those that they lead to, before the sweep.
 use Rattle.std.specs.Prelude.{ℕ, Bool, List, Option, length}
 use Rattle.base.specs.Rewrite.{Changes}
-use Rattle.name.specs.declared.member.Member.{Member}
-use Rattle.name.specs.declared.target.Target.{Target}
+use Rattle.base.specs.declared.name.member.Member.{Member}
+use Rattle.base.specs.declared.name.target.Target.{Target}
 use Rattle.model.specs.declared.limits.Limit.{Limit}
 use Rattle.model.specs.State.{State}
 use Rattle.model.specs.Edits.{with_now, after_change}
@@ -10,7 +10,7 @@ use Rattle.model.specs.Refusals.{fresh_number}
 use Rattle.model.specs.requests.Snapshot.{snapshot_names, guid_by}
 use Rattle.datasets.specs.Limits.{with_limit_of}
 use Rattle.datasets.specs.Snapshots.{taken_of}
-use Rattle.clones.specs.Requests.{promoted}
+use Rattle.snap.specs.Requests.{promoted}
 use Rattle.removals.specs.Requests.{rolled}
 use Rattle.steps.specs.Edits.{datasets_of, put, lose}
 

@@ -2,6 +2,6 @@
 pub use Rattle.limits.specs.Ledgers.{ledger_of}
 pub use Rattle.limits.specs.declared.line.Line.{Line}
 pub use Rattle.limits.specs.declared.pool_space.Space.{Space}
-pub use Rattle.outlook.specs.declared.outlook.Outlook.{Outlook}
+pub use Rattle.limits.specs.declared.outlook.outlook.Outlook.{Outlook}
 pub use Rattle.lookups.specs.Accounted.{IsAccounted}
 pub use Rattle.lookups.specs.Named.{IsNoLive}

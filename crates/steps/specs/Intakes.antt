@@ -3,7 +3,7 @@ use Rattle.std.specs.Prelude.{◌≡◌, ◌⊎◌, ℕ, Bool, false, List, None
 use Rattle.base.specs.declared.refusal.Refusal.{Refusal}
 use Rattle.base.specs.declared.refusal.Refusal.TheVariants.{BadStream, NoMemory}
 use Rattle.base.specs.Surveys.{dead_block}
-use Rattle.name.specs.declared.member.Member.{Member}
+use Rattle.base.specs.declared.name.member.Member.{Member}
 use Rattle.batch.specs.Updates.{changes_of, IsBatch}
 use Rattle.batch.specs.declared.update.Update.{Update}
 use Rattle.stream.specs.Records.{changes_of as changes_of_records}

@@ -20,7 +20,7 @@ use Rattle.limits.specs.Ledgers.{IsSpaceOf}
 use Rattle.limits.specs.declared.line.Line.{Line}
 use Rattle.limits.specs.declared.pool_space.Space.{Space}
 use Rattle.lookups.specs.Accounted.{IsAccounted}
-use Rattle.outlook.specs.declared.outlook.Outlook.{Outlook}
+use Rattle.limits.specs.declared.outlook.outlook.Outlook.{Outlook}
 
 -- a state with these datasets, whose pool has this beside its file systems: its facts hold, and each block is allocated, free or waiting
 -- (zpoolprops(7): size, allocated, free, freeing; waiting is profile)

@@ -3,7 +3,7 @@ use Rattle.std.specs.Prelude.{◌≡◌, ◌<◌, ◌≤◌, ◌⊎◌, ℕ, Boo
 use Rattle.base.specs.Map.{Block, BlockSet}
 use Rattle.base.specs.Surveys.{IsIn}
 use Rattle.zalloc.specs.declared.BlockState.TheVariants.{Free}
-use Rattle.name.specs.declared.member.Member.{Member}
+use Rattle.base.specs.declared.name.member.Member.{Member}
 use Rattle.stream.specs.Spelling.{Sending}
 use Rattle.model.specs.World.{reach_of}
 use Rattle.model.specs.State.{State, block_state}

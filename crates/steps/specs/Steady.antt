@@ -3,9 +3,9 @@ use Rattle.std.specs.Prelude.{◌≡◌, Option, Some, None, true}
 use Rattle.std.specs.Option.{option_and_then}
 use Rattle.std.specs.FinMap.{get}
 use Rattle.base.specs.Map.{Map}
-use Rattle.name.specs.declared.member.Member.{Member}
-use Rattle.name.specs.declared.target.Target.{Target}
-use Rattle.name.specs.declared.target.Target.TheVariants.{FileSystem as OfFileSystem, Snapshot as OfSnapshot, Bookmark as OfBookmark}
+use Rattle.base.specs.declared.name.member.Member.{Member}
+use Rattle.base.specs.declared.name.target.Target.{Target}
+use Rattle.base.specs.declared.name.target.Target.TheVariants.{FileSystem as OfFileSystem, Snapshot as OfSnapshot, Bookmark as OfBookmark}
 use Rattle.model.specs.World.{Bookmark, Dataset, map_of}
 use Rattle.model.specs.State.{State}
 use Rattle.model.specs.Targets.{dataset_of, has_dataset}

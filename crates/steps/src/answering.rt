@@ -26,8 +26,8 @@ use zalloc::Counts;
 /// definition. The refusals are those of the request, or NoMemory where it takes memory and there is none. A read costs the path, and takes no
 /// memory. A list and the tags of a snapshot cost the names. A property is known once its name is found, but: an origin costs what a promote
 /// finds it by, a snapshot's clones their names, what a file system or its children use the number of file systems, and what a snapshot uses
-/// what `space::used_by_snapshot` says. What was written since a snapshot costs what `space::written_since` says, and what a range of snapshots
-/// would free what `space::would_free` does: they visit no block, and take no memory. A send costs what `sources::start_of` and
+/// what `lookups::space::used_by_snapshot` says. What was written since a snapshot costs what `lookups::space::written_since` says, and what a range of snapshots
+/// would free what `lookups::space::would_free` does: they visit no block, and take no memory. A send costs what `sends::sources::start_of` and
 /// `sends::stream_bytes` do.
 pub fn answer(
     alloc: Global,

@@ -2,7 +2,7 @@
 ghost use Rattle.std.specs.Prelude.{◌≡◌, ◌<◌, ◌^◌, [], ◌∷◌, ℕ, List, None, IsSome, IfOk, IfErr, OnOk};
 ghost use Rattle.std.specs.FinMap.{get};
 ghost use Rattle.base.specs.declared.refusal.Refusal.{Refusal};
-ghost use Rattle.name.specs.declared.target.Target.{Target};
+ghost use Rattle.base.specs.declared.name.target.Target.{Target};
 ghost use Rattle.tree.specs.Updates.{changes_of, IsBatch};
 ghost use Rattle.model.specs.declared.reply.Reply.{Reply};
 ghost use Rattle.model.specs.declared.request.Property.{Property};
@@ -22,14 +22,14 @@ ghost use Rattle.steps.specs.Limiting.{IsStateWith, IsNoChange, MayChange, Foret
 use crate::limiting::{found, refilled};
 use base::limit::Blocks;
 use base::meter::Meter;
+use base::name::{DsName, Target};
 use base::number::Group;
 use base::refusal::Refusal;
 use datasets::Table;
+use limits::outlook::{Outlook, outlook_of};
 use limits::{Ledger, Space};
 use model::limits::Limit;
 use model::request::Property;
-use name::{DsName, Target};
-use outlook::{Outlook, outlook_of};
 use std::alloc::Global;
 use std::slice::from_ref;
 use tree::Update;

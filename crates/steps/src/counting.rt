@@ -16,13 +16,13 @@ ghost use Rattle.steps.specs.Counted.{IsCountOf};
 
 use crate::asking::room_asked;
 use base::meter::SegMeter;
+use base::name::{Component, DsName, SnapName, Target};
 use base::refusal::Refusal;
 use datasets::Table;
 use limits::{Ledger, Space};
 use lookups::{in_bytes, value_named};
 use model::reply::{Reply, Value};
 use model::request::{PoolProperty, Property};
-use name::{Component, DsName, SnapName, Target};
 use std::alloc::Global;
 use zalloc::Counts;
 
@@ -69,7 +69,7 @@ pub(crate) fn written_since(
     ensures step { (s : State) → IsSteady s → datasets_of s ≡ table.now → Step s (Request.WrittenSince target.now since.now) result s }
     ensures segments { HasRead table.now (Request.WrittenSince target.now since.now) result segments.old segments.new }
 {
-    let written = space::written_since(table, target, since.member(), segments);
+    let written = lookups::space::written_since(table, target, since.member(), segments);
     match written {
         Ok(blocks) => Reply::Value(in_bytes(blocks)),
         Err(refusal) => Reply::Refused(refusal),
@@ -88,7 +88,7 @@ pub(crate) fn would_free(
     ensures step { (s : State) → IsSteady s → datasets_of s ≡ table.now → Step s (Request.WouldFree name.now first.now last.now) result s }
     ensures segments { HasRead table.now (Request.WouldFree name.now first.now last.now) result segments.old segments.new }
 {
-    let freed = space::would_free(table, name, first, last, segments);
+    let freed = lookups::space::would_free(table, name, first, last, segments);
     match freed {
         Ok(blocks) => Reply::Value(in_bytes(blocks as u32)),
         Err(refusal) => Reply::Refused(refusal),

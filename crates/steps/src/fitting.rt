@@ -10,10 +10,10 @@ ghost use Rattle.steps.specs.Intakes.{IsUnderWay, BreaksLimit};
 
 use crate::intake::Present;
 use base::meter::Meter;
+use base::name::SnapName;
 use base::refusal::Refusal;
+use limits::outlook::kept_outlook_of;
 use limits::{Ledger, Space};
-use name::SnapName;
-use outlook::kept_outlook_of;
 use removals::Edit;
 use std::alloc::Global;
 use tree::Update;

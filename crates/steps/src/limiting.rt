@@ -15,11 +15,11 @@ ghost use Rattle.limits.specs.Ledgers.{IsSpaceOf, ledger_of};
 ghost use Rattle.lookups.specs.Accounted.{IsAccounted};
 ghost use Rattle.steps.specs.Limiting.{IsOver, CanSettle};
 
+use base::name::DsName;
 use base::refusal::Refusal;
 use datasets::{FileSystem, Table};
+use limits::outlook::Outlook;
 use limits::{Ledger, Space};
-use name::DsName;
-use outlook::Outlook;
 
 // The ledger becomes that of these datasets; and which limit is broken where a pool has them and so many other blocks, if one is. It costs
 // the number of file systems times its logarithm.
@@ -28,8 +28,7 @@ pub(crate) fn refilled(ledger: &mut Ledger, to: &Table, space: Space) -> Option<
     ensures ledger { ledger.new ≡ ledger_of (world_of to.now) }
     ensures over { (asked : State) → asked.now.file_systems ≡ to.now.file_systems → IsSpaceOf asked space → result ≡ first_of (limit_row asked) }
 {
-    // It tells of the file systems what a table keeps.
-    let _count = to.len();
+    to.facts();
     ledger.fill(to);
     ledger.first_over(space)
 }

@@ -7,13 +7,13 @@ ghost use Rattle.steps.specs.Edits.{datasets_of};
 ghost use Rattle.steps.specs.Steady.{IsSteady};
 
 use base::meter::Meter;
+use base::name::Target;
 use base::refusal::Refusal;
 use datasets::Table;
 use lookups::{names_of, tree_named};
 use marks::tags_of;
 use model::names::Names;
 use model::reply::Reply;
-use name::Target;
 use std::alloc::Global;
 
 // What a block of a dataset holds.
@@ -29,7 +29,7 @@ pub(crate) fn read(
     let Some(tree) = tree_named(table, target) else {
         return Reply::Refused(Refusal::NoDataset);
     };
-    match objset::read(tree, object, block, meter) {
+    match tree::objset::read(tree, object, block, meter) {
         Ok(bytes) => Reply::Data(bytes.copied()),
         Err(refusal) => Reply::Refused(refusal),
     }

@@ -8,16 +8,16 @@ ghost use Rattle.steps.specs.Edits.{datasets_of};
 ghost use Rattle.steps.specs.Steady.{IsSteady};
 
 use base::meter::Meter;
+use base::name::Target;
 use base::refusal::Refusal;
 use datasets::Table;
 use lookups::snapshot_named;
 use model::reply::Reply;
-use name::Target;
+use sends::sources::start_of;
 use sends::stream_bytes;
-use sources::start_of;
 use std::alloc::Global;
 
-// The stream of a send of the snapshot of this name from this source, or from nothing. It costs what `sources::start_of` and
+// The stream of a send of the snapshot of this name from this source, or from nothing. It costs what `sends::sources::start_of` and
 // `sends::stream_bytes` do.
 pub(crate) fn send(
     alloc: Global,

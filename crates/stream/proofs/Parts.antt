@@ -1,5 +1,5 @@
 -- The parts of a stream, as they are read.
-use Rattle.std.proofs.Common.{◌≡◌, ◌≢◌, ℕ, ◌<◌, ◌≤◌, List, [], ◌∷◌, ◌++◌, length, get_or, All, Option, None, Some, IfSome, refl, sym, ap, subst, ◌∙◌, append_assoc, arith, ⊎_elim}
+use Rattle.std.proofs.Common.{◌≡◌, ◌≢◌, ℕ, ◌<◌, ◌≤◌, List, [], ◌∷◌, ◌++◌, length, get_or, All, Option, Some, IfSome, refl, sym, ap, subst, ◌∙◌, append_assoc, arith, ⊎_elim}
 use Rattle.std.specs.List.{flat_map}
 use Rattle.std.specs.Int.{w32, w64, to_be_bytes, from_be_bytes}
 use Rattle.std.proofs.lemmas.List.{append_cancel_left, get_or_past, flat_map_more}
@@ -155,7 +155,3 @@ AreReadTo-push told mid later h i j rs from r a f = record {
   from_is = sym (end_after-push 0 rs r);
   within = (record_bounds r f.1).1;
 }
-
-pub AreReadTo-end : (told mid later : Option (List ℕ)) (h i j : Sha256) (rs : List Record) (from : ℕ) → AreReadTo told mid h i rs from → FindsNext from mid later i j None
-    → Passes told later h j (flat_map record_bytes rs ++ 0 ∷ [])
-AreReadTo-end told mid later h i j rs from a f = Passes-trans told mid later h i j _ _ a.passes f

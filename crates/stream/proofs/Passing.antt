@@ -1,7 +1,7 @@
 -- Bytes that pass one after the other, and what they tell of those before.
-use Rattle.std.proofs.Common.{◌≡◌, ℕ, List, [], ◌++◌, Option, None, Some, IfSome, Result, Ok, Err, ◌<◌, length, arith, sym, ap, subst, ◌∙◌, append_assoc, append-nil}
-use Rattle.std.specs.Io.KnownBytes.{Consumes, IsAtEnd}
-use Rattle.std.proofs.KnownBytes.{Consumes-trans, Consumes-nil, Appends-trans, Appends-nil}
+use Rattle.std.proofs.Common.{◌≡◌, ℕ, List, [], ◌++◌, Option, None, Some, IfSome, Result, Ok, Err, arith, sym, ap, subst, ◌∙◌, append_assoc, append-nil}
+use Rattle.std.specs.Io.KnownBytes.{Consumes}
+use Rattle.std.proofs.KnownBytes.{Consumes-trans, Appends-trans}
 use Rattle.sha2.specs.declared.Sha256.{Sha256}
 use Rattle.sha2.specs.Hashers.{Holds256}
 use Rattle.std.specs.Result.{IsErrOf, IsErrAnd}
@@ -13,14 +13,8 @@ pub hashed_trans : (h i j : Sha256) (x y : List ℕ) → ((m : List ℕ) → Hol
     → (m : List ℕ) → Holds256 h m → Holds256 j (m ++ (x ++ y))
 hashed_trans h i j x y f g m holds = subst (Holds256 j) (append_assoc m x y) (g (m ++ x) (f m holds))
 
-pub Passes-nil : (a : Option (List ℕ)) (h : Sha256) → Passes a a h h []
-Passes-nil a h = record { taken = Consumes-nil a; hashed = λ m holds. subst (Holds256 h) (sym (append-nil m)) holds }
-
 pub Passes-trans : (a b c : Option (List ℕ)) (h i j : Sha256) (x y : List ℕ) → Passes a b h i x → Passes b c i j y → Passes a c h j (x ++ y)
 Passes-trans a b c h i j x y p q = record { taken = Consumes-trans a b c x y p.taken q.taken; hashed = hashed_trans h i j x y p.hashed q.hashed }
-
-pub Puts-nil : (a : Option (List ℕ)) (h : Sha256) → Puts a a h h []
-Puts-nil a h = record { written = Appends-nil a; hashed = λ m holds. subst (Holds256 h) (sym (append-nil m)) holds }
 
 pub Puts-trans : (a b c : Option (List ℕ)) (h i j : Sha256) (x y : List ℕ) → Puts a b h i x → Puts b c i j y → Puts a c h j (x ++ y)
 Puts-trans a b c h i j x y p q = record { written = Appends-trans a b c x y p.written q.written; hashed = hashed_trans h i j x y p.hashed q.hashed }
@@ -40,16 +34,6 @@ pub told_taken : (told later : Option (List ℕ)) (bs : List ℕ) (Q : List ℕ 
 told_taken None later bs Q p f = tt
 told_taken (Some xs) None bs Q p f = absurd p
 told_taken (Some xs) (Some ys) bs Q p f = subst Q (sym p) (f ys)
-
--- all was taken, and nothing is left
-pub told_all : (told later : Option (List ℕ)) (bs : List ℕ) → Consumes told later bs → IsAtEnd later → IfSome told (λ bytes. bytes ≡ bs)
-told_all None later bs p e = tt
-told_all (Some xs) None bs p e = absurd p
-told_all (Some xs) (Some ys) bs p e = p ∙ ap (λ (l : List ℕ). bs ++ l) e ∙ append-nil bs
-
--- fewer bytes were there
-pub told_fewer : (told later : Option (List ℕ)) (n : ℕ) → ComesShort told later n → IfSome told (λ bytes. length bytes < n)
-told_fewer told later n s = told_weaker told (λ bytes. bytes ≡ s.bytes) (λ bytes. length bytes < n) (λ bytes e. subst (λ (l : List ℕ). length l < n) (sym e) s.fewer) (told_all told later s.bytes s.taken s.at_end)
 
 -- not one byte was there
 pub none_left : (told mid later : Option (List ℕ)) (bs : List ℕ) → Consumes told mid bs → ComesShort mid later 1 → Consumes told later bs

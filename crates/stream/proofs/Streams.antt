@@ -16,10 +16,6 @@ use Rattle.stream.specs.Laws.{HasOneSpelling, HasOneReading, BeginsNoOther}
 use Rattle.stream.proofs.Passing.{Puts-trans, told_before}
 use Rattle.stream.proofs.Fronts.{same_front, same_header, same_records, end_after, stuck_after, length-sha256}
 
--- the records, and then the end
-abbrev body : List Record → List ℕ → List ℕ
-body rs digest = flat_map record_bytes rs ++ 0 ∷ digest
-
 -- what is digested, with anything after it, is a header and a body
 pub digested_parts : (s : Sending) (x : List ℕ) → digested_bytes s ++ x ≡ header s.source s.target ++ (flat_map record_bytes s.records ++ 0 ∷ x)
 digested_parts s x = ap (λ (l : List ℕ). header s.source s.target ++ l) (append_assoc (flat_map record_bytes s.records) (0 ∷ []) x)

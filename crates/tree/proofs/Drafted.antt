@@ -43,7 +43,7 @@ claim_keys true true k y d = refl
 claim_keys true false k y d = refl
 claim_keys false p k y d = refl
 
-keys_of_claims : (s : ℕ → Said) (y : ℕ) (o : Option Part) → map claim_key (claims s y 5 0 o) ≡ made_keys s 5 0 o
+pub keys_of_claims : (s : ℕ → Said) (y : ℕ) (o : Option Part) → map claim_key (claims s y 5 0 o) ≡ made_keys s 5 0 o
 keys_of_claims s y o = listing_map claim_key (λ l j x. claim_of (touched s l j x) (stays s l j x) (key_at l j) y (own_block x)) (λ l j x. cond (touched s l j x && stays s l j x) (key_at l j ∷ []) [])
     (λ l j x. claim_keys (touched s l j x) (stays s l j x) (key_at l j) y (own_block x)) 5 0 o
 

@@ -4,9 +4,11 @@ pub use Rattle.batch.proofs.UpdateLaws
 pub mod Present
 pub mod Numbered
 pub mod Drafted
+pub mod Metering
 pub mod Staying
 pub mod Committed
 pub mod Branches
 pub mod BranchKeys
 pub mod BranchBlocks
 pub mod Putting
+pub mod Contents

@@ -185,9 +185,6 @@ module _ (m : Map) (o : Option Part) (us : List Update) (g y : ℕ) (states : Li
       by None e = taken (claim_fresh m o us g y states q k e)
       by (Some d) e = let w = claim_kept m o us g y states q k d h e in stays_put w.cell w.there w.born (kept_n k w.cell h w.there w.born)
 
-  kept_not : (k : Key) (x : Cell) → Made k → get m k ≡ Some x → y ≤ x.birth → ¬ (IsKept m c y k) → ⊥
-  kept_not k x h e b n = n (record { made = made_from m o us g y states q k h; cell = x; there = e; born = b })
-
   is_allocated : (k : Key) (x : Cell) → get m k ≡ Some x → slice_get states x.number ≡ Some Allocated
   is_allocated k x e = if_some _ _ x e (all k)
 

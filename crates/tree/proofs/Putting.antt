@@ -1,8 +1,10 @@
 -- A draft of a map, and one that is put, over the root that the tree has.
-use Rattle.std.proofs.Common.{◌≡◌, ℕ, List, [], ◌∷◌, Option, Result, Ok, Err, sym, ap, subst, ◌∙◌, map, reverse}
+use Rattle.std.proofs.Common.{◌≡◌, ◌≤◌, ℕ, List, [], ◌∷◌, Option, Result, Ok, Err, sym, ap, subst, ◌∙◌, map, reverse, length}
 use Rattle.std.specs.Prelude.{IfOk}
 use Rattle.std.specs.declared.sync.Arc.{Arc}
 use Rattle.std.specs.declared.alloc.Global.{Global}
+use Rattle.std.proofs.lemmas.List.{length-map}
+use Rattle.base.specs.Counting.{counted}
 use Rattle.base.specs.Map.{Map}
 use Rattle.base.specs.declared.refusal.Refusal.{Refusal}
 use Rattle.base.specs.Surveys.{AreDifferent, dead_block}
@@ -17,18 +19,20 @@ use Rattle.node.proofs.Places.{forest_of-map}
 use Rattle.node.proofs.Sameness.{same_map}
 use Rattle.batch.specs.Build.{made_keys, rebuilt, number_of, HasKeys}
 use Rattle.batch.specs.Draft.{IsDraft}
+use Rattle.batch.specs.Cost.{CountsDropped}
 use Rattle.batch.specs.Numbers.{numbers}
 use Rattle.batch.specs.Said.{said}
+use Rattle.batch.specs.Touch.{claims, dropped}
 use Rattle.batch.specs.Updates.{changes_of, IsBatch}
 use Rattle.batch.specs.declared.draft.Draft.{Draft}
 use Rattle.batch.specs.declared.update.Update.{Update}
-use Rattle.batch.proofs.Filled.{new_key}
-use Rattle.batch.proofs.Prepare.{IsReady}
+use Rattle.batch.proofs.Filled.{new_key, filled_keys}
+use Rattle.batch.proofs.Prepare.{IsReady, ready_counts}
 use Rattle.tree.specs.Asking.{AllowsChange, AreAllocated}
 use Rattle.tree.specs.Change.{Shown, IsChange, AreReleased}
 use Rattle.tree.specs.ChangeParts.{made_pair}
 use Rattle.tree.specs.Drafting.{IsDraftOf}
-use Rattle.tree.proofs.Drafted.{born_of, allocated_of, ready_released, ready_keys, ready_places, ready_sound, ready_change}
+use Rattle.tree.proofs.Drafted.{born_of, allocated_of, ready_released, ready_keys, ready_places, ready_sound, ready_change, keys_of_claims}
 
 -- a root whose part is a sound one's is sound
 pub same_sound : (r s : Option (Arc Root Global)) (n : ℕ) → whole s ≡ whole r → IsSoundTree r n → IsSoundTree s n
@@ -65,6 +69,17 @@ module _ (root : Option (Arc Root Global)) (count : ℕ) (sound : IsSoundTree ro
 
   pub put_places : AreDifferent (map new_key d.made.items)
   put_places = ready_places root count us y states ready d here
+
+  -- what is counted at least
+  pub put_counts : (before after : ℕ) → counted before (length (dropped (said us) 0 5 0 (whole root))) ≤ after → CountsDropped m (changes_of us) before after
+  put_counts before after h =
+      let at_zero : IsReady root count us 0 states = record { sound = sound; batch = asks.batch; sized = here.sized; allocated = allocated_of root m states is asks.allocated } in
+      subst (λ (n : Map). CountsDropped n (changes_of us) before after) is (ready_counts root count us 0 states at_zero before after h)
+
+  pub put_made : length (made_keys (said us) 5 0 (whole root)) ≡ length d.made.items
+  put_made =
+      let all = claims (said us) y 5 0 (whole root) in
+      ap length (sym (keys_of_claims (said us) y (whole root)) ∙ sym (filled_keys all d.taken.items) ∙ ap (map new_key) (sym here.made)) ∙ length-map d.made.items new_key
 
   module _ (root' : Option (Arc Root Global)) (made : whole root' ≡ rebuilt (said us) (number_of d.made.items) g 5 0 (whole root)) where
     pub put_sound : IsSoundTree root' d.count

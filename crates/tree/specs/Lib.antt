@@ -12,3 +12,4 @@ pub mod Branch
 pub mod BranchCode
 pub mod BranchParts
 pub mod Others
+pub mod Blocks

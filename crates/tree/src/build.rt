@@ -1,13 +1,15 @@
 //! The nodes that a batch of changes makes.
-ghost use Rattle.std.specs.Prelude.{◌≡◌, suc, ◌+◌, ◌-◌, ◌*◌, ◌^◌, ◌<◌, ◌≤◌, IfOk, OnErr, Option, Some, None, slice_index_or, length, map};
+ghost use Rattle.std.specs.Prelude.{◌≡◌, suc, ◌+◌, ◌-◌, ◌*◌, ◌^◌, ◌<◌, ◌≤◌, IfOk, OnOk, OnErr, Option, Some, None, slice_index_or, length, map};
 ghost use Rattle.base.specs.declared.refusal.Refusal.{Refusal};
+ghost use Rattle.base.specs.Counting.{counted};
 ghost use Rattle.base.specs.Surveys.{AreDifferent};
 ghost use Rattle.node.specs.Kid.{IsSoundKid, places_of};
 ghost use Rattle.node.specs.Node.{inner_part, part_of_owner, part_of_slot};
 ghost use Rattle.batch.specs.Said.{said, AreInOrder};
-ghost use Rattle.batch.specs.Touch.{any_kid, later_first, touched, stays};
+ghost use Rattle.batch.specs.Touch.{any_kid, later_first, touched, stays, dropped};
 ghost use Rattle.batch.specs.Build.{made_keys, parts, rebuilt, number_of, no_block, HasKeys};
 
+use base::meter::Meter;
 use base::number::{BlockNo, Group};
 use base::refusal::Refusal;
 use batch::{NewBlock, Update, Word, is_idle, split_at_leaf, word_of};
@@ -42,10 +44,21 @@ pub fn number_at(made: &[NewBlock], at: usize) -> (BlockNo, usize)
     (made[at].block, at + 1)
 }
 
+/// Counts one more node.
+#[tactic(auto, unfolding(base::specs::Counting::counted, base::specs::Counting::most))]
+pub fn reach(meter: &mut Meter)
+    ensures metered { meter.new ≡ counted meter.old 1 }
+    ensures never_lower { meter.old ≤ meter.new }
+{
+    let _reached = meter.count();
+    meter.add_one();
+}
+
 /// A level whose parts can be made anew.
 pub trait Build: Level + Drop {
     /// The part with an index among those of its level after a batch. The numbers are those of the new blocks, which stand from
-    /// the last key to the first, and from one place on.
+    /// the last key to the first, and from one place on. The meter rises by at least one for each block whose key is touched, and
+    /// for each new one.
     fn build(
         alloc: Global,
         old: Option<&Arc<Self>>,
@@ -55,6 +68,7 @@ pub trait Build: Level + Drop {
         group: Group,
         made: &[NewBlock],
         next: usize,
+        meter: &mut Meter,
     ) -> Result<Built<Self>, Refusal>
         requires level { level ≡ Self.height }
         requires within { (index + 1) * 16 ^ level ≤ 1048576 }
@@ -67,6 +81,9 @@ pub trait Build: Level + Drop {
         ensures touched { IfOk result (λ b. b.touched ≡ touched (said updates.now) Self.height index (part_of_owner Self.part old.entry)) }
         ensures stays { IfOk result (λ b. b.stays ≡ stays (said updates.now) Self.height index (part_of_owner Self.part old.entry)) }
         ensures next { IfOk result (λ b. b.next ≡ next + length (made_keys (said updates.now) Self.height index (part_of_owner Self.part old.entry))) }
+        ensures metered { OnOk result (counted meter.old (length (dropped (said updates.now) 0 Self.height index (part_of_owner Self.part old.entry))) ≤ meter.new) }
+        ensures metered_made { IfOk result (λ b. counted meter.old (b.next - next) ≤ meter.new) }
+        ensures never_lower { meter.old ≤ meter.new }
         ensures err { OnErr result (result ≡ Err Refusal.NoMemory) };
 }
 
@@ -80,7 +97,9 @@ impl Build for Leaf {
         group: Group,
         made: &[NewBlock],
         next: usize,
+        meter: &mut Meter,
     ) -> Result<Built<Leaf>, Refusal> {
+        reach(meter);
         let present = old.is_some();
         match word_of(updates, index) {
             Word::Silent => Ok(Built {
@@ -118,6 +137,7 @@ fn build_kid<C: Build>(
     group: Group,
     made: &[NewBlock],
     next: usize,
+    meter: &mut Meter,
 ) -> Result<Built<C>, Refusal>
     requires level { level ≡ C.height }
     requires within { (index + 1) * 16 ^ level ≤ 1048576 }
@@ -130,6 +150,9 @@ fn build_kid<C: Build>(
     ensures touched { IfOk result (λ b. b.touched ≡ touched (said updates.now) C.height index (part_of_owner C.part old.entry)) }
     ensures stays { IfOk result (λ b. b.stays ≡ stays (said updates.now) C.height index (part_of_owner C.part old.entry)) }
     ensures next { IfOk result (λ b. b.next ≡ next + length (made_keys (said updates.now) C.height index (part_of_owner C.part old.entry))) }
+    ensures metered { OnOk result (counted meter.old (length (dropped (said updates.now) 0 C.height index (part_of_owner C.part old.entry))) ≤ meter.new) }
+    ensures metered_made { IfOk result (λ b. counted meter.old (b.next - next) ≤ meter.new) }
+    ensures never_lower { meter.old ≤ meter.new }
     ensures err { OnErr result (result ≡ Err Refusal.NoMemory) }
 {
     let present = old.is_some();
@@ -141,7 +164,7 @@ fn build_kid<C: Build>(
             next,
         });
     }
-    C::build(alloc, old, level, index, updates, group, made, next)
+    C::build(alloc, old, level, index, updates, group, made, next, meter)
 }
 
 /// The places of a part after a batch, made from the last to the first. The places have a level, and the indices from one on.
@@ -154,6 +177,7 @@ fn build_kids<C: Build>(
     group: Group,
     made: &[NewBlock],
     next: usize,
+    meter: &mut Meter,
 ) -> Result<BuiltKids<C>, Refusal>
     requires level { level ≡ C.height }
     requires within { (first + 16) * 16 ^ level ≤ 1048576 }
@@ -166,6 +190,9 @@ fn build_kids<C: Build>(
     ensures touched { IfOk result (λ b. b.touched ≡ any_kid (touched (said updates.now) C.height) first (places_of (part_of_owner (inner_part C.part) old.entry))) }
     ensures stays { IfOk result (λ b. b.stays ≡ any_kid (stays (said updates.now) C.height) first (places_of (part_of_owner (inner_part C.part) old.entry))) }
     ensures next { IfOk result (λ b. b.next ≡ next + length (later_first (made_keys (said updates.now) C.height) first (places_of (part_of_owner (inner_part C.part) old.entry)))) }
+    ensures metered { OnOk result (counted meter.old (length (later_first (dropped (said updates.now) 0 C.height) first (places_of (part_of_owner (inner_part C.part) old.entry)))) ≤ meter.new) }
+    ensures metered_made { IfOk result (λ b. counted meter.old (b.next - next) ≤ meter.new) }
+    ensures never_lower { meter.old ≤ meter.new }
     ensures err { OnErr result (result ≡ Err Refusal.NoMemory) }
 {
     let mut kids = [
@@ -182,7 +209,7 @@ fn build_kids<C: Build>(
         let index = first + place;
         halves = split_at_leaf(halves.1, index * span);
         let kid = owner_at(old, place as usize);
-        let built = build_kid(alloc, kid, level, index, halves.0, group, made, at)?;
+        let built = build_kid(alloc, kid, level, index, halves.0, group, made, at, meter)?;
         any_touched |= built.touched;
         any_stays |= built.stays;
         at = built.next;
@@ -206,6 +233,7 @@ impl<C: Build> Build for Inner<C> {
         group: Group,
         made: &[NewBlock],
         next: usize,
+        meter: &mut Meter,
     ) -> Result<Built<Inner<C>>, Refusal> {
         let present = old.is_some();
         if is_idle(updates, present) {
@@ -216,6 +244,7 @@ impl<C: Build> Build for Inner<C> {
                 next,
             });
         }
+        reach(meter);
         let below = build_kids(
             alloc,
             old,
@@ -225,6 +254,7 @@ impl<C: Build> Build for Inner<C> {
             group,
             made,
             next,
+            meter,
         )?;
         if !below.touched {
             return Ok(Built {

@@ -4,6 +4,7 @@
 mod build;
 mod change;
 mod copy;
+pub mod objset;
 mod reading;
 mod renew;
 mod same;

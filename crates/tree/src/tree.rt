@@ -1,7 +1,8 @@
 //! A version of a tree, seen as the map from its present keys to their cells.
-ghost use Rattle.std.specs.Prelude.{◌≡◌, ◌≤◌, IfOk, IfErr, OnOk, OnErr, map};
+ghost use Rattle.std.specs.Prelude.{◌≡◌, ◌≤◌, IfOk, IfErr, OnOk, OnErr, map, length};
 ghost use Rattle.std.specs.FinMap as finmap;
 ghost use Rattle.base.specs.declared.refusal.Refusal.{Refusal};
+ghost use Rattle.base.specs.Counting.{counted};
 ghost use Rattle.base.specs.Surveys.{dead_block};
 ghost use Rattle.batch.specs.Updates.{changes_of, IsBatch};
 ghost use Rattle.node.specs.Unique.{IsUnique};
@@ -119,21 +120,35 @@ impl Tree {
     /// and the others have those of young blocks that go, and then Free ones. It takes no number: the answer names those that the new
     /// blocks have. NoMemory where there is none for the nodes, and then the tree is as it was. It costs the nodes on the way to the
     /// changes, each with its sixteen places. A batch that is one write or one punch of a leaf changes those nodes where they are
-    /// that no other version of the tree shares.
+    /// that no other version of the tree shares. The meter counts these nodes, those that were there and the new ones, where both stand
+    /// at one key once: it rises by at least one for each block that the change drops, and for each that it makes, and at `Err` is never
+    /// lower.
     pub fn put(
         &mut self,
         alloc: Global,
         updates: &[Update],
         group: Group,
         mut draft: Draft,
+        meter: &mut Meter,
     ) -> Result<Changed, Refusal>
         requires { CanPut self.old updates.now group.0 draft }
         ensures ok { IfOk result (HasPut self.old self.new updates.now group.0 draft) }
         ensures err { OnErr result (self.new ≡ self.old) }
         ensures only { OnErr result (result ≡ Err Refusal.NoMemory) }
+        ensures metered { OnOk result (CountsDropped self.old (changes_of updates.now) meter.old meter.new) }
+        ensures metered_made { IfOk result (λ done. counted meter.old (length done.made.items) ≤ meter.new) }
+        ensures never_lower { meter.old ≤ meter.new }
     {
         let (touched, new_blocks) = (draft.touched, &draft.made);
-        renew_root(&mut self.root, alloc, touched, updates, group, new_blocks)?;
+        renew_root(
+            &mut self.root,
+            alloc,
+            touched,
+            updates,
+            group,
+            new_blocks,
+            meter,
+        )?;
         self.count = draft.count;
         draft.made.reverse();
         Ok(Changed {

@@ -5,9 +5,9 @@ use crate::ready::meter;
 use crate::rig::{Rig, Way, assert_counts, filler, rig_of};
 use base::number::Group;
 use base::refusal::Refusal;
-use objset::{free_of, punch_of, read, write_of};
 use std::alloc::Global;
 use std::process::Abort;
+use tree::objset::{free_of, punch_of, read, write_of};
 use tree::{Tree, Update};
 use zalloc::MOST_BLOCKS;
 
@@ -55,7 +55,13 @@ fn assert_takes(rt: &impl Abort, alloc: Global, numbers: u32, update: Update, ta
     requires { numbers ≤ MOST_BLOCKS }
 {
     let mut rig = rig_of(rt, alloc, numbers, Way::OnACopy);
-    assert_counts(rt, alloc, &mut rig, &[update], (taken, taken, 0));
+    assert_counts(
+        rt,
+        alloc,
+        &mut rig,
+        &[update],
+        (taken, taken, 0, taken as u64),
+    );
     let count = rig.tree.node_count();
     drop(rig);
     assert!(rt; count as usize == taken);

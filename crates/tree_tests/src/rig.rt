@@ -5,6 +5,7 @@ ghost use Rattle.tree.specs.Asking.{AllowsChange};
 ghost use Rattle.tree.specs.Taking.{AllFree};
 
 use crate::ready::{extent, is_batch, is_ready, meter};
+use base::meter::Meter;
 use base::number::{BlockNo, Dead, Group, Key};
 use base::refusal::Refusal;
 use std::alloc::Global;
@@ -203,7 +204,7 @@ fn assert_stays(
     Ok(())
 }
 
-/// Drafts a batch of a tree, and puts it in force there.
+/// Drafts a batch of a tree, and puts it in force there, with the nodes that the put reaches counted.
 fn change(
     alloc: Global,
     tree: &mut Tree,
@@ -211,16 +212,17 @@ fn change(
     group: Group,
     young: Group,
     allocator: &Allocator,
+    nodes: &mut Meter,
 ) -> Result<Changed, Refusal>
     requires { AllowsChange tree.old updates.now group.0 young.0 allocator.now }
     ensures { IfOk result (λ done. AreDifferent (map (λ b. b.0) done.taken.items)) }
 {
     let draft = tree.draft(alloc, updates, young, allocator, &mut meter())?;
-    tree.put(alloc, updates, group, draft)
+    tree.put(alloc, updates, group, draft, nodes)
 }
 
-/// How many numbers a batch took, and how many keys it made and released.
-pub type Counts = (usize, usize, usize);
+/// How many numbers a batch took, how many keys it made and released, and how many nodes it reached to put them in force.
+pub type Counts = (usize, usize, usize, u64);
 
 impl Rig {
     /// Asserts what a change asks of its caller.
@@ -249,13 +251,22 @@ impl Rig {
         updates: &[Update],
         group: Group,
         young: Group,
+        nodes: &mut Meter,
     ) -> Result<Changed, Refusal>
         requires { AllowsChange self.old.tree updates.now group.0 young.0 self.old.allocator }
         ensures { IfOk result (λ done. AreDifferent (map (λ b. b.0) done.taken.items)) }
     {
         let before = look_at(rt, alloc, &self.tree, updates)?;
         let mut copy = self.tree.copy()?;
-        let done = change(alloc, &mut copy, updates, group, young, &self.allocator)?;
+        let done = change(
+            alloc,
+            &mut copy,
+            updates,
+            group,
+            young,
+            &self.allocator,
+            nodes,
+        )?;
         assert_stays(rt, alloc, &self.tree, updates, before)?;
         self.tree = copy;
         Ok(done)
@@ -282,6 +293,7 @@ impl Rig {
         young: Group,
     ) -> Result<Counts, Refusal> {
         self.assert_asked(rt, alloc, updates, group, young)?;
+        let mut nodes = meter();
         let done = match self.way {
             Way::AtOnce => change(
                 alloc,
@@ -290,12 +302,14 @@ impl Rig {
                 group,
                 young,
                 &self.allocator,
+                &mut nodes,
             )?,
-            Way::OnACopy => self.change_copy(rt, alloc, updates, group, young)?,
+            Way::OnACopy => self.change_copy(rt, alloc, updates, group, young, &mut nodes)?,
         };
         self.settle(rt, &done.released, &done.taken, young);
         assert_made(rt, &self.tree, &done.made, group);
-        Ok((done.taken.len(), done.made.len(), done.released.len()))
+        let (taken, made, released) = (done.taken.len(), done.made.len(), done.released.len());
+        Ok((taken, made, released, nodes.count()))
     }
 
     /// Puts a batch in force, all of whose group is young, where there is room and memory.
@@ -350,7 +364,8 @@ impl Rig {
     }
 }
 
-/// Puts a batch of group 1 in force, and asserts how many numbers it takes, and how many keys it makes and releases.
+/// Puts a batch of group 1 in force, and asserts how many numbers it takes, how many keys it makes and releases, and how many nodes are
+/// reached to put it in force.
 pub fn assert_counts(
     rt: &impl Abort,
     alloc: Global,

@@ -75,31 +75,31 @@ fn one_group(rt: HostRuntime) {
     let rows = [
         Row {
             updates: &[write_at(5, 7)],
-            counts: (6, 6, 0),
+            counts: (6, 6, 0, 6),
             blocks: 6,
             reads: &[(5, 7, 6)],
         },
         Row {
             updates: &[write_at(5, 8), write_at(4096, 9)],
-            counts: (4, 10, 0),
+            counts: (4, 10, 0, 10),
             blocks: 10,
             reads: &[(5, 8, 6), (4096, 9, 6), (6, 0, 5)],
         },
         Row {
             updates: &[punch_at(3, 1)],
-            counts: (0, 2, 4),
+            counts: (0, 2, 4, 6),
             blocks: 6,
             reads: &[],
         },
         Row {
             updates: &[punch_at(0, 6)],
-            counts: (0, 0, 0),
+            counts: (0, 0, 0, 0),
             blocks: 6,
             reads: &[],
         },
         Row {
             updates: &[punch_at(0, 5)],
-            counts: (0, 0, 6),
+            counts: (0, 0, 6, 6),
             blocks: 0,
             reads: &[],
         },
@@ -113,19 +113,19 @@ fn written_again(rt: HostRuntime) {
     let rows = [
         Row {
             updates: &[write_at(5, 7)],
-            counts: (6, 6, 0),
+            counts: (6, 6, 0, 6),
             blocks: 6,
             reads: &[],
         },
         Row {
             updates: &[write_at(4096, 8)],
-            counts: (4, 6, 0),
+            counts: (4, 6, 0, 6),
             blocks: 10,
             reads: &[],
         },
         Row {
             updates: &[write_at(5, 9)],
-            counts: (0, 6, 0),
+            counts: (0, 6, 0, 6),
             blocks: 10,
             reads: &[(5, 9, 6), (4096, 8, 6)],
         },
@@ -135,10 +135,10 @@ fn written_again(rt: HostRuntime) {
 
 /// Asserts that a copy keeps its bytes, where its tree is written while both share their nodes, and then where they don't.
 fn assert_copy(rt: &impl Abort, alloc: Global, rig: &mut Rig) {
-    assert_counts(rt, alloc, rig, &[write_at(5, 7)], (6, 6, 0));
+    assert_counts(rt, alloc, rig, &[write_at(5, 7)], (6, 6, 0, 6));
     let copy = rig.tree.copy().expect(rt, "memory for a copy");
-    assert_counts(rt, alloc, rig, &[write_at(5, 8)], (0, 6, 0));
-    assert_counts(rt, alloc, rig, &[write_at(5, 9)], (0, 6, 0));
+    assert_counts(rt, alloc, rig, &[write_at(5, 8)], (0, 6, 0, 6));
+    assert_counts(rt, alloc, rig, &[write_at(5, 9)], (0, 6, 0, 6));
     assert_reads(rt, &copy, &[(5, 7, 6)]);
     assert_reads(rt, &rig.tree, &[(5, 9, 6)]);
     assert_blocks(rt, rig, 6);

@@ -12,7 +12,7 @@ use Rattle.model.specs.World.{SnapId}
 use Rattle.model.specs.State.{Views}
 use Rattle.world.specs.Shapes.{view_order}
 use Rattle.world.specs.Usage.{IsEntry}
-use Rattle.world.proofs.Maps.{key_cases, get-insert_other, at_entry, no_value}
+use Rattle.world.proofs.lists.Maps.{key_cases, get-insert_other, at_entry, no_value}
 
 -- a view's number, and the identity of the snapshot that it shows
 abbrev pub Entry : Type 0

@@ -36,7 +36,7 @@ fn full_tree(alloc: Global, updates: &[Update], numbers: u32) -> Result<Tree, Re
         return Err(Refusal::BadKey);
     }
     let draft = tree.draft(alloc, updates, Group(1), &allocator, &mut meter())?;
-    tree.put(alloc, updates, Group(1), draft)?;
+    tree.put(alloc, updates, Group(1), draft, &mut meter())?;
     Ok(tree)
 }
 

@@ -3,7 +3,7 @@ use Rattle.std.specs.Prelude.{◌≡◌, ℕ, zero, suc, ◌<◌, ◌≤◌, ◌
 use Rattle.std.specs.FinSet.{empty, difference, union}
 use Rattle.world.specs.Sets.{Has, IsSubset}
 use Rattle.world.specs.Blocks.{Block, BlockSet, after, upto}
-use Rattle.world.specs.Shapes.{Name, SnapShape, Dataset, Shapes, lineages, IsGood, Drops, Unmakes}
+use Rattle.world.specs.Shapes.{Name, SnapShape, Dataset, Shapes, lineages, IsGood, Drops, RemovesFileSystem}
 use Rattle.world.specs.Lineage.{IsUnion}
 
 -- a world with no file system (On-Disk Specification, chapter 4)
@@ -20,7 +20,7 @@ WriteLoses = (old new : BlockSet) (base : ℕ) → difference (after base old) n
 
 -- a snapshot goes that has no clone, or a file system that has no snapshot (On-Disk Specification, chapter 4)
 abbrev pub IsRemoval : Shapes → Shapes → Type 0
-IsRemoval m k = ((name : Name) × (s : SnapShape) × Drops m k name s) ⊎ ((name : Name) × Unmakes m k name)
+IsRemoval m k = ((name : Name) × (s : SnapShape) × Drops m k name s) ⊎ ((name : Name) × RemovesFileSystem m k name)
 
 -- one removal after the other, each with the union of the datasets after it (On-Disk Specification, chapter 4)
 abbrev pub AreRemovals : ℕ → ℕ → Shapes → Shapes → Type 0

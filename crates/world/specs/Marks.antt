@@ -3,7 +3,7 @@ use Rattle.std.specs.Prelude.{◌≡◌, ℕ, ◌<◌, ◌≤◌, ◌⊎◌, Opt
 use Rattle.world.specs.Sets.{Has, IsSubset}
 use Rattle.world.specs.Blocks.{Block, BlockSet}
 use Rattle.world.specs.Lineage.{Row}
-use Rattle.world.specs.Shapes.{Name, SnapId, Dataset, SnapShape, Shapes, Before, before_live, Starts, lineages, IsGood, Promotes, Drops, Writes, Snaps, Makes, Unmakes}
+use Rattle.world.specs.Shapes.{Name, SnapId, Dataset, SnapShape, Shapes, Before, before_live, Starts, lineages, IsGood, Promotes, Drops, Writes, Snaps, Makes, RemovesFileSystem}
 use Rattle.model.specs.World.{Live, Snapped}
 use Rattle.world.specs.Bookmarks.{IsAncestor, Covers}
 
@@ -20,7 +20,7 @@ MarkMade = (m : Shapes) (g : ℕ) (name : Name) (id : SnapId) (n s : Row Dataset
 abbrev pub MarkStays : Type 0
 MarkStays = (old new : Shapes) (g h : ℕ) (name other : Name) (t : ℕ) (s : BlockSet) (n : Row Dataset) → IsGood old g → lineages old g (Live name) n → t ≤ n.group → IsMarked old g name t s
     → ((x : SnapShape) → Drops old new other x → IsMarked new g name t s)
-    × (Unmakes old new other → IsMarked new g name t s)
+    × (RemovesFileSystem old new other → IsMarked new g name t s)
     × ((c : Name) → Promotes old new c other → IsMarked new g name t s)
     × (g ≤ h → IsMarked old h name t s)
     -- what is written to the file system itself is none of what was born by t and is not in the set

@@ -3,7 +3,7 @@ use Rattle.std.specs.Prelude.{ℕ, Bool, not, List, [], ◌∷◌, ◌++◌, Opt
 use Rattle.std.specs.List.{filter, list_any}
 use Rattle.std.specs.Option.{option_map, option_map_or, option_and_then}
 use Rattle.std.specs.FinMap.{entries, insert, retain_keys, from_entries}
-use Rattle.name.specs.Names.{same_name}
+use Rattle.base.specs.Names.{same_name}
 use Rattle.model.specs.World.{World, FileSystem, Snap, SnapId, id_of, same_id, empty_file_system, file_system_at, snap_at, map_of_snap}
 use Rattle.model.specs.Edits.{with_file_system, without_snaps, with_losses}
 pub use Rattle.model.specs.requests.Snapshot.{snap_of_live, with_snapshot, with_snapshots}

@@ -6,7 +6,7 @@ use Rattle.std.specs.Cmp.Lexicographic.{nat_list_cmp_total}
 use Rattle.std.specs.FinSet.{empty, difference}
 use Rattle.std.specs.FinMap.{slice_cmp-IsAntisymmetric, nat_cmp-IsAntisymmetric}
 use Rattle.base.specs.Key.{key_cmp, key_cmp_total, key_cmp-IsAntisymmetric}
-use Rattle.name.specs.Names.{name_cmp}
+use Rattle.base.specs.Names.{name_cmp}
 use Rattle.model.specs.World.{Live, Snapped}
 pub use Rattle.model.specs.World.{SnapId, Dataset}
 use Rattle.world.specs.Sets.{IsExactOrder, Has, IsSubset}
@@ -175,7 +175,7 @@ pub record Makes (old new : Shapes) (name : Name) (live : BlockSet) (origin : Op
   pub others : (other : Name) → ¬ (other ≡ name) → new other ≡ old other
 
 -- a file system with no snapshot goes (On-Disk Specification, chapter 4)
-pub record Unmakes (old new : Shapes) (name : Name) : Type 0 where
+pub record RemovesFileSystem (old new : Shapes) (name : Name) : Type 0 where
   pub system : Shape
   pub at : old name ≡ Some system
   pub bare : system.snapshots ≡ []
@@ -183,8 +183,8 @@ pub record Unmakes (old new : Shapes) (name : Name) : Type 0 where
   pub others : (other : Name) → ¬ (other ≡ name) → new other ≡ old other
 
 -- removal of a snapshot keeps what holds at every state, and loses the entries of the next deadlist that were born after the group before the snapshot (On-Disk Specification, chapter 4)
-abbrev pub DropIsSplice : Type 0
-DropIsSplice = (old new : Shapes) (g : ℕ) (name : Name) (s : SnapShape) → IsGood old g → Drops old new name s →
+abbrev pub RemoveIsJoin : Type 0
+RemoveIsJoin = (old new : Shapes) (g : ℕ) (name : Name) (s : SnapShape) → IsGood old g → Drops old new name s →
     IsGood new g
     × ((d : Dataset) (k n : Row Dataset) → lineages old g (Snapped s.id) k → lineages old g d n → n.prev ≡ Some (Snapped s.id) →
     lineages new g d (spliced Dataset k n)
@@ -215,8 +215,8 @@ MakeKeeps = (old new : Shapes) (g : ℕ) (name : Name) (live : BlockSet) (origin
     → q.base < g → IsSubset live q.below → IsGood new g
 
 -- a file system with no snapshot goes (On-Disk Specification, chapter 4)
-abbrev pub UnmakeKeeps : Type 0
-UnmakeKeeps = (old new : Shapes) (g : ℕ) (name : Name) (q : Before) → IsGood old g → (p : Unmakes old new name) → Starts old p.system.origin q
+abbrev pub RemoveKeeps : Type 0
+RemoveKeeps = (old new : Shapes) (g : ℕ) (name : Name) (q : Before) → IsGood old g → (p : RemovesFileSystem old new name) → Starts old p.system.origin q
     → IsGood new g × ((u u' : BlockSet) → IsUnion Dataset (lineages old g) u → IsUnion Dataset (lineages new g) u' → after q.base p.system.live ≡ difference u u')
 
 -- promote keeps what holds at every state (On-Disk Specification, chapter 4)

@@ -6,7 +6,7 @@ use Rattle.std.specs.FinMap as finmap
 use Rattle.std.specs.FinSet.{empty, difference}
 use Rattle.std.proofs.Common.{refl}
 use Rattle.base.specs.declared.number.Dead.{Dead}
-use Rattle.name.specs.Names.{name_cmp, root_name}
+use Rattle.base.specs.Names.{name_cmp, root_name}
 use Rattle.base.specs.Map.{Map, Block, BlockSet, blocks}
 use Rattle.base.specs.Surveys.{IsIn, dead_block}
 use Rattle.model.specs.World.{World, FileSystem, Snap, SnapId, Bookmark, Dataset, Live, id_of, same_id, snap_at, union_of}
@@ -80,7 +80,7 @@ pub record CanSplice (t : Datasets) (id : SnapId) : Type 0 where
   pub no_clone : HasNoCloneIn t.file_systems id
 
 -- the file system is there, without snapshots, and is neither the root nor a parent (zfs-destroy(8))
-pub record CanRemove (t : Datasets) (name : List ℕ) : Type 0 where
+pub record CanRemoveFileSystem (t : Datasets) (name : List ℕ) : Type 0 where
   pub system : FileSystem
   pub there : get t.file_systems name ≡ Some system
   pub bare : system.snaps ≡ []

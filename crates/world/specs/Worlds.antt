@@ -5,7 +5,7 @@ use Rattle.std.specs.FinMap.{get}
 use Rattle.std.specs.FinMap as finmap
 use Rattle.std.specs.FinSet.{union}
 use Rattle.base.specs.declared.number.Key.{Key}
-use Rattle.name.specs.Names.{parent_of}
+use Rattle.base.specs.Names.{parent_of}
 use Rattle.base.specs.Map.{Map, Cell, IsTree, blocks}
 use Rattle.base.specs.Surveys.{IsIn}
 pub use Rattle.model.specs.Hierarchy.{FileSystems}

@@ -1,17 +1,18 @@
 -- A set of numbers whose slots change.
-use Rattle.std.proofs.Common.{◌≡◌, ◌≢◌, ℕ, ◌+◌, ◌-◌, ◌*◌, ◌/◌, ◌<◌, ◌≤◌, inl, inr, min, Bool, true, false, not, ◌&&◌, ◌||◌, eqb, List, length, set, Option, Some, None, arith, refl, ap, sym, ◌∙◌, subst, ⊎_elim, length-set}
-use Rattle.std.specs.Prelude.{slice_index, MatchOption}
+use Rattle.std.proofs.Common.{◌≡◌, ◌≢◌, ℕ, ◌+◌, ◌-◌, ◌*◌, ◌/◌, ◌%◌, ◌<◌, ◌≤◌, ◌⊎◌, true, false, not, ◌&&◌, ◌||◌, List, length, set, Option, arith, ap, sym, ◌∙◌, subst, ⊎_elim, length-set}
+use Rattle.std.specs.Prelude.{slice_index}
 use Rattle.std.proofs.lemmas.List.{get_or-set_same, get_or-set_other}
-use Rattle.std.proofs.lemmas.Bool.{cases_eq, cases_lt, cases_Bool, eq-eqb, ne_eqb}
-use Rattle.zalloc.specs.declared.chunk.Extent.{Extent}
+use Rattle.std.proofs.lemmas.Bool.{cases_eq, cases_lt}
 use Rattle.zalloc.specs.declared.extents.Slot.{Slot}
-use Rattle.zalloc.specs.Extents.{is_within, holds, IsSpread, put_in, cut_in, next_in}
 use Rattle.zalloc.specs.declared.extents.Extents.{Extents}
-use Rattle.zalloc.specs.Laid.{no_slot, slot_at, held_by, is_held, IsCover, IsLaid, HasRoom, AreFirst}
-use Rattle.zalloc.proofs.Spread.{IsApart, IsHeld, IsNext, next_is, within_tells, spread_weaken, spread_most, put_holds, put_spread, put_len, cut_holds, cut_spread, cut_len}
+use Rattle.zalloc.specs.Bits.{is_one, IsEven, IsLowest}
+use Rattle.zalloc.specs.Extents.{extent, is_within}
+use Rattle.zalloc.specs.Laid.{no_slot, slot_at, held_by, is_held, place_of, IsCover, IsLaid, IsRewritten, AreWith, AreWithout, AreFirst}
+use Rattle.zalloc.proofs.States.{at_one, off_one, on_one, on_none, not_one, not_none}
+use Rattle.zalloc.proofs.Words.{even_same}
 
-abbrev pub with_chunk : Slot → List Extent → Slot
-with_chunk s c = record { first = s.first; past = s.past; chunk = c }
+abbrev pub with_word : Slot → ℕ → Slot
+with_word s c = record { first = s.first; past = s.past; word = c }
 
 slot_same : (slots : List Slot) (s : ℕ) (x : Slot) → s < length slots → slot_at (set slots s x) s ≡ x
 slot_same slots s x lt = get_or-set_same slots s x no_slot lt
@@ -19,161 +20,145 @@ slot_same slots s x lt = get_or-set_same slots s x no_slot lt
 slot_other : (slots : List Slot) (s i : ℕ) (x : Slot) → i ≢ s → slot_at (set slots s x) i ≡ slot_at slots i
 slot_other slots s i x ne = get_or-set_other slots s i x no_slot ne
 
--- other extents in one slot
-module _ (n : ℕ) (slots : List Slot) (covers : List ℕ) (homes : List (Option ℕ)) (l : IsLaid n slots covers homes) (s : ℕ) (lt : s < length slots) (c : List Extent) where
-  abbrev pub chunked : List Slot
-  chunked = set slots s (with_chunk (slot_at slots s) c)
+-- another word in one slot
+module _ (n : ℕ) (slots : List Slot) (covers : List ℕ) (homes : List (Option ℕ)) (l : IsLaid n slots covers homes) (s : ℕ) (lt : s < length slots) (c : ℕ) where
+  abbrev pub rewritten : List Slot
+  rewritten = set slots s (with_word (slot_at slots s) c)
 
-  firsts : (i : ℕ) → (slot_at chunked i).first ≡ (slot_at slots i).first
+  firsts : (i : ℕ) → (slot_at rewritten i).first ≡ (slot_at slots i).first
   firsts i =
       ⊎_elim
-      (λ (e : i ≡ s). subst (λ j. (slot_at chunked j).first ≡ (slot_at slots j).first) (sym e) (ap (λ (x : Slot). x.first) (slot_same slots s (with_chunk (slot_at slots s) c) lt)))
-      (λ (ne : i ≡ s → ⊥). ap (λ (x : Slot). x.first) (slot_other slots s i (with_chunk (slot_at slots s) c) ne))
+      (λ (e : i ≡ s). subst (λ j. (slot_at rewritten j).first ≡ (slot_at slots j).first) (sym e) (ap (λ (x : Slot). x.first) (slot_same slots s (with_word (slot_at slots s) c) lt)))
+      (λ (ne : i ≡ s → ⊥). ap (λ (x : Slot). x.first) (slot_other slots s i (with_word (slot_at slots s) c) ne))
       (cases_eq i s)
 
-  pasts : (i : ℕ) → (slot_at chunked i).past ≡ (slot_at slots i).past
+  pasts : (i : ℕ) → (slot_at rewritten i).past ≡ (slot_at slots i).past
   pasts i =
       ⊎_elim
-      (λ (e : i ≡ s). subst (λ j. (slot_at chunked j).past ≡ (slot_at slots j).past) (sym e) (ap (λ (x : Slot). x.past) (slot_same slots s (with_chunk (slot_at slots s) c) lt)))
-      (λ (ne : i ≡ s → ⊥). ap (λ (x : Slot). x.past) (slot_other slots s i (with_chunk (slot_at slots s) c) ne))
+      (λ (e : i ≡ s). subst (λ j. (slot_at rewritten j).past ≡ (slot_at slots j).past) (sym e) (ap (λ (x : Slot). x.past) (slot_same slots s (with_word (slot_at slots s) c) lt)))
+      (λ (ne : i ≡ s → ⊥). ap (λ (x : Slot). x.past) (slot_other slots s i (with_word (slot_at slots s) c) ne))
       (cases_eq i s)
 
-  chunked_len : length chunked ≡ length slots
-  chunked_len = length-set slots s (with_chunk (slot_at slots s) c)
+  rewritten_len : length rewritten ≡ length slots
+  rewritten_len = length-set slots s (with_word (slot_at slots s) c)
 
-  pub chunk_cover : (i w : ℕ) → IsCover slots i w → IsCover chunked i w
-  chunk_cover i w h = record { made = omega (arith, chunked_len, h.made); from = omega (arith, firsts i, h.from); upto = omega (arith, pasts i, h.upto) }
+  pub word_cover : (i w : ℕ) → IsCover slots i w → IsCover rewritten i w
+  word_cover i w h = record { made = omega (arith, rewritten_len, h.made); from = omega (arith, firsts i, h.from); upto = omega (arith, pasts i, h.upto) }
 
-  chunk_uncover : (i w : ℕ) → IsCover chunked i w → IsCover slots i w
-  chunk_uncover i w h = record { made = omega (arith, chunked_len, h.made); from = omega (arith, firsts i, h.from); upto = omega (arith, pasts i, h.upto) }
+  word_uncover : (i w : ℕ) → IsCover rewritten i w → IsCover slots i w
+  word_uncover i w h = record { made = omega (arith, rewritten_len, h.made); from = omega (arith, firsts i, h.from); upto = omega (arith, pasts i, h.upto) }
 
-  pub chunk_laid : IsSpread (256 * (slot_at slots s).first) c (min (256 * (slot_at slots s).past) n) → IsLaid n chunked covers homes
-  chunk_laid spread = record {
+  pub word_laid : ((slot_at slots s).past ≤ (slot_at slots s).first + 1) ⊎ IsEven c → IsLaid n rewritten covers homes
+  word_laid even = record {
     few = l.few;
     covers_len = l.covers_len;
     homes_len = l.homes_len;
-    made = chunked_len ∙ l.made;
-    cover = λ w h. chunk_cover (slice_index covers w) w (l.cover w h);
-    own = λ i w h. l.own i w (chunk_uncover i w h);
-    home = λ w i h. let p = l.home w i h in (omega (arith, p.0, chunked_len), firsts i ∙ p.1);
-    spread = λ i h.
+    made = rewritten_len ∙ l.made;
+    cover = λ w h. word_cover (slice_index covers w) w (l.cover w h);
+    own = λ i w h. l.own i w (word_uncover i w h);
+    home = λ w i h. let p = l.home w i h in (omega (arith, p.0, rewritten_len), firsts i ∙ p.1);
+    even = λ i h.
         ⊎_elim
-        (λ (e : i ≡ s). subst (λ j. IsSpread (256 * (slot_at chunked j).first) (slot_at chunked j).chunk (min (256 * (slot_at chunked j).past) n)) (sym e) (subst (λ (x : Slot). IsSpread (256 * x.first) x.chunk (min (256 * x.past) n)) (sym (slot_same slots s (with_chunk (slot_at slots s) c) lt)) spread))
-        (λ (ne : i ≡ s → ⊥). subst (λ (x : Slot). IsSpread (256 * x.first) x.chunk (min (256 * x.past) n)) (sym (slot_other slots s i (with_chunk (slot_at slots s) c) ne)) (l.spread i (omega (arith, h, chunked_len))))
+        (λ (e : i ≡ s). subst (λ j. ((slot_at rewritten j).past ≤ (slot_at rewritten j).first + 1) ⊎ IsEven (slot_at rewritten j).word) (sym e) (subst (λ (x : Slot). (x.past ≤ x.first + 1) ⊎ IsEven x.word) (sym (slot_same slots s (with_word (slot_at slots s) c) lt)) even))
+        (λ (ne : i ≡ s → ⊥). subst (λ (x : Slot). (x.past ≤ x.first + 1) ⊎ IsEven x.word) (sym (slot_other slots s i (with_word (slot_at slots s) c) ne)) (l.even i (omega (arith, h, rewritten_len))))
         (cases_eq i s);
   }
 
-  pub chunk_here : (k : ℕ) → slice_index covers (k / 256) ≡ s → held_by chunked covers k ≡ holds c k
-  chunk_here k e = ap (λ i. holds (slot_at chunked i).chunk k) e ∙ ap (λ (x : Slot). holds x.chunk k) (slot_same slots s (with_chunk (slot_at slots s) c) lt)
+  pub word_here : (k : ℕ) → slice_index covers (k / 64) ≡ s → held_by rewritten covers k ≡ is_one c (k % 64)
+  word_here k e = ap (λ i. is_one (slot_at rewritten i).word (k % 64)) e ∙ ap (λ (x : Slot). is_one x.word (k % 64)) (slot_same slots s (with_word (slot_at slots s) c) lt)
 
-  pub chunk_there : (k : ℕ) → slice_index covers (k / 256) ≢ s → held_by chunked covers k ≡ held_by slots covers k
-  chunk_there k ne = ap (λ (x : Slot). holds x.chunk k) (slot_other slots s (slice_index covers (k / 256)) (with_chunk (slot_at slots s) c) ne)
+  pub word_there : (k : ℕ) → slice_index covers (k / 64) ≢ s → held_by rewritten covers k ≡ held_by slots covers k
+  word_there k ne = ap (λ (x : Slot). is_one x.word (k % 64)) (slot_other slots s (slice_index covers (k / 64)) (with_word (slot_at slots s) c) ne)
 
--- one extent more or fewer in a slot
-module _ (n : ℕ) (slots : List Slot) (covers : List ℕ) (homes : List (Option ℕ)) (l : IsLaid n slots covers homes) (s : ℕ) (e : Extent) (cover : IsCover slots s (e.first / 256)) (some : e.first < e.past) (within : e.past ≤ n) (upto : e.past ≤ 256 * (slot_at slots s).past) where
-  abbrev pub es : List Extent
-  es = (slot_at slots s).chunk
+-- one number more or fewer in a slot of one window
+module _ (x y : Extents) (l : IsLaid x.numbers x.slots.items x.covers x.homes.items) (s b c : ℕ) (within : b < x.numbers) (cover : IsCover x.slots.items s (b / 64)) (single : (slot_at x.slots.items s).past ≤ (slot_at x.slots.items s).first + 1) (a : IsRewritten s c x y) where
+  here : place_of x b ≡ s
+  here = (l.own s (b / 64) cover).1
 
-  in_slot : (k : ℕ) → e.first ≤ k → k < e.past → slice_index covers (k / 256) ≡ s
-  in_slot k p q = (l.own s (k / 256) (record { made = cover.made; from = omega (arith, cover.from); upto = omega arith })).1
+  window : (k : ℕ) → k < x.numbers → place_of x k ≡ s → k / 64 ≡ b / 64
+  window k h e =
+      let u = subst (λ i. IsCover x.slots.items i (k / 64)) e (l.cover (k / 64) (omega (arith, h))) in
+      omega (arith, u.from, u.upto, cover.from, cover.upto, single)
 
-  held_here : (k : ℕ) → slice_index covers (k / 256) ≡ s → held_by slots covers k ≡ holds es k
-  held_here k p = ap (λ i. holds (slot_at slots i).chunk k) p
+  was_here : (k : ℕ) → place_of x k ≡ s → is_held x k ≡ is_one (slot_at x.slots.items s).word (k % 64)
+  was_here k e = ap (λ i. is_one (slot_at x.slots.items i).word (k % 64)) e
 
-  not_there : (k : ℕ) → slice_index covers (k / 256) ≢ s → is_within e k ≡ false
-  not_there k ne =
-      ⊎_elim
-      (λ (t : is_within e k ≡ true). let p = within_tells e k t in absurd (ne (in_slot k p.0 p.1)))
-      (λ (f : is_within e k ≡ false). f)
-      (cases_Bool (is_within e k))
+  other_bit : (k : ℕ) → k < x.numbers → place_of x k ≡ s → k ≢ b → k % 64 ≢ b % 64
+  other_bit k h e ne q = let w = window k h e in ne (omega (arith, w, q))
 
-  fits : (x : List Extent) → IsSpread (256 * (slot_at slots s).first) x (min (256 * (slot_at slots s).past) n) → length x ≤ length es + 1 → HasRoom (slot_at slots s) → length x ≤ 128
-  fits x spread more (inl h) = omega arith
-  fits x spread more (inr h) = let p = spread_most (256 * (slot_at slots s).first) (min (256 * (slot_at slots s).past) n) x (omega (arith, cover.from, upto)) spread in omega (arith, p)
+  elsewhere : (k : ℕ) → place_of x k ≢ s → k ≢ b
+  elsewhere k ne e = ne (ap (place_of x) e ∙ here)
 
-  module _ (apart : (k : ℕ) → e.first ≤ k → k < e.past → held_by slots covers k ≡ false) where
-    apart_here : IsApart e es
-    apart_here k p q = sym (held_here k (in_slot k p q)) ∙ apart k p q
-
-    pub put_is_spread : IsSpread (256 * (slot_at slots s).first) (put_in e es) (min (256 * (slot_at slots s).past) n)
-    put_is_spread = put_spread (256 * (slot_at slots s).first) (min (256 * (slot_at slots s).past) n) e es (l.spread s cover.made) (omega (arith, cover.from)) some (omega arith) apart_here
-
-    pub put_fits : HasRoom (slot_at slots s) → length (put_in e es) ≤ 128
-    put_fits r = fits (put_in e es) put_is_spread (put_len e es) r
-
-    pub put_held : (k : ℕ) → held_by (set slots s (with_chunk (slot_at slots s) (put_in e es))) covers k ≡ (is_within e k || held_by slots covers k)
-    put_held k =
+  module _ (others : (i : ℕ) → i < 64 → i ≢ b % 64 → is_one c i ≡ is_one (slot_at x.slots.items s).word i) where
+    as_before : (k : ℕ) → k < x.numbers → k ≢ b → is_held y k ≡ is_held x k
+    as_before k h ne =
         ⊎_elim
-        (λ (h : slice_index covers (k / 256) ≡ s). chunk_here n slots covers homes l s cover.made (put_in e es) k h ∙ put_holds (256 * (slot_at slots s).first) (min (256 * (slot_at slots s).past) n) k e es (l.spread s cover.made) some apart_here ∙ ap (λ b. is_within e k || b) (sym (held_here k h)))
-        (λ (h : slice_index covers (k / 256) ≡ s → ⊥). chunk_there n slots covers homes l s cover.made (put_in e es) k h ∙ ap (λ b. b || held_by slots covers k) (sym (not_there k h)))
-        (cases_eq (slice_index covers (k / 256)) s)
+        (λ (e : place_of x k ≡ s). a.here k h e ∙ others (k % 64) (omega arith) (other_bit k h e ne) ∙ sym (was_here k e))
+        (λ (q : place_of x k ≡ s → ⊥). a.there k h q)
+        (cases_eq (place_of x k) s)
 
-  module _ (held : (k : ℕ) → e.first ≤ k → k < e.past → held_by slots covers k ≡ true) where
-    all_here : IsHeld e es
-    all_here k p q = sym (held_here k (in_slot k p q)) ∙ held k p q
+    pub put_with : is_one c (b % 64) ≡ true → AreWith (extent b (b + 1)) x y
+    put_with t = record {
+      numbers = a.numbers;
+      held = λ k h.
+          ⊎_elim
+          (λ (q : k ≡ b). subst (λ j. is_held y j ≡ (is_within (extent b (b + 1)) j || is_held x j)) (sym q) (a.here b within here ∙ t ∙ sym (on_one (is_within (extent b (b + 1)) b) (is_held x b) (at_one b))))
+          (λ (ne : k ≡ b → ⊥). as_before k h ne ∙ sym (on_none (is_within (extent b (b + 1)) k) (is_held x k) (off_one b k ne)))
+          (cases_eq k b);
+    }
 
-    pub cut_is_spread : IsSpread (256 * (slot_at slots s).first) (cut_in e es) (min (256 * (slot_at slots s).past) n)
-    cut_is_spread = cut_spread (256 * (slot_at slots s).first) (min (256 * (slot_at slots s).past) n) e es (l.spread s cover.made) some all_here
+    pub cut_without : is_one c (b % 64) ≡ false → AreWithout (extent b (b + 1)) x y
+    cut_without t = record {
+      numbers = a.numbers;
+      held = λ k h.
+          ⊎_elim
+          (λ (q : k ≡ b). subst (λ j. is_held y j ≡ (is_held x j && not (is_within (extent b (b + 1)) j))) (sym q) (a.here b within here ∙ t ∙ sym (not_one (is_held x b) (is_within (extent b (b + 1)) b) (at_one b))))
+          (λ (ne : k ≡ b → ⊥). as_before k h ne ∙ sym (not_none (is_held x k) (is_within (extent b (b + 1)) k) (off_one b k ne)))
+          (cases_eq k b);
+    }
 
-    pub cut_fits : HasRoom (slot_at slots s) → length (cut_in e es) ≤ 128
-    cut_fits r = fits (cut_in e es) cut_is_spread (cut_len e es) r
+-- the first number from b on, in the slot that covers b
+module _ (x : Extents) (l : IsLaid x.numbers x.slots.items x.covers x.homes.items) (s b : ℕ) (cover : IsCover x.slots.items s (b / 64)) where
+  abbrev pub slot : Slot
+  slot = slot_at x.slots.items s
 
-    same_and : (a b : Bool) → b ≡ false → a ≡ (a && not b)
-    same_and true b h = rw h refl
-    same_and false b h = refl
+  near : (k : ℕ) → slot.first ≤ k / 64 → k / 64 < slot.past → is_held x k ≡ is_one slot.word (k % 64)
+  near k p q = ap (λ i. is_one (slot_at x.slots.items i).word (k % 64)) (l.own s (k / 64) (record { made = cover.made; from = p; upto = q })).1
 
-    pub cut_held : (k : ℕ) → held_by (set slots s (with_chunk (slot_at slots s) (cut_in e es))) covers k ≡ (held_by slots covers k && not (is_within e k))
-    cut_held k =
+  pub none_here : ((i : ℕ) → b % 64 ≤ i → i < 64 → is_one slot.word i ≡ false) → (k : ℕ) → b ≤ k → k < 64 * slot.past → is_held x k ≡ false
+  none_here none k p q =
+      near k (omega (arith, cover.from, p)) (omega (arith, q)) ∙ ⊎_elim
+      (λ (h : slot.past ≤ slot.first + 1). none (k % 64) (omega (arith, h, p, q, cover.from, cover.upto)) (omega arith))
+      (λ (e : IsEven slot.word). even_same slot.word (k % 64) (b % 64) e (omega arith) (omega arith) ∙ none (b % 64) (omega arith) (omega arith))
+      (l.even s cover.made)
+
+  pub few_windows : slot.past ≤ x.numbers / 64 + 1
+  few_windows = let p = (l.own s (slot.past - 1) (record { made = cover.made; from = omega (arith, cover.from, cover.upto); upto = omega (arith, cover.upto) })).0 in omega (arith, p)
+
+  module _ (start bit : ℕ) (low : IsLowest slot.word (b % 64) bit) (p : start ≤ b) (before : (k : ℕ) → start ≤ k → k < b → k < x.numbers → is_held x k ≡ false) where
+    none_before : (k : ℕ) → start ≤ k → k < b / 64 * 64 + bit → k < x.numbers → is_held x k ≡ false
+    none_before k q r t =
         ⊎_elim
-        (λ (h : slice_index covers (k / 256) ≡ s). chunk_here n slots covers homes l s cover.made (cut_in e es) k h ∙ cut_holds (256 * (slot_at slots s).first) (min (256 * (slot_at slots s).past) n) k e es (l.spread s cover.made) some all_here ∙ ap (λ b. b && not (is_within e k)) (sym (held_here k h)))
-        (λ (h : slice_index covers (k / 256) ≡ s → ⊥). chunk_there n slots covers homes l s cover.made (cut_in e es) k h ∙ same_and (held_by slots covers k) (is_within e k) (not_there k h))
-        (cases_eq (slice_index covers (k / 256)) s)
+        (λ (lt : k < b). before k q lt t)
+        (λ (ge : b ≤ k).
+        let same : k / 64 ≡ b / 64 = omega (arith, ge, r, low.within) in
+        near k (omega (arith, same, cover.from)) (omega (arith, same, cover.upto)) ∙ low.below (k % 64) (omega (arith, ge, same)) (omega (arith, r, same)))
+        (cases_lt k b)
 
--- the first numbers in a row from b on, in the slot that covers b
-module _ (x : Extents) (l : IsLaid x.numbers x.slots.items x.covers.items x.homes.items) (s b : ℕ) (cover : IsCover x.slots.items s (b / 256)) where
-  abbrev pub here : Slot
-  here = slot_at x.slots.items s
+    pub none_below : x.numbers ≤ b / 64 * 64 + bit → (k : ℕ) → start ≤ k → k < x.numbers → is_held x k ≡ false
+    none_below h k q r = none_before k q (omega (arith, h, r)) r
 
-  near : (k : ℕ) → 256 * here.first ≤ k → k < 256 * here.past → is_held x k ≡ holds here.chunk k
-  near k p q = ap (λ i. holds (slot_at x.slots.items i).chunk k) (l.own s (k / 256) (record { made = cover.made; from = omega arith; upto = omega arith })).1
-
-  next_matches : MatchOption (next_in b here.chunk) ((k : ℕ) → b ≤ k → holds here.chunk k ≡ false) (IsNext (256 * here.first) (min (256 * here.past) x.numbers) b here.chunk)
-  next_matches = next_is (256 * here.first) (min (256 * here.past) x.numbers) b here.chunk (l.spread s cover.made)
-
-  abbrev pub Told : Option Extent → Type 0
-  Told o = MatchOption o ((k : ℕ) → b ≤ k → holds here.chunk k ≡ false) (IsNext (256 * here.first) (min (256 * here.past) x.numbers) b here.chunk)
-
-  found_next : (e : Extent) → next_in b here.chunk ≡ Some e → IsNext (256 * here.first) (min (256 * here.past) x.numbers) b here.chunk e
-  found_next e h = subst Told h next_matches
-
-  pub first_found : (e : Extent) (start : ℕ) → next_in b here.chunk ≡ Some e → start ≤ b → ((k : ℕ) → start ≤ k → k < b → k < x.numbers → is_held x k ≡ false) → AreFirst x start e
-  first_found e start h p before =
-      let f = found_next e h in
-      record {
-        from = omega (arith, f.from);
-        some = f.some;
-        within = omega (arith, f.high);
-        below = λ k q r.
-            ⊎_elim
-            (λ (lt : k < b). before k q lt (omega (arith, f.from, f.some, f.high)))
-            (λ (ge : b ≤ k). near k (omega (arith, cover.from)) (omega (arith, f.some, f.high)) ∙ f.below k ge r)
-            (cases_lt k b);
-        held = λ k q r. near k (omega (arith, f.low)) (omega (arith, f.high)) ∙ f.held k q r;
-      }
-
-  pub none_here : next_in b here.chunk ≡ None → (k : ℕ) → b ≤ k → k < 256 * here.past → is_held x k ≡ false
-  none_here h k p q = near k (omega (arith, cover.from)) q ∙ subst Told h next_matches k p
-
-  pub found_there : (e : Extent) → next_in b here.chunk ≡ Some e → eqb e.first b ≡ is_held x b
-  found_there e h =
-      let f = found_next e h in
-      ⊎_elim
-      (λ (same : e.first ≡ b). eq-eqb e.first b same ∙ sym (near b (omega (arith, cover.from)) (omega (arith, cover.upto)) ∙ f.held b (omega arith) (omega (arith, f.some))))
-      (λ (other : e.first ≡ b → ⊥). ne_eqb e.first b other ∙ sym (near b (omega (arith, cover.from)) (omega (arith, cover.upto)) ∙ f.below b (omega arith) (let le = f.from in omega (arith, le, other))))
-      (cases_eq e.first b)
-
-  pub few_windows : here.past ≤ x.numbers / 256 + 1
-  few_windows = let p = (l.own s (here.past - 1) (record { made = cover.made; from = omega (arith, cover.from, cover.upto); upto = omega (arith, cover.upto) })).0 in omega (arith, p)
-
-pub chunk_spread : (n : ℕ) (slots : List Slot) (covers : List ℕ) (homes : List (Option ℕ)) (s : ℕ) → IsLaid n slots covers homes → s < length slots → IsSpread 0 (slot_at slots s).chunk 4194304
-chunk_spread n slots covers homes s l lt = spread_weaken (256 * (slot_at slots s).first) 0 (min (256 * (slot_at slots s).past) n) 4194304 (slot_at slots s).chunk (omega arith) (omega (arith, l.few)) (l.spread s lt)
+    pub first_found : b / 64 * 64 + bit < x.numbers → AreFirst x start (extent (b / 64 * 64 + bit) (b / 64 * 64 + bit + 1))
+    first_found h =
+        let f = b / 64 * 64 + bit in
+        let same : f / 64 ≡ b / 64 = omega (arith, low.within) in
+        let place : f % 64 ≡ bit = omega (arith, low.within) in
+        record {
+          from = omega (arith, p, low.from);
+          some = omega arith;
+          within = omega (arith, h);
+          below = λ k q r. none_before k q r (omega (arith, r, h));
+          held = λ k q r.
+              let e : f ≡ k = omega (arith, q, r) in
+              subst (λ j. is_held x j ≡ true) e (near f (omega (arith, same, cover.from)) (omega (arith, same, cover.upto)) ∙ ap (is_one slot.word) place ∙ low.one);
+        }

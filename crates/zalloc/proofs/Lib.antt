@@ -1,8 +1,9 @@
 pub mod Counting
 pub mod Finding
+pub mod Groups
 pub mod Laid
 pub mod Moves
-pub mod Places
 pub mod Slots
 pub mod Spread
 pub mod States
+pub mod Words

@@ -1,13 +1,11 @@
 -- A slot is divided in two, or joined with the next.
-use Rattle.std.proofs.Common.{◌≡◌, ◌≢◌, ℕ, ◌+◌, ◌-◌, ◌*◌, ◌/◌, ◌<◌, ◌≤◌, ◌⊎◌, inl, inr, min, max, Bool, true, false, ◌&&◌, ◌||◌, ltb, leb, List, [], length, set, Option, Some, arith, refl, ap, sym, ◌∙◌, subst, ⊎_elim, length-set}
+use Rattle.std.proofs.Common.{◌≡◌, ◌≢◌, ℕ, ◌+◌, ◌-◌, ◌/◌, ◌%◌, ◌<◌, ◌≤◌, ◌⊎◌, inl, inr, List, length, set, Option, Some, arith, ap, sym, ◌∙◌, subst, ⊎_elim, length-set}
 use Rattle.std.specs.Prelude.{slice_get, slice_index}
 use Rattle.std.proofs.lemmas.List.{get_or-set_same, get_or-set_other}
-use Rattle.std.proofs.lemmas.Bool.{cases_eq, cases_lt, lt-ltb, le-leb}
-use Rattle.zalloc.specs.declared.chunk.Extent.{Extent}
+use Rattle.std.proofs.lemmas.Bool.{cases_eq, cases_lt}
 use Rattle.zalloc.specs.declared.extents.Slot.{Slot}
-use Rattle.zalloc.specs.Extents.{holds, IsSpread, below_in, above_in, put_all}
+use Rattle.zalloc.specs.Bits.{is_one, IsEven}
 use Rattle.zalloc.specs.Laid.{no_slot, slot_at, held_by, IsCover, IsLaid, IsPlaced, IsCovered}
-use Rattle.zalloc.proofs.Spread.{spread_weaken, spread_low, spread_high, below_holds, above_holds, below_spread, above_spread, all_holds, all_spread}
 
 -- a window is among some, or before or behind them
 among : (a b w : ℕ) → ((a ≤ w) × (w < b)) ⊎ ((w < a) ⊎ (b ≤ w))
@@ -17,25 +15,14 @@ among a b w =
     (λ (p : a ≤ w). ⊎_elim (λ (q : w < b). inl (p, q)) (λ (q : b ≤ w). inr (inr q)) (cases_lt w b))
     (cases_lt w a)
 
-and_true : (a b : Bool) → b ≡ true → (a && b) ≡ a
-and_true true b h = h
-and_true false b h = refl
-
-or_none : (a b : Bool) → b ≡ false → (a || b) ≡ a
-or_none true b h = refl
-or_none false b h = h
-
-none_or : (a b : Bool) → a ≡ false → (a || b) ≡ b
-none_or a b h = rw h refl
-
-abbrev pub make_slot : ℕ → ℕ → List Extent → Slot
-make_slot first past chunk = record { first = first; past = past; chunk = chunk }
+abbrev pub make_slot : ℕ → ℕ → ℕ → Slot
+make_slot first past word = record { first = first; past = past; word = word }
 
 abbrev pub upper_part : Slot → ℕ → Slot
-upper_part s m = record { first = m; past = s.past; chunk = above_in (m * 256) s.chunk }
+upper_part s m = record { first = m; past = s.past; word = s.word }
 
 abbrev pub lower_part : Slot → ℕ → Slot
-lower_part s m = record { first = s.first; past = m; chunk = below_in (m * 256) s.chunk }
+lower_part s m = record { first = s.first; past = m; word = s.word }
 
 module _ (n : ℕ) (slots mid : List Slot) (covers covered : List ℕ) (homes others : List (Option ℕ)) (l : IsLaid n slots covers homes) (s m t : ℕ) (lt : s < length slots) (after : (slot_at slots s).first < m) (before : m < (slot_at slots s).past) (placed : IsPlaced (upper_part (slot_at slots s) m) slots mid homes others t) (c : IsCovered m (slot_at slots s).past t covers covered) where
   abbrev pub whole : Slot
@@ -51,7 +38,7 @@ module _ (n : ℕ) (slots mid : List Slot) (covers covered : List ℕ) (homes ot
       (λ (g : length slots ≡ t). absurd (omega (arith, g, e, lt)))
       placed.was
 
-  of_whole : (w : ℕ) → whole.first ≤ w → w < whole.past → (w < n / 256 + 1) × (slice_index covers w ≡ s)
+  of_whole : (w : ℕ) → whole.first ≤ w → w < whole.past → (w < n / 64 + 1) × (slice_index covers w ≡ s)
   of_whole w p q = l.own s w (record { made = lt; from = p; upto = q })
 
   idle : (w : ℕ) → IsCover slots t w → ⊥
@@ -75,7 +62,7 @@ module _ (n : ℕ) (slots mid : List Slot) (covers covered : List ℕ) (homes ot
   at_others : (i : ℕ) → i ≢ s → i ≢ t → slot_at divided i ≡ slot_at slots i
   at_others i p q = get_or-set_other mid s i (lower_part whole m) no_slot p ∙ placed.same i q
 
-  divided_covers : (w : ℕ) → w < n / 256 + 1 → IsCover divided (slice_index covered w) w
+  divided_covers : (w : ℕ) → w < n / 64 + 1 → IsCover divided (slice_index covered w) w
   divided_covers w h =
       ⊎_elim
       (λ (p : (m ≤ w) × (w < whole.past)). subst (λ i. IsCover divided i w) (sym (c.inside w p.0 p.1)) (record { made = omega (arith, placed.within, divided_len); from = omega (arith, ap (λ (x : Slot). x.first) at_t, p.0); upto = omega (arith, ap (λ (x : Slot). x.past) at_t, p.1) }))
@@ -94,7 +81,7 @@ module _ (n : ℕ) (slots mid : List Slot) (covers covered : List ℕ) (homes ot
       (cases_eq i s)))
       (among m whole.past w)
 
-  divided_own : (i w : ℕ) → IsCover divided i w → (w < n / 256 + 1) × (slice_index covered w ≡ i)
+  divided_own : (i w : ℕ) → IsCover divided i w → (w < n / 64 + 1) × (slice_index covered w ≡ i)
   divided_own i w h =
       ⊎_elim
       (λ (e : i ≡ s).
@@ -143,20 +130,19 @@ module _ (n : ℕ) (slots mid : List Slot) (covers covered : List ℕ) (homes ot
       (λ (g : (w ≡ m) × (i ≡ t)). (omega (arith, g.1, placed.within, divided_len), ap (λ j. (slot_at divided j).first) g.1 ∙ ap (λ (x : Slot). x.first) at_t ∙ sym g.0))
       (placed.home w i h)
 
-  m_within : m * 256 ≤ n
-  m_within = let o = (of_whole m (omega arith) before).0 in omega (arith, o)
+  abbrev pub Evens : Slot → Type 0
+  Evens x = (x.past ≤ x.first + 1) ⊎ IsEven x.word
 
-  abbrev pub Spreads : Slot → Type 0
-  Spreads x = IsSpread (256 * x.first) x.chunk (min (256 * x.past) n)
+  whole_even : IsEven whole.word
+  whole_even = ⊎_elim (λ (p : whole.past ≤ whole.first + 1). absurd (omega (arith, p, after, before))) (λ (e : IsEven whole.word). e) (l.even s lt)
 
-  divided_spread : (i : ℕ) → i < length divided → Spreads (slot_at divided i)
-  divided_spread i h =
-      let sp = l.spread s lt in
+  divided_even : (i : ℕ) → i < length divided → Evens (slot_at divided i)
+  divided_even i h =
       ⊎_elim
-      (λ (e : i ≡ s). subst (λ j. Spreads (slot_at divided j)) (sym e) (subst Spreads (sym at_s) (spread_weaken (256 * whole.first) (256 * whole.first) (m * 256) (min (256 * m) n) (below_in (m * 256) whole.chunk) (omega arith) (omega (arith, m_within)) (below_spread (256 * whole.first) (min (256 * whole.past) n) (m * 256) whole.chunk sp))))
+      (λ (e : i ≡ s). subst (λ j. Evens (slot_at divided j)) (sym e) (subst Evens (sym at_s) (inr whole_even)))
       (λ (p : i ≡ s → ⊥). ⊎_elim
-      (λ (e : i ≡ t). subst (λ j. Spreads (slot_at divided j)) (sym e) (subst Spreads (sym at_t) (spread_weaken (max (256 * whole.first) (m * 256)) (256 * m) (min (256 * whole.past) n) (min (256 * whole.past) n) (above_in (m * 256) whole.chunk) (omega arith) (omega arith) (above_spread (256 * whole.first) (min (256 * whole.past) n) (m * 256) whole.chunk sp))))
-      (λ (q : i ≡ t → ⊥). subst Spreads (sym (at_others i p q)) (l.spread i (placed.only i (omega (arith, h, divided_len)) q)))
+      (λ (e : i ≡ t). subst (λ j. Evens (slot_at divided j)) (sym e) (subst Evens (sym at_t) (inr whole_even)))
+      (λ (q : i ≡ t → ⊥). subst Evens (sym (at_others i p q)) (l.even i (placed.only i (omega (arith, h, divided_len)) q)))
       (cases_eq i t))
       (cases_eq i s)
 
@@ -169,30 +155,26 @@ module _ (n : ℕ) (slots mid : List Slot) (covers covered : List ℕ) (homes ot
     cover = divided_covers;
     own = divided_own;
     home = divided_home;
-    spread = divided_spread;
+    even = divided_even;
   }
 
   pub divided_held : (k : ℕ) → k < n → held_by divided covered k ≡ held_by slots covers k
   divided_held k h =
-      let w = k / 256 in
+      let w = k / 64 in
       let u = l.cover w (omega arith) in
       let i = slice_index covers w in
       ⊎_elim
       (λ (p : (m ≤ w) × (w < whole.past)).
-      ap (λ j. holds (slot_at divided j).chunk k) (c.inside w p.0 p.1) ∙ ap (λ (x : Slot). holds x.chunk k) at_t
-      ∙ above_holds (m * 256) k whole.chunk ∙ and_true (holds whole.chunk k) (leb (m * 256) k) (le-leb (m * 256) k (omega (arith, p.0)))
-      ∙ ap (λ j. holds (slot_at slots j).chunk k) (sym (of_whole w (omega (arith, p.0, after)) p.1).1))
+      ap (λ j. is_one (slot_at divided j).word (k % 64)) (c.inside w p.0 p.1) ∙ ap (λ (x : Slot). is_one x.word (k % 64)) at_t
+      ∙ ap (λ j. is_one (slot_at slots j).word (k % 64)) (sym (of_whole w (omega (arith, p.0, after)) p.1).1))
       (λ (p : (w < m) ⊎ (whole.past ≤ w)).
-      ap (λ j. holds (slot_at divided j).chunk k) (c.outside w p) ∙ ⊎_elim
+      ap (λ j. is_one (slot_at divided j).word (k % 64)) (c.outside w p) ∙ ⊎_elim
       (λ (e : i ≡ s).
-      let v = subst (λ j. IsCover slots j w) e u in
-      let low : w < m = ⊎_elim (λ (q : w < m). q) (λ (q : whole.past ≤ w). absurd (omega (arith, q, v.upto))) p in
-      ap (λ j. holds (slot_at divided j).chunk k) e ∙ ap (λ (x : Slot). holds x.chunk k) at_s
-      ∙ below_holds (m * 256) k whole.chunk ∙ and_true (holds whole.chunk k) (ltb k (m * 256)) (lt-ltb k (m * 256) (omega (arith, low)))
-      ∙ ap (λ j. holds (slot_at slots j).chunk k) (sym e))
+      ap (λ j. is_one (slot_at divided j).word (k % 64)) e ∙ ap (λ (x : Slot). is_one x.word (k % 64)) at_s
+      ∙ ap (λ j. is_one (slot_at slots j).word (k % 64)) (sym e))
       (λ (q : i ≡ s → ⊥). ⊎_elim
       (λ (e : i ≡ t). absurd (idle w (subst (λ j. IsCover slots j w) e u)))
-      (λ (r : i ≡ t → ⊥). ap (λ (x : Slot). holds x.chunk k) (at_others i q r))
+      (λ (r : i ≡ t → ⊥). ap (λ (x : Slot). is_one x.word (k % 64)) (at_others i q r))
       (cases_eq i t))
       (cases_eq i s))
       (among m whole.past w)
@@ -211,12 +193,12 @@ module _ (n : ℕ) (slots mid : List Slot) (covers covered : List ℕ) (homes ot
       (cases_eq i s)
 
 abbrev pub joined_slot : Slot → Slot → Slot
-joined_slot a b = record { first = a.first; past = b.past; chunk = put_all a.chunk b.chunk }
+joined_slot a b = record { first = a.first; past = b.past; word = a.word }
 
 abbrev pub idle_slot : ℕ → Slot
-idle_slot w = record { first = w; past = w; chunk = [] }
+idle_slot w = record { first = w; past = w; word = 0 }
 
-module _ (n : ℕ) (slots : List Slot) (covers covered : List ℕ) (homes : List (Option ℕ)) (l : IsLaid n slots covers homes) (s t : ℕ) (lt : s < length slots) (some : (slot_at slots s).first < (slot_at slots s).past) (next : IsCover slots t (slot_at slots s).past) (c : IsCovered (slot_at slots s).past (slot_at slots t).past s covers covered) where
+module _ (n : ℕ) (slots : List Slot) (covers covered : List ℕ) (homes : List (Option ℕ)) (l : IsLaid n slots covers homes) (s t : ℕ) (lt : s < length slots) (some : (slot_at slots s).first < (slot_at slots s).past) (next : IsCover slots t (slot_at slots s).past) (same : (slot_at slots t).word ≡ (slot_at slots s).word) (even : IsEven (slot_at slots s).word) (c : IsCovered (slot_at slots s).past (slot_at slots t).past s covers covered) where
   abbrev pub one : Slot
   one = slot_at slots s
 
@@ -229,10 +211,10 @@ module _ (n : ℕ) (slots : List Slot) (covers covered : List ℕ) (homes : List
   apart : t ≢ s
   apart e = absurd (omega (arith, next.upto, ap (λ j. (slot_at slots j).past) e))
 
-  of_one : (w : ℕ) → one.first ≤ w → w < one.past → (w < n / 256 + 1) × (slice_index covers w ≡ s)
+  of_one : (w : ℕ) → one.first ≤ w → w < one.past → (w < n / 64 + 1) × (slice_index covers w ≡ s)
   of_one w p q = l.own s w (record { made = lt; from = p; upto = q })
 
-  of_two : (w : ℕ) → two.first ≤ w → w < two.past → (w < n / 256 + 1) × (slice_index covers w ≡ t)
+  of_two : (w : ℕ) → two.first ≤ w → w < two.past → (w < n / 64 + 1) × (slice_index covers w ≡ t)
   of_two w p q = l.own t w (record { made = next.made; from = p; upto = q })
 
   begins : two.first ≡ one.past
@@ -254,7 +236,7 @@ module _ (n : ℕ) (slots : List Slot) (covers covered : List ℕ) (homes : List
   at_rest : (i : ℕ) → i ≢ s → i ≢ t → slot_at joined i ≡ slot_at slots i
   at_rest i p q = get_or-set_other (set slots t (idle_slot one.past)) s i (joined_slot one two) no_slot p ∙ get_or-set_other slots t i (idle_slot one.past) no_slot q
 
-  joined_covers : (w : ℕ) → w < n / 256 + 1 → IsCover joined (slice_index covered w) w
+  joined_covers : (w : ℕ) → w < n / 64 + 1 → IsCover joined (slice_index covered w) w
   joined_covers w h =
       let f = ap (λ (x : Slot). x.first) at_one in
       let g = ap (λ (x : Slot). x.past) at_one in
@@ -276,7 +258,7 @@ module _ (n : ℕ) (slots : List Slot) (covers covered : List ℕ) (homes : List
       (cases_eq i s)))
       (among one.past two.past w)
 
-  joined_own : (i w : ℕ) → IsCover joined i w → (w < n / 256 + 1) × (slice_index covered w ≡ i)
+  joined_own : (i w : ℕ) → IsCover joined i w → (w < n / 64 + 1) × (slice_index covered w ≡ i)
   joined_own i w h =
       ⊎_elim
       (λ (e : i ≡ s).
@@ -317,25 +299,16 @@ module _ (n : ℕ) (slots : List Slot) (covers covered : List ℕ) (homes : List
             (cases_eq i s),
       )
 
-  border : 256 * one.past ≤ n
-  border = let o = (of_two one.past next.from next.upto).0 in omega (arith, o)
+  abbrev pub Even : Slot → Type 0
+  Even x = (x.past ≤ x.first + 1) ⊎ IsEven x.word
 
-  one_spread : IsSpread (256 * one.first) one.chunk (256 * one.past)
-  one_spread = spread_weaken (256 * one.first) (256 * one.first) (min (256 * one.past) n) (256 * one.past) one.chunk (omega arith) (omega arith) (l.spread s lt)
-
-  two_spread : IsSpread (256 * one.past) two.chunk (min (256 * two.past) n)
-  two_spread = spread_weaken (256 * two.first) (256 * one.past) (min (256 * two.past) n) (min (256 * two.past) n) two.chunk (omega (arith, begins)) (omega arith) (l.spread t next.made)
-
-  abbrev pub Spread : Slot → Type 0
-  Spread x = IsSpread (256 * x.first) x.chunk (min (256 * x.past) n)
-
-  joined_spread : (i : ℕ) → i < length joined → Spread (slot_at joined i)
-  joined_spread i h =
+  joined_even : (i : ℕ) → i < length joined → Even (slot_at joined i)
+  joined_even i h =
       ⊎_elim
-      (λ (e : i ≡ s). subst (λ j. Spread (slot_at joined j)) (sym e) (subst Spread (sym at_one) (all_spread (256 * one.first) (256 * one.past) (min (256 * two.past) n) one.chunk two.chunk (omega (arith, some)) (omega (arith, border, next.upto)) one_spread two_spread)))
+      (λ (e : i ≡ s). subst (λ j. Even (slot_at joined j)) (sym e) (subst Even (sym at_one) (inr even)))
       (λ (p : i ≡ s → ⊥). ⊎_elim
-      (λ (e : i ≡ t). subst (λ j. Spread (slot_at joined j)) (sym e) (subst Spread (sym at_two) tt))
-      (λ (q : i ≡ t → ⊥). subst Spread (sym (at_rest i p q)) (l.spread i (omega (arith, h, joined_len))))
+      (λ (e : i ≡ t). subst (λ j. Even (slot_at joined j)) (sym e) (subst Even (sym at_two) (inl (omega arith))))
+      (λ (q : i ≡ t → ⊥). subst Even (sym (at_rest i p q)) (l.even i (omega (arith, h, joined_len))))
       (cases_eq i t))
       (cases_eq i s)
 
@@ -348,34 +321,29 @@ module _ (n : ℕ) (slots : List Slot) (covers covered : List ℕ) (homes : List
     cover = joined_covers;
     own = joined_own;
     home = joined_home;
-    spread = joined_spread;
+    even = joined_even;
   }
-
-  joined_holds : (k : ℕ) → holds (slot_at joined s).chunk k ≡ (holds one.chunk k || holds two.chunk k)
-  joined_holds k = ap (λ (x : Slot). holds x.chunk k) at_one ∙ all_holds (256 * one.first) (256 * one.past) (min (256 * two.past) n) k one.chunk two.chunk (omega (arith, some)) one_spread two_spread
 
   pub joined_held : (k : ℕ) → k < n → held_by joined covered k ≡ held_by slots covers k
   joined_held k h =
-      let w = k / 256 in
+      let w = k / 64 in
       let u = l.cover w (omega arith) in
       let i = slice_index covers w in
       ⊎_elim
       (λ (p : (one.past ≤ w) × (w < two.past)).
-      ap (λ j. holds (slot_at joined j).chunk k) (c.inside w p.0 p.1) ∙ joined_holds k
-      ∙ none_or (holds one.chunk k) (holds two.chunk k) (spread_high (256 * one.first) (256 * one.past) k one.chunk one_spread (omega (arith, p.0)))
-      ∙ ap (λ j. holds (slot_at slots j).chunk k) (sym (of_two w (omega (arith, p.0, begins)) p.1).1))
+      ap (λ j. is_one (slot_at joined j).word (k % 64)) (c.inside w p.0 p.1) ∙ ap (λ (x : Slot). is_one x.word (k % 64)) at_one
+      ∙ ap (λ x. is_one x (k % 64)) (sym same)
+      ∙ ap (λ j. is_one (slot_at slots j).word (k % 64)) (sym (of_two w (omega (arith, p.0, begins)) p.1).1))
       (λ (p : (w < one.past) ⊎ (two.past ≤ w)).
-      ap (λ j. holds (slot_at joined j).chunk k) (c.outside w p) ∙ ⊎_elim
+      ap (λ j. is_one (slot_at joined j).word (k % 64)) (c.outside w p) ∙ ⊎_elim
       (λ (e : i ≡ s).
-      let v = subst (λ j. IsCover slots j w) e u in
-      ap (λ j. holds (slot_at joined j).chunk k) e ∙ joined_holds k
-      ∙ or_none (holds one.chunk k) (holds two.chunk k) (spread_low (256 * one.past) (min (256 * two.past) n) k two.chunk two_spread (omega (arith, v.upto)))
-      ∙ ap (λ j. holds (slot_at slots j).chunk k) (sym e))
+      ap (λ j. is_one (slot_at joined j).word (k % 64)) e ∙ ap (λ (x : Slot). is_one x.word (k % 64)) at_one
+      ∙ ap (λ j. is_one (slot_at slots j).word (k % 64)) (sym e))
       (λ (q : i ≡ s → ⊥). ⊎_elim
       (λ (e : i ≡ t).
       let v = subst (λ j. IsCover slots j w) e u in
       ⊎_elim (λ (r : w < one.past). absurd (omega (arith, r, v.from, begins))) (λ (r : two.past ≤ w). absurd (omega (arith, r, v.upto))) p)
-      (λ (r : i ≡ t → ⊥). ap (λ (x : Slot). holds x.chunk k) (at_rest i q r))
+      (λ (r : i ≡ t → ⊥). ap (λ (x : Slot). is_one x.word (k % 64)) (at_rest i q r))
       (cases_eq i t))
       (cases_eq i s))
       (among one.past two.past w)

@@ -1,13 +1,11 @@
 -- The places of slots.
-use Rattle.std.proofs.Common.{◌≡◌, ◌≢◌, ℕ, suc, zero, ◌+◌, ◌*◌, ◌/◌, ◌<◌, ◌≤◌, ◌⊎◌, min, inl, inr, cond, List, [], ◌∷◌, ◌++◌, length, set, get_or, take, replicate, Option, Some, None, arith, refl, ap, sym, ◌∙◌, subst, ⊎_elim, length-set, length-append}
+use Rattle.std.proofs.Common.{◌≡◌, ◌≢◌, ℕ, suc, zero, ◌+◌, ◌/◌, ◌<◌, ◌≤◌, ◌⊎◌, inl, inr, cond, List, [], ◌∷◌, ◌++◌, length, set, get_or, take, replicate, Option, Some, None, arith, refl, ap, sym, ◌∙◌, subst, ⊎_elim, length-set, length-append}
 use Rattle.std.specs.Prelude.{slice_get, count_by, is_some}
 use Rattle.std.proofs.lemmas.List.{get_or-set_same, get_or-set_other, length-replicate}
 use Rattle.std.proofs.lemmas.List.Sums.{sum_by-set, sum_by-cons, count_by-le-length}
 use Rattle.zalloc.specs.declared.extents.Slot.{Slot}
-use Rattle.zalloc.specs.declared.chunk.Extent.{Extent}
-use Rattle.zalloc.specs.Extents.{IsSpread}
+use Rattle.zalloc.specs.Bits.{IsEven}
 use Rattle.zalloc.specs.Laid.{no_slot, slot_at, IsPlaced, IsCover, IsLaid}
-use Rattle.zalloc.proofs.Spread.{spread_weaken}
 
 read_home : (homes : List (Option ℕ)) (w : ℕ) (o : Option ℕ) → w < length homes → get_or homes w None ≡ o → slice_get homes w ≡ Some o
 read_home [] w o p h = absurd (omega arith)
@@ -103,23 +101,23 @@ no_home zero w s h = cc
 no_home (suc m) zero s h = cc
 no_home (suc m) (suc w) s h = no_home m w s h
 
-pub new_laid : (n : ℕ) (es : List Extent) → n ≤ 4194304 → IsSpread 0 es n → IsLaid n (record { first = 0; past = n / 256 + 1; chunk = es } ∷ []) (replicate (n / 256 + 1) 0) (set (replicate (n / 256 + 1) None) 0 (Some 0))
-new_laid n es few spread =
-    let m = n / 256 + 1 in
+pub new_laid : (n word : ℕ) → n ≤ 4194304 → IsEven word → IsLaid n (record { first = 0; past = n / 64 + 1; word = word } ∷ []) (replicate (n / 64 + 1) 0) (set (replicate (n / 64 + 1) None) 0 (Some 0))
+new_laid n word few even =
+    let m = n / 64 + 1 in
     let none : get_or (replicate m nowhere) 0 None ≡ None = refl_none m in
     record {
       few = few;
       covers_len = length-replicate m 0;
       homes_len = length-set (replicate m None) 0 (Some 0) ∙ length-replicate m None;
       made = omega (arith, one_more (replicate m None) 0 0 (omega (arith, length-replicate m nowhere)) none, none_made m);
-      cover = λ w h. subst (λ s. IsCover (record { first = 0; past = m; chunk = es } ∷ []) s w) (sym (zero_at m w)) (record { made = omega arith; from = omega arith; upto = h });
-      own = λ s w h. let z : s ≡ 0 = omega (arith, h.made) in (subst (λ j. w < (slot_at (record { first = 0; past = m; chunk = es } ∷ []) j).past) z h.upto, zero_at m w ∙ sym z);
+      cover = λ w h. subst (λ s. IsCover (record { first = 0; past = m; word = word } ∷ []) s w) (sym (zero_at m w)) (record { made = omega arith; from = omega arith; upto = h });
+      own = λ s w h. let z : s ≡ 0 = omega (arith, h.made) in (subst (λ j. w < (slot_at (record { first = 0; past = m; word = word } ∷ []) j).past) z h.upto, zero_at m w ∙ sym z);
       home = λ w s h.
           ⊎_elim
           (λ (g : slice_get (replicate m None) w ≡ Some (Some s)). absurd (no_home m w s g))
-          (λ (g : (w ≡ 0) × (Some 0 ≡ Some s)). let z : s ≡ 0 = (let f = g.1 in cc) in (omega (arith, z), ap (λ j. (slot_at (record { first = 0; past = m; chunk = es } ∷ []) j).first) z ∙ sym g.0))
+          (λ (g : (w ≡ 0) × (Some 0 ≡ Some s)). let z : s ≡ 0 = (let f = g.1 in cc) in (omega (arith, z), ap (λ j. (slot_at (record { first = 0; past = m; word = word } ∷ []) j).first) z ∙ sym g.0))
           (set_home (replicate m None) 0 w (Some 0) (Some s) h);
-      spread = λ s h. let z : s ≡ 0 = omega (arith, h) in subst (λ j. IsSpread (256 * (slot_at (record { first = 0; past = m; chunk = es } ∷ []) j).first) (slot_at (record { first = 0; past = m; chunk = es } ∷ []) j).chunk (min (256 * (slot_at (record { first = 0; past = m; chunk = es } ∷ []) j).past) n)) (sym z) (spread_weaken 0 0 n (min (256 * m) n) es (omega arith) (omega arith) spread);
+      even = λ s h. let z : s ≡ 0 = omega (arith, h) in subst (λ j. ((slot_at (record { first = 0; past = m; word = word } ∷ []) j).past ≤ (slot_at (record { first = 0; past = m; word = word } ∷ []) j).first + 1) ⊎ IsEven (slot_at (record { first = 0; past = m; word = word } ∷ []) j).word) (sym z) (inr even);
     }
 
 -- a list written as a whole

@@ -12,7 +12,7 @@ use Rattle.zalloc.specs.declared.BlockState.TheVariants.{Free, Allocated, Waitin
 use Rattle.zalloc.specs.declared.extents.Extents.{Extents}
 use Rattle.zalloc.specs.States.{is_free, after_group}
 use Rattle.zalloc.specs.Extents.{extent, is_within}
-use Rattle.zalloc.specs.declared.chunk.Extent.{Extent}
+use Rattle.zalloc.specs.declared.extents.Extent.{Extent}
 use Rattle.zalloc.specs.Laid.{is_held, AreWith, AreWithout, AreFirst}
 use Rattle.zalloc.specs.Allocator.{state_from, states_from}
 use Rattle.zalloc.proofs.Counting.{one, count_set}
@@ -115,17 +115,17 @@ states_end x y v w n f e =
     after_at (states_from x y) k ∙ ap after_group (at_state x y k (omega (arith, h, n))) ∙ after_from (is_held x k) (is_held y k) ∙ (λ i. state_from (sym p i) (sym q i))))
 
 -- one number is taken out of a set, or added to one
-at_one : (b : ℕ) → is_within (extent b (b + 1)) b ≡ true
+pub at_one : (b : ℕ) → is_within (extent b (b + 1)) b ≡ true
 at_one b = is_within_true (extent b (b + 1)) b (omega arith) (omega arith)
 
-off_one : (b k : ℕ) → k ≢ b → is_within (extent b (b + 1)) k ≡ false
+pub off_one : (b k : ℕ) → k ≢ b → is_within (extent b (b + 1)) k ≡ false
 off_one b k ne = within_not (extent b (b + 1)) k (⊎_elim (λ (p : k < b). inl p) (λ (p : b ≤ k). inr (omega (arith, p, ne))) (cases_lt k b))
 
-not_one : (f i : Bool) → i ≡ true → (f && not i) ≡ false
+pub not_one : (f i : Bool) → i ≡ true → (f && not i) ≡ false
 not_one true i h = rw h refl
 not_one false i h = refl
 
-not_none : (f i : Bool) → i ≡ false → (f && not i) ≡ f
+pub not_none : (f i : Bool) → i ≡ false → (f && not i) ≡ f
 not_none true i h = rw h refl
 not_none false i h = refl
 
@@ -139,10 +139,10 @@ taken x y v b a apart e =
 pub still_apart : (x y v : Extents) (b : ℕ) → AreWithout (extent b (b + 1)) x v → ((k : ℕ) → k < x.numbers → is_held x k ≡ true → is_held y k ≡ false) → (k : ℕ) → k < v.numbers → is_held v k ≡ true → is_held y k ≡ false
 still_apart x y v b a apart k h e = apart k (omega (arith, h, a.numbers)) (and_parts (is_held x k) (not (is_within (extent b (b + 1)) k)) (sym (a.held k (omega (arith, h, a.numbers))) ∙ e)).0
 
-on_one : (i f : Bool) → i ≡ true → (i || f) ≡ true
+pub on_one : (i f : Bool) → i ≡ true → (i || f) ≡ true
 on_one i f h = rw h refl
 
-on_none : (i f : Bool) → i ≡ false → (i || f) ≡ f
+pub on_none : (i f : Bool) → i ≡ false → (i || f) ≡ f
 on_none i f h = rw h refl
 
 pub let_wait : (x y w : Extents) (b : ℕ) → y.numbers ≡ x.numbers → AreWith (extent b (b + 1)) y w → slice_get (states_from x y) b ≡ Some Allocated → states_from x w ≡ slice_set (states_from x y) b Waiting

@@ -1,23 +1,23 @@
--- How a set of numbers lies in chunks.
-use Rattle.std.specs.Prelude.{◌≡◌, ◌≢◌, ℕ, ◌+◌, ◌*◌, ◌/◌, ◌<◌, ◌≤◌, ◌⊎◌, ◌||◌, ◌&&◌, not, min, Bool, true, false, List, [], Option, Some, length, count_by, slice_get, slice_index, slice_index_or, is_some, vec_capacity}
+-- How a set of numbers lies in slots.
+use Rattle.std.specs.Prelude.{◌≡◌, ◌≢◌, ℕ, ◌+◌, ◌/◌, ◌%◌, ◌<◌, ◌≤◌, ◌⊎◌, ◌||◌, ◌&&◌, not, Bool, true, false, List, Option, Some, length, count_by, slice_get, slice_index, slice_index_or, is_some, vec_capacity}
 use Rattle.zalloc.specs.declared.TheConstants.{MOST_BLOCKS}
-use Rattle.zalloc.specs.declared.chunk.TheConstants.{MOST_EXTENTS}
 use Rattle.zalloc.specs.declared.extents.TheConstants.{WINDOW}
-use Rattle.zalloc.specs.declared.chunk.Extent.{Extent}
+use Rattle.zalloc.specs.declared.extents.Extent.{Extent}
 use Rattle.zalloc.specs.declared.extents.Slot.{Slot}
 use Rattle.zalloc.specs.declared.extents.Extents.{Extents}
-use Rattle.zalloc.specs.Extents.{holds, is_within, IsSpread}
+use Rattle.zalloc.specs.Extents.{is_within}
+use Rattle.zalloc.specs.Bits.{is_one, IsEven}
 
 -- a slot without windows
 abbrev pub no_slot : Slot
-no_slot = record { first = 0; past = 0; chunk = [] }
+no_slot = record { first = 0; past = 0; word = 0 }
 
 abbrev pub slot_at : List Slot → ℕ → Slot
 slot_at slots s = slice_index_or slots s no_slot
 
--- whether a number is in the set: the extents of the slot that covers its window tell
+-- whether a number is in the set: its bit in the word of the slot that covers its window tells
 abbrev pub held_by : List Slot → List ℕ → ℕ → Bool
-held_by slots covers k = holds (slot_at slots (slice_index covers (k / WINDOW))).chunk k
+held_by slots covers k = is_one (slot_at slots (slice_index covers (k / WINDOW))).word (k % WINDOW)
 
 -- the slot covers the window
 pub record IsCover (slots : List Slot) (s w : ℕ) : Type 0 where
@@ -25,7 +25,7 @@ pub record IsCover (slots : List Slot) (s w : ℕ) : Type 0 where
   pub from : (slot_at slots s).first ≤ w
   pub upto : w < (slot_at slots s).past
 
--- Each window is covered by one slot, whose extents lie within its windows. A window has a slot of its own once it has been
+-- Each window is covered by one slot. A slot of many windows has all of their numbers or none. A window has a slot of its own once it has been
 -- the first of one, and no two have the same: so there are no more slots than windows [profile]
 pub record IsLaid (n : ℕ) (slots : List Slot) (covers : List ℕ) (homes : List (Option ℕ)) : Type 0 where
   pub few : n ≤ MOST_BLOCKS
@@ -35,23 +35,25 @@ pub record IsLaid (n : ℕ) (slots : List Slot) (covers : List ℕ) (homes : Lis
   pub cover : (w : ℕ) → w < n / WINDOW + 1 → IsCover slots (slice_index covers w) w
   pub own : (s w : ℕ) → IsCover slots s w → (w < n / WINDOW + 1) × (slice_index covers w ≡ s)
   pub home : (w s : ℕ) → slice_get homes w ≡ Some (Some s) → (s < length slots) × ((slot_at slots s).first ≡ w)
-  pub spread : (s : ℕ) → s < length slots → IsSpread (WINDOW * (slot_at slots s).first) (slot_at slots s).chunk (min (WINDOW * (slot_at slots s).past) n)
+  pub even : (s : ℕ) → s < length slots → ((slot_at slots s).past ≤ (slot_at slots s).first + 1) ⊎ IsEven (slot_at slots s).word
 
 -- and there is room for a slot of each window
 pub record IsKept (e : Extents) : Type 0 where
-  pub laid : IsLaid e.numbers e.slots.items e.covers.items e.homes.items
+  pub laid : IsLaid e.numbers e.slots.items e.covers e.homes.items
   pub room : e.numbers / WINDOW + 1 ≤ vec_capacity e.slots
 
 abbrev pub is_held : Extents → ℕ → Bool
-is_held e k = held_by e.slots.items e.covers.items k
+is_held e k = held_by e.slots.items e.covers k
 
 -- the slot that covers a number
 abbrev pub place_of : Extents → ℕ → ℕ
-place_of e k = slice_index e.covers.items (k / WINDOW)
+place_of e k = slice_index e.covers (k / WINDOW)
 
--- one more extent fits into the slot, or it has one window, which has at most as many as fit
-abbrev pub HasRoom : Slot → Type 0
-HasRoom s = (length s.chunk < MOST_EXTENTS) ⊎ (s.past ≤ s.first + 1)
+-- a slot has another word
+pub record IsRewritten (s word : ℕ) (old new : Extents) : Type 0 where
+  pub numbers : new.numbers ≡ old.numbers
+  pub here : (k : ℕ) → k < old.numbers → place_of old k ≡ s → is_held new k ≡ is_one word (k % WINDOW)
+  pub there : (k : ℕ) → k < old.numbers → place_of old k ≢ s → is_held new k ≡ is_held old k
 
 -- the same numbers
 pub record AreSame (old new : Extents) : Type 0 where

@@ -1,36 +1,44 @@
-//! A set of numbers, kept as extents.
-ghost use Rattle.std.specs.Prelude.{◌≡◌, ◌≢◌, ℕ, ◌+◌, ◌-◌, ◌*◌, ◌/◌, ◌<◌, ◌≤◌, true, false, length, count_by, is_some, slice_get, IfSome, IfNone, IfOk, Some, vec_capacity};
-ghost use Rattle.zalloc.specs.Extents.{IsSpread, holds};
-ghost use Rattle.zalloc.specs.Laid.{IsKept, IsPlaced, IsCovered, IsCover, AreSame, AreWith, AreWithout, AreFirst, HasRoom, is_held, slot_at, place_of};
+//! A set of numbers, kept as extents of windows.
+ghost use Rattle.std.specs.Prelude.{◌≡◌, ◌≢◌, ℕ, ◌+◌, ◌-◌, ◌/◌, ◌<◌, ◌≤◌, ◌⊎◌, true, false, length, count_by, is_some, slice_get, IfSome, IfNone, IfOk, Some, vec_capacity};
+ghost use Rattle.zalloc.specs.Bits.{IsEven};
+ghost use Rattle.zalloc.specs.Extents.{extent as make_extent};
+ghost use Rattle.zalloc.specs.Laid.{IsKept, IsPlaced, IsCover, IsRewritten, AreSame, AreWith, AreWithout, AreFirst, is_held, slot_at, place_of};
 
 use crate::MOST_BLOCKS;
-use crate::chunk::{Chunk, Extent, MOST_EXTENTS};
+use crate::bits::{even, has, is_even, lowest, with, without};
+use crate::covers::Covers;
 use std::alloc::{AllocError, Global};
 
-/// How many numbers a window has: a window has at most 128 extents.
-const WINDOW: u32 = 256;
+/// How many numbers a window has.
+const WINDOW: u32 = 64;
 
-/// The most extents of two chunks that are joined.
-const FEW_EXTENTS: usize = 64;
+/// The numbers from `first` on and below `past`.
+#[derive(Clone, Copy, PartialEq, Eq, Debug)]
+pub struct Extent {
+    pub first: u32,
+    pub past: u32,
+}
 
-/// The windows from `first` on and below `past`, and the extents of their numbers.
+/// The windows from `first` on and below `past`, and which numbers of each are in the set, as the bits of a word: a slot of many
+/// windows has all of their numbers or none.
 #[derive(Drop)]
 pub struct Slot {
     first: u32,
     past: u32,
-    chunk: Chunk,
+    word: u64,
 }
 
 /// A set of numbers below `numbers`.
 ///
-/// The numbers are divided into windows of 256, and the windows, a few or many in a row, among slots, which have up to 128
-/// extents each. `covers` has the slot of each window. A slot is made when it is first needed, at the end of `slots`, in the
-/// room that `new` reserves; `homes` has, for each window, the slot that was made where it was the first.
+/// The numbers are divided into windows of 64. Windows in a row that have all of their numbers in the set, or none, are one slot;
+/// a window that has some is a slot of its own. `covers` has the slot of each window. A slot is made when it is first needed, at
+/// the end of `slots`, in the room that `new` reserves; `homes` has, for each window, the slot that was made where it was the
+/// first. Of the last window's bits those from `numbers` on mean nothing.
 #[derive(Drop)]
 pub struct Extents {
     numbers: u32,
     slots: Vec<Slot>,
-    covers: Vec<u32>,
+    covers: Covers,
     homes: Vec<Option<u32>>,
 }
 
@@ -44,13 +52,13 @@ impl Extents {
     {
         let windows = numbers / WINDOW + 1;
         let mut slots = Vec::with_capacity(alloc, windows as usize)?;
-        let covers = vec![in alloc; 0; windows as usize]?;
+        let covers = Covers::new(alloc, windows)?;
         let mut homes = vec![in alloc; None; windows as usize]?;
         homes[0] = Some(0);
         slots.push_reserved(Slot {
             first: 0,
             past: windows,
-            chunk: first_chunk(numbers, full),
+            word: even(full),
         });
         Ok(Extents {
             numbers,
@@ -71,7 +79,7 @@ impl Extents {
         Ok(Extents {
             numbers: self.numbers,
             slots,
-            covers: Vec::from_slice(alloc, &self.covers)?,
+            covers: self.covers.copy()?,
             homes: Vec::from_slice(alloc, &self.homes)?,
         })
     }
@@ -90,10 +98,10 @@ impl Extents {
         ensures place { result ≡ place_of self.now number }
         ensures cover { IsCover self.now.slots.items result (number / WINDOW) }
     {
-        self.covers[(number / WINDOW) as usize] as usize
+        self.covers.get(number / WINDOW) as usize
     }
 
-    /// The first numbers of the set in a row, from `from` on, as many as lie in one slot.
+    /// The first number of the set from `from` on, as an extent.
     pub fn next(&self, from: u32) -> Option<Extent>
         requires { IsKept self.now }
         ensures found { IfSome result (AreFirst self.now from) }
@@ -102,12 +110,28 @@ impl Extents {
         let mut start = from;
         while start < self.numbers {
             let slot = &self.slots[self.place(start)];
-            if let Some(extent) = slot.chunk.next(start) {
-                return Some(extent);
+            if let Some(bit) = lowest(slot.word, start % WINDOW) {
+                return self.below(start / WINDOW * WINDOW + bit);
             }
             start = slot.past * WINDOW;
         }
         None
+    }
+
+    /// A number, as an extent, if it is below the bound.
+    fn below(&self, number: u32) -> Option<Extent>
+        ensures some { IfSome result (λ e. e ≡ make_extent number (number + 1)) }
+        ensures within { IfSome result (λ e. number < self.now.numbers) }
+        ensures none { IfNone result (self.now.numbers ≤ number) }
+    {
+        if number < self.numbers {
+            Some(Extent {
+                first: number,
+                past: number + 1,
+            })
+        } else {
+            None
+        }
     }
 
     /// Whether a number is in the set.
@@ -116,10 +140,7 @@ impl Extents {
         requires within { number < self.now.numbers }
         ensures { result ≡ is_held self.now number }
     {
-        match self.slots[self.place(number)].chunk.next(number) {
-            Some(extent) => extent.first == number,
-            None => false,
-        }
+        has(self.slots[self.place(number)].word, number % WINDOW)
     }
 
     /// Adds numbers that the set has none of.
@@ -131,13 +152,10 @@ impl Extents {
         ensures kept { IsKept self.new }
         ensures with { AreWith extent self.old self.new }
     {
-        let mut first = extent.first;
-        while first < extent.past {
-            let at = self.make_room(first);
-            let past = extent.past.min(self.slots[at].past * WINDOW);
-            self.put(at, Extent { first, past });
+        for number in extent.first..extent.past {
+            let at = self.make_room(number);
+            self.put(at, number);
             self.join(at);
-            first = past;
         }
     }
 
@@ -150,62 +168,65 @@ impl Extents {
         ensures kept { IsKept self.new }
         ensures without { AreWithout extent self.old self.new }
     {
-        let mut first = extent.first;
-        while first < extent.past {
-            let at = self.make_room(first);
-            let past = extent.past.min(self.slots[at].past * WINDOW);
-            self.cut(at, Extent { first, past });
+        for number in extent.first..extent.past {
+            let at = self.make_room(number);
+            self.cut(at, number);
             self.join(at);
-            first = past;
         }
     }
 
-    /// Adds numbers to a slot, which has none of them.
-    fn put(&mut self, at: usize, extent: Extent)
+    /// Adds a number, whose window is a slot of its own.
+    fn put(&mut self, at: usize, number: u32)
         requires kept { IsKept self.old }
-        requires some { extent.first < extent.past }
-        requires within { extent.past ≤ self.old.numbers }
-        requires cover { IsCover self.old.slots.items at (extent.first / WINDOW) }
-        requires upto { extent.past ≤ WINDOW * (slot_at self.old.slots.items at).past }
-        requires room { HasRoom (slot_at self.old.slots.items at) }
-        requires apart { (k : ℕ) → extent.first ≤ k → k < extent.past → is_held self.old k ≡ false }
+        requires within { number < self.old.numbers }
+        requires cover { IsCover self.old.slots.items at (number / WINDOW) }
+        requires single { (slot_at self.old.slots.items at).past ≤ (slot_at self.old.slots.items at).first + 1 }
         ensures kept { IsKept self.new }
-        ensures with { AreWith extent self.old self.new }
-        ensures cover { IsCover self.new.slots.items at (extent.first / WINDOW) }
+        ensures with { AreWith (make_extent number (number + 1)) self.old self.new }
+        ensures cover { IsCover self.new.slots.items at (number / WINDOW) }
     {
-        self.slots[at].chunk.put(extent);
+        let word = with(self.slots[at].word, number % WINDOW);
+        self.rewrite(at, word);
     }
 
-    /// Takes numbers out of a slot, which has them all.
-    fn cut(&mut self, at: usize, extent: Extent)
+    /// Takes a number out, whose window is a slot of its own.
+    fn cut(&mut self, at: usize, number: u32)
         requires kept { IsKept self.old }
-        requires some { extent.first < extent.past }
-        requires within { extent.past ≤ self.old.numbers }
-        requires cover { IsCover self.old.slots.items at (extent.first / WINDOW) }
-        requires upto { extent.past ≤ WINDOW * (slot_at self.old.slots.items at).past }
-        requires room { HasRoom (slot_at self.old.slots.items at) }
-        requires held { (k : ℕ) → extent.first ≤ k → k < extent.past → is_held self.old k ≡ true }
+        requires within { number < self.old.numbers }
+        requires cover { IsCover self.old.slots.items at (number / WINDOW) }
+        requires single { (slot_at self.old.slots.items at).past ≤ (slot_at self.old.slots.items at).first + 1 }
         ensures kept { IsKept self.new }
-        ensures without { AreWithout extent self.old self.new }
-        ensures cover { IsCover self.new.slots.items at (extent.first / WINDOW) }
+        ensures without { AreWithout (make_extent number (number + 1)) self.old self.new }
+        ensures cover { IsCover self.new.slots.items at (number / WINDOW) }
     {
-        self.slots[at].chunk.cut(extent);
+        let word = without(self.slots[at].word, number % WINDOW);
+        self.rewrite(at, word);
     }
 
-    /// Divides slots until that of a number has room for one more extent, or one window, and answers its place.
+    /// Gives a slot of one window another word.
+    fn rewrite(&mut self, at: usize, word: u64)
+        requires kept { IsKept self.old }
+        requires made { at < length self.old.slots.items }
+        requires single { (slot_at self.old.slots.items at).past ≤ (slot_at self.old.slots.items at).first + 1 }
+        ensures kept { IsKept self.new }
+        ensures rewritten { IsRewritten at word self.old self.new }
+        ensures cover { (w : ℕ) → IsCover self.old.slots.items at w → IsCover self.new.slots.items at w }
+    {
+        self.slots[at].word = word;
+    }
+
+    /// Divides slots until the window of a number has one of its own, and answers its place.
     fn make_room(&mut self, number: u32) -> usize
         requires kept { IsKept self.old }
         requires within { number < self.old.numbers }
         ensures kept { IsKept self.new }
         ensures same { AreSame self.old self.new }
         ensures cover { IsCover self.new.slots.items result (number / WINDOW) }
-        ensures room { HasRoom (slot_at self.new.slots.items result) }
+        ensures single { (slot_at self.new.slots.items result).past ≤ (slot_at self.new.slots.items result).first + 1 }
     {
         let mut at = self.place(number);
-        while self.slots[at].chunk.len() == MOST_EXTENTS
-            && self.slots[at].first + 1 < self.slots[at].past
-        {
-            let window = middle(&self.slots[at]);
+        while self.slots[at].first + 1 < self.slots[at].past {
+            let window = border(&self.slots[at], number / WINDOW);
             self.split(at, window);
             at = self.place(number);
         }
@@ -213,6 +234,7 @@ impl Extents {
     }
 
     /// Divides a slot in two, of which the second begins at a window.
+    #[inline(never)]
     fn split(&mut self, at: usize, window: u32)
         requires kept { IsKept self.old }
         requires made { at < length self.old.slots.items }
@@ -227,19 +249,19 @@ impl Extents {
         let below = Slot {
             first: whole.first,
             past: window,
-            chunk: whole.chunk.below(window * WINDOW),
+            word: whole.word,
         };
         let above = Slot {
             first: window,
             past,
-            chunk: whole.chunk.above(window * WINDOW),
+            word: whole.word,
         };
         let to = place_slot(&mut self.slots, &mut self.homes, above);
         self.slots[at] = below;
-        cover(&mut self.covers, window, past, to);
+        self.covers.cover(window, past, to);
     }
 
-    /// Joins a slot with the next and with the one before, where they have few extents.
+    /// Joins a slot with the next and with the one before, where they have all of their numbers, or none.
     fn join(&mut self, at: usize)
         requires kept { IsKept self.old }
         requires made { at < length self.old.slots.items }
@@ -247,18 +269,30 @@ impl Extents {
         ensures kept { IsKept self.new }
         ensures same { AreSame self.old self.new }
     {
-        if self.slots[at].chunk.len() > FEW_EXTENTS / 2 {
+        if !is_even(self.slots[at].word) {
             return;
         }
         let first = self.slots[at].first;
-        self.join_next(at);
-        if 0 < first {
-            let before = self.covers[(first - 1) as usize] as usize;
+        self.join_before(first);
+        let here = self.covers.get(first) as usize;
+        self.join_next(here);
+    }
+
+    /// Joins the slot of a window with the one before, where both have all of their numbers, or none. It comes before a join with
+    /// the next, so that each window's slot is written once.
+    fn join_before(&mut self, window: u32)
+        requires kept { IsKept self.old }
+        requires within { window < self.old.numbers / WINDOW + 1 }
+        ensures kept { IsKept self.new }
+        ensures same { AreSame self.old self.new }
+    {
+        if 0 < window {
+            let before = self.covers.get(window - 1) as usize;
             self.join_next(before);
         }
     }
 
-    /// Joins a slot with the next, where both have few extents.
+    /// Joins a slot with the next, where both have all of their numbers, or none.
     fn join_next(&mut self, at: usize)
         requires kept { IsKept self.old }
         requires made { at < length self.old.slots.items }
@@ -266,22 +300,25 @@ impl Extents {
         ensures kept { IsKept self.new }
         ensures same { AreSame self.old self.new }
     {
-        let past = self.slots[at].past as usize;
-        if past < self.covers.len() {
-            let next = self.covers[past] as usize;
-            if self.slots[at].chunk.len() + self.slots[next].chunk.len() <= FEW_EXTENTS {
+        let past = self.slots[at].past;
+        if (past as usize) < self.covers.len() {
+            let next = self.covers.get(past) as usize;
+            let word = self.slots[at].word;
+            if is_even(word) && self.slots[next].word == word {
                 self.take_over(at, next);
             }
         }
     }
 
     /// Joins a slot with the next.
+    #[inline(never)]
     fn take_over(&mut self, at: usize, next: usize)
         requires kept { IsKept self.old }
         requires made { at < length self.old.slots.items }
         requires some { (slot_at self.old.slots.items at).first < (slot_at self.old.slots.items at).past }
         requires next { IsCover self.old.slots.items next (slot_at self.old.slots.items at).past }
-        requires few { length (slot_at self.old.slots.items at).chunk + length (slot_at self.old.slots.items next).chunk ≤ MOST_EXTENTS }
+        requires same { (slot_at self.old.slots.items next).word ≡ (slot_at self.old.slots.items at).word }
+        requires even { IsEven (slot_at self.old.slots.items at).word }
         ensures kept { IsKept self.new }
         ensures same { AreSame self.old self.new }
     {
@@ -289,36 +326,19 @@ impl Extents {
         let two = &self.slots[next];
         let border = one.past;
         let past = two.past;
-        let mut chunk = one.chunk.copy();
-        chunk.append(&two.chunk);
         let joined = Slot {
             first: one.first,
             past,
-            chunk,
+            word: one.word,
         };
         self.slots[next] = Slot {
             first: border,
             past: border,
-            chunk: Chunk::new(),
+            word: 0,
         };
         self.slots[at] = joined;
-        cover(&mut self.covers, border, past, at as u32);
+        self.covers.cover(border, past, at as u32);
     }
-}
-
-/// The numbers below a bound, all or none.
-fn first_chunk(numbers: u32, full: bool) -> Chunk
-    ensures spread { IsSpread 0 result numbers }
-    ensures held { (k : ℕ) → k < numbers → holds result k ≡ full }
-{
-    let mut chunk = Chunk::new();
-    if full && 0 < numbers {
-        chunk.put(Extent {
-            first: 0,
-            past: numbers,
-        });
-    }
-    chunk
 }
 
 /// The slots again, with room for `room` of them.
@@ -332,24 +352,26 @@ fn copy_slots(alloc: Global, slots: &[Slot], room: usize) -> Result<Vec<Slot>, A
         copies.push_reserved(Slot {
             first: slot.first,
             past: slot.past,
-            chunk: slot.chunk.copy(),
+            word: slot.word,
         });
     }
     Ok(copies)
 }
 
-/// The window at which a full slot of two windows or more is divided: near the middle of its extents.
-fn middle(slot: &Slot) -> u32
+/// The window at which a slot of two windows or more is divided, so that one of them is a slot of its own at last: the one behind
+/// it, or itself where it is the last. So each window's slot is written once.
+fn border(slot: &Slot, window: u32) -> u32
     requires some { slot.now.first + 1 < slot.now.past }
-    requires few { slot.now.past ≤ MOST_BLOCKS }
+    requires from { slot.now.first ≤ window }
+    requires upto { window < slot.now.past }
     ensures first { slot.now.first < result }
     ensures past { result < slot.now.past }
 {
-    match slot.chunk.get(MOST_EXTENTS / 2) {
-        Some(extent) => (extent.first / WINDOW)
-            .max(slot.first + 1)
-            .min(slot.past - 1),
-        None => slot.first + 1,
+    let past = slot.past;
+    if window < past - 1 {
+        window + 1
+    } else {
+        window
     }
 }
 
@@ -375,16 +397,5 @@ fn place_slot(slots: &mut Vec<Slot>, homes: &mut [Option<u32>], slot: Slot) -> u
             homes[window] = Some(place);
             place
         }
-    }
-}
-
-/// Makes a slot cover the windows from `first` on and below `past`.
-fn cover(covers: &mut [u32], first: u32, past: u32, slot: u32)
-    requires order { first ≤ past }
-    requires within { past ≤ length covers.old }
-    ensures { IsCovered first past slot covers.old covers.new }
-{
-    for window in first..past {
-        covers[window as usize] = slot;
     }
 }

@@ -1,8 +1,9 @@
 //! The allocator: the state of every block number of a pool.
 //!
 //! A number is Free, Allocated or Waiting (profile). Waiting numbers are those of blocks that were let go and whose number
-//! may be used again only after the group is synced. The Free and the Waiting numbers are kept as extents, which are numbers
-//! in a row: a pool that is empty or full takes little memory, and one full of holes is searched as fast.
+//! may be used again only after the group is synced. The Free and the Waiting numbers are kept as extents, which are windows of
+//! 64 numbers in a row that are all in a set, or none; a window that has some has a bit for each number. So a pool that is empty
+//! or full takes little memory, and one full of holes is searched as fast.
 #![tactic(auto)]
 
 ghost use Rattle.std.specs.Prelude.{◌≡◌, ◌≢◌, ℕ, ◌<◌, ◌≤◌, ◌||◌, true, false, IfSome, IfNone, IfOk, IfErr, Some, slice_get, slice_set, map, count_by, if◌then◌else◌, replicate};
@@ -11,13 +12,13 @@ ghost use Rattle.zalloc.specs.Laid.{IsKept, is_held};
 ghost use Rattle.zalloc.specs.Tallies.{IsTaken};
 ghost use Rattle.zalloc.specs.declared.BlockState.TheVariants.{Free, Allocated, Waiting};
 
-mod chunk;
+mod bits;
+mod covers;
 mod extents;
 
 use base::number::BlockNo;
 use base::refusal::Refusal;
-use chunk::Extent;
-use extents::Extents;
+use extents::{Extent, Extents};
 use std::alloc::Global;
 use std::fmt;
 use std::marker::Model;
@@ -47,8 +48,8 @@ pub struct Counts {
 /// The state of each number below the size of the pool. Contracts see the list of the states.
 ///
 /// The Free numbers are one set of extents, and the Waiting ones another; every other number is Allocated. An empty pool takes
-/// about 100 bytes for each 256 numbers and set, and one that is full of holes at most eight bytes for each second number. The
-/// room for the most extents is reserved by `new` and by `copy`, and the system gives its pages when they are first used: no
+/// 25 bytes for each 64 numbers, and 64 numbers of which some are Free, and not all, take 16 bytes more, as many where some wait.
+/// The room for the most extents is reserved by `new` and by `copy`, and the system gives its pages when they are first used: no
 /// other function takes memory.
 pub struct Allocator {
     free: Extents,
@@ -86,7 +87,7 @@ impl Model for Allocator {
 
 impl Allocator {
     /// An allocator of `n` numbers, at most `MOST_BLOCKS`, each Free, with room for everything that it will keep. NoMemory
-    /// where the room was refused. It takes time by a 256th of `n`.
+    /// where the room was refused. It takes time by a 64th of `n`.
     pub fn new(alloc: Global, n: u32) -> Result<Allocator, Refusal>
         requires { n ≤ MOST_BLOCKS }
         ensures ok { IfOk result (λ a. a ≡ replicate n Free) }
@@ -103,7 +104,7 @@ impl Allocator {
     }
 
     /// Another allocator of the same states, with the room that `new` makes. NoMemory where the room was refused. It takes
-    /// time and memory by the most extents that there have been, and a little by a 256th of the size of the pool.
+    /// time and memory by the most extents that there have been, and a little by a 64th of the size of the pool.
     pub fn copy(&self) -> Result<Allocator, Refusal>
         ensures ok { IfOk result (λ a. a ≡ self.now) }
         ensures no_memory { IfErr result (λ r. r ≡ Refusal.NoMemory) }
@@ -118,7 +119,7 @@ impl Allocator {
         })
     }
 
-    /// The state of a number, or None where it is not below the size of the pool. It reads the extents of two slots, at most 256.
+    /// The state of a number, or None where it is not below the size of the pool. Constant time.
     pub fn state(&self, b: BlockNo) -> Option<BlockState>
         ensures { result ≡ slice_get self.now b.0 }
     {
@@ -146,8 +147,8 @@ impl Allocator {
         }
     }
 
-    /// The least Free number not below `from`, or None where there is none. It reads the extents of one slot, at most 128,
-    /// and of those after it as long as they are empty, which few are: an empty slot is joined with its neighbours.
+    /// The least Free number not below `from`, or None where there is none. It reads at most three
+    /// slots, since an empty one is joined with its neighbours.
     pub fn find(&self, from: u32) -> Option<BlockNo>
         ensures found { IfSome result (λ b. slice_get self.now b.0 ≡ Some Free) }
         ensures not_below { IfSome result (λ b. from ≤ b.0) }
@@ -159,7 +160,8 @@ impl Allocator {
         Some(BlockNo(extent.first))
     }
 
-    /// Makes a Free number Allocated. It reads and moves at most 128 extents, and divides or joins a slot now and then.
+    /// Makes a Free number Allocated. Constant time, but where the numbers of a window were all in the same state, or are now: a slot
+    /// is divided or joined then, and what covers its windows is written, a number for each 4,096 numbers of it and 256 at most.
     pub fn take(&mut self, b: BlockNo)
         requires { slice_get self.old b.0 ≡ Some Free }
         ensures { self.new ≡ slice_set self.old b.0 Allocated }
@@ -191,7 +193,7 @@ impl Allocator {
         }
     }
 
-    /// Makes each Waiting number Free. It takes time by how many extents wait, and none by the size of the pool.
+    /// Makes each Waiting number Free. It costs a `take` and a `release` for each, and none by the size of the pool else.
     pub fn end_group(&mut self)
         ensures { self.new ≡ map after_group self.old }
     {

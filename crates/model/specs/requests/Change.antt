@@ -2,8 +2,8 @@
 use Rattle.std.specs.Prelude.{not, Bool, true, false, [], ◌∷◌}
 use Rattle.base.specs.declared.refusal.Refusal.TheVariants.{NoDataset, ReadOnly, BadKey, Quota, RefQuota, NoSpace}
 use Rattle.base.specs.Rewrite.{Changes}
-use Rattle.name.specs.declared.target.Target.{Target}
-use Rattle.name.specs.declared.target.Target.TheVariants.{FileSystem as OfFileSystem, Snapshot as OfSnapshot, Bookmark as OfBookmark}
+use Rattle.base.specs.declared.name.target.Target.{Target}
+use Rattle.base.specs.declared.name.target.Target.TheVariants.{FileSystem as OfFileSystem, Snapshot as OfSnapshot, Bookmark as OfBookmark}
 use Rattle.model.specs.declared.reply.Reply.TheVariants.{Done}
 use Rattle.model.specs.State.{State}
 use Rattle.model.specs.Fits.{quotas_hold, refquotas_hold, pool_holds}

@@ -3,7 +3,7 @@ use Rattle.std.specs.Prelude.{ℕ, true, false, not, List, ◌∷◌, Some, is_s
 use Rattle.std.specs.Option.{option_map_or}
 use Rattle.std.specs.FinMap.{insert}
 use Rattle.base.specs.declared.refusal.Refusal.TheVariants.{NoDataset, NotSnapshot, Deferred}
-use Rattle.name.specs.declared.target.Target.{Target}
+use Rattle.base.specs.declared.name.target.Target.{Target}
 use Rattle.model.specs.declared.reply.Reply.TheVariants.{Done}
 use Rattle.model.specs.World.{World, SnapId, id_of, empty_file_system, map_of_snap}
 use Rattle.model.specs.Targets.{is_snapshot_name}

@@ -1,7 +1,7 @@
 -- FreeObject (On-Disk Specification, chapter 3).
 use Rattle.std.specs.Prelude.{ℕ}
 use Rattle.base.specs.Rewrite.{frees_object}
-use Rattle.name.specs.declared.target.Target.{Target}
+use Rattle.base.specs.declared.name.target.Target.{Target}
 use Rattle.model.specs.Targets.{is_object}
 use Rattle.model.specs.Rule.{Rule}
 use Rattle.model.specs.requests.Change.{change_rule}

@@ -1,7 +1,7 @@
 -- Get (zfs-get(8)).
 use Rattle.std.specs.Prelude.{Bool, not, true, false, [], ◌∷◌}
 use Rattle.base.specs.declared.refusal.Refusal.TheVariants.{NoDataset}
-use Rattle.name.specs.declared.target.Target.{Target}
+use Rattle.base.specs.declared.name.target.Target.{Target}
 use Rattle.model.specs.declared.request.Property.{Property}
 use Rattle.model.specs.declared.request.Property.TheVariants.{Used, Origin, Clones}
 use Rattle.model.specs.declared.reply.Reply.TheVariants.{Value as ValueIs}

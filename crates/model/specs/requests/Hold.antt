@@ -3,8 +3,8 @@ use Rattle.std.specs.Prelude.{ℕ, ◌+◌, Bool, true, false, not, List, [], �
 use Rattle.std.specs.List.{list_any}
 use Rattle.std.specs.Option.{option_map_or}
 use Rattle.base.specs.declared.refusal.Refusal.TheVariants.{NoDataset, NotSnapshot, Deferred, TagExists, TooMany}
-use Rattle.name.specs.Names.{same_name}
-use Rattle.name.specs.declared.target.Target.{Target}
+use Rattle.base.specs.Names.{same_name}
+use Rattle.base.specs.declared.name.target.Target.{Target}
 use Rattle.model.specs.declared.reply.Reply.TheVariants.{Done}
 use Rattle.model.specs.World.{World, id_of}
 use Rattle.model.specs.Targets.{is_snapshot_name}

@@ -2,7 +2,7 @@
 use Rattle.std.specs.Prelude.{true, not, [], ◌∷◌, is_some}
 use Rattle.std.specs.Option.{option_map_or}
 use Rattle.base.specs.declared.refusal.Refusal.TheVariants.{NoDataset, NotSnapshot}
-use Rattle.name.specs.declared.target.Target.{Target}
+use Rattle.base.specs.declared.name.target.Target.{Target}
 use Rattle.model.specs.declared.reply.Reply.TheVariants.{Done, Names as NamesAre}
 use Rattle.model.specs.World.{World}
 use Rattle.model.specs.Targets.{is_snapshot_name}

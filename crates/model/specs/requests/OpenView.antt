@@ -3,7 +3,7 @@ use Rattle.std.specs.Prelude.{ℕ, ◌+◌, true, false, not, ◌||◌, [], ◌�
 use Rattle.std.specs.Option.{option_map_or}
 use Rattle.std.specs.FinMap.{insert, len}
 use Rattle.base.specs.declared.refusal.Refusal.TheVariants.{NoDataset, NotSnapshot, Deferred, TooMany}
-use Rattle.name.specs.declared.target.Target.{Target}
+use Rattle.base.specs.declared.name.target.Target.{Target}
 use Rattle.model.specs.declared.reply.Reply.TheVariants.{Done, Opened}
 use Rattle.model.specs.World.{Snap, id_of}
 use Rattle.model.specs.State.{State}

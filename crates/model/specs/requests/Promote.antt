@@ -4,10 +4,9 @@ use Rattle.std.specs.List.{list_any}
 use Rattle.std.specs.Option.{option_map, option_map_or, option_and_then}
 use Rattle.std.specs.FinMap.{insert}
 use Rattle.base.specs.declared.refusal.Refusal.TheVariants.{NoDataset, NotClone, BadName, NameClash}
-use Rattle.name.specs.Names.{same_name, whole_length}
+use Rattle.base.specs.Names.{name_limit, same_name, whole_length}
 use Rattle.model.specs.declared.reply.Reply.TheVariants.{Done}
 use Rattle.model.specs.World.{World, FileSystem, Snap, SnapId, file_system_at, snap_at}
-use Rattle.model.specs.Targets.{name_limit}
 use Rattle.model.specs.Edits.{with_now}
 use Rattle.model.specs.Rule.{Row, Rule, any_choice}
 use Rattle.model.specs.requests.Change.{limit_row}

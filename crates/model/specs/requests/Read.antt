@@ -5,7 +5,7 @@ use Rattle.std.specs.FinMap.{get}
 use Rattle.base.specs.declared.refusal.Refusal.TheVariants.{NoDataset, BadKey}
 use Rattle.base.specs.Key.{leaf_index}
 use Rattle.base.specs.Map.{contents}
-use Rattle.name.specs.declared.target.Target.{Target}
+use Rattle.base.specs.declared.name.target.Target.{Target}
 use Rattle.model.specs.declared.reply.Reply.TheVariants.{Data}
 use Rattle.model.specs.World.{map_of}
 use Rattle.model.specs.State.{State}

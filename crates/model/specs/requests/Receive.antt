@@ -7,7 +7,7 @@ use Rattle.std.specs.Cmp.Lexicographic.{pointwise}
 use Rattle.base.specs.declared.number.Key.{Key}
 use Rattle.base.specs.declared.refusal.Refusal.TheVariants.{NoDataset, Exists, NoParent, TooMany, BadStream, WrongSource, Modified}
 use Rattle.base.specs.Map.{Map, Cell}
-use Rattle.name.specs.declared.member.Member.{Member}
+use Rattle.base.specs.declared.name.member.Member.{Member}
 use Rattle.stream.specs.Records.{changes_of}
 use Rattle.stream.specs.Spelling.{Sending}
 use Rattle.model.specs.declared.reply.Reply.TheVariants.{Done}

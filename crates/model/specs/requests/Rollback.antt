@@ -4,9 +4,9 @@ use Rattle.std.specs.List.{filter, list_any}
 use Rattle.std.specs.Option.{option_map, option_map_or, option_and_then}
 use Rattle.std.specs.FinMap.{entries, values, from_entries}
 use Rattle.base.specs.declared.refusal.Refusal.TheVariants.{NoDataset, NotSnapshot, Busy, HasClones, NotNewest}
-use Rattle.name.specs.declared.target.Target.{Target}
-use Rattle.name.specs.declared.target.Target.TheVariants.{FileSystem as OfFileSystem, Snapshot as OfSnapshot, Bookmark as OfBookmark}
-use Rattle.name.specs.Names.{same_name}
+use Rattle.base.specs.declared.name.target.Target.{Target}
+use Rattle.base.specs.declared.name.target.Target.TheVariants.{FileSystem as OfFileSystem, Snapshot as OfSnapshot, Bookmark as OfBookmark}
+use Rattle.base.specs.Names.{same_name}
 use Rattle.model.specs.declared.reply.Reply.TheVariants.{Done}
 use Rattle.model.specs.World.{World, FileSystem, Snap, SnapId, id_of, file_system_at, snap_named, snap_at, clones_of}
 use Rattle.model.specs.State.{State, Views, is_viewed}

@@ -5,13 +5,15 @@ use Rattle.std.specs.Option.{option_map, option_map_or, option_and_then}
 use Rattle.std.specs.FinMap.{get}
 use Rattle.base.specs.Map.{Map}
 use Rattle.base.specs.declared.refusal.Refusal.TheVariants.{NoDataset, NotSnapshot, NotAncestor}
-use Rattle.name.specs.declared.target.Target.{Target}
-use Rattle.name.specs.declared.target.Target.TheVariants.{FileSystem as OfFileSystem, Snapshot as OfSnapshot, Bookmark as OfBookmark}
-use Rattle.name.specs.declared.member.Member.{Member}
-use Rattle.name.specs.Names.{same_name}
+use Rattle.base.specs.declared.name.target.Target.{Target}
+use Rattle.base.specs.declared.name.target.Target.TheVariants.{Snapshot as OfSnapshot, Bookmark as OfBookmark}
+use Rattle.base.specs.declared.name.member.Member.{Member}
+use Rattle.base.specs.Names.{same_name}
 use Rattle.stream.specs.Records.{records_since}
 use Rattle.stream.specs.Spelling.{Sending, spell}
 use Rattle.model.specs.declared.source.Source.{Source}
+use Rattle.model.specs.declared.source.SourceName.{SourceName}
+use Rattle.model.specs.declared.source.SourceName.TheVariants.{Snapshot as ASnapshot, Bookmark as ABookmark}
 use Rattle.model.specs.declared.reply.Reply.{Reply}
 use Rattle.model.specs.declared.reply.Reply.TheVariants.{Done, Stream as StreamIs}
 use Rattle.model.specs.Sights.{Seen}
@@ -24,18 +26,18 @@ use Rattle.model.specs.requests.Rollback.{placed}
 -- ---- the sources
 
 -- a snapshot or a bookmark with this guid and group as a source (zfs-send(8), -i)
-abbrev pub source_at : Target → ℕ → ℕ → Source
+abbrev pub source_at : SourceName → ℕ → ℕ → Source
 source_at name guid group = record { name = name; guid = record { 0 = guid }; group = record { 0 = group } }
 
 -- a snapshot as a source, by its identity (zfs-send(8), -i)
 abbrev pub snapshot_source : World → SnapId → Option Source
 snapshot_source w id =
-    option_map (λ p. source_at (OfSnapshot (record { file_system = p.0; component = p.1.name })) id.guid id.group) (snap_at w id)
+    option_map (λ p. source_at (ASnapshot (record { file_system = p.0; component = p.1.name })) id.guid id.group) (snap_at w id)
 
 -- a bookmark of a file system as a source, by what stands after the `#` (zfs-send(8), -i)
 abbrev pub bookmark_source : List ℕ → FileSystem → List ℕ → Option Source
 bookmark_source name f component =
-    option_map (λ b. source_at (OfBookmark (record { file_system = name; component = component })) b.guid b.group) (get f.bookmarks component)
+    option_map (λ b. source_at (ABookmark (record { file_system = name; component = component })) b.guid b.group) (get f.bookmarks component)
 
 -- the bookmarks of a file system of groups below this one, by group and then by name (zfs-send(8), -i; the order is profile)
 abbrev pub bookmark_sources : List ℕ → FileSystem → ℕ → List Source
@@ -58,12 +60,11 @@ sight_of w id = record { map = map_of w (Snapped id); guid = id.guid; group = id
 abbrev pub same_member : Member → Member → Bool
 same_member a b = same_name a.file_system b.file_system && same_name a.component b.component
 
--- the test of two names of any kind (profile)
-abbrev pub same_target : Target → Target → Bool
-same_target (OfFileSystem a) (OfFileSystem b) = same_name a b
-same_target (OfSnapshot a) (OfSnapshot b) = same_member a b
-same_target (OfBookmark a) (OfBookmark b) = same_member a b
-same_target _ _ = false
+-- the test whether a source has a name (profile)
+abbrev pub is_called : SourceName → Target → Bool
+is_called (ASnapshot m) (OfSnapshot n) = same_member m n
+is_called (ABookmark m) (OfBookmark n) = same_member m n
+is_called _ _ = false
 
 -- the guid and the group that a full send has in the place of a source's (zfs-send(8))
 pub record Start : Type 0 where
@@ -77,7 +78,7 @@ no_source = record { guid = 0; group = 0 }
 -- where a send starts that names a source, or none; none where it is no source (zfs-send(8), -i)
 unfoldable pub start_of : List Source → Option Target → Option Start
 start_of sources None = Some no_source
-start_of sources (Some name) = option_map (λ s. record { guid = s.guid.0; group = s.group.0 }) (find (λ s. same_target s.name name) sources)
+start_of sources (Some name) = option_map (λ s. record { guid = s.guid.0; group = s.group.0 }) (find (λ s. is_called s.name name) sources)
 
 -- ---- the stream
 

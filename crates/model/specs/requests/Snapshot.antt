@@ -3,12 +3,12 @@ use Rattle.std.specs.Prelude.{ℕ, ◌+◌, ◌-◌, ◌*◌, ◌^◌, Bool, tru
 use Rattle.std.specs.List.{flat_map, list_any}
 use Rattle.std.specs.FinMap.{contains_key}
 use Rattle.base.specs.declared.refusal.Refusal.TheVariants.{NoDataset, BadName, Exists, TooMany}
-use Rattle.name.specs.declared.member.Member.{Member}
-use Rattle.name.specs.Names.{same_name, whole_length}
+use Rattle.base.specs.declared.name.member.Member.{Member}
+use Rattle.base.specs.Names.{name_limit, same_name, whole_length}
 use Rattle.model.specs.declared.reply.Reply.TheVariants.{Done}
 use Rattle.model.specs.World.{World, FileSystem, Snap, snaps_of, snap_named, family_of}
 use Rattle.model.specs.State.{State}
-use Rattle.model.specs.Targets.{name_limit, snap_limit, guid_limit, has_no_next_group}
+use Rattle.model.specs.Targets.{snap_limit, guid_limit, has_no_next_group}
 use Rattle.model.specs.Edits.{with_file_system, with_next_group}
 use Rattle.model.specs.Rule.{Row, Rule, any_choice}
 use Rattle.model.specs.requests.Change.{limit_row}

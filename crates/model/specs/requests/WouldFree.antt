@@ -3,7 +3,7 @@ use Rattle.std.specs.Prelude.{ℕ, not, false, ◌&&◌, ◌||◌, List, [], ◌
 use Rattle.std.specs.List.{filter}
 use Rattle.std.specs.Option.{option_map_or}
 use Rattle.base.specs.declared.refusal.Refusal.TheVariants.{NoDataset, NotAncestor, HasClones}
-use Rattle.name.specs.declared.member.Member.{Member}
+use Rattle.base.specs.declared.name.member.Member.{Member}
 use Rattle.model.specs.declared.reply.Reply.TheVariants.{Value as ValueIs}
 use Rattle.model.specs.World.{SnapId, id_of, file_system_at, snap_named}
 use Rattle.model.specs.State.{State}

@@ -2,7 +2,7 @@
 use Rattle.std.specs.Prelude.{ℕ, List}
 use Rattle.base.specs.Key.{leaf_index}
 use Rattle.base.specs.Rewrite.{writes_leaf}
-use Rattle.name.specs.declared.target.Target.{Target}
+use Rattle.base.specs.declared.name.target.Target.{Target}
 use Rattle.model.specs.Targets.{is_block}
 use Rattle.model.specs.Rule.{Rule}
 use Rattle.model.specs.requests.Change.{change_rule}

@@ -3,8 +3,8 @@ use Rattle.std.specs.Prelude.{Bool, not, false, ◌||◌, [], ◌∷◌}
 use Rattle.std.specs.List.{list_any}
 use Rattle.std.specs.Option.{option_map_or}
 use Rattle.base.specs.declared.refusal.Refusal.TheVariants.{NoDataset, NotAncestor}
-use Rattle.name.specs.declared.member.Member.{Member}
-use Rattle.name.specs.declared.target.Target.{Target}
+use Rattle.base.specs.declared.name.member.Member.{Member}
+use Rattle.base.specs.declared.name.target.Target.{Target}
 use Rattle.model.specs.declared.reply.Reply.{Reply}
 use Rattle.model.specs.declared.reply.Reply.TheVariants.{Done, Value as ValueIs}
 use Rattle.model.specs.World.{id_of, same_id, snap_named, older_of}

@@ -1,4 +1,4 @@
-use Rattle.session.specs.Handed.{CALL_LIMIT}
+use Rattle.session.specs.declared.book.book.TheConstants.{CALL_LIMIT}
 use Rattle.session_workloads.proofs.work.Given as goal
 
 -- the session begins at the pool that it is handed, and takes as many calls as are asked

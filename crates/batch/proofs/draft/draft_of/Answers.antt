@@ -27,8 +27,8 @@ module _ (c : After-deref-2) where
   need : c.fresh_count-need.result ≡ count_by is_fresh (claims (said c.args.updates.now) c.args.young.0 5 0 (whole c.args.root.now))
   need = c.fresh_count-need.ensures ∙ ap (count_by is_fresh) (c.deref.ensures ∙ c.in_ok-plan.ensures.claims)
 
-pub plan_of-requires-clause-order : goal.plan_of-requires-clause-order
-plan_of-requires-clause-order c = batch_in_order c.args.updates.now c.requires.batch
+pub findings_of-requires-clause-order : goal.findings_of-requires-clause-order
+findings_of-requires-clause-order c = batch_in_order c.args.updates.now c.requires.batch
 
 pub choose-requires-clause-allocated : goal.choose-requires-clause-allocated
 choose-requires-clause-allocated c = λ d h. ready_allocated _ _ _ _ _ (ready c) d (subst (λ ds. IsIn ds d) (gone c) h)

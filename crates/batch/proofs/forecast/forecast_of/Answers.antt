@@ -14,8 +14,8 @@ use Rattle.batch.proofs.forecast.forecast_of.Goals as goal
 use Rattle.node.specs.Entries.{map_of}
 use Rattle.node.specs.Node.{whole, root_forest}
 
-pub plan_of-requires-clause-order : goal.plan_of-requires-clause-order
-plan_of-requires-clause-order c = batch_in_order c.args.updates.now c.requires.batch
+pub findings_of-requires-clause-order : goal.findings_of-requires-clause-order
+findings_of-requires-clause-order c = batch_in_order c.args.updates.now c.requires.batch
 
 pub returns-clause-ok : goal.returns-clause-ok
 returns-clause-ok c =

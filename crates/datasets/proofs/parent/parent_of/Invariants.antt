@@ -1,5 +1,5 @@
 use Rattle.std.proofs.Common.{◌≡◌, ◌≤◌, length, take}
-use Rattle.name.specs.Names.{parent_of as parent_name}
+use Rattle.base.specs.Names.{parent_of as parent_name}
 use Rattle.datasets.proofs.parent.parent_of.Given as goal
 
 -- what is left has the same parent

@@ -1,6 +1,6 @@
 use Rattle.std.proofs.Common.{rules}
 use Rattle.std.proofs.lemmas.Fn.{always_returns_same}
-use Rattle.name.specs.Names.{name_cmp}
+use Rattle.base.specs.Names.{name_cmp}
 use Rattle.file_system.specs.Rows.{entry_in}
 use Rattle.datasets.proofs.Rows.{searched}
 use Rattle.datasets.proofs.place.place.Goals as goal

@@ -2,7 +2,7 @@ use Rattle.std.proofs.Common.{◌≡◌, false, length, sym, ap, ◌∙◌, arit
 use Rattle.std.proofs.lemmas.List.{length-map}
 use Rattle.std.specs.Option.{option_copied}
 use Rattle.std.specs.FinMap.{get}
-use Rattle.name.specs.Names.{root_name, same_name}
+use Rattle.base.specs.Names.{root_name, same_name}
 use Rattle.file_system.specs.Dead.{snaps_in}
 use Rattle.removals.proofs.Shared.{told_of}
 use Rattle.datasets_tests.proofs.Going.{can_go, not_true}

@@ -1,7 +1,7 @@
 use Rattle.std.proofs.Common.{sym, ap, ◌∙◌}
 use Rattle.std.specs.FinMap.{get, get-empty}
-use Rattle.name.specs.Names.{name_cmp}
-use Rattle.world.proofs.Maps.{no_value}
+use Rattle.base.specs.Names.{name_cmp}
+use Rattle.world.proofs.lists.Maps.{no_value}
 use Rattle.datasets_tests.proofs.marked.clear.Goals as goal
 
 -- there is none

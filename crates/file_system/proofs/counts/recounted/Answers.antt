@@ -2,7 +2,7 @@ use Rattle.std.proofs.Common.{ap, ◌∙◌, arith}
 use Rattle.std.specs.Option.{option_copied}
 use Rattle.base.specs.Map.{blocks}
 use Rattle.base.specs.declared.number.Group.{Group}
-use Rattle.world.proofs.Shuffled.{written_few}
+use Rattle.world.proofs.lineage.Shuffled.{written_few}
 use Rattle.file_system.specs.Origins.{map_below, group_below}
 use Rattle.file_system.proofs.Accounts.{count_is}
 use Rattle.file_system.proofs.Recounts.{alone_counted, own_counted}

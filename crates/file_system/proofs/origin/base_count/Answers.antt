@@ -2,7 +2,7 @@ use Rattle.std.proofs.Common.{sym, ap, ◌∙◌}
 use Rattle.std.specs.Option.{option_copied}
 use Rattle.std.specs.FinSet.{len, len-empty}
 use Rattle.base.specs.Map.{blocks, block_cmp}
-use Rattle.world.proofs.Bridge.{blocks_none}
+use Rattle.world.proofs.lineage.Bridge.{blocks_none}
 use Rattle.file_system.specs.Origins.{blocks_below}
 use Rattle.file_system.proofs.Accounts.{count_is}
 use Rattle.file_system.proofs.origin.base_count.Goals as goal

@@ -1,4 +1,4 @@
-use Rattle.world.proofs.Runs.{run_grows, views_begin, views_last, views_stand}
+use Rattle.world.proofs.views.Runs.{run_grows, views_begin, views_last, views_stand}
 use Rattle.laws.proofs.Lasting.{run_splits, snapshots_keep}
 use Rattle.laws.proofs.Marks.{bookmark_made, bookmark_stands, bookmark_lasts}
 use Rattle.laws.proofs.Pools.{pools_are_viewing}

@@ -1,5 +1,5 @@
 use Rattle.std.proofs.Common.{sym, ap, ◌∙◌}
-use Rattle.name.specs.Names.{same_name}
+use Rattle.base.specs.Names.{same_name}
 use Rattle.datasets.specs.Rows.{Row}
 use Rattle.limits.proofs.Places.{near_at}
 use Rattle.limits.proofs.place.place_near.Goals as goal

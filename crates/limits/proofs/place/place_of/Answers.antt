@@ -1,6 +1,6 @@
 use Rattle.std.proofs.Common.{rules}
 use Rattle.std.proofs.lemmas.Fn.{always_returns_same}
-use Rattle.name.specs.Names.{name_cmp}
+use Rattle.base.specs.Names.{name_cmp}
 use Rattle.datasets.specs.Rows.{entry_in}
 use Rattle.limits.proofs.Places.{placed}
 use Rattle.limits.proofs.place.place_of.Goals as goal

@@ -1,5 +1,5 @@
 use Rattle.std.proofs.Common.{ap, ◌∙◌, arith}
-use Rattle.bookmarks.specs.Marks.{Marks, alone}
+use Rattle.snapshots.specs.Marks.{Marks, alone}
 use Rattle.model.specs.Properties.{bookmarks_in_order}
 use Rattle.datasets.specs.Rows.{entry_of}
 use Rattle.lookups.proofs.Yielded.{bookmarks_are}

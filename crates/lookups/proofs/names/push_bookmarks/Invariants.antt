@@ -1,6 +1,6 @@
 use Rattle.std.proofs.Common.{◌≡◌, ◌++◌, map, take}
-use Rattle.name.specs.Names.{mark_text}
-use Rattle.bookmarks.specs.Marks.{name_in}
+use Rattle.base.specs.Names.{mark_text}
+use Rattle.snapshots.specs.Marks.{name_in}
 use Rattle.lookups.proofs.names.push_bookmarks.Given as goal
 
 -- the names of the bookmarks so far

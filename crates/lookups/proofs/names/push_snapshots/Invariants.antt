@@ -1,5 +1,5 @@
 use Rattle.std.proofs.Common.{◌≡◌, ◌++◌, map}
-use Rattle.name.specs.Names.{snap_text}
+use Rattle.base.specs.Names.{snap_text}
 use Rattle.lookups.proofs.names.push_snapshots.Given as goal
 
 -- the names of the snapshots so far

@@ -2,7 +2,7 @@ use Rattle.std.proofs.Common.{◌+◌, List, ◌++◌, map, drop, sym, ap, ◌�
 use Rattle.std.specs.List.{join_with_byte}
 use Rattle.datasets.specs.Clones.{CloneName}
 use Rattle.datasets.specs.CloneNames.{name_of}
-use Rattle.space.proofs.Rests.{next_left, none_left}
+use Rattle.lookups.proofs.Rests.{next_left, none_left}
 use Rattle.lookups.proofs.Joined.{each_after, joined_first, joined_next}
 use Rattle.lookups.proofs.values.joined_names.Goals as goal
 

@@ -1,6 +1,6 @@
 use Rattle.std.proofs.Common.{List, ℕ, ap, ◌∙◌}
-use Rattle.holds.specs.Tags.{has_tag}
-use Rattle.holds.proofs.Lists.{any_text}
+use Rattle.snapshots.specs.Tags.{has_tag}
+use Rattle.snapshots.proofs.Lists.{any_text}
 use Rattle.marks.proofs.holding.has_tag.Goals as goal
 
 pub returns : goal.returns

@@ -1,5 +1,5 @@
 use Rattle.std.proofs.Common.{◌≡◌, take}
-use Rattle.holds.specs.Tags.{texts}
+use Rattle.snapshots.specs.Tags.{texts}
 use Rattle.marks.proofs.tags.copies.Given as goal
 
 -- the copies so far

@@ -27,4 +27,4 @@ returns-else-written-gt0 c =
     ap not (by_counts f.system.live s.map c.written.result c.node_count.result c.node_count-else-written-gt0.result is c.if-written-gt0.false
     (subst IsUnique live c.node_count.ensures.unique) (subst IsUnique kept c.node_count-else-written-gt0.ensures.unique)
     (c.node_count.ensures.count ∙ ap finmap.len live) (c.node_count-else-written-gt0.ensures.count ∙ ap finmap.len kept)
-    (one_of_both t c.len-count.ensures.good c.len-count.ensures.numbers f.name f.system c.requires.there s (newest_there f.system.snaps s c.requires.newest)))
+    (one_of_both t c.facts.ensures.good c.facts.ensures.numbers f.name f.system c.requires.there s (newest_there f.system.snaps s c.requires.newest)))

@@ -1,19 +1,19 @@
 use Rattle.std.proofs.Common.{sym, ◌∙◌}
-use Rattle.removals.specs.Named.{without_named, is_named_cloned}
+use Rattle.removals.specs.Named.{without_named, has_clone_named}
 use Rattle.removals.proofs.Closed.{none_goes, named_goes, goes_uncloned}
 use Rattle.removals.proofs.Losses.{lost_none, apart_copied, lost_put}
 use Rattle.removals.proofs.close.close_view.Goals as goal
 
-pub lose_named-requires : goal.lose_named-requires
-lose_named-requires c = record {
+pub remove_named-requires : goal.remove_named-requires
+remove_named-requires c = record {
   apart = apart_copied c.args.table.now c.in_ok-edit.edit.to c.args.freeing.now c.in_ok-edit.edit.freeing c.in_ok-edit.ensures.ok c.requires.apart;
-  no_clone = (λ i. is_named_cloned (c.in_ok-edit.ensures.ok.0 i) (record { file_system = c.name.ensures i; component = c.name-2.ensures i }))
-      ∙ goes_uncloned c.args.table.now c.len-count.ensures.good c.args.views.now.opened c.requires.swept c.args.number (c.in-Some.file_system.now.name, c.in-Some.snapshot.now) (sym c.in-Some.ensures);
+  no_clone = (λ i. has_clone_named (c.in_ok-edit.ensures.ok.0 i) (record { file_system = c.name.ensures i; component = c.name-2.ensures i }))
+      ∙ goes_uncloned c.args.table.now c.facts.ensures.good c.args.views.now.opened c.requires.swept c.args.number (c.in-Some.file_system.now.name, c.in-Some.snapshot.now) (sym c.in-Some.ensures);
 }
 
 pub returns-in_default-clause-ok : goal.returns-in_default-clause-ok
 returns-in_default-clause-ok c =
-    sym (none_goes c.args.table.now c.len-count.ensures.good c.args.views.now.opened c.requires.swept c.args.number (sym c.in_default.ensures))
+    sym (none_goes c.args.table.now c.facts.ensures.good c.args.views.now.opened c.requires.swept c.args.number (sym c.in_default.ensures))
 
 pub returns-in_default-clause-lost : goal.returns-in_default-clause-lost
 returns-in_default-clause-lost c = lost_none c.args.table.now c.args.freeing.now c.requires.apart
@@ -21,11 +21,11 @@ returns-in_default-clause-lost c = lost_none c.args.table.now c.args.freeing.now
 pub returns-clause-ok : goal.returns-clause-ok
 returns-clause-ok c =
     c.put.ensures.to
-    ∙ c.in_ok-lose_named.ensures.ok
+    ∙ c.in_ok-remove_named.ensures.ok
     ∙ (λ i. without_named (c.in_ok-edit.ensures.ok.0 i) (record { file_system = c.name.ensures i; component = c.name-2.ensures i }))
-    ∙ named_goes c.args.table.now c.len-count.ensures.good c.args.views.now.opened c.requires.swept c.args.number (c.in-Some.file_system.now.name, c.in-Some.snapshot.now) (sym c.in-Some.ensures)
+    ∙ named_goes c.args.table.now c.facts.ensures.good c.args.views.now.opened c.requires.swept c.args.number (c.in-Some.file_system.now.name, c.in-Some.snapshot.now) (sym c.in-Some.ensures)
 
 pub returns-clause-lost : goal.returns-clause-lost
 returns-clause-lost c =
-    lost_put c.args.table.now c.in_ok-edit.edit.to c.lose_named.new.self.to c.put.new.table c.args.freeing.now c.in_ok-edit.edit.freeing c.lose_named.new.self.freeing c.put.new.freeing
-    c.in_ok-edit.ensures.ok c.in_ok-lose_named.ensures.lost c.put.ensures.to c.put.ensures.freeing
+    lost_put c.args.table.now c.in_ok-edit.edit.to c.remove_named.new.self.to c.put.new.table c.args.freeing.now c.in_ok-edit.edit.freeing c.remove_named.new.self.freeing c.put.new.freeing
+    c.in_ok-edit.ensures.ok c.in_ok-remove_named.ensures.lost c.put.ensures.to c.put.ensures.freeing

@@ -1,7 +1,7 @@
 use Rattle.std.proofs.Common.{◌≡◌, sym, subst}
 use Rattle.std.specs.Prelude.{OnOk}
 use Rattle.std.specs.FinMap.{remove}
-use Rattle.name.specs.declared.target.Target.{Target}
+use Rattle.base.specs.declared.name.target.Target.{Target}
 use Rattle.world.specs.Tables.{Datasets}
 use Rattle.removals.specs.Requests.{destroyed, swept}
 use Rattle.removals.proofs.Marked.{marks_swept, lost_marks}
@@ -22,12 +22,12 @@ returns-in-Snapshot-clause-ok c =
 
 pub returns-in-Bookmark-clause-ok : goal.returns-in-Bookmark-clause-ok
 returns-in-Bookmark-clause-ok c =
-    subst (λ (x : Target). OnOk c.destroy_bookmark.result (c.destroy_bookmark.new.table ≡ swept (destroyed c.args.table.now c.args.views.now.opened x c.args.recursive c.args.defer) c.args.views.now.opened))
+    subst (λ (x : Target). OnOk c.remove_bookmark.result (c.remove_bookmark.new.table ≡ swept (destroyed c.args.table.now c.args.views.now.opened x c.args.recursive c.args.defer) c.args.views.now.opened))
     (sym c.in-Bookmark.is)
-    (subst (λ (v : Datasets). OnOk c.destroy_bookmark.result (c.destroy_bookmark.new.table ≡ v))
-    (sym (marks_swept c.args.table.now c.in-Bookmark.name.file_system (λ marks. remove marks c.in-Bookmark.name.component) c.args.views.now.opened c.requires.swept)) c.destroy_bookmark.ensures.ok)
+    (subst (λ (v : Datasets). OnOk c.remove_bookmark.result (c.remove_bookmark.new.table ≡ v))
+    (sym (marks_swept c.args.table.now c.in-Bookmark.name.file_system (λ marks. remove marks c.in-Bookmark.name.component) c.args.views.now.opened c.requires.swept)) c.remove_bookmark.ensures.ok)
 
 pub returns-in-Bookmark-clause-lost : goal.returns-in-Bookmark-clause-lost
 returns-in-Bookmark-clause-lost c =
-    lost_marks c.args.table.now c.in-Bookmark.name.file_system (λ marks. remove marks c.in-Bookmark.name.component) c.destroy_bookmark.result c.destroy_bookmark.new.table c.args.freeing.now c.requires.apart
-    c.destroy_bookmark.ensures.ok
+    lost_marks c.args.table.now c.in-Bookmark.name.file_system (λ marks. remove marks c.in-Bookmark.name.component) c.remove_bookmark.result c.remove_bookmark.new.table c.args.freeing.now c.requires.apart
+    c.remove_bookmark.ensures.ok

@@ -11,21 +11,21 @@ use Rattle.removals.proofs.emptied.empty_one.Goals as goal
 
 pub vacate-requires-clause-there : goal.vacate-requires-clause-there
 vacate-requires-clause-there c =
-    ap (λ n. is_some (get c.lose_newer.new.self.to.file_systems n)) c.name.ensures
-    ∙ one_there c.args.edit.now.to c.len-count.ensures.good (entry_of c.args.file_system.now) c.requires.there c.lose_newer.new.self.to c.in_ok-lose_newer.ensures.ok
+    ap (λ n. is_some (get c.remove_newer.new.self.to.file_systems n)) c.name.ensures
+    ∙ one_there c.args.edit.now.to c.facts.ensures.good (entry_of c.args.file_system.now) c.requires.there c.remove_newer.new.self.to c.in_ok-remove_newer.ensures.ok
 
 pub vacate-requires-clause-bare : goal.vacate-requires-clause-bare
 vacate-requires-clause-bare c =
-    ap (snaps_at c.lose_newer.new.self.to.file_systems) c.name.ensures
-    ∙ one_bare c.args.edit.now.to c.len-count.ensures.good (entry_of c.args.file_system.now) c.requires.there c.lose_newer.new.self.to c.in_ok-lose_newer.ensures.ok
+    ap (snaps_at c.remove_newer.new.self.to.file_systems) c.name.ensures
+    ∙ one_bare c.args.edit.now.to c.facts.ensures.good (entry_of c.args.file_system.now) c.requires.there c.remove_newer.new.self.to c.in_ok-remove_newer.ensures.ok
 
 pub returns-clause-ok : goal.returns-clause-ok
 returns-clause-ok c = on_ok_weaker c.vacate.result
-    (λ to. one_emptied c.args.edit.now.to c.len-count.ensures.good (entry_of c.args.file_system.now) c.requires.there c.lose_newer.new.self.to c.in_ok-lose_newer.ensures.ok c.vacate.new.edit.to
-    (to ∙ ap (λ n. with_system c.lose_newer.new.self.to n empty_file_system) c.name.ensures))
+    (λ to. one_emptied c.args.edit.now.to c.facts.ensures.good (entry_of c.args.file_system.now) c.requires.there c.remove_newer.new.self.to c.in_ok-remove_newer.ensures.ok c.vacate.new.edit.to
+    (to ∙ ap (λ n. with_system c.remove_newer.new.self.to n empty_file_system) c.name.ensures))
     c.vacate.ensures.ok
 
 pub returns-clause-lost : goal.returns-clause-lost
 returns-clause-lost c = on_ok_weaker c.vacate.result
-    (λ lost. lost_then c.args.edit.now.to c.lose_newer.new.self.to c.vacate.new.edit.to c.args.edit.now.freeing c.lose_newer.new.self.freeing c.vacate.new.edit.freeing c.in_ok-lose_newer.ensures.lost lost)
+    (λ lost. lost_then c.args.edit.now.to c.remove_newer.new.self.to c.vacate.new.edit.to c.args.edit.now.freeing c.remove_newer.new.self.freeing c.vacate.new.edit.freeing c.in_ok-remove_newer.ensures.lost lost)
     c.vacate.ensures.lost

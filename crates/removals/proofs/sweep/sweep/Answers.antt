@@ -19,15 +19,15 @@ loop-file_system-preserved c =
     let left = ap (map entry_in) (next_left c.file_systems-file_system-items.result.now c.loop-file_system.file_system-index c.file_system-item.result c.loop-file_system-test.true c.file_system-item.is) in
     record {
       so_far = ap (λ t. without_origins t views (map entry_in (drop (c.loop-file_system.file_system-index + 1) c.file_systems-file_system-items.result.now)))
-          (c.in_ok-lose_origin.ensures.ok ∙ ap (λ r. without_origin c.loop-file_system.edit.to views (entry_of r)) c.deref.ensures)
+          (c.in_ok-remove_unneeded_origin.ensures.ok ∙ ap (λ r. without_origin c.loop-file_system.edit.to views (entry_of r)) c.deref.ensures)
           ∙ ap (without_origins c.loop-file_system.edit.to views) (sym left)
           ∙ c.loop-file_system.invariant.so_far;
-      lost = lost_then c.args.edit.now.to c.loop-file_system.edit.to c.lose_origin.new.edit.to c.args.edit.now.freeing c.loop-file_system.edit.freeing c.lose_origin.new.edit.freeing
-          c.loop-file_system.invariant.lost c.in_ok-lose_origin.ensures.lost;
+      lost = lost_then c.args.edit.now.to c.loop-file_system.edit.to c.remove_unneeded_origin.new.edit.to c.args.edit.now.freeing c.loop-file_system.edit.freeing c.remove_unneeded_origin.new.edit.freeing
+          c.loop-file_system.invariant.lost c.in_ok-remove_unneeded_origin.ensures.lost;
     }
 
 pub returns-clause-ok : goal.returns-clause-ok
 returns-clause-ok c =
     ap (λ l. without_origins c.loop-file_system.edit.to c.args.views.now.opened (map entry_in l)) (sym (none_left c.file_systems-file_system-items.result.now c.loop-file_system.file_system-index (omega arith)))
     ∙ c.loop-file_system.invariant.so_far
-    ∙ all_swept c.args.table.now c.args.edit.now.to c.requires.part c.args.views.now.opened c.requires.swept (once_here c.args.edit.now.to c.len-count.ensures.good)
+    ∙ all_swept c.args.table.now c.args.edit.now.to c.requires.part c.args.views.now.opened c.requires.swept (once_here c.args.edit.now.to c.facts.ensures.good)

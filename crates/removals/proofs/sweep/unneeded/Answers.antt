@@ -13,5 +13,5 @@ returns-then-is_viewed c = sym (needed_stays c.args.table.now c.args.views.now.o
     ]))
 
 pub returns-then-not-is_held : goal.returns-then-not-is_held
-returns-then-not-is_held c = sym (unneeded_found c.args.table.now c.args.views.now.opened (snap_id c.args.id) (c.in_ok-owner.owner.now.name, c.in_ok-owner.snapshot.now) c.in_ok-owner.ensures
+returns-then-not-is_held c = sym (unneeded_found c.args.table.now c.args.views.now.opened (snap_id c.args.id) (c.in_ok-owner.owner.now.name, c.in_ok-owner.snapshot.now) c.in_ok-owner.ensures.found
     (sym c.is_viewed.ensures ∙ c.if-is_viewed.false) (sym c.has_clone.ensures.clones ∙ c.if-has_clone.false) (sym c.is_deferred.ensures ∙ c.if-is_deferred.true) (sym c.is_held.ensures ∙ c.if-not-is_held.true))

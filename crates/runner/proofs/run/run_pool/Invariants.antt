@@ -1,4 +1,4 @@
-use Rattle.session.specs.Handed.{CALL_LIMIT}
+use Rattle.session.specs.declared.book.book.TheConstants.{CALL_LIMIT}
 use Rattle.runner.proofs.run.run_pool.Given as goal
 
 -- what the session begins from

@@ -5,7 +5,7 @@ use Rattle.tree.proofs.Branches.{small_index, child_is_key}
 use Rattle.stream.specs.declared.record.Record.TheVariants.{Free}
 use Rattle.sends.specs.Walk.{IsAt, IsYoung, IsOld, AreSent, AddsSent}
 use Rattle.sends.proofs.Places.{one_free, old_none, none_before, one_more, all_places, place_is, AddsBefore}
-use Rattle.world.proofs.Maps.{same_value}
+use Rattle.world.proofs.lists.Maps.{same_value}
 use Rattle.sends.proofs.walk.+add_sent.Goals as goal
 
 at_some : {X : Type 0} (P : X → Type 0) (o : Option X) (x : X) → o ≡ Some x → IfSome o P → P x

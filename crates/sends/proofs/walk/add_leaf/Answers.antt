@@ -2,9 +2,9 @@ use Rattle.std.proofs.Common.{◌≡◌, [], ◌∷◌, Option, Some, None, true
 use Rattle.std.specs.Prelude.{IfSome, is_some}
 use Rattle.std.specs.Option.{option_map}
 use Rattle.base.specs.Map.{Cell}
-use Rattle.world.proofs.Maps.{same_value}
+use Rattle.world.proofs.lists.Maps.{same_value}
 use Rattle.stream.specs.declared.record.Record.TheVariants.{Write}
-use Rattle.records.specs.Records.{leaf_key}
+use Rattle.laws.specs.Records.{leaf_key}
 use Rattle.tree.specs.Branch.{Branch}
 use Rattle.sends.specs.Walk.{IsYoung, IsOld, AreSent}
 use Rattle.sends.proofs.Places.{old_none, one_write}

@@ -1,5 +1,5 @@
 use Rattle.std.proofs.Common.{subst}
-use Rattle.records.specs.Records.{root_key}
+use Rattle.laws.specs.Records.{root_key}
 use Rattle.sends.specs.Walk.{AddsSent}
 use Rattle.sends.proofs.Listed.{all_sent}
 use Rattle.sends.proofs.walk.records.Goals as goal

@@ -1,8 +1,8 @@
 use Rattle.std.proofs.Common.{◌≡◌, ◌+◌, ◌∷◌, ◌++◌, [], ℕ, List, length, length-append, arith, refl, sym, ap, ◌∙◌, vec_len, ℕ}
 use Rattle.std.specs.Vec.Iter.{into_iter_items}
 use Rattle.model.specs.declared.request.Request.{Request}
-use Rattle.book.specs.Calls.{Ran}
-use Rattle.book.specs.Receipts.{Placed}
+use Rattle.session.specs.Entering.{Ran}
+use Rattle.session.specs.Receipts.{Placed}
 use Rattle.session.proofs.SoFar.{IsSoFar, first_so_far, first_added, more_so_far, more_added, begun, stopped_pace, starved_pace, whole_pace}
 use Rattle.session.proofs.batches.enter_rest.Goals as goal
 

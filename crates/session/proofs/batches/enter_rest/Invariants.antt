@@ -1,7 +1,7 @@
 use Rattle.std.proofs.Common.{◌+◌, ◌∷◌, ◌≤◌, length, vec_len, vec_capacity}
 use Rattle.std.specs.Vec.Iter.{into_iter_items}
-use Rattle.book.specs.Calls.{Ran}
-use Rattle.book.specs.Receipts.{Kept}
+use Rattle.session.specs.Entering.{Ran}
+use Rattle.session.specs.Receipts.{Kept}
 use Rattle.session.specs.Calls.{IsAdded}
 use Rattle.session.proofs.SoFar.{IsSoFar}
 use Rattle.session.proofs.batches.enter_rest.Given as goal

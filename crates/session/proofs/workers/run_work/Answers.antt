@@ -1,7 +1,7 @@
 use Rattle.std.proofs.Common.{◌≡◌, arith, rules}
 use Rattle.base.specs.declared.refusal.Refusal.TheVariants.{NoMemory}
 use Rattle.model.specs.declared.reply.Reply.TheVariants.{Refused}
-use Rattle.book.specs.Calls.{Ran}
+use Rattle.session.specs.Entering.{Ran}
 use Rattle.session.specs.Works.{HadMemory, work_request}
 use Rattle.session.proofs.Works.{stopped_work, unentered_work, starved_work, more_work, few_more}
 use Rattle.session.proofs.workers.run_work.Goals as goal

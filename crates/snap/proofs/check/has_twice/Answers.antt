@@ -1,6 +1,6 @@
 use Rattle.std.proofs.Common.{◌≡◌, ◌+◌, drop, sym, ap, ◌∙◌, arith}
 use Rattle.std.proofs.lemmas.Bool.{not-false, not-true}
-use Rattle.name.specs.declared.member.Member.{Member}
+use Rattle.base.specs.declared.name.member.Member.{Member}
 use Rattle.snap.proofs.Rests.{next_left, none_left}
 use Rattle.snap.proofs.Taken.{few_apart}
 use Rattle.snap.proofs.Twice.{twice_after, twice_first, twice_here, twice_later, has_name}

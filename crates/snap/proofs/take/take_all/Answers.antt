@@ -1,5 +1,5 @@
 use Rattle.std.proofs.Common.{◌≡◌, ◌+◌, ℕ, drop, sym, ap, ◌∙◌, subst, add-zero, add_assoc, arith, refl}
-use Rattle.name.specs.declared.member.Member.{Member}
+use Rattle.base.specs.declared.name.member.Member.{Member}
 use Rattle.model.specs.requests.Snapshot.{guid_by, with_snapshots}
 use Rattle.datasets.specs.Rows.{live_of, plain_snap}
 use Rattle.datasets.specs.Snapshots.{with_snap_at}
@@ -14,7 +14,7 @@ loop-place-init c =
     c.close_group.ensures ∙ (λ j. record { file_systems = (c.in_ok-to.ensures.ok j).file_systems; group = (c.in_ok-to.ensures.ok j).group + 1 }) in
     record {
       taking = subst (λ (x : Datasets). IsTaking (closed_world x c.args.table.now.group) (guid_by c.args.guids.pool c.args.guids.next + 0) c.args.all.now) (sym closed)
-          (starts_taking (world_of c.args.table.now) (guid_by c.args.guids.pool c.args.guids.next + 0) c.args.all.now c.len-count.ensures.good c.requires.takable);
+          (starts_taking (world_of c.args.table.now) (guid_by c.args.guids.pool c.args.guids.next + 0) c.args.all.now c.facts.ensures.good c.requires.takable);
       rest = λ j. (with_snapshots (closed_world (closed j) c.args.table.now.group) (add-zero (guid_by c.args.guids.pool c.args.guids.next) j) c.args.all.now).file_systems;
       group = ap (λ (x : Datasets). x.group) closed;
     }

@@ -3,7 +3,7 @@ use Rattle.std.specs.Prelude.{is_some}
 use Rattle.std.specs.Option.{option_copied}
 use Rattle.batch.specs.Forecast.{IsForecast}
 use Rattle.tree.specs.Updates.{changes_of}
-use Rattle.steps.proofs.Asked.{nothing_kept, bare_in, is_ahead, few_more, change_over, change_fits, change_foretold}
+use Rattle.steps.proofs.asked.Asked.{nothing_kept, bare_in, is_ahead, few_more, change_over, change_fits, change_foretold}
 use Rattle.steps.proofs.asking.ask_change.Goals as goal
 
 pub outlook_of-requires : goal.outlook_of-requires

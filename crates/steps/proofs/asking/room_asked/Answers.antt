@@ -1,5 +1,5 @@
 use Rattle.std.proofs.Common.{◌∙◌}
-use Rattle.steps.proofs.Asked.{nothing_kept, free_told}
+use Rattle.steps.proofs.asked.Asked.{nothing_kept, free_told}
 use Rattle.steps.proofs.asking.room_asked.Goals as goal
 
 pub returns-in_default-ledger-clause-room : goal.returns-in_default-ledger-clause-room

@@ -5,7 +5,7 @@ use Rattle.model.specs.declared.reply.Reply.TheVariants.{Refused}
 use Rattle.model.specs.Step.{Step}
 use Rattle.world.specs.Tables.{Datasets}
 use Rattle.datasets.specs.Limits.{with_limit_of}
-use Rattle.steps.proofs.Asked.{refused_by, set_few, set_not, set_over, set_fits}
+use Rattle.steps.proofs.asked.Asked.{refused_by, set_few, set_not, set_over, set_fits}
 use Rattle.steps.proofs.asking.with_limit.Goals as goal
 
 pub returns-in_err-set_limit-clause-err : goal.returns-in_err-set_limit-clause-err

@@ -1,5 +1,5 @@
 use Rattle.std.proofs.Common.{sym, ◌∙◌}
-use Rattle.steps.proofs.Measured.{get_absent, get_told, get_wanting}
+use Rattle.steps.proofs.questions.Measured.{get_absent, get_told, get_wanting}
 use Rattle.steps.proofs.counting.get.Goals as goal
 
 pub returns-in-Ok-Some-clause-step : goal.returns-in-Ok-Some-clause-step

@@ -1,6 +1,6 @@
 use Rattle.std.proofs.Common.{ap}
 use Rattle.model.specs.declared.reply.Value.TheVariants.{Number}
-use Rattle.steps.proofs.PoolCounts.{pool_get_size, pool_get_allocated, pool_get_free, pool_get_freeing, pool_get_waiting, pool_get_group}
+use Rattle.steps.proofs.questions.PoolCounts.{pool_get_size, pool_get_allocated, pool_get_free, pool_get_freeing, pool_get_waiting, pool_get_group}
 use Rattle.steps.proofs.counting.pool_get.Goals as goal
 
 pub returns-in-Size : goal.returns-in-Size

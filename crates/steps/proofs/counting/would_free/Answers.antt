@@ -1,8 +1,8 @@
 use Rattle.std.proofs.Common.{arith}
 use Rattle.world.specs.Tables.{world_of}
-use Rattle.space.specs.Ranges.{range_ids}
+use Rattle.lookups.specs.Ranges.{range_ids}
 use Rattle.lookups.proofs.Fitting.{would_free_fits}
-use Rattle.steps.proofs.Measured.{free_refused, free_told}
+use Rattle.steps.proofs.questions.Measured.{free_refused, free_told}
 use Rattle.steps.proofs.counting.would_free.Goals as goal
 
 pub overflow_cast-blocks : goal.overflow_cast-blocks

@@ -5,8 +5,8 @@ use Rattle.model.specs.declared.reply.Reply.TheVariants.{Refused}
 use Rattle.model.specs.Step.{Step}
 use Rattle.batch.specs.Updates.{changes_of}
 use Rattle.receives.specs.Ends.{HasReceived}
-use Rattle.steps.proofs.Asked.{refused_by}
-use Rattle.steps.proofs.Taking.{present_apart, no_memory, not_read, not_begun, under_way, batch_may, not_fitting, not_finished, finished}
+use Rattle.steps.proofs.asked.Asked.{refused_by}
+use Rattle.steps.proofs.requests.Taking.{present_apart, no_memory, not_read, not_begun, under_way, batch_may, not_fitting, not_finished, finished}
 use Rattle.steps.proofs.intake.intake_of.Goals as goal
 
 pub returns-in_err-stream-clause-err : goal.returns-in_err-stream-clause-err

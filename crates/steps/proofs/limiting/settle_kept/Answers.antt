@@ -1,5 +1,5 @@
 use Rattle.world.specs.Tables.{world_of}
-use Rattle.steps.proofs.Settled.{ledger_before}
+use Rattle.steps.proofs.asked.Settled.{ledger_before}
 use Rattle.steps.proofs.limiting.settle_kept.Goals as goal
 
 pub settle-requires-clause-own : goal.settle-requires-clause-own

@@ -1,4 +1,4 @@
-use Rattle.steps.proofs.Reading.{holds_refused, holds_told}
+use Rattle.steps.proofs.questions.Reading.{holds_refused, holds_told}
 use Rattle.steps.proofs.naming.holds.Goals as goal
 
 pub returns-in-Ok : goal.returns-in-Ok

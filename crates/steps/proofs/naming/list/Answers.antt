@@ -1,5 +1,5 @@
 use Rattle.removals.proofs.Shared.{shared_are}
-use Rattle.steps.proofs.Reading.{names_listed, names_refused}
+use Rattle.steps.proofs.questions.Reading.{names_listed, names_refused}
 use Rattle.steps.proofs.naming.list.Goals as goal
 
 pub returns-in-Ok : goal.returns-in-Ok

@@ -3,7 +3,7 @@ use Rattle.std.specs.Option.{option_copied}
 use Rattle.model.specs.declared.request.Request.TheVariants.{Read}
 use Rattle.model.specs.declared.reply.Reply.TheVariants.{Data}
 use Rattle.model.specs.Step.{Step}
-use Rattle.steps.proofs.Reading.{read_absent, read_refused, read_done}
+use Rattle.steps.proofs.questions.Reading.{read_absent, read_refused, read_done}
 use Rattle.steps.proofs.naming.read.Goals as goal
 
 pub returns-in_default : goal.returns-in_default

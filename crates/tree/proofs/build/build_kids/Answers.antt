@@ -4,12 +4,14 @@ use Rattle.std.proofs.lemmas.List.{take_all}
 use Rattle.node.specs.Kid.{birth_of, places_of}
 use Rattle.node.specs.Node.{inner_part, shared_part, part_of_owner}
 use Rattle.batch.specs.Said.{said}
-use Rattle.batch.specs.Touch.{any_kid, later_first, touched, stays}
+use Rattle.batch.specs.Touch.{any_kid, later_first, touched, stays, dropped}
 use Rattle.batch.specs.Build.{made_keys, parts, rebuilt, number_of, HasKeys}
 use Rattle.batch.proofs.KidLaws.{or_false, kid_sound, length-parts}
-use Rattle.batch.proofs.TouchLaws.{touched_same, stays_same, made_same, rebuilt_same, kid_words, any_back}
+use Rattle.batch.proofs.TouchLaws.{touched_same, stays_same, made_same, dropped_same, rebuilt_same, kid_words, any_back}
 use Rattle.batch.proofs.MadeLaws.{keys_here, keys_rest, next_back, parts_back}
 use Rattle.batch.proofs.Lists.{drop_past}
+use Rattle.batch.proofs.Metering.{meter_back, meter_end}
+use Rattle.tree.proofs.Metering.{none_made, made_in_turn}
 use Rattle.tree.proofs.build.build_kids.Goals as goal
 
 pub loop-back-init : goal.loop-back-init
@@ -25,6 +27,9 @@ loop-back-init g c =
       stays = ap (any_kid (stays s h) c.args.first) all;
       next = ap (λ xs. c.args.next + length (later_first (made_keys s h) c.args.first xs)) all;
       keys = subst (λ xs. HasKeys c.args.made.now c.args.next (later_first (made_keys s h) c.args.first xs)) (sym all) c.requires.keys;
+      metered = rw all (omega arith);
+      metered_made = none_made _ _;
+      never_lower = omega arith;
       sixteen = refl;
       parts = sym (drop_past 16 (parts (rebuilt s (number_of c.args.made.now) c.args.group.0 h) c.args.first os) (let n = length-parts (rebuilt s (number_of c.args.made.now) c.args.group.0 h) c.args.first os in omega (arith, n, c.owner_count-back-end.ensures.all)));
     }
@@ -90,6 +95,9 @@ loop-back-preserved g c =
       stays = any_back (stays s h) (stays mine h) first back os kid _ _ _ few n at inv.stays given.stays (stays_same mine s h i _ kid sound words.0);
       next = next_back (made_keys s h) (made_keys mine h) first back os kid _ _ _ few n at inv.next given.next made;
       keys = keys_rest (made_keys s h) (made_keys mine h) first back os kid c.args.made.now _ _ few n at inv.keys given.next made;
+      metered = meter_back (dropped s 0 h) (dropped mine 0 h) first back os kid _ _ _ _ few n at inv.metered given.metered (dropped_same mine s 0 h i _ kid sound words.0);
+      metered_made = made_in_turn _ _ _ _ _ _ inv.metered_made given.metered_made;
+      never_lower = omega (arith, inv.never_lower, given.never_lower);
       sixteen = length-set c.loop-back.kids (15 - back) c.in_ok-built.built.part ∙ inv.sixteen;
       parts = parts_back (shared_part g.C.Level.part) (rebuilt s number b h) (rebuilt mine number b h) first back os kid _ _ few n at inv.sixteen inv.parts given.part (rebuilt_same mine s number b h i _ kid sound words.0);
     }
@@ -114,3 +122,8 @@ returns-clause-next g c =
     let z : 16 - c.loop-back.back ≡ 0 = omega (arith, c.loop-back-test.false, c.owner_count-back-end.ensures.sixteen) in
     let e : c.loop-back.at ≡ c.loop-back.at + 0 = omega arith in
     e ∙ rw z at c.loop-back.invariant.next
+
+pub returns-clause-metered : goal.returns-clause-metered
+returns-clause-metered g c =
+    let z : 16 - c.loop-back.back ≡ 0 = omega (arith, c.loop-back-test.false, c.owner_count-back-end.ensures.sixteen) in
+    meter_end _ _ 0 _ refl (rw z at c.loop-back.invariant.metered)

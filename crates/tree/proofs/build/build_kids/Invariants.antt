@@ -1,9 +1,10 @@
-use Rattle.std.proofs.Common.{◌≡◌, ℕ, ◌+◌, ◌-◌, ◌*◌, ◌^◌, ◌<◌, take, drop, map, length}
+use Rattle.std.proofs.Common.{◌≡◌, ℕ, ◌+◌, ◌-◌, ◌*◌, ◌^◌, ◌<◌, ◌≤◌, take, drop, map, length}
 use Rattle.std.specs.Prelude.{◌||◌}
+use Rattle.base.specs.Counting.{counted}
 use Rattle.node.specs.Kid.{places_of}
 use Rattle.node.specs.Node.{inner_part, part_of_owner, part_of_slot}
 use Rattle.batch.specs.Said.{said, AreInOrder}
-use Rattle.batch.specs.Touch.{any_kid, later_first, touched, stays}
+use Rattle.batch.specs.Touch.{any_kid, later_first, touched, stays, dropped}
 use Rattle.batch.specs.Build.{made_keys, parts, rebuilt, number_of, HasKeys}
 use Rattle.tree.proofs.build.build_kids.Given as goal
 
@@ -19,6 +20,9 @@ invariant-loop-back g l =
       stays : (l.any_stays || any_kid (stays s h) l.fn.first (take (16 - l.back) os)) ≡ any_kid (stays s h) l.fn.first os;
       next : l.at + length (later_first (made_keys s h) l.fn.first (take (16 - l.back) os)) ≡ l.fn.next + length (later_first (made_keys s h) l.fn.first os);
       keys : HasKeys l.fn.made l.at (later_first (made_keys s h) l.fn.first (take (16 - l.back) os));
+      metered : counted l.fn.meter (length (later_first (dropped s 0 h) l.fn.first os)) ≤ counted l.meter (length (later_first (dropped s 0 h) l.fn.first (take (16 - l.back) os)));
+      metered_made : counted l.fn.meter (l.at - l.fn.next) ≤ l.meter;
+      never_lower : l.fn.meter ≤ l.meter;
       sixteen : length l.kids ≡ 16;
       parts : drop (16 - l.back) (map (part_of_slot g.C.Level.part) l.kids) ≡ drop (16 - l.back) (parts (rebuilt s (number_of l.fn.made) l.fn.group.0 h) l.fn.first os);
     }

@@ -1,16 +1,19 @@
-use Rattle.std.proofs.Common.{◌≡◌, ◌+◌, suc, ◌*◌, ◌-◌, ◌^◌, [], Some, length, refl, sym, ap, subst, ◌∙◌, arith, set, Option, Result, Ok, Err}
+use Rattle.std.proofs.Common.{◌≡◌, ◌+◌, suc, ◌*◌, ◌-◌, ◌^◌, ◌≤◌, [], Some, length, refl, sym, ap, subst, ◌∙◌, arith, set, Option, Result, Ok, Err, List}
 use Rattle.std.specs.Prelude.{OnErr}
+use Rattle.base.specs.Counting.{counted}
+use Rattle.base.specs.declared.number.Dead.{Dead}
 use Rattle.node.specs.Entries.{key_at}
 use Rattle.node.specs.Node.{inner_part, shared_part}
 use Rattle.batch.specs.Said.{said}
 use Rattle.node.specs.Shape.{Part, Forest}
-use Rattle.batch.specs.Touch.{touched}
+use Rattle.batch.specs.Touch.{touched, dropped}
 use Rattle.batch.specs.Build.{made_keys, number_of, HasKeys, no_block}
 use Rattle.batch.proofs.KidLaws.{kid_sound}
 use Rattle.node.proofs.Places.{kids_of, length-places}
 use Rattle.batch.proofs.MadeLaws.{key_place}
-use Rattle.batch.proofs.TouchLaws.{key_fits, kid_span}
-use Rattle.batch.proofs.OneLeaf.{place_at, keys_below, kid_touched, own_key, all_passed, node_same, node_renewed}
+use Rattle.batch.proofs.TouchLaws.{key_fits, kid_span, dropped_down}
+use Rattle.batch.proofs.OneLeaf.{place_at, keys_below, kid_touched, own_key, all_passed, dropped_below, node_same, node_renewed}
+use Rattle.tree.proofs.Metering.{node_counted, more_made}
 use Rattle.tree.proofs.renew.renew_node.Goals as goal
 
 on_err : {T E : Type 0} (r : Result T E) {P : Type 0} → P → OnErr r P
@@ -114,3 +117,22 @@ returns-clause-next g c =
     let wide : length kids ≡ 16 = sym (length-places f kids) ∙ (kids_of h o.cell.birth (Some o) c.requires.sound).0 in
     let here = place_at f kids c.args.way.place c.index-node-way.result (omega (arith, c.requires.way.few, wide)) in
     c.number_at-after.ensures.next ∙ all_passed s h o.cell.birth c.args.index c.args.way.place w way (Some o) c.requires.sound c.requires.touched c.requires.stays c.args.made.now c.args.next c.in_ok-at.at _ here c.in_ok-at.ensures.next
+
+pub returns-clause-metered : goal.returns-clause-metered
+returns-clause-metered g c =
+    let h = g.C.Level.height in
+    let f = shared_part g.C.Level.part in
+    let o = inner_part g.C.Level.part c.args.node.now in
+    let kids = c.args.node.now.kids in
+    let way = c.requires.way in
+    let p = c.args.way.place in
+    let w = c.args.way.writes in
+    let s = said c.args.updates.now in
+    let wide : length kids ≡ 16 = sym (length-places f kids) ∙ (kids_of h o.cell.birth (Some o) c.requires.sound).0 in
+    let here = place_at f kids p c.index-node-way.result (omega (arith, c.requires.way.few, wide)) in
+    let below = dropped_below s h o.cell.birth c.args.index p w way (Some o) c.requires.sound 0 ∙ ap (dropped s 0 h (16 * c.args.index + p)) here in
+    node_counted _ _ _ _ 0 (Some o) _ _ (dropped_down s 0 h c.args.index (Some o)) c.reach.ensures.metered
+    (subst (λ (ds : List Dead). counted c.reach.new.meter (length ds) ≤ c.renew.new.meter) (sym below) c.in_ok-at.ensures.metered)
+
+pub returns-clause-metered_made : goal.returns-clause-metered_made
+returns-clause-metered_made g c = more_made _ _ _ _ _ _ c.reach.ensures.metered c.in_ok-at.ensures.metered_made (omega (arith, c.number_at-after.ensures.next))

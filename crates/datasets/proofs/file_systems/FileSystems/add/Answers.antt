@@ -4,7 +4,7 @@ use Rattle.std.specs.Arc.{arc_value}
 use Rattle.std.specs.List.{insert}
 use Rattle.std.specs.Option.{option_map, option_and_then}
 use Rattle.std.specs.FinMap.{get, from_sorted}
-use Rattle.name.specs.Names.{name_cmp}
+use Rattle.base.specs.Names.{name_cmp}
 use Rattle.model.specs.Ids.{snap_id}
 use Rattle.model.specs.World.{FileSystem, Snap}
 use Rattle.file_system.specs.Rows.{entry_in, Row}

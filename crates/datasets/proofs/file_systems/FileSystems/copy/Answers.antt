@@ -1,7 +1,7 @@
 use Rattle.std.proofs.Common.{◌≡◌, map, ap, ◌∙◌}
 use Rattle.std.specs.Arc.{arc_value}
 use Rattle.std.specs.FinMap.{from_sorted}
-use Rattle.name.specs.Names.{name_cmp}
+use Rattle.base.specs.Names.{name_cmp}
 use Rattle.file_system.specs.Rows.{entry_in}
 use Rattle.datasets.proofs.Ties.{same_entries}
 use Rattle.datasets.proofs.file_systems.FileSystems.copy.Goals as goal

@@ -1,7 +1,7 @@
 use Rattle.std.proofs.Common.{ap, sym, map}
 use Rattle.std.specs.Option.{option_map}
 use Rattle.std.specs.FinMap.{from_sorted}
-use Rattle.name.specs.Names.{name_cmp}
+use Rattle.base.specs.Names.{name_cmp}
 use Rattle.datasets.specs.Clones.{row_in}
 use Rattle.datasets.specs.Places.{IsAt, IsGapFor}
 use Rattle.file_system.specs.Rows.{entry_in}

@@ -5,11 +5,11 @@ use Rattle.std.specs.Arc.{arc_value}
 use Rattle.std.specs.List.{find}
 use Rattle.std.specs.Option.{option_map}
 use Rattle.std.specs.FinMap.{get, is_sorted, from_sorted}
-use Rattle.name.specs.Names.{name_cmp}
+use Rattle.base.specs.Names.{name_cmp}
 use Rattle.base.specs.Surveys.{IsIn}
 use Rattle.model.specs.Ids.{snap_id}
 use Rattle.model.specs.World.{FileSystem, Snap, id_of, same_id}
-use Rattle.world.proofs.Maps.{same_value}
+use Rattle.world.proofs.lists.Maps.{same_value}
 use Rattle.datasets.specs.Places.{IsAt, IsGapFor}
 use Rattle.file_system.specs.Promotions.{CanPromote, promoted_row, demoted_row}
 use Rattle.datasets.specs.Promoted.{CanPromoteIn, IsPromotion, promoted_in}

@@ -1,21 +1,16 @@
-use Rattle.std.proofs.Common.{◌≡◌, ◌<◌, List, [], Option, None, length, map, ap, sym, subst, ◌∙◌, arith}
-use Rattle.std.specs.Prelude.{IfSome}
-use Rattle.std.specs.Arc.{arc_value}
+use Rattle.std.proofs.Common.{◌≡◌, ◌<◌, List, [], Option, None, length, map, set, refl, ap, sym, subst, ◌∙◌, arith}
+use Rattle.std.specs.Prelude.{OnOk}
 use Rattle.std.specs.Option.{option_map_or}
 use Rattle.std.specs.FinMap.{get, from_sorted}
-use Rattle.std.proofs.lemmas.List.{map-set}
-use Rattle.std.proofs.Math.Seq.{map-set_same}
-use Rattle.base.specs.Map.{Map}
+use Rattle.base.specs.Names.{name_cmp}
 use Rattle.model.specs.World.{FileSystem, Snap}
-use Rattle.name.specs.Names.{name_cmp}
-use Rattle.datasets.specs.Places.{IsAt, IsGapFor}
-use Rattle.file_system.specs.Rows.{entry_in, entry_of, Entry, Row, snaps_at, with_live}
+use Rattle.file_system.specs.Losses.{newest_map}
+use Rattle.file_system.specs.Rows.{FileSystems, Row, entry_in, snaps_at}
 use Rattle.file_system.specs.Splices.{AreAbove}
-use Rattle.datasets.proofs.Rows.{on_err, row_of, get_gap, row_sorted, row_is, rule_here, live_is, snaps_are}
-use Rattle.datasets.proofs.Counts.{set_counted_same}
-use Rattle.datasets.specs.Clones.{map_found}
-use Rattle.datasets.proofs.Ties.{row_place, row_within, tied_set, origin_is, below_is}
-use Rattle.datasets.proofs.Listing.{listed_set}
+use Rattle.datasets.specs.Places.{IsAt, IsGapFor}
+use Rattle.datasets.proofs.Rows.{on_err, row_of, get_gap, live_is, snaps_are, rolled_live}
+use Rattle.datasets.proofs.Ties.{origin_is, below_is}
+use Rattle.datasets.proofs.Labelled.{lent, not_lent, stands_above, tried_sorted, tried_is, tried_same, same_sorted, same_is}
 use Rattle.datasets.proofs.file_systems.FileSystems.rollback.Goals as goal
 
 -- a snapshot isn't of a file system that isn't there
@@ -32,74 +27,61 @@ rollback-requires-clause-there c =
     let at : IsAt (map entry_in c.self.inside.rows.items) c.args.name.now c.in-Ok.place = rw (← c.deref.ensures.value, ← c.as_bytes.ensures) c.in-Ok.ensures.found in
     let is = row_of entry_in c.self.inside.rows.items c.in-Ok.place c.index_mut.result.now c.index_mut.ensures.value in
     let snaps = ap (λ m. snaps_at m c.args.name.now) (sym c.self.view_is) ∙ snaps_are _ c.self.invariant.sorted c.args.name.now c.in-Ok.place at (entry_in c.index_mut.result.now) is in
-    subst (λ (l : List Snap). 0 < length l) snaps c.requires.there
+    subst (λ (r : Row). 0 < length r.system.snaps) (sym c.in_ok-file_system.ensures.value) (subst (λ (l : List Snap). 0 < length l) snaps c.requires.there)
 
 pub rollback-requires-clause-above : goal.rollback-requires-clause-above
 rollback-requires-clause-above c =
     let at : IsAt (map entry_in c.self.inside.rows.items) c.args.name.now c.in-Ok.place = rw (← c.deref.ensures.value, ← c.as_bytes.ensures) c.in-Ok.ensures.found in
-    let is = row_of entry_in c.self.inside.rows.items c.in-Ok.place c.index_mut.result.now c.index_mut.ensures.value in
-    let below = below_is c.self.inside.rows.items c.self.invariant.sorted c.self.invariant.tied c.args.name.now c.in-Ok.place at c.index_mut.result.now c.index_mut.ensures.value in
-    rule_here _ c.self.invariant.sorted c.args.name.now c.in-Ok.place at (entry_in c.index_mut.result.now) is (AreAbove (arc_value c.index_mut.result.now).below) (subst (λ (b : Map). IfSome (get (from_sorted {R = name_cmp} (map entry_in c.self.inside.rows.items)) c.args.name.now) (AreAbove b)) below (rw c.self.view_is c.requires.above))
+    subst (λ (r : Row). AreAbove r.below r.system) (sym c.in_ok-file_system.ensures.value)
+    (stands_above c.self.inside c.self.invariant c.args.self.now c.self.view_is c.args.name.now c.in-Ok.place at c.index_mut.result.now c.index_mut.ensures.value c.requires.above)
 
 -- where memory was refused the rows are the same
 pub invariant_of-self : goal.invariant_of-self
 invariant_of-self c =
-    let same = map-set_same entry_in c.self.inside.rows.items c.in-Ok.place c.rollback.new.row c.index_mut.result.now (ap entry_of c.in_err-lost.ensures.err ∙ ap entry_in c.index_mut.ensures.value) in
-    let same_rows = map-set_same arc_value c.self.inside.rows.items c.in-Ok.place c.rollback.new.row c.index_mut.result.now (c.in_err-lost.ensures.err ∙ ap arc_value c.index_mut.ensures.value) in
-    record { sorted = rw same c.self.invariant.sorted; counted = rw same c.self.invariant.counted; tied = rw same_rows c.self.invariant.tied; listed = rw same c.self.invariant.listed }
+    let at : IsAt (map entry_in c.self.inside.rows.items) c.args.name.now c.in-Ok.place = rw (← c.deref.ensures.value, ← c.as_bytes.ensures) c.in-Ok.ensures.found in
+    same_sorted c.self.inside c.self.invariant c.args.self.now c.self.view_is c.args.name.now c.in-Ok.place at c.index_mut.result.now c.index_mut.ensures.value
+    c.own.follows.lender-at-none (not_lent c.own.result _ c.in_err-file_system.was c.own.follows.holds-at-none) _ refl refl refl
 
-pub returns-in_err-lost-clause-err : goal.returns-in_err-lost-clause-err
-returns-in_err-lost-clause-err c =
-    let same = map-set_same entry_in c.self.inside.rows.items c.in-Ok.place c.rollback.new.row c.index_mut.result.now (ap entry_of c.in_err-lost.ensures.err ∙ ap entry_in c.index_mut.ensures.value) in
-    on_err c.from_residual.result (ap (from_sorted {R = name_cmp}) same ∙ c.self.view_is)
+pub returns-in_err-file_system-clause-err : goal.returns-in_err-file_system-clause-err
+returns-in_err-file_system-clause-err c =
+    let at : IsAt (map entry_in c.self.inside.rows.items) c.args.name.now c.in-Ok.place = rw (← c.deref.ensures.value, ← c.as_bytes.ensures) c.in-Ok.ensures.found in
+    on_err c.from_residual.result
+    (same_is c.self.inside c.self.invariant c.args.self.now c.self.view_is c.args.name.now c.in-Ok.place at c.index_mut.result.now c.index_mut.ensures.value
+    c.own.follows.lender-at-none (not_lent c.own.result _ c.in_err-file_system.was c.own.follows.holds-at-none))
 
--- the row has another live map
+-- the row has another live map, or is the same
 pub invariant_of-self-2 : goal.invariant_of-self-2
 invariant_of-self-2 c =
-    let rows = map entry_in c.self.inside.rows.items in
-    let row = entry_in c.index_mut.result.now in
-    let after = entry_in c.rollback.new.row in
-    let at : IsAt rows c.args.name.now c.in-Ok.place = rw (← c.deref.ensures.value, ← c.as_bytes.ensures) c.in-Ok.ensures.found in
-    let is = row_of entry_in c.self.inside.rows.items c.in-Ok.place c.index_mut.result.now c.index_mut.ensures.value in
-    let live = ap (λ (r : Entry). r.1.live) (ap entry_of c.in_ok-lost.ensures.ok) in
-    let others : after ≡ (row.0, record row.1 { live = after.1.live }) = ap entry_of c.in_ok-lost.ensures.ok ∙ ap (λ (m : Map). (row.0, record row.1 { live = m })) (sym live) in
-    let sorted = row_sorted rows c.self.invariant.sorted c.args.name.now c.in-Ok.place at row is after others in
-    let same = ap (λ (r : Entry). length r.1.snaps) (ap entry_of c.in_ok-lost.ensures.ok) in
-    let items = c.self.inside.rows.items in
-    let all = map arc_value items in
-    let done = c.in_ok-lost.ensures.ok in
-    let place = row_place c.self.inside.rows.items c.self.invariant.sorted c.self.invariant.tied c.args.name.now c.in-Ok.place at c.index_mut.result.now c.index_mut.ensures.value in
-    let within = row_within c.self.inside.rows.items c.self.invariant.sorted c.self.invariant.tied c.args.name.now c.in-Ok.place at c.index_mut.result.now c.index_mut.ensures.value in
-    let tied = tied_set all c.in-Ok.place (arc_value c.rollback.new.row) (arc_value c.index_mut.result.now) c.self.invariant.tied within place (ap (λ (r : Row). r.system.origin) done) (ap (λ (r : Row). r.below) done)
-    (λ x id h o found. ap (λ (r : Row). map_found r.system.snaps id) c.in_ok-lost.ensures.ok) in
-    record {
-      sorted = rw map-set sorted;
-      counted = rw map-set (set_counted_same rows c.in-Ok.place after row c.self.inside.snapshot_count c.self.invariant.sorted sorted at.within is same c.self.invariant.counted);
-      tied = rw map-set tied;
-      listed = rw map-set (listed_set rows c.self.invariant.sorted c.args.name.now c.in-Ok.place at row is after c.self.inside.clones (ap (λ (r : Row). r.name) done) (ap (λ (r : Row). r.system.origin) done) c.self.invariant.listed);
-    }
+    let at : IsAt (map entry_in c.self.inside.rows.items) c.args.name.now c.in-Ok.place = rw (← c.deref.ensures.value, ← c.as_bytes.ensures) c.in-Ok.ensures.found in
+    tried_sorted c.self.inside c.self.invariant c.args.self.now c.self.view_is c.args.name.now c.in-Ok.place at c.index_mut.result.now c.index_mut.ensures.value
+    (λ f. record f { live = newest_map f.live f.snaps }) (record { origin = refl; count = refl; found = λ id. refl }) (c.own.follows.lender c.rollback.new.self) c.rollback.new.self c.in_ok-file_system.file_system.now
+    (lent c.own.result _ c.in_ok-file_system.was (c.own.follows.holds c.rollback.new.self)) c.in_ok-file_system.ensures.value
+    c.rollback.result c.rollback.ensures.ok c.rollback.ensures.err _ refl refl refl
 
 pub returns-clause-ok : goal.returns-clause-ok
 returns-clause-ok c =
-    let rows = map entry_in c.self.inside.rows.items in
-    let row = entry_in c.index_mut.result.now in
-    let after = entry_in c.rollback.new.row in
-    let at : IsAt rows c.args.name.now c.in-Ok.place = rw (← c.deref.ensures.value, ← c.as_bytes.ensures) c.in-Ok.ensures.found in
-    let is = row_of entry_in c.self.inside.rows.items c.in-Ok.place c.index_mut.result.now c.index_mut.ensures.value in
-    let before = live_is _ c.self.invariant.sorted c.args.name.now c.in-Ok.place at row is in
-    let snaps = snaps_are _ c.self.invariant.sorted c.args.name.now c.in-Ok.place at row is in
-    let live = ap (λ (r : Entry). r.1.live) (ap entry_of c.in_ok-lost.ensures.ok) in
-    let others : after ≡ (row.0, record row.1 { live = after.1.live }) = ap entry_of c.in_ok-lost.ensures.ok ∙ ap (λ (m : Map). (row.0, record row.1 { live = m })) (sym live) in
-    rw (← c.self.view_is, map-set, before, snaps) (row_is rows c.self.invariant.sorted c.args.name.now c.in-Ok.place at row is after others ∙ ap (with_live (from_sorted {R = name_cmp} rows) c.args.name.now) live)
+    let at : IsAt (map entry_in c.self.inside.rows.items) c.args.name.now c.in-Ok.place = rw (← c.deref.ensures.value, ← c.as_bytes.ensures) c.in-Ok.ensures.found in
+    subst (λ (m : FileSystems). OnOk c.rollback.result (from_sorted {R = name_cmp} (map entry_in (set c.self.inside.rows.items c.in-Ok.place (c.own.follows.lender c.rollback.new.self))) ≡ m))
+    (rolled_live c.args.self.now c.args.name.now)
+    (tried_is c.self.inside c.self.invariant c.args.self.now c.self.view_is c.args.name.now c.in-Ok.place at c.index_mut.result.now c.index_mut.ensures.value
+    (λ f. record f { live = newest_map f.live f.snaps }) (record { origin = refl; count = refl; found = λ id. refl }) (c.own.follows.lender c.rollback.new.self) c.rollback.new.self c.in_ok-file_system.file_system.now
+    (lent c.own.result _ c.in_ok-file_system.was (c.own.follows.holds c.rollback.new.self)) c.in_ok-file_system.ensures.value
+    c.rollback.result c.rollback.ensures.ok)
 
 pub returns-clause-lost : goal.returns-clause-lost
 returns-clause-lost c =
-    let rows = map entry_in c.self.inside.rows.items in
-    let row = entry_in c.index_mut.result.now in
-    let at : IsAt rows c.args.name.now c.in-Ok.place = rw (← c.deref.ensures.value, ← c.as_bytes.ensures) c.in-Ok.ensures.found in
+    let at : IsAt (map entry_in c.self.inside.rows.items) c.args.name.now c.in-Ok.place = rw (← c.deref.ensures.value, ← c.as_bytes.ensures) c.in-Ok.ensures.found in
     let is = row_of entry_in c.self.inside.rows.items c.in-Ok.place c.index_mut.result.now c.index_mut.ensures.value in
-    let before = live_is _ c.self.invariant.sorted c.args.name.now c.in-Ok.place at row is in
-    let snaps = snaps_are _ c.self.invariant.sorted c.args.name.now c.in-Ok.place at row is in
+    let before = live_is _ c.self.invariant.sorted c.args.name.now c.in-Ok.place at (entry_in c.index_mut.result.now) is in
+    let snaps = snaps_are _ c.self.invariant.sorted c.args.name.now c.in-Ok.place at (entry_in c.index_mut.result.now) is in
     let below = below_is c.self.inside.rows.items c.self.invariant.sorted c.self.invariant.tied c.args.name.now c.in-Ok.place at c.index_mut.result.now c.index_mut.ensures.value in
     let origin = origin_is c.self.inside.rows.items c.self.invariant.sorted c.self.invariant.tied c.args.name.now c.in-Ok.place at c.index_mut.result.now c.index_mut.ensures.value in
-    rw (← c.self.view_is, before, snaps, below, origin) c.in_ok-lost.ensures.lost
+    rw (← c.self.view_is, before, snaps, below, origin, ← c.in_ok-file_system.ensures.value) c.rollback.ensures.lost
+
+pub returns-clause-err : goal.returns-clause-err
+returns-clause-err c =
+    let at : IsAt (map entry_in c.self.inside.rows.items) c.args.name.now c.in-Ok.place = rw (← c.deref.ensures.value, ← c.as_bytes.ensures) c.in-Ok.ensures.found in
+    tried_same c.self.inside c.self.invariant c.args.self.now c.self.view_is c.args.name.now c.in-Ok.place at c.index_mut.result.now c.index_mut.ensures.value
+    (λ f. record f { live = newest_map f.live f.snaps }) (record { origin = refl; count = refl; found = λ id. refl }) (c.own.follows.lender c.rollback.new.self) c.rollback.new.self c.in_ok-file_system.file_system.now
+    (lent c.own.result _ c.in_ok-file_system.was (c.own.follows.holds c.rollback.new.self)) c.in_ok-file_system.ensures.value
+    c.rollback.result c.rollback.ensures.err

@@ -3,7 +3,7 @@ use Rattle.std.specs.Prelude.{remove}
 use Rattle.std.specs.Arc.{arc_value}
 use Rattle.std.specs.FinMap.{get, from_sorted}
 use Rattle.std.specs.Option.{option_map}
-use Rattle.name.specs.Names.{name_cmp}
+use Rattle.base.specs.Names.{name_cmp}
 use Rattle.model.specs.Ids.{snap_id}
 use Rattle.tree.proofs.Options.{not_some}
 use Rattle.file_system.specs.Rows.{entry_in, Row, Entry, snaps_at}

@@ -3,7 +3,7 @@ use Rattle.std.proofs.lemmas.List.{map-set}
 use Rattle.std.specs.Arc.{arc_value}
 use Rattle.std.specs.FinMap.{get, from_sorted}
 use Rattle.std.specs.Option.{option_map}
-use Rattle.name.specs.Names.{name_cmp}
+use Rattle.base.specs.Names.{name_cmp}
 use Rattle.model.specs.Ids.{snap_id}
 use Rattle.model.specs.World.{empty_file_system}
 use Rattle.tree.proofs.Options.{not_some}

@@ -2,7 +2,7 @@ use Rattle.std.proofs.Common.{false, ◌∙◌}
 use Rattle.std.specs.Arc.{arc_value}
 use Rattle.std.specs.Option.{option_map_or}
 use Rattle.std.specs.FinMap.{entries}
-use Rattle.name.specs.Names.{same_name, parent_of}
+use Rattle.base.specs.Names.{same_name, parent_of}
 use Rattle.file_system.specs.Rows.{Row}
 use Rattle.datasets.proofs.Children.{any_child}
 use Rattle.datasets.proofs.table.Table.has_child.Goals as goal

@@ -1,7 +1,7 @@
 use Rattle.std.proofs.Common.{◌≡◌, sym, ap, subst, ◌∙◌, arith}
 use Rattle.std.specs.FinMap as finmap
 use Rattle.std.specs.FinMap.{insert}
-use Rattle.name.specs.Names.{root_name}
+use Rattle.base.specs.Names.{root_name}
 use Rattle.model.specs.World.{empty_file_system}
 use Rattle.world.specs.Worlds.{FileSystems}
 use Rattle.datasets.specs.Table.{IsTable}

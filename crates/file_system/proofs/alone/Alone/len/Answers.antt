@@ -4,7 +4,7 @@ use Rattle.std.specs.FinSet.{len}
 use Rattle.base.specs.Map.{BlockSet}
 use Rattle.base.specs.Surveys.{dead_block}
 use Rattle.world.specs.Blocks.{block_order as o}
-use Rattle.world.proofs.Lists.{len-from_list}
+use Rattle.world.proofs.lists.Lists.{len-from_list}
 use Rattle.file_system.proofs.alone.Alone.len.Goals as goal
 
 -- no block stands twice

@@ -9,7 +9,7 @@ use Rattle.base.specs.Surveys.{dead_block}
 use Rattle.deadlist.specs.Entries.{is_after}
 use Rattle.snapshots.specs.declared.kept.Kept.{Kept}
 use Rattle.world.specs.Worlds.{AreRising}
-use Rattle.world.proofs.Deadlists.{dead_counts}
+use Rattle.world.proofs.lineage.Deadlists.{dead_counts}
 use Rattle.file_system.specs.Alone.{entries_of, entries_at}
 use Rattle.file_system.specs.Dead.{snaps_in, group_kept, IsAbove}
 use Rattle.file_system.specs.Origins.{origin_group, blocks_below, group_below}

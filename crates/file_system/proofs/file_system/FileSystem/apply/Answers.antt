@@ -10,7 +10,7 @@ use Rattle.std.specs.FinSet.{difference}
 use Rattle.std.specs.Option.{option_map}
 use Rattle.base.specs.Map.{Map, blocks}
 use Rattle.world.specs.Deadlists.{Lists}
-use Rattle.world.proofs.Shuffled.{lists_shuffled}
+use Rattle.world.proofs.lineage.Shuffled.{lists_shuffled}
 use Rattle.file_system.specs.Counts.{AreLined, IsCounted, IsRest, upto_count}
 use Rattle.file_system.specs.declared.counts.Counts.{Counts}
 use Rattle.file_system.specs.declared.counts.Rest.{Rest}
@@ -21,7 +21,7 @@ use Rattle.file_system.proofs.Accounts.{dead_changed, count_is}
 use Rattle.file_system.proofs.Lines.{line_above, newest_over}
 use Rattle.file_system.proofs.Rewritten.{own_many, own_after, alone_after, upto_more}
 use Rattle.tree.specs.Asking.{AllowsChange}
-use Rattle.tree.specs.Change.{IsChange}
+use Rattle.tree.specs.Change.{IsChange, CountsDropped}
 use Rattle.tree.specs.ChangeParts.{change_done}
 use Rattle.tree.specs.Updates.{changes_of}
 use Rattle.file_system.proofs.file_system.FileSystem.apply.Goals as goal
@@ -59,6 +59,13 @@ returns-clause-ok c =
       taken = refl;
       made = refl;
     }
+
+-- the draft has counted the blocks that go, and the put has taken none back
+pub returns-clause-metered : goal.returns-clause-metered
+returns-clause-metered c =
+    let d = c.in_ok-draft.ensures.metered in
+    subst (λ (r : Row). CountsDropped r.system.live (changes_of c.args.updates.now) c.args.meter.now c.put.new.meter) c.self.view_is
+    (record { dropped = d.dropped; each = d.each; once = d.once; metered = omega (arith, d.metered, c.in_ok-changed.ensures.never_lower) })
 
 -- where memory was refused, the dead list's entries may stand in another order
 pub invariant_of-self : goal.invariant_of-self

@@ -1,11 +1,14 @@
 use Rattle.std.proofs.Common.{◌≡◌, Some, map, set, slice_get, ap, sym, subst, ◌∙◌, arith}
+use Rattle.std.specs.Prelude.{OnErr}
 use Rattle.std.specs.Arc.{arc_value}
 use Rattle.std.specs.FinSet.{difference}
 use Rattle.std.specs.Option.{option_map}
+use Rattle.std.specs.Result.{is_ok}
 use Rattle.base.specs.Map.{blocks}
 use Rattle.base.specs.Surveys.{dead_block}
 use Rattle.model.specs.World.{Snap}
 use Rattle.snapshots.specs.declared.kept.Kept.{Kept}
+use Rattle.snapshots.specs.Index.{AreNamesOnce}
 use Rattle.world.specs.Deadlists.{Lists}
 use Rattle.world.specs.Worlds.{AreRising}
 use Rattle.file_system.specs.Counts.{IsCounted}
@@ -22,20 +25,22 @@ some_is : {A : Type 0} {x y : A} → Some x ≡ Some y → x ≡ y
 some_is e = cc
 
 -- each name is one snapshot's, and it keeps its own
-pub set_in-requires-clause-once : goal.set_in-requires-clause-once
-set_in-requires-clause-once c = above_names c.args.self.now.below c.args.self.now.system (arc_value c.self.inside.snapshots) c.requires.above (ap (λ (r : Row). r.system.snaps) c.self.view_is)
+pub set-requires-clause-once : goal.set-requires-clause-once
+set-requires-clause-once c = subst AreNamesOnce (sym c.in_ok-own.ensures.value)
+    (above_names c.args.self.now.below c.args.self.now.system (arc_value c.self.inside.snapshots) c.requires.above (ap (λ (r : Row). r.system.snaps) c.self.view_is))
 
-pub set_in-requires-clause-same : goal.set_in-requires-clause-same
-set_in-requires-clause-same c =
-    let ks = arc_value c.self.inside.snapshots in
-    let kept : c.list-kept.result.now ≡ ks = c.list-kept.ensures ∙ c.deref.ensures in
+pub set-requires-clause-same : goal.set-requires-clause-same
+set-requires-clause-same c =
+    let ks = c.in_ok-own.field-0.now in
+    let kept : c.list-kept.result.now ≡ ks = c.list-kept.ensures ∙ c.deref.ensures ∙ sym c.in_ok-own.ensures.value in
     let is : IsEdited (edit_of c.args.edit) ks c.place_of-place.result c.in_ok-next.next = subst (λ l. IsEdited (edit_of c.args.edit) l c.place_of-place.result c.in_ok-next.next) kept c.in_ok-next.ensures.ok in
     ap (option_map (λ (k : Kept). k.snapshot.name)) is.there ∙ ap Some (sym (ap (λ (t : Snap). t.name) is.snapshot ∙ same_name_of c.args.edit is.now.snapshot))
 
 -- where memory was refused all is as it was
 pub invariant_of-self : goal.invariant_of-self
 invariant_of-self c =
-    let same = sym c.in_err-set_in.ensures.err in
+    let ks = arc_value c.self.inside.snapshots in
+    let same : ks ≡ arc_value c.own.follows.lender-at-none = sym (subst (λ r. OnErr r (arc_value c.own.follows.lender-at-none ≡ ks)) c.in_err-own.was c.own.follows.holds-at-none) in
     let bs = blocks_below (option_map arc_value c.self.inside.origin) in
     record {
       accounted = subst (AreAccounted bs) same c.self.invariant.accounted;
@@ -53,7 +58,7 @@ invariant_of-self-2 c =
     let bs = blocks_below (option_map arc_value c.self.inside.origin) in
     let i = c.place_of-place.result in
     let is : IsEdited (edit_of c.args.edit) ks i c.in_ok-next.next = subst (λ l. IsEdited (edit_of c.args.edit) l i c.in_ok-next.next) kept c.in_ok-next.ensures.ok in
-    let changed : arc_value c.set_in.new.line ≡ set ks i c.in_ok-next.next = c.in_ok-set_in.ensures.ok in
+    let changed : arc_value (c.own.follows.lender c.set.new.self) ≡ set ks i c.in_ok-next.next = c.own.follows.holds c.set.new.self (ap is_ok c.in_ok-own.was) ∙ c.in_ok-set.ensures.ok ∙ ap (λ l. set l i c.in_ok-next.next) c.in_ok-own.ensures.value in
     record {
       accounted = subst (AreAccounted bs) (sym changed) (edited_accounted (edit_of c.args.edit) (same_map_of c.args.edit) bs ks i c.in_ok-next.next is c.self.invariant.accounted);
       dead = subst (λ s. Lists (map dead_block (arc_value c.self.inside.dead).entries) (difference s (blocks live)))
@@ -76,7 +81,8 @@ returns-clause-ok c =
     let at : option_map (λ (k : Kept). k.snapshot.group) (slice_get ks i) ≡ Some g = ap (λ l. option_map (λ (k : Kept). k.snapshot.group) (slice_get l i)) (sym kept) ∙ c.place_of-place.ensures.is in
     let is : IsEdited (edit_of c.args.edit) ks i c.in_ok-next.next = subst (λ l. IsEdited (edit_of c.args.edit) l i c.in_ok-next.next) kept c.in_ok-next.ensures.ok in
     let group : is.now.snapshot.group ≡ g = some_is (sym (ap (option_map (λ (k : Kept). k.snapshot.group)) is.there) ∙ at) in
-    ap (λ l. record { name = c.self.inside.name.value; system = system_of live l (origin_id (option_map arc_value c.self.inside.origin)) c.self.inside.limits (arc_value c.self.inside.bookmarks); below = map_below (option_map arc_value c.self.inside.origin) }) (ap snaps_in c.in_ok-set_in.ensures.ok ∙ edited_snaps (edit_of c.args.edit) base g i ks c.in_ok-next.next is rising group)
+    let changed : arc_value (c.own.follows.lender c.set.new.self) ≡ set ks i c.in_ok-next.next = c.own.follows.holds c.set.new.self (ap is_ok c.in_ok-own.was) ∙ c.in_ok-set.ensures.ok ∙ ap (λ l. set l i c.in_ok-next.next) c.in_ok-own.ensures.value in
+    ap (λ l. record { name = c.self.inside.name.value; system = system_of live l (origin_id (option_map arc_value c.self.inside.origin)) c.self.inside.limits (arc_value c.self.inside.bookmarks); below = map_below (option_map arc_value c.self.inside.origin) }) (ap snaps_in changed ∙ edited_snaps (edit_of c.args.edit) base g i ks c.in_ok-next.next is rising group)
     ∙ ap (λ (r : Row). with_system r (edited_at (edit_of c.args.edit) r.system g)) c.self.view_is
 
 -- the snapshots of a clone rise above 0 too

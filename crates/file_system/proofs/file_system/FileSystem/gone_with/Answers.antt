@@ -3,7 +3,7 @@ use Rattle.std.specs.List.{filter}
 use Rattle.std.specs.Arc.{arc_value}
 use Rattle.std.specs.Option.{option_map}
 use Rattle.deadlist.specs.Held.{Held}
-use Rattle.file_system.specs.Gone.{Gone, gone_in, gone_between, is_asked, entry_count, gone_size, segment_count}
+use Rattle.file_system.specs.Gone.{Gone, gone_in, dead_between, is_asked, entry_count, gone_size, segment_count}
 use Rattle.file_system.specs.Origins.{blocks_below}
 use Rattle.file_system.specs.Rows.{Row}
 use Rattle.file_system.specs.declared.gone.Asked.{Asked}
@@ -36,8 +36,8 @@ returns-clause-meter c =
     let kept : c.list.result.now ≡ ks = c.list.ensures ∙ c.deref.ensures in
     let dead : c.deref-2.result.now.cuts ≡ cuts = ap (λ (h : Held). h.cuts) c.deref-2.ensures in
     let few = segments_counted a (blocks_below (option_map arc_value c.self.inside.origin)) ks cuts c.self.inside.live c.self.invariant.accounted c.self.invariant.few in
-    let named : length (filter (λ (g : Gone). is_asked a g.group) (gone_in (blocks_below (option_map arc_value c.self.inside.origin)) (snaps_in ks) c.self.inside.live)) ≡ length (gone_between (option_map (λ (g : Group). g.0) c.args.asked.from) (option_map (λ (g : Group). g.0) c.args.asked.until) c.args.self.now) =
-    ap (λ (r : Row). length (gone_between (option_map (λ (g : Group). g.0) c.args.asked.from) (option_map (λ (g : Group). g.0) c.args.asked.until) r)) c.self.view_is in
+    let named : length (filter (λ (g : Gone). is_asked a g.group) (gone_in (blocks_below (option_map arc_value c.self.inside.origin)) (snaps_in ks) c.self.inside.live)) ≡ length (dead_between (option_map (λ (g : Group). g.0) c.args.asked.from) (option_map (λ (g : Group). g.0) c.args.asked.until) c.args.self.now) =
+    ap (λ (r : Row). length (dead_between (option_map (λ (g : Group). g.0) c.args.asked.from) (option_map (λ (g : Group). g.0) c.args.asked.until) r)) c.self.view_is in
     let reached : segment_count a c.list.result.now c.deref-2.result.now.cuts ≡ segment_count a ks cuts = λ i. segment_count a (kept i) (dead i) in
     let went = c.count_gone.ensures.meter in
     omega arith

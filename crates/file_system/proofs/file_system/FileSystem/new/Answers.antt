@@ -4,7 +4,7 @@ use Rattle.std.specs.FinSet.{difference}
 use Rattle.base.specs.Map.{BlockSet, blocks}
 use Rattle.deadlist.specs.Held.{Held}
 use Rattle.world.specs.Deadlists.{Lists}
-use Rattle.world.proofs.Bridge.{blocks_none}
+use Rattle.world.proofs.lineage.Bridge.{blocks_none}
 use Rattle.file_system.specs.Dead.{snaps_in, AreAccounted}
 use Rattle.file_system.specs.Rows.{system_of}
 use Rattle.file_system.proofs.Counted.{fresh_counted}

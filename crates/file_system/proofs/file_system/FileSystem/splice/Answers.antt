@@ -3,10 +3,12 @@ use Rattle.std.specs.Prelude.{remove}
 use Rattle.std.specs.Arc.{arc_value}
 use Rattle.std.specs.FinSet.{difference}
 use Rattle.std.specs.Option.{option_map, option_copied}
+use Rattle.std.specs.Result.{is_ok}
 use Rattle.base.specs.Map.{blocks}
 use Rattle.base.specs.Surveys.{dead_block}
 use Rattle.deadlist.specs.Held.{Held}
 use Rattle.snapshots.specs.declared.kept.Kept.{Kept}
+use Rattle.snapshots.specs.Index.{AreNamesOnce}
 use Rattle.world.specs.Deadlists.{Lists}
 use Rattle.world.specs.Worlds.{AreRising}
 use Rattle.file_system.specs.Counts.{AreLined, IsCounted}
@@ -20,19 +22,20 @@ use Rattle.file_system.proofs.Stacks.{above_names, rising_from, next_snaps, next
 use Rattle.file_system.proofs.file_system.FileSystem.splice.Goals as goal
 
 -- each name is one snapshot's
-pub splice_in-requires-clause-once : goal.splice_in-requires-clause-once
-splice_in-requires-clause-once c = above_names c.args.self.now.below c.args.self.now.system (arc_value c.self.inside.snapshots) c.requires.above (ap (λ (r : Row). r.system.snaps) c.self.view_is)
+pub splice-requires-clause-once : goal.splice-requires-clause-once
+splice-requires-clause-once c = subst AreNamesOnce (sym c.in_ok-own.ensures.value)
+    (above_names c.args.self.now.below c.args.self.now.system (arc_value c.self.inside.snapshots) c.requires.above (ap (λ (r : Row). r.system.snaps) c.self.view_is))
 
-pub remove_from-requires-clause-once : goal.remove_from-requires-clause-once
-remove_from-requires-clause-once c = above_names c.args.self.now.below c.args.self.now.system (arc_value c.self.inside.snapshots) c.requires.above (ap (λ (r : Row). r.system.snaps) c.self.view_is)
+pub remove-requires-clause-once : goal.remove-requires-clause-once
+remove-requires-clause-once c = subst AreNamesOnce (sym c.in_ok-own-2.ensures.value)
+    (above_names c.args.self.now.below c.args.self.now.system (arc_value c.self.inside.snapshots) c.requires.above (ap (λ (r : Row). r.system.snaps) c.self.view_is))
 
 pub joined-requires : goal.joined-requires
 joined-requires c = c.place_of-place.ensures.within
 
-pub remove_from-requires-clause-there : goal.remove_from-requires-clause-there
-remove_from-requires-clause-there c =
-    let ks = arc_value c.self.inside.snapshots in
-    let kept : c.list-kept.result.now ≡ ks = c.list-kept.ensures ∙ c.deref.ensures in
+pub remove-requires-clause-there : goal.remove-requires-clause-there
+remove-requires-clause-there c =
+    let kept : c.list-kept.result.now ≡ c.in_ok-own-2.field-0.now = c.list-kept.ensures ∙ c.deref.ensures ∙ sym c.in_ok-own-2.ensures.value in
     subst (λ l. c.place_of-place.result < length l) kept c.place_of-place.ensures.within
 
 -- ---- one stands after it
@@ -53,7 +56,7 @@ invariant_of-self-then-place-count c =
     let lost = c.in_ok-next.lost.entries in
     let is : IsNext bs ks i next lost =
     subst (λ x. IsNext (blocks_below x) ks i next lost) c.origin_in-origin.ensures (subst (λ l. IsNext (blocks_below (option_copied c.origin_in-origin.result)) l i next lost) kept c.in_ok-next.ensures.ok) in
-    let spliced : arc_value c.splice_in.new.line ≡ set (remove ks i) i next = c.in_ok-splice_in.ensures.ok in
+    let spliced : arc_value (c.own.follows.lender c.splice.new.self) ≡ set (remove ks i) i next = c.own.follows.holds c.splice.new.self (ap is_ok c.in_ok-own.was) ∙ c.in_ok-splice.ensures.ok ∙ ap (λ l. set (remove l i) i next) c.in_ok-own.ensures.value in
     let lined : AreLined (map_below o) base (snaps_in ks) live =
     subst (λ (r : Row). AreLined r.below (origin_group r.system.origin) r.system.snaps r.system.live) (sym c.self.view_is) (line_above c.args.self.now.below c.args.self.now.system c.requires.above) in
     let listed = next_lost bs base ks i g live next lost is rising at in
@@ -86,7 +89,7 @@ overflow_sub-self c =
     let lost = c.in_ok-next.lost.entries in
     let is : IsNext bs ks i next lost =
     subst (λ x. IsNext (blocks_below x) ks i next lost) c.origin_in-origin.ensures (subst (λ l. IsNext (blocks_below (option_copied c.origin_in-origin.result)) l i next lost) kept c.in_ok-next.ensures.ok) in
-    let spliced : arc_value c.splice_in.new.line ≡ set (remove ks i) i next = c.in_ok-splice_in.ensures.ok in
+    let spliced : arc_value (c.own.follows.lender c.splice.new.self) ≡ set (remove ks i) i next = c.own.follows.holds c.splice.new.self (ap is_ok c.in_ok-own.was) ∙ c.in_ok-splice.ensures.ok ∙ ap (λ l. set (remove l i) i next) c.in_ok-own.ensures.value in
     let lined : AreLined (map_below o) base (snaps_in ks) live =
     subst (λ (r : Row). AreLined r.below (origin_group r.system.origin) r.system.snaps r.system.live) (sym c.self.view_is) (line_above c.args.self.now.below c.args.self.now.system c.requires.above) in
     let fewer = fewer_listed (map_below o) base g (snaps_in ks) live lined lost (next_lost bs base ks i g live next lost is rising at) in
@@ -109,7 +112,7 @@ returns-then-place-count-clause-ok c =
     let lost = c.in_ok-next.lost.entries in
     let is : IsNext bs ks i next lost =
     subst (λ x. IsNext (blocks_below x) ks i next lost) c.origin_in-origin.ensures (subst (λ l. IsNext (blocks_below (option_copied c.origin_in-origin.result)) l i next lost) kept c.in_ok-next.ensures.ok) in
-    let spliced : arc_value c.splice_in.new.line ≡ set (remove ks i) i next = c.in_ok-splice_in.ensures.ok in
+    let spliced : arc_value (c.own.follows.lender c.splice.new.self) ≡ set (remove ks i) i next = c.own.follows.holds c.splice.new.self (ap is_ok c.in_ok-own.was) ∙ c.in_ok-splice.ensures.ok ∙ ap (λ l. set (remove l i) i next) c.in_ok-own.ensures.value in
     ap (λ l. record { name = c.self.inside.name.value; system = system_of live l (origin_id (option_map arc_value c.self.inside.origin)) c.self.inside.limits (arc_value c.self.inside.bookmarks); below = map_below (option_map arc_value c.self.inside.origin) }) (ap snaps_in spliced ∙ next_snaps bs base ks i g live next lost is rising at)
     ∙ ap (λ (r : Row). with_system r (without_group r.system g)) c.self.view_is
 
@@ -129,7 +132,7 @@ returns-then-place-count-clause-lost c =
     let lost = c.in_ok-next.lost.entries in
     let is : IsNext bs ks i next lost =
     subst (λ x. IsNext (blocks_below x) ks i next lost) c.origin_in-origin.ensures (subst (λ l. IsNext (blocks_below (option_copied c.origin_in-origin.result)) l i next lost) kept c.in_ok-next.ensures.ok) in
-    let spliced : arc_value c.splice_in.new.line ≡ set (remove ks i) i next = c.in_ok-splice_in.ensures.ok in
+    let spliced : arc_value (c.own.follows.lender c.splice.new.self) ≡ set (remove ks i) i next = c.own.follows.holds c.splice.new.self (ap is_ok c.in_ok-own.was) ∙ c.in_ok-splice.ensures.ok ∙ ap (λ l. set (remove l i) i next) c.in_ok-own.ensures.value in
     subst (λ (r : Row). Lists (map dead_block lost) (lost_from (blocks r.below) r.system.snaps r.system.live g)) c.self.view_is (next_lost bs base ks i g live next lost is rising at)
 
 -- ---- none does, but the live map
@@ -160,7 +163,7 @@ invariant_of-self-2 c =
     let count = c.len-count.ensures ∙ ap length kept in
     let no_more = c.if-place-count.false in
     let last : suc i ≡ length ks = omega arith in
-    let removed : arc_value c.remove_from.new.line ≡ remove ks i = c.in_ok-remove_from.ensures.ok in
+    let removed : arc_value (c.own-2.follows.lender c.remove.new.self) ≡ remove ks i = c.own-2.follows.holds c.remove.new.self (ap is_ok c.in_ok-own-2.was) ∙ c.in_ok-remove.ensures.ok ∙ ap (λ l. remove l i) c.in_ok-own-2.ensures.value in
     let lined : AreLined (map_below o) base (snaps_in ks) live =
     subst (λ (r : Row). AreLined r.below (origin_group r.system.origin) r.system.snaps r.system.live) (sym c.self.view_is) (line_above c.args.self.now.below c.args.self.now.system c.requires.above) in
     let listed = last_lost bs base ks i g live old new lost j c.self.invariant.accounted c.self.invariant.dead rising each above at last in
@@ -169,7 +172,7 @@ invariant_of-self-2 c =
     let snaps = ap snaps_in removed ∙ others_stay base g i ks rising at in
     record {
       accounted = subst (AreAccounted bs) (sym removed) (last_accounted bs base ks i g live old new lost j c.self.invariant.accounted c.self.invariant.dead rising each above at last);
-      dead = subst (λ (h : Held). Lists (map dead_block h.entries) (difference (newest_blocks bs (snaps_in (arc_value c.remove_from.new.line))) (blocks live))) (sym c.in_ok-dead-2.ensures.ok)
+      dead = subst (λ (h : Held). Lists (map dead_block h.entries) (difference (newest_blocks bs (snaps_in (arc_value (c.own-2.follows.lender c.remove.new.self)))) (blocks live))) (sym c.in_ok-dead-2.ensures.ok)
           (subst (λ l. Lists (map dead_block new) (difference (newest_blocks bs (snaps_in l)) (blocks live))) (sym removed)
           (last_dead bs base ks i g live old new lost j c.self.invariant.accounted c.self.invariant.dead rising each above at last));
       few = subst (λ (h : Held). length h.cuts ≤ 1) (sym c.in_ok-dead-2.ensures.ok) (let f = c.in_ok-dead.ensures.few in omega arith);
@@ -203,7 +206,7 @@ overflow_sub-self-2 c =
     let count = c.len-count.ensures ∙ ap length kept in
     let no_more = c.if-place-count.false in
     let last : suc i ≡ length ks = omega arith in
-    let removed : arc_value c.remove_from.new.line ≡ remove ks i = c.in_ok-remove_from.ensures.ok in
+    let removed : arc_value (c.own-2.follows.lender c.remove.new.self) ≡ remove ks i = c.own-2.follows.holds c.remove.new.self (ap is_ok c.in_ok-own-2.was) ∙ c.in_ok-remove.ensures.ok ∙ ap (λ l. remove l i) c.in_ok-own-2.ensures.value in
     let lined : AreLined (map_below o) base (snaps_in ks) live =
     subst (λ (r : Row). AreLined r.below (origin_group r.system.origin) r.system.snaps r.system.live) (sym c.self.view_is) (line_above c.args.self.now.below c.args.self.now.system c.requires.above) in
     let listed = last_lost bs base ks i g live old new lost j c.self.invariant.accounted c.self.invariant.dead rising each above at last in
@@ -223,7 +226,8 @@ returns-clause-ok c =
     let base = group_below o in
     let rising : AreRising base (snaps_in ks) = subst (λ (r : Row). AreRising (origin_group r.system.origin) r.system.snaps) (sym c.self.view_is) c.requires.above.rising in
     let at : option_map (λ (k : Kept). k.snapshot.group) (slice_get ks i) ≡ Some g = ap (λ l. option_map (λ (k : Kept). k.snapshot.group) (slice_get l i)) (sym kept) ∙ c.place_of-place.ensures.is in
-    ap (λ l. record { name = c.self.inside.name.value; system = system_of live l (origin_id (option_map arc_value c.self.inside.origin)) c.self.inside.limits (arc_value c.self.inside.bookmarks); below = map_below (option_map arc_value c.self.inside.origin) }) (ap snaps_in c.in_ok-remove_from.ensures.ok ∙ others_stay base g i ks rising at)
+    let removed : arc_value (c.own-2.follows.lender c.remove.new.self) ≡ remove ks i = c.own-2.follows.holds c.remove.new.self (ap is_ok c.in_ok-own-2.was) ∙ c.in_ok-remove.ensures.ok ∙ ap (λ l. remove l i) c.in_ok-own-2.ensures.value in
+    ap (λ l. record { name = c.self.inside.name.value; system = system_of live l (origin_id (option_map arc_value c.self.inside.origin)) c.self.inside.limits (arc_value c.self.inside.bookmarks); below = map_below (option_map arc_value c.self.inside.origin) }) (ap snaps_in removed ∙ others_stay base g i ks rising at)
     ∙ ap (λ (r : Row). with_system r (without_group r.system g)) c.self.view_is
 
 pub returns-clause-lost : goal.returns-clause-lost

@@ -1,6 +1,7 @@
 use Rattle.std.proofs.Common.{◌≡◌, [], ◌∷◌, ◌++◌, map, sym, ap, subst, ◌∙◌, ◌≤◌, length}
 use Rattle.std.specs.Arc.{arc_value}
 use Rattle.std.specs.Option.{option_map}
+use Rattle.std.specs.Result.{is_ok}
 use Rattle.std.specs.FinSet.{difference}
 use Rattle.base.specs.Map.{blocks}
 use Rattle.base.specs.Surveys.{dead_block}
@@ -29,7 +30,7 @@ invariant_of-self-2 c =
     let map_is : k.snapshot.map ≡ live = ap (λ (t : Snap). t.map) c.new-snapshot.ensures ∙ c.in_ok-copy.ensures.ok in
     let written : k.written ≡ size_without (blocks live) (newest_blocks bs (snaps_in ks)) = c.written-written.ensures ∙ ap (λ (r : Row). size_without (blocks r.system.live) (newest_blocks (blocks r.below) r.system.snaps)) (sym c.self.view_is) in
     let bare = ap (λ (h : Held). h.entries) c.in_ok-fresh.ensures.ok ∙ c.new.ensures.entries in
-    let pushed : arc_value c.push.new.line ≡ ks ++ k ∷ [] = c.in_ok-push.ensures.ok in
+    let pushed : arc_value (c.own.follows.lender c.push.new.self) ≡ ks ++ k ∷ [] = c.own.follows.holds c.push.new.self (ap is_ok c.in_ok-own.was) ∙ c.in_ok-push.ensures.ok ∙ ap (λ l. l ++ k ∷ []) c.in_ok-own.ensures.value in
     let kept_few : length (arc_value k.dead).cuts ≤ 1 = subst (λ (h : Held). length h.cuts ≤ 1) (sym c.in_ok-dead.ensures) c.self.invariant.few in
     record {
       accounted = taken_accounted bs ks _ k live _ c.self.invariant.accounted own map_is written pushed bare kept_few;
@@ -46,6 +47,6 @@ returns-clause-ok c =
     let name : c.in_ok-copy_of.field-0 ≡ c.args.name.now = c.in_ok-copy_of.ensures.ok in
     let tree : c.in_ok-copy.field-0 ≡ c.self.inside.live = c.in_ok-copy.ensures.ok in
     let snap : c.new-snapshot.result ≡ plain_snap c.args.name.now c.self.inside.live c.args.guid.0 c.args.group.0 = c.new-snapshot.ensures ∙ λ i. plain_snap (name i) (tree i) c.args.guid.0 c.args.group.0 in
-    let pushed : arc_value c.push.new.line ≡ ks ++ k ∷ [] = c.in_ok-push.ensures.ok in
+    let pushed : arc_value (c.own.follows.lender c.push.new.self) ≡ ks ++ k ∷ [] = c.own.follows.holds c.push.new.self (ap is_ok c.in_ok-own.was) ∙ c.in_ok-push.ensures.ok ∙ ap (λ l. l ++ k ∷ []) c.in_ok-own.ensures.value in
     let snaps = ap snaps_in pushed ∙ snaps_more ks k ∙ ap (λ t. snaps_in ks ++ t ∷ []) snap in
     ap (λ l. record { name = c.self.inside.name.value; system = system_of c.self.inside.live l (origin_id (option_map arc_value c.self.inside.origin)) c.self.inside.limits (arc_value c.self.inside.bookmarks); below = map_below (option_map arc_value c.self.inside.origin) }) snaps ∙ ap (λ (r : Row). with_system r (with_snap r.system c.args.name.now c.args.guid.0 c.args.group.0)) c.self.view_is

@@ -1,7 +1,7 @@
 use Rattle.std.proofs.Common.{◌≡◌, sym, ap, subst, ◌∙◌}
 use Rattle.std.specs.List.{find}
 use Rattle.std.specs.Option.{option_copied}
-use Rattle.name.specs.Names.{same_name}
+use Rattle.base.specs.Names.{same_name}
 use Rattle.snapshots.specs.declared.kept.Kept.{Kept}
 use Rattle.snapshots.specs.Index.{AreNamesOnce}
 use Rattle.snapshots.proofs.Indexes.{none_found}

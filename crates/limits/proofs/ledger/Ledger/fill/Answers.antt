@@ -18,7 +18,7 @@ use Rattle.limits.proofs.ledger.Ledger.fill.Goals as goal
 
 pub refill-requires-clause-few : goal.refill-requires-clause-few
 refill-requires-clause-few c =
-    let e = all_own c.args.table.now c.len-count.ensures.good (map arc_value c.file_systems.result.now) c.file_systems.ensures in
+    let e = all_own c.args.table.now c.facts.ensures.good (map arc_value c.file_systems.result.now) c.file_systems.ensures in
     omega (arith, e, c.requires.few)
 
 pub refill-requires-clause-room : goal.refill-requires-clause-room
@@ -27,7 +27,7 @@ refill-requires-clause-room c =
     let b = ap length c.file_systems.ensures in
     let d = length-map (entries c.args.table.now.file_systems) (row_in c.args.table.now.file_systems) in
     let e = len-entries c.args.table.now.file_systems in
-    let f = c.len-count.ensures.good.hierarchy.few in
+    let f = c.facts.ensures.good.hierarchy.few in
     let r = c.self.invariant.2 in
     omega (arith, a, b, d, e, f, r)
 
@@ -53,7 +53,7 @@ charge_all-requires-clause-none c =
     let d = length-map (entries c.args.table.now.file_systems) (row_in c.args.table.now.file_systems) in
     let e = len-entries c.args.table.now.file_systems in
     let k = keys_count c.args.table.now.file_systems in
-    let f = c.len-count.ensures.good.hierarchy.few in
+    let f = c.facts.ensures.good.hierarchy.few in
     subst (λ ls. IsCharged c.args.table.now.file_systems (length ls) ls) (sym items)
     (none_charged c.args.table.now.file_systems bs (length (map fresh bs)) m (omega (arith, m, n, a, b, d, e, k)) (omega (arith, m, n, a, b, d, e, f)) c.refill.ensures.small)
 
@@ -62,8 +62,8 @@ returns c =
     let bs = map account_at (map arc_value c.file_systems.result.now) in
     take_at c.charge_all.new.lines (drop (length c.charge_all.new.lines) c.refill.new.lines.items) c.refill.new.lines.len
     (let l = c.charge_all.auto.lines in omega (arith, l, c.deref_mut.ensures.len))
-    ∙ charged_is c.args.table.now.file_systems c.charge_all.new.lines c.charge_all.ensures.charged (world_of c.args.table.now) c.len-count.ensures.good.hierarchy refl
-    (sym (accounts_are c.args.table.now c.len-count.ensures.good (map arc_value c.file_systems.result.now) c.file_systems.ensures)
+    ∙ charged_is c.args.table.now.file_systems c.charge_all.new.lines c.charge_all.ensures.charged (world_of c.args.table.now) c.facts.ensures.good.hierarchy refl
+    (sym (accounts_are c.args.table.now c.facts.ensures.good (map arc_value c.file_systems.result.now) c.file_systems.ensures)
     ∙ sym (fresh_accounts bs) ∙ ap (map account_is) (sym (c.deref_mut.ensures.value ∙ c.refill.ensures.ok)) ∙ sym c.charge_all.ensures.accounts)
 
 pub invariant_of-self : goal.invariant_of-self

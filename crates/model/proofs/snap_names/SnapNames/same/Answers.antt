@@ -3,7 +3,7 @@ use Rattle.std.specs.Bool.{Decides}
 use Rattle.std.specs.Str.{bytes_eq}
 use Rattle.std.proofs.lemmas.Bool.Decides.{Decides-and}
 use Rattle.std.proofs.lemmas.Slice.Eq.{slice_eq-Decides, bytes_eq-Decides}
-use Rattle.name.specs.declared.member.Member.{Member}
+use Rattle.base.specs.declared.name.member.Member.{Member}
 use Rattle.model.proofs.snap_names.SnapNames.same.Goals as goal
 
 -- the bytes of both parts are equal

@@ -2,14 +2,18 @@ use Rattle.std.proofs.Common.{◌∙◌}
 use Rattle.pool.specs.Pools.{state_in}
 use Rattle.pool.proofs.Commits.{few}
 use Rattle.pool.proofs.Limited.{state_with, count_with}
-use Rattle.pool.proofs.Refusing.{only_reads, unread}
+use Rattle.pool.proofs.Questions.{only_reads}
 use Rattle.pool.proofs.keep.Keep.asked.Goals as goal
 
 pub answer-requires-clause-reads : goal.answer-requires-clause-reads
-answer-requires-clause-reads c = only_reads c.args.request.now c.requires.question
+answer-requires-clause-reads c = (only_reads c.args.request.now c.requires.question).0
 
-pub returns-clause-segments : goal.returns-clause-segments
-returns-clause-segments c = λ none. unread c.args.request.now c.requires.question none c.args.world.now.table c.answer.result c.args.meters.now.segments c.answer.new.segments c.answer.ensures.segments
+pub returns-clause-metered : goal.returns-clause-metered
+returns-clause-metered c = record {
+  nodes = λ none. c.answer.ensures.nodes none.0;
+  segments = λ none. (only_reads c.args.request.now c.requires.question).1 none c.args.world.now.table c.answer.result c.args.meters.now.segments c.answer.new.segments c.answer.ensures.segments;
+  read = λ is. c.answer.ensures.segments;
+}
 
 pub answer-requires-clause-few : goal.answer-requires-clause-few
 answer-requires-clause-few c = few (state_in c.args.self.now c.args.world.now) c.args.self.now.allocator c.requires.held.sound

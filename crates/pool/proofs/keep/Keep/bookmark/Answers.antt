@@ -1,7 +1,7 @@
 use Rattle.model.specs.declared.request.Request.TheVariants.{Bookmark}
 use Rattle.marks.specs.Requests.{bookmarked_in}
 use Rattle.steps.specs.Edits.{datasets_of}
-use Rattle.steps.proofs.Marking as steps
+use Rattle.steps.proofs.requests.Marking as steps
 use Rattle.pool.specs.Pools.{state_in}
 use Rattle.pool.proofs.Performed.{exits, on_err, same_table, bare, few, placed}
 use Rattle.pool.proofs.keep.Keep.bookmark.Goals as goal

@@ -1,7 +1,7 @@
 use Rattle.model.specs.declared.request.Request.TheVariants.{Clone}
-use Rattle.clones.specs.Requests.{cloned}
+use Rattle.snap.specs.Requests.{cloned}
 use Rattle.steps.specs.Edits.{datasets_of}
-use Rattle.steps.proofs.Cloning as steps
+use Rattle.steps.proofs.requests.Cloning as steps
 use Rattle.pool.specs.Pools.{state_in}
 use Rattle.pool.proofs.Performed.{exits, on_err, same_table, bare, few, placed}
 use Rattle.pool.proofs.keep.Keep.clone_snapshot.Goals as goal

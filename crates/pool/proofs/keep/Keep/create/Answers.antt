@@ -3,7 +3,7 @@ use Rattle.model.specs.World.{empty_file_system}
 use Rattle.model.specs.declared.request.Request.TheVariants.{Create}
 use Rattle.world.specs.Tables.{with_system}
 use Rattle.steps.specs.Edits.{datasets_of}
-use Rattle.steps.proofs.Creating as creates
+use Rattle.steps.proofs.requests.Creating as creates
 use Rattle.pool.specs.Pools.{state_in}
 use Rattle.pool.proofs.Performed.{exits, on_err, same_table, bare, few, placed}
 use Rattle.pool.proofs.keep.Keep.create.Goals as goal

@@ -4,7 +4,7 @@ use Rattle.world.specs.Tables.{Datasets}
 use Rattle.world.specs.Worlds.{AreFileSystems}
 use Rattle.removals.specs.Requests.{destroyed, swept}
 use Rattle.steps.specs.Edits.{datasets_of}
-use Rattle.steps.proofs.Destroying as steps
+use Rattle.steps.proofs.requests.Destroying as steps
 use Rattle.pool.specs.Pools.{state_in}
 use Rattle.pool.proofs.Performed.{exits, on_err, same_both, apart, clean, bare, lost_few, lost_placed}
 use Rattle.pool.proofs.keep.Keep.destroy.Goals as goal
@@ -34,11 +34,11 @@ pub renew-requires-clause-few : goal.renew-requires-clause-few
 renew-requires-clause-few c =
     let s = state_in c.args.self.now c.args.world.now in
     lost_few c.args.self.now c.args.world.now c.requires (swept (destroyed (datasets_of s) s.views c.args.target.now c.args.recursive c.args.defer) s.views) c.destroy.new.table c.in_ok-destroy.ensures.ok c.destroy.new.freeing c.in_ok-destroy.ensures.lost
-    (steps.destroy_can s c.requires.sound.steady c.args.target.now c.args.recursive c.args.defer c.in_ok-destroy.ensures.can (subst (λ (t : Datasets). AreFileSystems t.file_systems t.group) c.in_ok-destroy.ensures.ok c.len-count.ensures.good))
+    (steps.destroy_can s c.requires.sound.steady c.args.target.now c.args.recursive c.args.defer c.in_ok-destroy.ensures.can (subst (λ (t : Datasets). AreFileSystems t.file_systems t.group) c.in_ok-destroy.ensures.ok c.facts.ensures.good))
 
 pub returns-clause-performed : goal.returns-clause-performed
 returns-clause-performed c =
     let s = state_in c.args.self.now c.args.world.now in
     lost_placed c.args.self.now c.args.world.now c.requires (swept (destroyed (datasets_of s) s.views c.args.target.now c.args.recursive c.args.defer) s.views) c.destroy.new.table c.in_ok-destroy.ensures.ok c.destroy.new.freeing c.in_ok-destroy.ensures.lost
-    (steps.destroy_can s c.requires.sound.steady c.args.target.now c.args.recursive c.args.defer c.in_ok-destroy.ensures.can (subst (λ (t : Datasets). AreFileSystems t.file_systems t.group) c.in_ok-destroy.ensures.ok c.len-count.ensures.good)) c.renew.new.ledger c.renew.ensures
-    (Destroy c.args.target.now c.args.recursive c.args.defer) (steps.destroy_done s c.requires.sound.steady c.args.target.now c.args.recursive c.args.defer c.in_ok-destroy.ensures.can (steps.destroy_can s c.requires.sound.steady c.args.target.now c.args.recursive c.args.defer c.in_ok-destroy.ensures.can (subst (λ (t : Datasets). AreFileSystems t.file_systems t.group) c.in_ok-destroy.ensures.ok c.len-count.ensures.good)))
+    (steps.destroy_can s c.requires.sound.steady c.args.target.now c.args.recursive c.args.defer c.in_ok-destroy.ensures.can (subst (λ (t : Datasets). AreFileSystems t.file_systems t.group) c.in_ok-destroy.ensures.ok c.facts.ensures.good)) c.renew.new.ledger c.renew.ensures
+    (Destroy c.args.target.now c.args.recursive c.args.defer) (steps.destroy_done s c.requires.sound.steady c.args.target.now c.args.recursive c.args.defer c.in_ok-destroy.ensures.can (steps.destroy_can s c.requires.sound.steady c.args.target.now c.args.recursive c.args.defer c.in_ok-destroy.ensures.can (subst (λ (t : Datasets). AreFileSystems t.file_systems t.group) c.in_ok-destroy.ensures.ok c.facts.ensures.good)))

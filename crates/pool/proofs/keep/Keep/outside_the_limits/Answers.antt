@@ -1,6 +1,6 @@
 use Rattle.datasets.specs.Clones.{row_in}
 use Rattle.model.specs.World.{FileSystem}
-use Rattle.steps.proofs.Names.{mapped, unmapped}
+use Rattle.steps.proofs.questions.Names.{mapped, unmapped}
 use Rattle.pool.specs.Pools.{state_in}
 use Rattle.pool.proofs.Changes.{outside_refused, outside_absent}
 use Rattle.pool.proofs.keep.Keep.outside_the_limits.Goals as goal

@@ -1,10 +1,10 @@
 use Rattle.std.proofs.Common.{Ok, refl, sym, subst, ◌∙◌}
 use Rattle.std.specs.FinSet as set
 use Rattle.model.specs.declared.request.Request.TheVariants.{Promote}
-use Rattle.clones.specs.Requests.{promoted}
+use Rattle.snap.specs.Requests.{promoted}
 use Rattle.steps.specs.Edits.{datasets_of}
 use Rattle.steps.specs.Limiting.{IsOver}
-use Rattle.steps.proofs.Promoting as steps
+use Rattle.steps.proofs.requests.Promoting as steps
 use Rattle.pool.specs.Effects.{IsPerformed}
 use Rattle.pool.specs.Pools.{state_in}
 use Rattle.pool.specs.declared.effect.Effect.TheVariants.{Nothing}

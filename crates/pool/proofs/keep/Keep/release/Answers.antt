@@ -2,7 +2,7 @@ use Rattle.model.specs.declared.request.Request.TheVariants.{Release}
 use Rattle.marks.specs.Requests.{released_in}
 use Rattle.removals.specs.Requests.{swept}
 use Rattle.steps.specs.Edits.{datasets_of}
-use Rattle.steps.proofs.Releasing as steps
+use Rattle.steps.proofs.requests.Releasing as steps
 use Rattle.pool.specs.Pools.{state_in}
 use Rattle.pool.proofs.Performed.{exits, on_err, same_both, apart, clean, bare, lost_few, lost_placed}
 use Rattle.pool.proofs.keep.Keep.release.Goals as goal

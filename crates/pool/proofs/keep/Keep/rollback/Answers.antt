@@ -4,7 +4,7 @@ use Rattle.model.specs.declared.request.Request.TheVariants.{Rollback}
 use Rattle.removals.specs.Requests.{rolled}
 use Rattle.steps.specs.Edits.{datasets_of}
 use Rattle.steps.specs.Limiting.{IsOver}
-use Rattle.steps.proofs.Rolling as steps
+use Rattle.steps.proofs.requests.Rolling as steps
 use Rattle.pool.specs.Effects.{IsPerformed}
 use Rattle.pool.specs.Pools.{state_in}
 use Rattle.pool.specs.declared.effect.Effect.TheVariants.{Nothing}

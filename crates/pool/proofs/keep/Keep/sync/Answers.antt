@@ -1,6 +1,6 @@
 use Rattle.std.proofs.Common.{◌≤◌, ◌<◌, subst}
 use Rattle.model.specs.Targets.{number_limit}
-use Rattle.steps.proofs.Syncing.{sync_too_many}
+use Rattle.steps.proofs.requests.Syncing.{sync_too_many}
 use Rattle.pool.specs.Pools.{state_in}
 use Rattle.pool.proofs.Synced.{synced_performed}
 use Rattle.pool.proofs.keep.Keep.sync.Goals as goal

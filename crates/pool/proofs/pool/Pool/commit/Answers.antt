@@ -7,9 +7,10 @@ use Rattle.views.specs.Viewing.{Viewing}
 use Rattle.pool.specs.declared.pool.Plan.TheVariants.{Open, Put}
 use Rattle.pool.specs.Effects.{effected}
 use Rattle.pool.specs.Plans.{CanDo}
-use Rattle.pool.specs.Pools.{state_in, world_in, IsSound}
+use Rattle.pool.specs.Pools.{state_in, world_in, IsSound, AreBelow}
 use Rattle.pool.specs.Shown.{Shown, Leap}
 use Rattle.pool.proofs.Commits.{sound_viewing}
+use Rattle.pool.proofs.Numbered.{opened_below}
 use Rattle.pool.proofs.pool.Pool.commit.Goals as goal
 
 pub invariant_of-self : goal.invariant_of-self
@@ -23,6 +24,7 @@ invariant_of-self c =
           (sound_viewing s c.self.inside.keep.allocator c.self.invariant.sound (snap_id c.in-Open.snapshot) can.steady);
       now = c.self.invariant.now;
       last = c.self.invariant.last;
+      views = subst (λ (v : Viewing). AreBelow v.opened v.next) (sym c.open.ensures) (opened_below c.self.inside.keep.views.opened c.self.inside.keep.views.next c.self.invariant.views (snap_id c.in-Open.snapshot));
     }
 
 pub invariant_of-self-in-Put : goal.invariant_of-self-in-Put
@@ -36,4 +38,5 @@ invariant_of-self-in-Put c =
           (subst (λ (ns : List BlockState). IsSound (effected (with_now s (world_in c.in-Put.to)) c.in-Put.effect) ns) (sym c.settle.ensures.numbers) can.sound);
       now = can.kept;
       last = c.settle.ensures.kept c.self.invariant.last;
+      views = c.settle.ensures.below c.self.invariant.views;
     }

@@ -2,15 +2,16 @@ use Rattle.std.proofs.Common.{ℕ, List, None, sym, subst, ◌∙◌, arith}
 use Rattle.std.specs.FinMap as finmap
 use Rattle.std.specs.FinMap.{insert}
 use Rattle.std.specs.FinSet as set
-use Rattle.name.specs.Names.{root_name}
+use Rattle.base.specs.Names.{root_name}
 use Rattle.zalloc.specs.declared.BlockState.{BlockState}
 use Rattle.model.specs.State.{fresh_state, fresh_world}
 use Rattle.model.specs.World.{empty_file_system}
 use Rattle.views.specs.Viewing.{Viewing}
-use Rattle.steps.proofs.Fresh.{first_steady, first_unlimited, first_numbers}
+use Rattle.steps.proofs.requests.Fresh.{first_steady, first_unlimited, first_numbers}
 use Rattle.pool.specs.declared.keep.Keep.{Keep}
 use Rattle.pool.specs.declared.worlds.World.{World}
 use Rattle.pool.specs.Pools.{state_in, IsSound, IsHeld}
+use Rattle.pool.proofs.Numbered.{none_below}
 use Rattle.pool.proofs.pool.Pool.fresh.Goals as goal
 
 abbrev first : World
@@ -31,6 +32,7 @@ invariant_of-result c =
           (record { steady = first_steady c.args.id c.args.blocks; states = first_numbers c.args.id c.args.blocks; guids = omega (arith); small = omega (arith) });
       now = first_unlimited;
       last = first_unlimited;
+      views = none_below 1;
     })))
 
 pub returns-clause-ok : goal.returns-clause-ok

@@ -1,7 +1,7 @@
 use Rattle.std.proofs.Common.{◌++◌, [], ◌∷◌, take, sym, ap, subst, ◌∙◌, arith}
 use Rattle.std.proofs.lemmas.List.{take_more}
 use Rattle.model.specs.Run.{Run}
-use Rattle.world.proofs.Runs.{run_grows}
+use Rattle.world.proofs.views.Runs.{run_grows}
 use Rattle.pool.proofs.pool.Pool.run.Goals as goal
 
 pub loop-request-preserved : goal.loop-request-preserved

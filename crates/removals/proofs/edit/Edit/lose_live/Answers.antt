@@ -13,4 +13,4 @@ add_tree-requires-clause-apart c =
 pub returns-clause-lost : goal.returns-clause-lost
 returns-clause-lost c =
     lost_back c.add_tree.result c.args.self.now.to c.rollback.new.self c.args.self.now.freeing c.add_tree.new.self (after c.in_ok-lost.lost.after.0 (blocks c.in_ok-lost.lost.tree))
-    c.len-count.ensures.good c.requires.apart c.args.name.now c.in_ok-lost.ensures.ok c.in_ok-lost.ensures.lost.blocks_are c.add_tree.ensures.ok
+    c.facts.ensures.good c.requires.apart c.args.name.now c.in_ok-lost.ensures.ok c.in_ok-lost.ensures.lost.blocks_are c.add_tree.ensures.ok

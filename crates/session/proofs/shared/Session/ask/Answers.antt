@@ -1,8 +1,8 @@
 use Rattle.std.proofs.Common.{rules, ap, subst}
 use Rattle.std.specs.Prelude.{IfOk}
 use Rattle.model.specs.declared.request.Request.{Request}
-use Rattle.book.specs.Asked.{Asked}
-use Rattle.book.specs.Calls.{Ran}
+use Rattle.session.specs.Asked.{Asked}
+use Rattle.session.specs.Entering.{Ran}
 use Rattle.session.proofs.shared.Session.ask.Goals as goal
 
 pub returns-clause-ok : goal.returns-clause-ok

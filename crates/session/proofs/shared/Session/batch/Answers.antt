@@ -1,7 +1,7 @@
 use Rattle.std.proofs.Common.{◌≡◌, ◌+◌, ◌≤◌, ◌∷◌, ◌∙◌, [], ℕ, List, length, length-append, refl, sym, ap, arith}
 use Rattle.std.specs.Vec.Iter.{into_iter_items}
 use Rattle.model.specs.declared.request.Request.{Request}
-use Rattle.book.specs.Receipts.{Placed}
+use Rattle.session.specs.Receipts.{Placed}
 use Rattle.session.proofs.shared.Session.batch.Goals as goal
 
 pub enter_rest-requires-clause-last : goal.enter_rest-requires-clause-last

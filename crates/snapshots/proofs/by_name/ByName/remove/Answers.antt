@@ -3,7 +3,7 @@ use Rattle.std.specs.List.{find}
 use Rattle.std.specs.Option.{IsSome}
 use Rattle.shared_list.specs.Elements.{elements}
 use Rattle.snapshots.specs.Order.{is_named}
-use Rattle.name.specs.Names.{same_name}
+use Rattle.base.specs.Names.{same_name}
 use Rattle.snapshots.proofs.Cuts.{taken, not_past}
 use Rattle.snapshots.proofs.by_name.ByName.remove.Goals as goal
 

@@ -1,6 +1,6 @@
 use Rattle.std.proofs.Common.{List, Option, ap, subst, ◌∙◌}
 use Rattle.std.specs.List.{find}
-use Rattle.name.specs.Names.{same_name}
+use Rattle.base.specs.Names.{same_name}
 use Rattle.snapshots.specs.declared.kept.Kept.{Kept}
 use Rattle.snapshots.specs.Index.{IsIndex}
 use Rattle.snapshots.proofs.line.Line.get.Goals as goal

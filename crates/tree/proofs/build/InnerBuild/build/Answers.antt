@@ -6,8 +6,10 @@ use Rattle.batch.specs.Said.{said}
 use Rattle.batch.specs.Touch.{later_first}
 use Rattle.batch.specs.Build.{made_keys, number_of, HasKeys, no_block}
 use Rattle.node.proofs.Options.{some_mapped}
-use Rattle.batch.proofs.TouchLaws.{idle_touched, untouched_stays, untouched_made, untouched_rebuilt, fate_touched, key_fits, kid_span}
+use Rattle.batch.proofs.TouchLaws.{idle_touched, untouched_stays, untouched_made, untouched_dropped, untouched_rebuilt, dropped_down, fate_touched, key_fits, kid_span}
 use Rattle.batch.proofs.MadeLaws.{keys_of_kids, key_of_own, key_place, made_stays, made_goes, made_same_place, rebuilt_gone, rebuilt_anew, stays_below}
+use Rattle.batch.proofs.Metering.{none_counted}
+use Rattle.tree.proofs.Metering.{node_counted, more_made, none_made}
 use Rattle.tree.proofs.build.InnerBuild.build.Goals as goal
 
 pub returns-then-is_idle-clause-part : goal.returns-then-is_idle-clause-part
@@ -165,3 +167,36 @@ returns-clause-next g c =
     let m = ap length (made_stays s h c.args.index o t p) in
     let a = length-append (later_first (made_keys s h) (16 * c.args.index) (places_of o)) (key_at (suc h) c.args.index ∷ []) in
     omega (arith, m, a, c.number_at-after.ensures.next, c.in_ok-below.ensures.next)
+
+pub returns-then-is_idle-clause-metered : goal.returns-then-is_idle-clause-metered
+returns-then-is_idle-clause-metered g c =
+    let o = part_of_owner (inner_part g.C.Level.part) c.args.old in
+    let e = idle_touched (said c.args.updates.now) (suc g.C.Level.height) c.args.index o c.is_some-present.result (c.is_some-present.ensures ∙ sym (some_mapped _ c.args.old)) (c.is_idle.ensures.idle c.if-is_idle.true) in
+    none_counted _ _ (untouched_dropped (said c.args.updates.now) 0 (suc g.C.Level.height) c.args.index o e)
+
+pub returns-then-is_idle-clause-metered_made : goal.returns-then-is_idle-clause-metered_made
+returns-then-is_idle-clause-metered_made g c = none_made _ _
+
+pub returns-then-not-below-clause-metered : goal.returns-then-not-below-clause-metered
+returns-then-not-below-clause-metered g c =
+    let o = part_of_owner (inner_part g.C.Level.part) c.args.old in
+    node_counted _ _ _ _ 0 o _ _ (dropped_down (said c.args.updates.now) 0 g.C.Level.height c.args.index o) c.reach.ensures.metered c.in_ok-below.ensures.metered
+
+pub returns-then-not-below-clause-metered_made : goal.returns-then-not-below-clause-metered_made
+returns-then-not-below-clause-metered_made g c = more_made _ _ _ _ _ _ c.reach.ensures.metered c.in_ok-below.ensures.metered_made (omega arith)
+
+pub returns-then-not-below-2-clause-metered : goal.returns-then-not-below-2-clause-metered
+returns-then-not-below-2-clause-metered g c =
+    let o = part_of_owner (inner_part g.C.Level.part) c.args.old in
+    node_counted _ _ _ _ 0 o _ _ (dropped_down (said c.args.updates.now) 0 g.C.Level.height c.args.index o) c.reach.ensures.metered c.in_ok-below.ensures.metered
+
+pub returns-then-not-below-2-clause-metered_made : goal.returns-then-not-below-2-clause-metered_made
+returns-then-not-below-2-clause-metered_made g c = more_made _ _ _ _ _ _ c.reach.ensures.metered c.in_ok-below.ensures.metered_made (omega arith)
+
+pub returns-clause-metered : goal.returns-clause-metered
+returns-clause-metered g c =
+    let o = part_of_owner (inner_part g.C.Level.part) c.args.old in
+    node_counted _ _ _ _ 0 o _ _ (dropped_down (said c.args.updates.now) 0 g.C.Level.height c.args.index o) c.reach.ensures.metered c.in_ok-below.ensures.metered
+
+pub returns-clause-metered_made : goal.returns-clause-metered_made
+returns-clause-metered_made g c = more_made _ _ _ _ _ _ c.reach.ensures.metered c.in_ok-below.ensures.metered_made (omega (arith, c.number_at-after.ensures.next))

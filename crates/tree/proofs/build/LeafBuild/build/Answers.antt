@@ -7,8 +7,9 @@ use Rattle.batch.specs.Word.{word_said}
 use Rattle.batch.specs.Touch.{leaf_touched, leaf_stays}
 use Rattle.batch.specs.Build.{leaf_rebuilt, number_of, HasKeys, no_block}
 use Rattle.node.proofs.Options.{some_mapped}
-use Rattle.batch.proofs.TouchLaws.{touched_at_leaf, stays_at_leaf}
+use Rattle.batch.proofs.TouchLaws.{touched_at_leaf, stays_at_leaf, dropped_at_leaf}
 use Rattle.batch.proofs.MadeLaws.{key_place, rebuilt_at_leaf, made_of_leaf}
+use Rattle.tree.proofs.Metering.{leaf_counted, one_made}
 use Rattle.tree.proofs.build.LeafBuild.build.Goals as goal
 
 not_made : (b : Bool) → (b && false) ≡ false
@@ -96,3 +97,21 @@ returns-in_ok-new-in-Full-clause-next c =
     let w = sym c.word_of.ensures ∙ ap word_said c.in-Full.is in
     let n = ap length (made_of_leaf (said c.args.updates.now) c.args.index o _ w) in
     omega (arith, n, c.number_at-after.ensures.next)
+
+pub returns-in_ok-keep-in-Silent-clause-metered : goal.returns-in_ok-keep-in-Silent-clause-metered
+returns-in_ok-keep-in-Silent-clause-metered c = leaf_counted _ _ _ 0 (part_of_owner leaf_part c.args.old) _ (dropped_at_leaf (said c.args.updates.now) 0 c.args.index (part_of_owner leaf_part c.args.old)) c.reach.ensures.metered
+
+pub returns-in_ok-keep-in-Silent-clause-metered_made : goal.returns-in_ok-keep-in-Silent-clause-metered_made
+returns-in_ok-keep-in-Silent-clause-metered_made c = one_made _ _ _ _ c.reach.ensures.metered (omega arith)
+
+pub returns-in-Hole-clause-metered : goal.returns-in-Hole-clause-metered
+returns-in-Hole-clause-metered c = leaf_counted _ _ _ 0 (part_of_owner leaf_part c.args.old) _ (dropped_at_leaf (said c.args.updates.now) 0 c.args.index (part_of_owner leaf_part c.args.old)) c.reach.ensures.metered
+
+pub returns-in-Hole-clause-metered_made : goal.returns-in-Hole-clause-metered_made
+returns-in-Hole-clause-metered_made c = one_made _ _ _ _ c.reach.ensures.metered (omega arith)
+
+pub returns-in_ok-new-in-Full-clause-metered : goal.returns-in_ok-new-in-Full-clause-metered
+returns-in_ok-new-in-Full-clause-metered c = leaf_counted _ _ _ 0 (part_of_owner leaf_part c.args.old) _ (dropped_at_leaf (said c.args.updates.now) 0 c.args.index (part_of_owner leaf_part c.args.old)) c.reach.ensures.metered
+
+pub returns-in_ok-new-in-Full-clause-metered_made : goal.returns-in_ok-new-in-Full-clause-metered_made
+returns-in_ok-new-in-Full-clause-metered_made c = one_made _ _ _ _ c.reach.ensures.metered (omega (arith, c.number_at-after.ensures.next))

@@ -5,6 +5,8 @@ use Rattle.batch.specs.Said.{said, full}
 use Rattle.batch.specs.Word.{word_said}
 use Rattle.batch.specs.Build.{leaf_rebuilt, number_of, HasKeys, no_block}
 use Rattle.batch.proofs.MadeLaws.{key_place, rebuilt_at_leaf, made_of_leaf}
+use Rattle.batch.proofs.TouchLaws.{dropped_at_leaf}
+use Rattle.tree.proofs.Metering.{leaf_counted, one_made}
 use Rattle.tree.proofs.renew.LeafRenew.renew.Goals as goal
 
 pub number_at-after-requires : goal.number_at-after-requires
@@ -29,3 +31,11 @@ returns-in-Some-get_mut-clause-next c =
     let w = sym c.word_of.ensures ∙ ap word_said c.in-Full.is in
     let n = ap length (made_of_leaf (said c.args.updates.now) c.args.index o _ w) in
     omega (arith, n, c.number_at-after.ensures.next)
+
+pub returns-in-Some-get_mut-clause-metered : goal.returns-in-Some-get_mut-clause-metered
+returns-in-Some-get_mut-clause-metered c =
+    let o = part_of_slot leaf_part c.args.slot.now in
+    leaf_counted _ _ _ 0 o _ (dropped_at_leaf (said c.args.updates.now) 0 c.args.index o) c.reach.ensures.metered
+
+pub returns-in-Some-get_mut-clause-metered_made : goal.returns-in-Some-get_mut-clause-metered_made
+returns-in-Some-get_mut-clause-metered_made c = one_made _ _ _ _ c.reach.ensures.metered (omega (arith, c.number_at-after.ensures.next))

@@ -1,4 +1,6 @@
-use Rattle.std.proofs.Common.{map, refl, sym, ap, subst, ◌∙◌}
+use Rattle.std.proofs.Common.{◌≤◌, length, map, refl, sym, ap, subst, ◌∙◌}
+use Rattle.std.proofs.lemmas.List.{length-reverse}
+use Rattle.base.specs.Counting.{counted}
 use Rattle.base.specs.Surveys.{AreDifferent}
 use Rattle.batch.specs.Build.{made_keys, HasKeys, number_of, rebuilt}
 use Rattle.batch.specs.Said.{said}
@@ -8,7 +10,7 @@ use Rattle.batch.proofs.Words.{batch_in_order}
 use Rattle.node.specs.Node.{whole}
 use Rattle.tree.specs.ChangeParts.{made_pair}
 use Rattle.tree.proofs.Drafted.{turned}
-use Rattle.tree.proofs.Putting.{here, ready, put_keys, put_places, put_sound, put_change, same_sound}
+use Rattle.tree.proofs.Putting.{here, ready, put_keys, put_places, put_counts, put_made, put_sound, put_change, same_sound}
 use Rattle.tree.proofs.tree.Tree.put.Goals as goal
 
 pub renew_root-requires : goal.renew_root-requires
@@ -41,3 +43,17 @@ returns-clause-ok c =
           _ refl refl refl refl (ap (map made_pair) (turned c.args.draft.made.items c.reverse.new.self c.deref_mut.result.now c.reverse.ensures.after c.reverse.ensures.len c.deref_mut.ensures.value));
       released = refl;
     }
+
+pub returns-clause-metered : goal.returns-clause-metered
+returns-clause-metered c =
+    let r = c.requires in
+    put_counts c.self.inside.root c.self.inside.count c.self.invariant c.args.self.now c.self.view_is c.args.updates.now c.args.group.0 r.young r.states c.args.draft r.asks r.is _ _ c.in_ok-renew_root.ensures.metered
+
+pub returns-clause-metered_made : goal.returns-clause-metered_made
+returns-clause-metered_made c =
+    let r = c.requires in
+    let even =
+    ap length (turned c.args.draft.made.items c.reverse.new.self c.deref_mut.result.now c.reverse.ensures.after c.reverse.ensures.len c.deref_mut.ensures.value)
+    ∙ length-reverse c.args.draft.made.items
+    ∙ sym (put_made c.self.inside.root c.self.inside.count c.self.invariant c.args.self.now c.self.view_is c.args.updates.now c.args.group.0 r.young r.states c.args.draft r.asks r.is) in
+    subst (λ n. counted c.args.meter.now n ≤ c.renew_root.new.meter) (sym even) c.in_ok-renew_root.ensures.metered_made

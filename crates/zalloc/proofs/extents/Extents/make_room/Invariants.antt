@@ -6,7 +6,7 @@ abbrev pub invariant-loop-self : goal.invariant-loop-self
 invariant-loop-self l = record {
   kept : IsKept l.self;
   same : AreSame l.fn.self l.self;
-  cover : IsCover l.self.slots.items l.at (l.number / 256);
+  cover : IsCover l.self.slots.items l.at (l.number / 64);
 }
 
 abbrev pub decreases-loop-self : goal.decreases-loop-self

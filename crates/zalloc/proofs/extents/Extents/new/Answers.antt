@@ -8,11 +8,11 @@ use Rattle.zalloc.proofs.extents.Extents.new.Goals as goal
 pub returns-clause-kept : goal.returns-clause-kept
 returns-clause-kept c =
     let n = c.args.numbers in
-    let m = n / 256 + 1 in
-    let a : c.push_reserved.new.self.items ≡ make_slot 0 m c.first_chunk.result ∷ [] = simp (c.push_reserved.ensures.items, c.in_ok-slots.ensures.items) in
-    let b : c.in_ok-covers.covers.items ≡ replicate m 0 = c.in_ok-covers.ensures.items_if_clones_equal (search rules) in
+    let m = n / 64 + 1 in
+    let a : c.push_reserved.new.self.items ≡ make_slot 0 m c.even.result ∷ [] = simp (c.push_reserved.ensures.items, c.in_ok-slots.ensures.items) in
+    let b : c.in_ok-covers.covers ≡ replicate m 0 = c.in_ok-covers.ensures in
     let d : c.in_ok-homes.homes.items ≡ replicate m None = c.in_ok-homes.ensures.items_if_clones_equal (search rules) in
     record {
-      laid = subst (λ (z : List Slot × (List ℕ × List (Option ℕ))). IsLaid n z.0 z.1.0 (set z.1.1 0 (Some 0))) (sym (λ i. (a i, (b i, d i)))) (new_laid n c.first_chunk.result c.requires c.first_chunk.ensures.spread);
+      laid = subst (λ (z : List Slot × (List ℕ × List (Option ℕ))). IsLaid n z.0 z.1.0 (set z.1.1 0 (Some 0))) (sym (λ i. (a i, (b i, d i)))) (new_laid n c.even.result c.requires c.even.ensures.even);
       room = omega (arith, c.push_reserved.ensures.capacity, c.in_ok-slots.ensures.exact);
     }

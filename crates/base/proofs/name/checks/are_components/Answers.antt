@@ -1,0 +1,11 @@
+use Rattle.std.proofs.Common.{rules, tests}
+use Rattle.std.proofs.lemmas.Iterator.Search.{all_from_yields_List}
+use Rattle.std.proofs.lemmas.Iterator.Splits.{YieldsList-from_slice_split}
+use Rattle.base.specs.Names.{is_component}
+use Rattle.base.proofs.name.checks.are_components.Goals as goal
+
+pub returns : goal.returns
+returns c =
+    all_from_yields_List is_component _ _ _ c.all.ensures.ran
+    (YieldsList-from_slice_split _ _ c.args.bytes.now c.split.ensures.rest c.split.ensures.done c.split.ensures.closure (λ x r q k. search (rules, tests)))
+    (λ x r q k. search (rules, tests))

@@ -1,0 +1,133 @@
+//! Names of file systems, components of names, and tags.
+ghost use Rattle.std.specs.Prelude.{◌≡◌, ◌↔◌, IsTrue};
+ghost use Rattle.base.specs.Reading.{Reads, name_of, component_of, tag_of};
+
+use crate::name::checks::{admitted, is_component_of, is_name_of, is_tag_of};
+use crate::refusal::Refusal;
+use crate::text::Bytes;
+use std::alloc::Global;
+use std::marker::Model;
+
+/// The name of a file system, as `p/a`: components joined by `/` (zfs(8)). Contracts see its bytes.
+#[derive(Drop, Clone, PartialEq, Eq, Debug)]
+pub struct DsName {
+    path: Bytes,
+}
+
+impl Model for DsName {
+    ghost use Rattle.std.specs.Prelude.{List, ℕ};
+
+    ghost Value = { List ℕ };
+
+    ghost view = { λ n. n.path };
+
+    ghost inverse = { λ b. record { path = b } };
+}
+
+impl DsName {
+    /// Reads a file system's name. BadName where the bytes are none, NoMemory where there is no memory for it.
+    #[tactic(auto, unfolding(crate::specs::Reading::name_of))]
+    pub fn read(alloc: Global, bytes: &[u8]) -> Result<DsName, Refusal>
+        ensures { Reads result (name_of bytes.now) }
+    {
+        let path = admitted(alloc, bytes, is_name_of(bytes))?;
+        Ok(DsName { path })
+    }
+
+    /// Its bytes, as written.
+    pub fn as_bytes(&self) -> &[u8]
+        ensures { result.now ≡ self.now }
+    {
+        self.path.as_slice()
+    }
+
+    /// Whether the other is the same name.
+    pub fn same(&self, other: &DsName) -> bool
+        ensures { IsTrue result ↔ (self.now ≡ other.now) }
+    {
+        self.path.same(&other.path)
+    }
+}
+
+/// One component of a name, which is what stands after a snapshot's `@` or a bookmark's `#`. Contracts see its bytes.
+#[derive(Drop, Clone, PartialEq, Eq, Debug)]
+pub struct Component {
+    word: Bytes,
+}
+
+impl Model for Component {
+    ghost use Rattle.std.specs.Prelude.{List, ℕ};
+
+    ghost Value = { List ℕ };
+
+    ghost view = { λ n. n.word };
+
+    ghost inverse = { λ b. record { word = b } };
+}
+
+impl Component {
+    /// Reads a component, of any length. BadName where the bytes are none, NoMemory where there is no memory for it.
+    #[tactic(auto, unfolding(crate::specs::Reading::component_of))]
+    pub fn read(alloc: Global, bytes: &[u8]) -> Result<Component, Refusal>
+        ensures { Reads result (component_of bytes.now) }
+    {
+        let word = admitted(alloc, bytes, is_component_of(bytes))?;
+        Ok(Component { word })
+    }
+
+    /// Its bytes, as written.
+    pub fn as_bytes(&self) -> &[u8]
+        ensures { result.now ≡ self.now }
+    {
+        self.word.as_slice()
+    }
+
+    /// Whether the other is the same component.
+    pub fn same(&self, other: &Component) -> bool
+        ensures { IsTrue result ↔ (self.now ≡ other.now) }
+    {
+        self.word.same(&other.word)
+    }
+}
+
+/// The tag of a hold: 1 to 255 bytes of those that components have, `.` and `..` among them (zfs-hold(8); profile).
+/// Contracts see its bytes.
+#[derive(Drop, Clone, PartialEq, Eq, Debug)]
+pub struct Tag {
+    tag: Bytes,
+}
+
+impl Model for Tag {
+    ghost use Rattle.std.specs.Prelude.{List, ℕ};
+
+    ghost Value = { List ℕ };
+
+    ghost view = { λ t. t.tag };
+
+    ghost inverse = { λ b. record { tag = b } };
+}
+
+impl Tag {
+    /// Reads a tag. BadName where the bytes are none, NoMemory where there is no memory for it.
+    #[tactic(auto, unfolding(crate::specs::Reading::tag_of))]
+    pub fn read(alloc: Global, bytes: &[u8]) -> Result<Tag, Refusal>
+        ensures { Reads result (tag_of bytes.now) }
+    {
+        let tag = admitted(alloc, bytes, is_tag_of(bytes))?;
+        Ok(Tag { tag })
+    }
+
+    /// Its bytes, as written.
+    pub fn as_bytes(&self) -> &[u8]
+        ensures { result.now ≡ self.now }
+    {
+        self.tag.as_slice()
+    }
+
+    /// Whether the other is the same tag.
+    pub fn same(&self, other: &Tag) -> bool
+        ensures { IsTrue result ↔ (self.now ≡ other.now) }
+    {
+        self.tag.same(&other.tag)
+    }
+}

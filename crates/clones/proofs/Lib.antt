@@ -1,3 +1,0 @@
-pub mod Yielded
-pub mod Cloned
-pub mod Promoted

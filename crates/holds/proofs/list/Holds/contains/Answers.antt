@@ -1,8 +1,0 @@
-use Rattle.std.proofs.Common.{List, ℕ, ap, ◌∙◌}
-use Rattle.holds.specs.Tags.{has_tag}
-use Rattle.holds.proofs.Lists.{any_text}
-use Rattle.holds.proofs.list.Holds.contains.Goals as goal
-
--- the set finds it by its bytes
-pub returns : goal.returns
-returns c = c.contains.ensures ∙ any_text c.args.tag.now c.self.inside.tags.keys ∙ ap (λ (ts : List (List ℕ)). has_tag ts c.args.tag.now) c.self.view_is

@@ -1,0 +1,151 @@
+//! What a range of snapshots alone has.
+ghost use Rattle.std.specs.Prelude.{◌≡◌, ◌<◌, ◌≤◌, ◌+◌, ◌*◌, ◌^◌, length, OnErr, ◌&&◌, if◌then◌else◌, Some, None, IfSome, IfOk, IfErr, OnOk, nat_lt};
+ghost use Rattle.std.specs.List.{find, list_any};
+ghost use Rattle.std.specs.Option.{option_map, option_or};
+ghost use Rattle.std.specs.FinSet.{len};
+ghost use Rattle.base.specs.Names.{same_name};
+ghost use Rattle.model.specs.World.{union_of};
+ghost use Rattle.model.specs.Sums.{would_free};
+ghost use Rattle.world.specs.Tables.{world_of};
+ghost use Rattle.datasets.specs.Origins.{origin_group};
+ghost use Rattle.accounts.specs.Space.{newest_group};
+ghost use Rattle.lookups.specs.Ranges.{IsRange, range_ids, range_refusal, has_clone_between, group_after, older_than};
+
+use base::meter::SegMeter;
+use base::name::{Component, DsName};
+use base::number::Group;
+use base::refusal::Refusal;
+use datasets::{FileSystem, Snapshot, Table};
+
+/// How many blocks all datasets together would lose with these snapshots of a file system, the first, the last and those between, of which
+/// nothing is changed (zfs-destroy(8), -nv). NoDataset exactly where one of the two isn't there, else NotAncestor exactly where the first is
+/// newer than the last, else HasClones exactly where one of the range has a clone (the order is profile). It costs the logarithm of the
+/// number of file systems, the number of this one's snapshots, for each of the range the logarithm of the number of clones, and the
+/// segments of the dead lists of the range but its first and of what comes after it, each of which has two at most and is read once: what
+/// went with the first was there before the range.
+pub fn would_free(
+    table: &Table,
+    name: &DsName,
+    first: &Component,
+    last: &Component,
+    segments: &mut SegMeter,
+) -> Result<u64, Refusal>
+    requires few { len (union_of (world_of table.now)) < 2 ^ 32 }
+    ensures ok { IfOk result (λ n. n ≡ would_free (world_of table.now) (range_ids table.now name.now first.now last.now)) }
+    ensures can { OnOk result (range_refusal table.now name.now first.now last.now ≡ None) }
+    ensures refused { IfSome (range_refusal table.now name.now first.now last.now) (λ e. result ≡ Err e) }
+    ensures only { IfErr result (λ e. range_refusal table.now name.now first.now last.now ≡ Some e) }
+    ensures meter { OnOk result (segments.new ≤ segments.old + 2 * length (range_ids table.now name.now first.now last.now)) }
+    ensures unread { OnErr result (segments.new ≡ segments.old) }
+{
+    table.facts();
+    let (file_system, oldest, _last, around) = range_of(table, name, first, last)?;
+    Ok(file_system.gone_after(Some(oldest), around.next, around.before, segments))
+}
+
+// What stands around a range of the snapshots of a file system: the group of the newest that is older, or else of the origin, and 0 where
+// there is neither; that of the first that is newer; and whether one of the range has a clone.
+#[derive(Clone, Copy)]
+struct Around {
+    before: Group,
+    next: Option<Group>,
+    is_cloned: bool,
+}
+
+// The file system of this name, the groups of the first and the last snapshot of the range, and what stands around it; refused as
+// `would_free` says. It costs what that does, but for the dead lists.
+fn range_of<'a>(
+    table: &'a Table,
+    name: &DsName,
+    first: &Component,
+    last: &Component,
+) -> Result<(&'a FileSystem, Group, Group, Around), Refusal>
+    ensures ok { IfOk result (λ p. IsRange table.now name.now first.now last.now p.0.now p.1.0 p.2.0) }
+    ensures before { IfOk result (λ p. p.3.before.0 ≡ newest_group (origin_group p.0.now.system.origin) (older_than p.1.0 p.0.now.system.snaps)) }
+    ensures next { IfOk result (λ p. option_map (λ g. g.0) p.3.next ≡ group_after p.2.0 p.0.now.system.snaps) }
+    ensures refused { IfErr result (λ e. range_refusal table.now name.now first.now last.now ≡ Some e) }
+{
+    let Some(file_system) = table.find(name) else {
+        return Err(Refusal::NoDataset);
+    };
+    let Some(first) = group_of(file_system, first) else {
+        return Err(Refusal::NoDataset);
+    };
+    let Some(last) = group_of(file_system, last) else {
+        return Err(Refusal::NoDataset);
+    };
+    if last.0 < first.0 {
+        return Err(Refusal::NotAncestor);
+    }
+    let around = look_around(table, file_system, first, last);
+    if around.is_cloned {
+        return Err(Refusal::HasClones);
+    }
+    Ok((file_system, first, last, around))
+}
+
+// The creation group of the snapshot of this name within a file system, or none. It costs the logarithm of the number of its snapshots.
+fn group_of(file_system: &FileSystem, component: &Component) -> Option<Group>
+    ensures { option_map (λ g. g.0) result ≡ option_map (λ t. t.group) (find (λ t. same_name t.name component.now) file_system.now.system.snaps) }
+{
+    let snapshot = file_system.snapshot_named(component.as_bytes())?;
+    Some(snapshot.group())
+}
+
+// Whether the snapshot's group is from one to another, and it has a clone. It costs the logarithm of the number of clones.
+fn has_clone_between(table: &Table, snapshot: &Snapshot, first: Group, last: Group) -> bool
+    ensures { result ≡ has_clone_between table.now first.0 last.0 snapshot.now }
+{
+    first.0 <= snapshot.group().0 && snapshot.group().0 <= last.0 && table.has_clone(snapshot.id())
+}
+
+// What stands around the range from one group to another. It costs the number of the file system's snapshots, and for each of the range the
+// logarithm of the number of clones.
+fn look_around(table: &Table, file_system: &FileSystem, first: Group, last: Group) -> Around
+    ensures before { result.before.0 ≡ newest_group (origin_group file_system.now.system.origin) (older_than first.0 file_system.now.system.snaps) }
+    ensures next { option_map (λ g. g.0) result.next ≡ group_after last.0 file_system.now.system.snaps }
+    ensures cloned { result.is_cloned ≡ list_any (has_clone_between table.now first.0 last.0) file_system.now.system.snaps }
+{
+    let mut around = Around {
+        before: base_of(file_system),
+        next: None,
+        is_cloned: false,
+    };
+    for kept in file_system.snapshots().iter() {
+        let group = kept.snapshot.group();
+        around = Around {
+            before: older(around.before, group, first),
+            next: newer(around.next, group, last),
+            is_cloned: around.is_cloned | has_clone_between(table, &kept.snapshot, first, last),
+        };
+    }
+    around
+}
+
+// The group that comes next, where it is older than the first of a range, and else the one before. Constant time.
+fn older(before: Group, group: Group, first: Group) -> Group
+    ensures { result.0 ≡ (if nat_lt group.0 first.0 then group.0 else before.0) }
+{
+    if group.0 < first.0 { group } else { before }
+}
+
+// The one before, where there is one, and else the group that comes next, where it is newer than the last of a range. Constant time.
+fn newer(next: Option<Group>, group: Group, last: Group) -> Option<Group>
+    ensures { result ≡ option_or next (if nat_lt last.0 group.0 then Some group else None) }
+{
+    match next {
+        Some(_) => next,
+        None if last.0 < group.0 => Some(group),
+        None => None,
+    }
+}
+
+// The creation group of its origin, and 0 where it has none. Constant time.
+fn base_of(file_system: &FileSystem) -> Group
+    ensures { result.0 ≡ origin_group file_system.now.system.origin }
+{
+    match file_system.origin() {
+        Some(origin) => origin.group,
+        None => Group(0),
+    }
+}

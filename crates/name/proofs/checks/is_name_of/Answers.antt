@@ -1,6 +1,0 @@
-use Rattle.std.proofs.Common.{length}
-use Rattle.std.proofs.lemmas.Bool.{le-ltb}
-use Rattle.name.proofs.checks.is_name_of.Goals as goal
-
-pub returns : goal.returns
-returns c = rw (le-ltb 255 (length c.args.bytes.now) c.if-bytes-gt-NAME_LIMIT.false) c.are_components.ensures

@@ -1,5 +1,0 @@
-use Rattle.tree.proofs.UpdateLaws.{free_changes}
-use Rattle.objset.proofs.updates.free_of.Goals as goal
-
-pub returns-clause-changes : goal.returns-clause-changes
-returns-clause-changes c = free_changes c.args.object

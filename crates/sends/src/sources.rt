@@ -1,0 +1,14 @@
+//! Where a send of a snapshot may start: at an older snapshot of its lineage, or at a bookmark of its file system (zfs-send(8), -i).
+//!
+//! Nothing here visits a block: names are looked up, and file systems are passed from a snapshot down its lineage.
+
+mod lineage;
+mod list;
+mod place;
+mod shown;
+mod source;
+mod start;
+
+pub use crate::sources::list::sources_of;
+pub use crate::sources::shown::start_in;
+pub use crate::sources::start::{Start, start_of};

@@ -1,0 +1,50 @@
+//! The walk down the lineage of a snapshot.
+ghost use Rattle.std.specs.Prelude.{◌≡◌, Some};
+ghost use Rattle.model.specs.Ids.{snap_id};
+ghost use Rattle.model.specs.World.{Snapped, id_of, same_id};
+ghost use Rattle.lookups.specs.Places.{IsPlace, IsHome};
+ghost use Rattle.lookups.specs.Since.{is_before};
+
+use crate::sources::place::is_named;
+use base::name::DsName;
+use datasets::{FileSystem, Snapshot, Table};
+use model::snapshot_id::SnapshotId;
+
+/// Whether the snapshot of this identity, which the file system of that name has, is an older one of the lineage of this snapshot of this
+/// file system. It goes down from this file system to that of its origin and so on. It costs for each that it passes that of looking its
+/// origin up.
+pub fn is_older(
+    table: &Table,
+    file_system: &FileSystem,
+    snapshot: &Snapshot,
+    owner: &DsName,
+    older: SnapshotId,
+) -> bool
+    requires place { IsPlace table.now file_system.now (Some snapshot.now) }
+    requires home { IsHome table.now owner.now (snap_id older) }
+    ensures { result ≡ is_before table.now (Snapped (id_of snapshot.now)) (snap_id older) }
+{
+    table.facts();
+    let (mut passed, mut until) = (file_system, snapshot.group());
+    'lineage: while !is_named(passed, owner) {
+        let Some(origin) = passed.origin() else {
+            return false;
+        };
+        if origin.group.0 <= older.group.0 {
+            return is_same(origin, older);
+        }
+        let Some((next, _)) = table.snapshot_of(origin) else {
+            unreachable!()
+        };
+        passed = next;
+        until = origin.group;
+    }
+    older.group.0 < until.0
+}
+
+// Whether they are one snapshot's.
+fn is_same(id: SnapshotId, other: SnapshotId) -> bool
+    ensures { result ≡ same_id (snap_id id) (snap_id other) }
+{
+    id == other
+}

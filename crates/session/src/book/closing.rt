@@ -1,0 +1,130 @@
+//! The end of a session: all seats' receipts against the history.
+ghost use Rattle.std.specs.Prelude.{◌≡◌, ◌+◌, ◌<◌, ◌≤◌, ◌==◌, ◌↔◌, ◌∷◌, List, ℕ, length, map, IsTrue, IsOk, IfOk, IfErr, All, count_by, MatchOption};
+ghost use Rattle.std.specs.Arc.{arc_value};
+ghost use Rattle.session.specs.History.{IsLegal};
+ghost use Rattle.session.specs.Receipts.{Placed};
+ghost use Rattle.session.specs.Whole.{IsWhole, IsAnswered, of_seat};
+
+use crate::book::book::Book;
+use crate::book::opening::Opening;
+use crate::book::seat::{Receipt, Seat};
+use base::refusal::Refusal;
+use model::entry::Entry;
+use pool::Pool;
+use std::marker::PhantomData;
+use std::sync::Arc;
+
+/// What a session leaves: the pool, and the whole history. The entry with number k stands at index k.
+#[derive(Drop)]
+pub struct Closed {
+    pub pool: Pool,
+    pub history: Vec<Arc<Entry>>,
+}
+
+impl<K: Opening> Book<K> {
+    /// Compares all seats' receipts with the history, and gives up the pool. Busy, with all handed back, where a seat is missing or
+    /// there twice, or where the receipts aren't those of the history, each entry once, at its number and in its seat's order. Entries
+    /// are compared by what is in them, and the seats may stand in any order. It takes no memory, and time in proportion to
+    /// the seats times the history.
+    pub fn close(self, seats: Vec<Seat<K>>) -> Result<Closed, (Refusal, Book<K>, Vec<Seat<K>>)>
+        ensures exact { IsOk result ↔ IsWhole self.seats self.history seats.items }
+        ensures run { IfOk result (λ c. IsLegal K.opening (map arc_value c.history.items) c.pool.state) }
+        ensures kept { IfOk result (λ c. (map arc_value c.history.items ≡ self.history) × (c.pool.state ≡ self.pool)) }
+        ensures answered { IfOk result (λ c. IsAnswered (map arc_value c.history.items) seats.items) }
+        ensures back { IfErr result (λ e. (e.0 ≡ Refusal.Busy) × (e.1 ≡ self) × (e.2 ≡ seats)) }
+    {
+        if !is_whole(self.seats, self.history.as_slice(), seats.as_slice()) {
+            return Err((Refusal::Busy, self, seats));
+        }
+        let Book {
+            pool,
+            history,
+            limit: _,
+            seats: _,
+            of: PhantomData,
+        } = self;
+        Ok(Closed { pool, history })
+    }
+}
+
+// Whether the seats together have the receipts of the whole history.
+fn is_whole<K: Opening>(given: u32, history: &[Arc<Entry>], seats: &[Seat<K>]) -> bool
+    ensures { IsTrue result ↔ IsWhole given (map arc_value history.now) seats.now }
+{
+    if !all_there(given, seats) {
+        return false;
+    }
+    if !all_named(given, history) {
+        return false;
+    }
+    all_own(history, seats)
+}
+
+// Whether each seat up to this number is there once.
+fn all_there<K: Opening>(given: u32, seats: &[Seat<K>]) -> bool
+    ensures { IsTrue result ↔ ((i : ℕ) → i < given → count_by (λ s. s.number == i + 1) seats.now ≡ 1) }
+{
+    for i in 0..given {
+        if count_of(i + 1, seats) != 1 {
+            return false;
+        }
+    }
+    true
+}
+
+// How many seats have the number.
+fn count_of<K: Opening>(number: u32, seats: &[Seat<K>]) -> usize
+    ensures { result ≡ count_by (λ s. s.number == number) seats.now }
+{
+    seats.iter().filter(|s| s.number == number).count()
+}
+
+// Whether each entry is of a seat that was given.
+fn all_named(given: u32, history: &[Arc<Entry>]) -> bool
+    ensures { IsTrue result ↔ All (λ e. (0 < e.seat) × (e.seat ≤ given)) (map arc_value history.now) }
+{
+    for entry in history {
+        if entry.seat == 0 || entry.seat > given {
+            return false;
+        }
+    }
+    true
+}
+
+// Whether each seat's receipts are its entries.
+fn all_own<K: Opening>(history: &[Arc<Entry>], seats: &[Seat<K>]) -> bool
+    ensures { IsTrue result ↔ All (λ s. s.receipts ≡ of_seat s.number 0 (map arc_value history.now)) seats.now }
+{
+    for seat in seats {
+        if !has_own(history, seat.number, seat.receipts.as_slice()) {
+            return false;
+        }
+    }
+    true
+}
+
+// Whether these are the receipts for the entries of a seat.
+fn has_own(history: &[Arc<Entry>], number: u32, receipts: &[Receipt]) -> bool
+    ensures { IsTrue result ↔ (receipts.now ≡ of_seat number 0 (map arc_value history.now)) }
+{
+    let mut rest = receipts;
+    'entries: for (k, entry) in history.iter().enumerate() {
+        if entry.seat == number {
+            match after_one(rest, k as u64, entry) {
+                Some(more) => rest = more,
+                None => return false,
+            }
+        }
+    }
+    rest.is_empty()
+}
+
+// What follows a receipt for this entry with this number, if the receipts begin with it.
+fn after_one<'a>(receipts: &'a [Receipt], number: u64, entry: &Entry) -> Option<&'a [Receipt]>
+    ensures { MatchOption result ((rs : List Placed) → receipts.now ≡ record { number = number; entry = entry.now } ∷ rs → ⊥) (λ more. receipts.now ≡ record { number = number; entry = entry.now } ∷ more.now) }
+{
+    match receipts {
+        [r, more @ ..] if r.number == number && r.entry.same(entry) => Some(more),
+        _ => None,
+    }
+}

@@ -1,3 +1,0 @@
--- Where sends may start in a table.
-pub mod Sources
-pub mod Starts

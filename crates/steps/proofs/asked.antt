@@ -1,0 +1,4 @@
+pub mod Asked
+pub mod Settled
+pub mod Foreseen
+pub mod Ahead

@@ -1,0 +1,12 @@
+pub mod Surveys
+pub mod Settles
+pub mod Free
+pub mod States
+pub mod Lookups
+pub mod Ruled
+pub mod Known
+pub mod Gives
+pub mod Putting
+pub mod Counts
+pub mod Settling
+pub mod Freeing

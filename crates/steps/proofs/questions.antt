@@ -1,0 +1,17 @@
+pub mod Named
+pub mod Questions
+pub mod Identities
+pub mod Below
+pub mod WrittenBy
+pub mod Listing
+pub mod Properties
+pub mod Sends
+pub mod Texts
+pub mod Tags
+pub mod Spaces
+pub mod Names
+pub mod Values
+pub mod Measured
+pub mod Reading
+pub mod PoolCounts
+pub mod Sent

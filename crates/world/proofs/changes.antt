@@ -1,0 +1,11 @@
+pub mod Numbered
+pub mod Drawn
+pub mod Kept
+pub mod Creations
+pub mod Writes
+pub mod Promotions
+pub mod FreshNumbers
+pub mod LiveMaps
+pub mod Plans
+pub mod Views
+pub mod TableWrites

@@ -1,0 +1,16 @@
+pub mod Deadlists
+pub mod Requests
+pub mod Chains
+pub mod Promotes
+pub mod Moves
+pub mod Changes
+pub mod Drops
+pub mod Replace
+pub mod Shapes
+pub mod Steps
+pub mod Lineage
+pub mod Bridge
+pub mod Put
+pub mod Dead
+pub mod DeadChanges
+pub mod Shuffled

@@ -1,0 +1,5 @@
+pub mod Lists
+pub mod Maps
+pub mod SetCounts
+pub mod Listed
+pub mod Finding

@@ -1,0 +1,5 @@
+pub mod Trees
+pub mod Cells
+pub mod Rewrites
+pub mod Presence
+pub mod BlockCounts

@@ -1,0 +1,11 @@
+use Rattle.std.proofs.Common.{◌*◌, ◌%◌, ◌^◌}
+use Rattle.std.proofs.Common.{w64, bit_or}
+use Rattle.std.proofs.lemmas.Nat.Bits.{bit_at_set_same, bit_at_set_other}
+use Rattle.zalloc.proofs.Words.{one_from, same_bit}
+use Rattle.zalloc.proofs.bits.with.Goals as goal
+
+pub returns-clause-same : goal.returns-clause-same
+returns-clause-same c = one_from (bit_or c.args.word (1 * 2 ^ c.args.bit % 18446744073709551616)) c.args.bit (bit_at_set_same w64 c.args.word c.args.bit c.requires)
+
+pub returns-clause-others : goal.returns-clause-others
+returns-clause-others c = λ i p q. same_bit (bit_or c.args.word (1 * 2 ^ c.args.bit % 18446744073709551616)) c.args.word i i (bit_at_set_other w64 c.args.word c.args.bit c.requires i q)

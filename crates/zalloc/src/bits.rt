@@ -1,0 +1,58 @@
+//! The numbers of a window as the bits of a word.
+ghost use Rattle.std.specs.Prelude.{◌≡◌, ◌≢◌, ℕ, ◌<◌, ◌≤◌, true, false, IfSome, IfNone};
+ghost use Rattle.zalloc.specs.Bits.{is_one, is_even as is_even_word, IsEven, IsLowest};
+
+/// Whether a bit is one.
+pub fn has(word: u64, bit: u32) -> bool
+    requires { bit < 64 }
+    ensures { result ≡ is_one word bit }
+{
+    (word >> bit) & 1 == 1
+}
+
+/// The word with a bit.
+pub fn with(word: u64, bit: u32) -> u64
+    requires { bit < 64 }
+    ensures same { is_one result bit ≡ true }
+    ensures others { (i : ℕ) → i < 64 → i ≢ bit → is_one result i ≡ is_one word i }
+{
+    word | (1 << bit)
+}
+
+/// The word without a bit.
+pub fn without(word: u64, bit: u32) -> u64
+    requires { bit < 64 }
+    ensures same { is_one result bit ≡ false }
+    ensures others { (i : ℕ) → i < 64 → i ≢ bit → is_one result i ≡ is_one word i }
+{
+    word & !(1 << bit)
+}
+
+/// The lowest bit that is one, from one on.
+pub fn lowest(word: u64, from: u32) -> Option<u32>
+    requires { from < 64 }
+    ensures found { IfSome result (IsLowest word from) }
+    ensures none { IfNone result ((i : ℕ) → from ≤ i → i < 64 → is_one word i ≡ false) }
+{
+    let rest = word & (u64::MAX << from);
+    if rest == 0 {
+        None
+    } else {
+        Some(rest.trailing_zeros())
+    }
+}
+
+/// Whether all bits are the same.
+pub fn is_even(word: u64) -> bool
+    ensures { result ≡ is_even_word word }
+{
+    word == 0 || word == u64::MAX
+}
+
+/// All bits, or none.
+pub fn even(full: bool) -> u64
+    ensures even { IsEven result }
+    ensures bits { (i : ℕ) → i < 64 → is_one result i ≡ full }
+{
+    if full { u64::MAX } else { 0 }
+}
