@@ -113,7 +113,7 @@ def dead_lists():
 
 def block_states():
     """The states of a block number, from a write to a sync."""
-    p = Picture(760, 300)
+    p = Picture(760, 318)
     p.box(40, 120, 130, 50, "Free", "quiet")
     p.box(315, 120, 130, 50, "Allocated", "live")
     p.box(590, 120, 130, 50, "Waiting", "snapshot")
@@ -134,7 +134,8 @@ def block_states():
     p.words(392, 102, "destroy, rollback, receive -F")
     p.words(460, 58, "still Allocated, in no dataset; a slice lets it go")
     p.words(14, 270, "A number is Allocated exactly where a dataset of the present world or what is freeing has it,")
-    p.words(14, 288, "Waiting exactly where only the last synced world has it, and else Free.")
+    p.words(14, 288, "Waiting exactly where only the last synced world has it, and else Free. An abandon gives each number the")
+    p.words(14, 306, "state that it had after the last sync: then none waits.")
     return p
 
 
@@ -217,7 +218,7 @@ WRITE = [
     (3, "limits", "Ledger::over_after"),
     (2, "datasets", "Table::apply_live: the row"),
     (3, "file_system", "FileSystem::apply"),
-    (4, "snapshots", "Line::last: the newest group"),
+    (4, "snapshots", "SnapshotList::last: the newest group"),
     (4, "tree", "Tree::draft"),
     (5, "batch", "draft_of: survey, choose, fill"),
     (6, "zalloc", "Allocator::find"),

@@ -19,7 +19,7 @@ from pathlib import Path
 EXAMPLES = Path(__file__).resolve().parent.parent / "examples"
 PATIENCE = 10
 REQUESTS = (
-    "bookmark clone create destroy get hold holds list pget promote punch read receive release rmobj rollback send set "
+    "abandon bookmark clone create destroy get hold holds list pget promote punch read receive release rmobj rollback send set "
     "slice snapshot sync unview view wouldfree write"
 ).split()
 

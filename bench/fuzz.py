@@ -11,6 +11,8 @@ fro, damaged streams, limits near what is used, pools that fill up. It is asked 
 - `used` of a file system is the sum of its four parts;
 - a snapshot still has the contents that it had when it was first seen, under whatever name, by its guid;
 - a stream that was sent, received by a fresh pool, reads as the snapshot does, from its source on too;
+- an abandon is refused where a view is open and nowhere else, and after it every answer is the one that was given right after the last sync
+  (unless a view was open at that sync: then what only that view kept is gone);
 - in the end the whole script is answered line by line with -w.
 
 The seed is printed. A script that fails is made shorter as long as it fails, and printed with what was wrong; the exit status is then 1. What
@@ -29,6 +31,8 @@ from examples import Program, Silence
 
 PARTS = "usedbydataset usedbysnapshots usedbychildren usedbyrefreservation".split()
 LIMITS = "quota refquota reservation refreservation".split()
+PROPERTIES = [*PARTS, *LIMITS, *"used available referenced written origin guid createtxg userrefs defer_destroy clones".split()]
+OF_POOL = "allocated free freeing waiting group".split()
 COMPONENTS = ["a", "a-x", "a.b", "b", "ab", "c" * 120, "Z:9"]
 PLACES = [(o, b) for o in (0, 1, 255) for b in (0, 1, 15, 16, 4095)]
 
@@ -43,7 +47,8 @@ class Checked:
     def __init__(self, program, blocks):
         self.program, self.blocks = program, blocks
         self.pool = Program(program, str(blocks), "1")
-        self.contents = {}
+        self.contents, self.views = {}, set()
+        self.synced = self.everything()
 
     def ask(self, line):
         try:
@@ -61,21 +66,44 @@ class Checked:
 
     def answers(self, names):
         """What a refused line must not change."""
-        asked = [f"pget {it}" for it in ("allocated", "free", "freeing", "waiting", "group")]
+        asked = [f"pget {it}" for it in OF_POOL]
         asked += [f"get {it} {name}" for name in names[0][:4] for it in (*PARTS, *LIMITS, "available", "origin")]
         asked += [f"get {it} {name}" for name in names[1][:4] for it in ("used", "written", "userrefs", "defer_destroy", "clones")]
         return names, [self.ask(it) for it in asked]
+
+    def everything(self):
+        """All that the pool answers of itself and of every dataset and bookmark."""
+        names = self.names()
+        asked = [f"pget {it}" for it in OF_POOL] + [f"holds {name}" for name in names[1]]
+        asked += [f"get {it} {name}" for kind in names for name in kind for it in PROPERTIES]
+        return names, [self.ask(it) for it in asked], [self.blocks_of(name) for name in names[0] + names[1]]
 
     def run(self, line):
         """Asks a line with the checks around it; its answer."""
         before = self.answers(self.names())
         answer = self.ask(line)
+        if line == "abandon" or not answer.startswith("error"):
+            self.follow(line.split(), answer)
         names = self.names()
         if answer.startswith("error") and self.answers(names) != before:
             raise Wrong(f"a refused line has changed an answer: {line[:80]}: {answer}")
         self.check_sums(names)
         self.check_contents(names[1])
         return answer
+
+    def follow(self, words, answer):
+        """Keeps count of the open views and notes what a sync leaves, and checks an abandon by both."""
+        if words[0] == "view":
+            self.views.add(answer)
+        elif words[0] == "unview":
+            self.views.remove(words[1])
+        elif words[0] == "sync":
+            self.synced = None if self.views else self.everything()
+        elif words[0] == "abandon":
+            if answer != ("error 8 Busy" if self.views else "ok"):
+                raise Wrong(f"abandon beside {len(self.views)} open views: {answer}")
+            if answer == "ok" and self.synced and self.everything() != self.synced:
+                raise Wrong("after an abandon not every answer is that after the last sync")
 
     def check_sums(self, names):
         size, allocated, free, waiting = (int(self.ask(f"pget {it}")) for it in ("size", "allocated", "free", "waiting"))
@@ -115,7 +143,7 @@ class Maker:
     """Makes lines, from what is there."""
 
     def __init__(self, source, blocks):
-        self.random, self.blocks, self.streams, self.views = source, blocks, [], 0
+        self.random, self.blocks = source, blocks
 
     def line(self, checked):
         file_systems, snapshots, bookmarks = checked.names()
@@ -131,8 +159,9 @@ class Maker:
             (4, lambda: f"promote {file_system}"), (2, lambda: f"rollback {pick(['', '-r '])}{snapshot}"),
             (4, lambda: f"destroy {pick(['', '-r ', '-d ', '-r -d '])}{any_name}"), (2, lambda: f"hold {pick('xyz')} {snapshot}"),
             (2, lambda: f"release {pick('xyz')} {snapshot}"), (2, lambda: f"bookmark {snapshot} {file_system}#{pick(COMPONENTS)}"),
-            (2, lambda: f"set {pick(LIMITS)}={size} {file_system}"), (2, lambda: f"view {snapshot}"), (2, lambda: f"unview {of.randrange(1, 9)}"),
-            (3, lambda: f"slice {of.randrange(0, 40)}"), (3, lambda: "sync"), (1, lambda: f"wouldfree {file_system} {pick(COMPONENTS)} {pick(COMPONENTS)}"),
+            (2, lambda: f"set {pick(LIMITS)}={size} {file_system}"), (2, lambda: f"view {snapshot}"), (3, lambda: f"unview {pick([*sorted(checked.views), of.randrange(1, 9)])}"),
+            (3, lambda: f"slice {of.randrange(0, 40)}"), (3, lambda: "sync"), (2, lambda: "abandon"),
+            (1, lambda: f"wouldfree {file_system} {pick(COMPONENTS)} {pick(COMPONENTS)}"),
             (1, lambda: f"get written@{snapshot} {any_name}"), (3, lambda: self.receive(checked, file_system, snapshot, pick(snapshots + bookmarks or ["p@a"]))),
         ]
         return pick([make for weight, make in kinds for _ in range(weight)])()

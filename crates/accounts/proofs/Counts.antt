@@ -19,7 +19,7 @@ use Rattle.world.proofs.lists.SetCounts.{same_members, in_difference, from_diffe
 use Rattle.world.proofs.lists.Maps.{same_value, at_entry, entries_apart}
 use Rattle.world.proofs.lists.Lists.{len-from_list, from_list-filter, once_filter}
 use Rattle.world.proofs.maps.Cells.{in_blocks, from_blocks}
-use Rattle.world.proofs.maps.Presence.{same_presence}
+use Rattle.base.proofs.Presence.{same_presence}
 use Rattle.world.proofs.maps.Rewrites.{rewrite_is_change}
 use Rattle.accounts.specs.Asked.{AreAlike, IsNumberedOnce}
 use Rattle.accounts.proofs.Totals.{total_more}

@@ -18,7 +18,7 @@ use Rattle.world.proofs.lists.Listed.{in_map, map_in, different_map, length-mapp
 use Rattle.world.proofs.lineage.Lineage.{in_after, from_after}
 use Rattle.world.proofs.lists.Maps.{some_of}
 use Rattle.world.proofs.maps.Cells.{in_blocks, from_blocks, from_new_blocks}
-use Rattle.world.proofs.maps.Presence.{same_presence}
+use Rattle.base.proofs.Presence.{same_presence}
 use Rattle.world.proofs.maps.Rewrites.{rewrite_is_change}
 use Rattle.accounts.specs.Asked.{IsNumberedOnce}
 use Rattle.accounts.specs.Forecasts.{count_after, count_between}

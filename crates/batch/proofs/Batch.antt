@@ -17,7 +17,7 @@ use Rattle.base.specs.Counting.{counted as counted_from}
 use Rattle.batch.specs.Cost.{CountsDropped}
 use Rattle.batch.specs.Room.{AreAllocated, IsKept, IsReleased, HasRoom, LacksRoom, young_count}
 use Rattle.batch.specs.declared.update.Update.{Update}
-use Rattle.batch.specs.declared.plan.Claim.{Claim}
+use Rattle.batch.specs.declared.findings.Claim.{Claim}
 use Rattle.node.specs.Entries.{key_at}
 use Rattle.node.specs.Shape.{Part}
 use Rattle.batch.specs.Said.{Said, said, AreSized}

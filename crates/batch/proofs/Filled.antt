@@ -8,7 +8,7 @@ use Rattle.base.specs.declared.number.BlockNo.{BlockNo}
 use Rattle.base.specs.declared.number.Dead.{Dead}
 use Rattle.base.specs.Surveys.{IsIn, AreDifferent}
 use Rattle.batch.specs.declared.numbers.NewBlock.{NewBlock}
-use Rattle.batch.specs.declared.plan.Claim.{Claim}
+use Rattle.batch.specs.declared.findings.Claim.{Claim}
 use Rattle.batch.specs.Build.{filled, is_fresh, number_for, numbers_after, number_of, HasKeys}
 use Rattle.batch.proofs.Listing.{in_map, from_map, one_to_one}
 use Rattle.batch.proofs.MadeLaws.{number_here}

@@ -10,7 +10,7 @@ use Rattle.base.specs.declared.number.Dead.{Dead}
 use Rattle.base.specs.Map.{Map, Cell, Block}
 use Rattle.base.specs.Rewrite.{Changes}
 use Rattle.base.specs.Surveys.{IsIn, AreDifferent, IsDropped, IsSurvey, dead_block}
-use Rattle.batch.specs.declared.plan.Claim.{Claim}
+use Rattle.batch.specs.declared.findings.Claim.{Claim}
 use Rattle.batch.specs.declared.update.Update.{Update}
 use Rattle.batch.specs.Forecast.{kept_of}
 use Rattle.batch.specs.Said.{Said, said, AreSized}

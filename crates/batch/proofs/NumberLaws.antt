@@ -7,7 +7,7 @@ use Rattle.std.proofs.lemmas.List.Sums.{sum_by-cons}
 use Rattle.std.proofs.lemmas.Option.{slice_get-get_or, slice_get_within}
 use Rattle.base.specs.declared.number.Dead.{Dead}
 use Rattle.base.specs.declared.number.BlockNo.{BlockNo}
-use Rattle.batch.specs.declared.plan.Claim.{Claim}
+use Rattle.batch.specs.declared.findings.Claim.{Claim}
 use Rattle.batch.specs.declared.numbers.NewBlock.{NewBlock}
 use Rattle.batch.specs.Build.{filled, is_fresh, first_number, number_for, numbers_after}
 use Rattle.base.specs.Surveys.{IsIn, AreDifferent}

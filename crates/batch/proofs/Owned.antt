@@ -8,7 +8,7 @@ use Rattle.base.specs.declared.number.Key.{Key}
 use Rattle.base.specs.declared.number.Dead.{Dead}
 use Rattle.base.specs.Map.{Cell, Block}
 use Rattle.base.specs.Surveys.{IsIn, dead_block}
-use Rattle.batch.specs.declared.plan.Claim.{Claim}
+use Rattle.batch.specs.declared.findings.Claim.{Claim}
 use Rattle.node.specs.Shape.{Part}
 use Rattle.batch.specs.Touch.{claim_of, let_go, own_block, young_one}
 use Rattle.node.specs.Cells.{dead_of}

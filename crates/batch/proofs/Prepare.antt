@@ -26,7 +26,7 @@ use Rattle.batch.specs.Room.{AreAllocated, HasRoom, LacksRoom}
 use Rattle.batch.specs.Said.{Said, said, AreSized}
 use Rattle.batch.specs.Touch.{later_first, touched, stays, claims, released, dropped, let_go, own_block}
 use Rattle.batch.specs.Updates.{changes_of, IsBatch}
-use Rattle.batch.specs.declared.plan.Claim.{Claim}
+use Rattle.batch.specs.declared.findings.Claim.{Claim}
 use Rattle.batch.specs.declared.update.Update.{Update}
 use Rattle.batch.proofs.Batch.{IsAsked, counts, room, no_room, released_allocated, released_once}
 use Rattle.batch.proofs.Remade.{rebuilt_sound, rebuilt_cells}

@@ -5,7 +5,7 @@ use Rattle.base.specs.declared.number.Key.{Key}
 use Rattle.base.specs.declared.number.BlockNo.{BlockNo}
 use Rattle.base.specs.declared.number.Dead.{Dead}
 use Rattle.batch.specs.declared.numbers.NewBlock.{NewBlock}
-use Rattle.batch.specs.declared.plan.Claim.{Claim}
+use Rattle.batch.specs.declared.findings.Claim.{Claim}
 use Rattle.node.specs.Entries.{key_at}
 use Rattle.node.specs.Kid.{places_of}
 use Rattle.batch.specs.Said.{Said, silent, hole, full}

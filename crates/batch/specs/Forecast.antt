@@ -6,7 +6,7 @@ use Rattle.base.specs.declared.number.Key.{Key}
 use Rattle.base.specs.Map.{Map}
 use Rattle.base.specs.Rewrite.{Changes}
 use Rattle.base.specs.Surveys.{IsSurvey, dead_block}
-use Rattle.batch.specs.declared.plan.Claim.{Claim}
+use Rattle.batch.specs.declared.findings.Claim.{Claim}
 use Rattle.batch.specs.declared.forecast.Forecast.{Forecast}
 
 -- the blocks that claims keep in place (profile)

@@ -3,7 +3,7 @@ use Rattle.std.specs.Prelude.{ℕ, zero, suc, ◌+◌, ◌*◌, Bool, true, fals
 use Rattle.std.specs.Option.{option_map}
 use Rattle.base.specs.declared.number.Key.{Key}
 use Rattle.base.specs.declared.number.Dead.{Dead}
-use Rattle.batch.specs.declared.plan.Claim.{Claim}
+use Rattle.batch.specs.declared.findings.Claim.{Claim}
 use Rattle.node.specs.Cells.{dead_of}
 use Rattle.node.specs.Entries.{key_at}
 use Rattle.node.specs.Kid.{places_of}

@@ -14,8 +14,8 @@ ghost use Rattle.batch.specs.Touch.{touched, claims, released, dropped};
 ghost use Rattle.batch.specs.Updates.{changes_of, IsBatch};
 
 use crate::few::Few;
+use crate::findings::{Findings, Survey};
 use crate::numbers::{NewBlock, choose, fill, fresh_count};
-use crate::plan::{Plan, Survey};
 use crate::update::{Update, write_count};
 use base::meter::Meter;
 use base::number::{BlockNo, Dead, Group};
@@ -54,7 +54,7 @@ pub(crate) fn findings_of(
     room: usize,
     young: Group,
     meter: &mut Meter,
-) -> Result<(Plan, bool), Refusal>
+) -> Result<(Findings, bool), Refusal>
     requires order { AreInOrder updates.now }
     requires sound { IsSoundKid 5 (whole root.now) }
     ensures touched { IfOk result (λ p. p.1 ≡ touched (said updates.now) 5 0 (whole root.now)) }
@@ -64,12 +64,12 @@ pub(crate) fn findings_of(
     ensures never_lower { meter.old ≤ meter.new }
     ensures err { OnErr result (result ≡ Err Refusal.NoMemory) }
 {
-    let mut plan = Plan {
+    let mut findings = Findings {
         claims: Few::with_capacity(alloc, room)?,
         released: Few::new(alloc),
     };
-    let fate = Root::survey(root_of(root), 5, 0, updates, young, &mut plan, meter)?;
-    Ok((plan, fate.touched))
+    let fate = Root::survey(root_of(root), 5, 0, updates, young, &mut findings, meter)?;
+    Ok((findings, fate.touched))
 }
 
 /// The draft of a batch on a root with so many blocks. NoSpace where the numbers are fewer than the new blocks, NoMemory where
@@ -94,17 +94,17 @@ pub fn draft_of(
     ensures never_lower { meter.old ≤ meter.new }
 {
     let room = write_count(updates).saturating_add(5);
-    let (plan, touched) = findings_of(alloc, root, updates, room, young, meter)?;
-    let need = fresh_count(&plan.claims);
-    let taken = match choose(alloc, allocator, &plan.released, young, need) {
+    let (findings, touched) = findings_of(alloc, root, updates, room, young, meter)?;
+    let need = fresh_count(&findings.claims);
+    let taken = match choose(alloc, allocator, &findings.released, young, need) {
         Ok(taken) => taken,
         Err(refusal) => return Err(refusal),
     };
-    let made = fill(alloc, &plan.claims, &taken)?;
+    let made = fill(alloc, &findings.claims, &taken)?;
     Ok(Draft {
         touched,
-        count: count - plan.released.len() as u32 + need as u32,
-        released: plan.released,
+        count: count - findings.released.len() as u32 + need as u32,
+        released: findings.released,
         taken,
         made,
     })

@@ -10,7 +10,7 @@ ghost use Rattle.node.specs.Sound.{IsSoundTree};
 
 use crate::draft::findings_of;
 use crate::few::Few;
-use crate::plan::Claim;
+use crate::findings::Claim;
 use crate::update::{Update, write_count};
 use base::meter::Meter;
 use base::number::{Dead, Group};
@@ -56,9 +56,9 @@ pub fn forecast_of(
     ensures never_lower { meter.old ≤ meter.new }
 {
     let room = write_count(updates).saturating_add(5);
-    let (plan, _touched) = findings_of(alloc, root, updates, room, Group(0), meter)?;
-    let made = plan.claims.len();
-    let mut dropped = plan.released;
-    add_kept(&plan.claims, &mut dropped)?;
+    let (findings, _touched) = findings_of(alloc, root, updates, room, Group(0), meter)?;
+    let made = findings.claims.len();
+    let mut dropped = findings.released;
+    add_kept(&findings.claims, &mut dropped)?;
     Ok(Forecast { dropped, made })
 }

@@ -4,9 +4,9 @@
 
 mod draft;
 mod few;
+mod findings;
 mod forecast;
 mod numbers;
-mod plan;
 mod update;
 
 pub use draft::{Draft, draft_of};

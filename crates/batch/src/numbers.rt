@@ -9,7 +9,7 @@ ghost use Rattle.zalloc.specs.States.{is_free};
 ghost use Rattle.zalloc.specs.declared.BlockState.TheVariants.{Free, Allocated};
 
 use crate::few::Few;
-use crate::plan::Claim;
+use crate::findings::Claim;
 use base::number::{BlockNo, Dead, Group, Key};
 use base::refusal::Refusal;
 use std::alloc::Global;

@@ -10,3 +10,5 @@ pub mod Counts
 pub mod Merges
 pub mod Meters
 pub mod Pushes
+pub mod Runs
+pub mod Orders

@@ -1,9 +1,11 @@
 -- Entries of dead lists, and how a group divides them (profile).
-use Rattle.std.specs.Prelude.{ℕ, Bool, List, nat_lt, nat_le}
+use Rattle.std.specs.Prelude.{◌≤◌, ℕ, Bool, List, [], ◌∷◌, nat_lt, nat_le}
 use Rattle.std.specs.List.{flat_map}
-use Rattle.std.specs.Global.{Global, Vec}
-use Rattle.std.specs.declared.sync.Arc.{Arc}
 use Rattle.base.specs.declared.number.Dead.{Dead}
+
+-- the group in which the entry's block was born
+abbrev pub birth_of : Dead → ℕ
+birth_of d = d.birth.0
 
 -- the entry's block was born after the group
 abbrev pub is_after : ℕ → Dead → Bool
@@ -13,10 +15,20 @@ is_after cut d = nat_lt cut d.birth.0
 abbrev pub is_upto : ℕ → Dead → Bool
 is_upto cut d = nat_le d.birth.0 cut
 
--- the entries of a shared chunk
-abbrev pub chunk_items : Arc (Vec Dead) Global → List Dead
-chunk_items a = a.value.items
+-- each entry was born from the first group on
+abbrev pub AreBornFrom : ℕ → List Dead → Type 0
+AreBornFrom from [] = Unit {0}
+AreBornFrom from (d ∷ ds) = (from ≤ d.birth.0) × AreBornFrom from ds
 
--- the entries of shared chunks, one chunk after the other
-abbrev pub chunk_entries : List (Arc (Vec Dead) Global) → List Dead
-chunk_entries = flat_map chunk_items
+-- each entry was born by the group
+abbrev pub AreBornBy : ℕ → List Dead → Type 0
+AreBornBy to [] = Unit {0}
+AreBornBy to (d ∷ ds) = (d.birth.0 ≤ to) × AreBornBy to ds
+
+-- the entries of a run
+abbrev pub run_items : List Dead → List Dead
+run_items r = r
+
+-- the entries of runs, one run after the other
+abbrev pub run_entries : List (List Dead) → List Dead
+run_entries = flat_map run_items

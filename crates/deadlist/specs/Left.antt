@@ -3,7 +3,7 @@ use Rattle.std.specs.Prelude.{ℕ, ◌+◌, List, [], ◌++◌, Option, None, So
 use Rattle.std.specs.Borrow.{Bor}
 use Rattle.base.specs.declared.number.Dead.{Dead}
 use Rattle.deadlist.specs.declared.iter.Iter.{Iter}
-use Rattle.deadlist.specs.Entries.{chunk_entries}
+use Rattle.deadlist.specs.Entries.{run_entries}
 use Rattle.deadlist.specs.Segments.{entries_in}
 
 -- the entries behind a reference, where there is one
@@ -18,11 +18,11 @@ one_behind (Some b) = 1
 
 -- what is left of the segment under way
 abbrev pub left_here : Iter → List Dead
-left_here s = s.now.now ++ (chunk_entries s.chunks.now ++ s.tail.now)
+left_here s = s.now.now ++ (run_entries s.runs.now ++ s.tail.now)
 
 -- how many slices of it haven't been begun
 abbrev pub unread : Iter → ℕ
-unread s = length s.chunks.now + min 1 (length s.tail.now)
+unread s = length s.runs.now + min 1 (length s.tail.now)
 
 -- what lies beyond it
 abbrev pub left_beyond : Iter → List Dead

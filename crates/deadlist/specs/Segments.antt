@@ -4,6 +4,7 @@ use Rattle.std.specs.List.{flat_map, list_any}
 use Rattle.base.specs.declared.number.Dead.{Dead}
 use Rattle.deadlist.specs.declared.parts.Segment.{Segment}
 use Rattle.deadlist.specs.declared.parts.Parts.{Parts}
+pub use Rattle.deadlist.specs.Entries.{AreBornFrom, AreBornBy}
 
 -- the upper cut
 abbrev pub upper_of : Segment → ℕ
@@ -20,16 +21,6 @@ uppers = map upper_of
 -- the entries, segment by segment
 abbrev pub entries_in : List Segment → List Dead
 entries_in = flat_map pile_of
-
--- each entry was born from the first group on
-abbrev pub AreBornFrom : ℕ → List Dead → Type 0
-AreBornFrom from [] = Unit {0}
-AreBornFrom from (d ∷ ds) = (from ≤ d.birth.0) × AreBornFrom from ds
-
--- each entry was born by the group
-abbrev pub AreBornBy : ℕ → List Dead → Type 0
-AreBornBy to [] = Unit {0}
-AreBornBy to (d ∷ ds) = (d.birth.0 ≤ to) × AreBornBy to ds
 
 -- the cuts rise from the group on, and each entry lies between its segment's cuts
 abbrev pub AreCut : ℕ → List Segment → List Dead → Type 0

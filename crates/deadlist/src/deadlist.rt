@@ -11,27 +11,24 @@ ghost use Rattle.deadlist.specs.Segments.{with_cut, with_cuts, without_cut, reac
 
 use crate::iter::Iter;
 use crate::parts::Parts;
-use crate::pile::count_in;
+use crate::pile::{FEW, count_in, dealt};
 use base::meter::SegMeter;
 use base::number::{Dead, Group};
 use base::refusal::Refusal;
 use std::alloc::{AllocError, Global};
 use std::marker::Model;
 
-/// How many new entries a list takes before it sorts them into their segments, at least.
-const FEW: usize = 64;
-
 /// Blocks that a dataset has let go and the dataset before it still has, with their births (On-Disk Specification, chapter 4:
 /// dead lists), in segments: a cut at a group divides the entries born by it from those born after it. The cuts rise, and the
 /// last segment is open upwards.
 ///
-/// New entries stand behind the segments until a `reserve`, or an `append` of the list, sorts them in. A copy shares the
-/// segments' full chunks, so that it costs the segments and the few entries that aren't in a full chunk.
+/// The entries of the last segment stand in order of birth, in runs of which each is more than twice as long as the next one; so any
+/// group divides it in about the square of the logarithm of its entries. New entries wait behind the segments, 64 at most once a `reserve`
+/// has sorted in more, or an `append`. A copy shares the runs, so that it costs the segments and the entries that wait.
 pub struct Deadlist {
     parts: Parts,
     fresh: Vec<Dead>,
     count: u64,
-    limit: usize,
     alloc: Global,
 }
 
@@ -42,7 +39,6 @@ impl Drop for Deadlist {
             parts,
             fresh,
             count: _,
-            limit: _,
             alloc: _,
         } = self;
         drop(parts);
@@ -77,7 +73,6 @@ impl Deadlist {
             parts: Parts::new(alloc),
             fresh: Vec::new(alloc),
             count: 0,
-            limit: FEW,
             alloc,
         }
     }
@@ -97,13 +92,12 @@ impl Deadlist {
             parts,
             fresh,
             count: self.count,
-            limit: self.limit,
             alloc: self.alloc,
         })
     }
 
-    /// Makes room for that many pushes, until another call that changes the list. Once about as many entries were put in as the list
-    /// has segments and full chunks, it also sorts these in, each by a binary search over the cuts, and the meter counts all segments.
+    /// Makes room for that many pushes, until another call that changes the list. Once 64 entries were put in, or as many as the list
+    /// has segments, it also sorts these in, each by a binary search over the cuts, and the meter counts all segments.
     /// NoMemory where memory is refused, and then nothing is changed.
     pub fn reserve(&mut self, n: usize, meter: &mut SegMeter) -> Result<(), Refusal>
         ensures entries { IsPermutation self.old.entries self.new.entries }
@@ -120,7 +114,7 @@ impl Deadlist {
             return Err(Refusal::NoMemory);
         }
         let segments = self.segments();
-        if self.fresh.len() < self.limit.max(segments) {
+        if self.fresh.len() < FEW.max(segments) {
             self.fresh.reserve(n)?;
             return Ok(());
         }
@@ -140,7 +134,6 @@ impl Deadlist {
         let sorted = self.parts.sorted(self.alloc, self.fresh.as_slice())?;
         self.fresh.reserve(n)?;
         self.fresh.clear();
-        self.limit = sorted.weight().saturating_add(FEW);
         self.parts = sorted;
         Ok(())
     }
@@ -201,15 +194,41 @@ impl Deadlist {
         ensures cuts { OnOk result (self.new.cuts ≡ with_cuts self.old.cuts other.now.cuts) }
         ensures unchanged { OnErr result (self.new ≡ self.old) }
     {
+        *self = self.both(other)?.with_few_waiting()?;
+        Ok(())
+    }
+
+    // The same entries, where no more than a few wait.
+    fn with_few_waiting(mut self) -> Result<Deadlist, AllocError>
+        ensures entries { IfOk result (λ d. IsPermutation self.entries d.entries) }
+        ensures cuts { IfOk result (λ d. d.cuts ≡ self.cuts) }
+    {
+        if self.fresh.len() >= FEW {
+            self.sort(0)?;
+        }
+        Ok(self)
+    }
+
+    // A list of both, where all that waits in either waits.
+    fn both(&self, other: &Deadlist) -> Result<Deadlist, AllocError>
+        ensures entries { IfOk result
+            (λ d. IsPermutation (self.now.entries ++ other.now.entries) d.entries) }
+        ensures cuts { IfOk result (λ d. d.cuts ≡ with_cuts self.now.cuts other.now.cuts) }
+    {
         let Some(count) = self.count.checked_add(other.count) else {
             return Err(AllocError);
         };
         let mut parts = self.parts.copy(self.alloc)?;
         parts.merge(self.alloc, &other.parts)?;
-        parts.place_all(self.alloc, other.fresh.as_slice())?;
-        self.parts = parts;
-        self.count = count;
-        Ok(())
+        let parts = parts.settled(self.alloc)?;
+        let mut fresh = Vec::from_slice(self.alloc, self.fresh.as_slice())?;
+        fresh.extend_from_slice(other.fresh.as_slice())?;
+        Ok(Deadlist {
+            parts,
+            fresh,
+            count,
+            alloc: self.alloc,
+        })
     }
 
     /// Takes out the entries born after the cut, and keeps the others; each list has the cuts on its side. The meter counts the
@@ -233,7 +252,6 @@ impl Deadlist {
             parts,
             fresh: high,
             count,
-            limit: self.limit,
             alloc: self.alloc,
         })
     }
@@ -355,22 +373,4 @@ fn reach(meter: &mut SegMeter, segments: usize)
     for _i in 0..segments {
         meter.add_one();
     }
-}
-
-/// The entries born by the cut, and those born after it.
-fn dealt(alloc: Global, entries: &[Dead], cut: u64) -> Result<(Vec<Dead>, Vec<Dead>), AllocError>
-    ensures { IfOk result
-        (λ p. (p.0.items ≡ filter (is_upto cut) entries.now)
-        × (p.1.items ≡ filter (is_after cut) entries.now)) }
-{
-    let mut low = Vec::new(alloc);
-    let mut high = Vec::new(alloc);
-    for dead in entries {
-        if dead.birth.0 <= cut {
-            low.push(*dead)?;
-        } else {
-            high.push(*dead)?;
-        }
-    }
-    Ok((low, high))
 }

@@ -6,14 +6,14 @@ ghost use Rattle.deadlist.specs.Left.{left, left_here, left_beyond, unopened, un
 
 use crate::parts::{Parts, Segment};
 use crate::pile::Pile;
+use crate::run::Run;
 use base::number::Dead;
-use std::sync::Arc;
 
 /// The entries of a dead list that are left to give.
 #[derive(Drop)]
 pub struct Iter<'a> {
     now: &'a [Dead],
-    chunks: &'a [Arc<Vec<Dead>>],
+    runs: &'a [Run],
     tail: &'a [Dead],
     closed: &'a [Segment],
     last: Option<&'a Pile>,
@@ -26,7 +26,7 @@ impl<'a> Iter<'a> {
     {
         Iter {
             now: &[],
-            chunks: &[],
+            runs: &[],
             tail: &[],
             closed: parts.closed.as_slice(),
             last: Some(&parts.last),
@@ -34,7 +34,7 @@ impl<'a> Iter<'a> {
         }
     }
 
-    /// Passes over that many entries, or over all that are left where they are fewer. It costs a step for each segment and each chunk
+    /// Passes over that many entries, or over all that are left where they are fewer. It costs a step for each segment and each run
     /// of entries that it passes.
     pub(crate) fn pass(&mut self, count: u64)
         ensures { left self.new ≡ drop count (left self.old) }
@@ -66,14 +66,14 @@ impl<'a> Iter<'a> {
             }
             count -= here.len() as u64;
             self.now = &[];
-            if !self.open_chunk() {
+            if !self.open_run() {
                 return count;
             }
         }
     }
 
-    // Goes on to the next chunk of the segment under way, and says whether there was one.
-    fn open_chunk(&mut self) -> bool
+    // Goes on to the next run of the segment under way, and says whether there was one.
+    fn open_run(&mut self) -> bool
         requires { self.old.now.now ≡ [] }
         ensures here { left_here self.new ≡ left_here self.old }
         ensures beyond { left_beyond self.new ≡ left_beyond self.old }
@@ -81,9 +81,9 @@ impl<'a> Iter<'a> {
         ensures fewer { IsTrue result → unread self.new < unread self.old }
         ensures none { result ≡ false → left_here self.new ≡ [] }
     {
-        if let [chunk, rest @ ..] = self.chunks {
-            self.now = chunk.as_slice();
-            self.chunks = rest;
+        if let [run, rest @ ..] = self.runs {
+            self.now = run.as_slice();
+            self.runs = rest;
             return true;
         }
         if self.tail.is_empty() {
@@ -106,7 +106,7 @@ impl<'a> Iter<'a> {
                 self.now = rest;
                 return Some(*first);
             }
-            if !self.open_chunk() {
+            if !self.open_run() {
                 return None;
             }
         }
@@ -120,24 +120,24 @@ impl<'a> Iter<'a> {
         ensures none { result ≡ false → left self.new ≡ [] }
     {
         if let [segment, rest @ ..] = self.closed {
-            let (chunks, tail) = segment.pile.chunks();
+            let (runs, tail) = segment.pile.runs();
             self.now = &[];
-            self.chunks = chunks;
+            self.runs = runs;
             self.tail = tail;
             self.closed = rest;
             return true;
         }
         if let Some(last) = self.last {
-            let (chunks, tail) = last.chunks();
+            let (runs, tail) = last.runs();
             self.now = &[];
-            self.chunks = chunks;
+            self.runs = runs;
             self.tail = tail;
             self.last = None;
             return true;
         }
         if let Some(fresh) = self.fresh {
             self.now = fresh;
-            self.chunks = &[];
+            self.runs = &[];
             self.tail = &[];
             self.fresh = None;
             return true;

@@ -6,4 +6,5 @@ pub mod iter;
 mod merge;
 mod parts;
 mod pile;
+mod run;
 mod sums;

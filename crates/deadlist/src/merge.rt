@@ -32,23 +32,25 @@ impl Parts {
         ensures cuts { OnOk result (cuts_of self.new ≡ cuts_of self.old) }
         ensures cut { OnOk result (IsCut self.new) }
     {
-        let (chunks, tail) = pile.chunks();
-        for chunk in chunks {
-            self.place_all(alloc, chunk.as_slice())?;
+        let (runs, tail) = pile.runs();
+        for run in runs {
+            self.place_all(alloc, run.as_slice())?;
         }
         self.place_all(alloc, tail)
     }
 
-    /// Puts a pile behind the entries of the segment with that index.
-    fn put_pile(&mut self, alloc: Global, at: usize, mut pile: Pile) -> Result<(), AllocError>
+    /// Puts the entries of a pile to those of the segment with that index.
+    fn put_pile(&mut self, alloc: Global, at: usize, pile: Pile) -> Result<(), AllocError>
         ensures closed { OnOk result (self.new.closed.items ≡ with_pile self.old.closed.items at
-            (pile_at self.old.closed.items self.old.last at ++ pile)) }
+            (pile_at self.new.closed.items self.new.last at)) }
         ensures last { OnOk result (self.new.last ≡ last_with self.old.closed.items self.old.last at
-            (pile_at self.old.closed.items self.old.last at ++ pile)) }
+            (pile_at self.new.closed.items self.new.last at)) }
+        ensures pile { OnOk result (IsPermutation (pile_at self.old.closed.items self.old.last at ++ pile)
+            (pile_at self.new.closed.items self.new.last at)) }
     {
-        let mut own = self.replace(at, Pile::new(alloc));
-        own.add(alloc, &mut pile)?;
-        let _none = self.replace(at, own);
+        let own = self.replace(at, Pile::new(alloc));
+        let all = own.joined(pile)?;
+        let _none = self.replace(at, all);
         Ok(())
     }
 
@@ -110,7 +112,7 @@ impl Parts {
         self.absorb(alloc, last, from, None)
     }
 
-    /// A copy with more entries, each in the segment that its birth lies in.
+    /// A copy with more entries, each in the segment that its birth lies in, and those of the last segment in order.
     pub fn sorted(&self, alloc: Global, entries: &[Dead]) -> Result<Parts, AllocError>
         requires { IsCut self.now }
         ensures entries { IfOk result
@@ -120,15 +122,20 @@ impl Parts {
     {
         let mut parts = self.copy(alloc)?;
         parts.place_all(alloc, entries)?;
-        Ok(parts)
+        parts.settled(alloc)
     }
 
-    /// How many segments and chunks it has.
-    pub fn weight(&self) -> usize {
-        let mut weight = self.last.chunks().0.len();
-        for segment in &self.closed {
-            weight = weight.saturating_add(segment.pile.chunks().0.len().saturating_add(1));
-        }
-        weight
+    /// The same entries, where those of the last segment are in order.
+    pub fn settled(self, alloc: Global) -> Result<Parts, AllocError>
+        requires { IsCut self }
+        ensures entries { IfOk result (λ p. IsPermutation (entries_of self) (entries_of p)) }
+        ensures cuts { IfOk result (λ p. cuts_of p ≡ cuts_of self) }
+        ensures cut { IfOk result (λ p. IsCut p) }
+    {
+        let last = self.last.settled(alloc)?;
+        Ok(Parts {
+            closed: self.closed,
+            last,
+        })
     }
 }

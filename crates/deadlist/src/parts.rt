@@ -35,7 +35,7 @@ impl Parts {
         }
     }
 
-    /// An equal one, which shares the full chunks.
+    /// An equal one, which shares the runs.
     pub fn copy(&self, alloc: Global) -> Result<Parts, AllocError>
         ensures closed { IfOk result (λ p. p.closed.items ≡ self.now.closed.items) }
         ensures last { IfOk result (λ p. p.last ≡ self.now.last) }
@@ -100,7 +100,7 @@ impl Parts {
             (pile_at self.old.closed.items self.old.last at ++ dead ∷ [])) }
     {
         let mut pile = self.replace(at, Pile::new(alloc));
-        pile.push(alloc, dead)?;
+        pile.push(dead)?;
         let _none = self.replace(at, pile);
         Ok(())
     }
@@ -202,11 +202,10 @@ impl Parts {
         if !self.stands(at, group.0) {
             return Ok(());
         }
-        let mut low = self.pile(at - 1).copy(alloc)?;
-        let mut high = self.pile(at).copy(alloc)?;
-        low.add(alloc, &mut high)?;
+        let low = self.pile(at - 1).copy(alloc)?;
+        let whole = low.followed(self.pile(at))?;
         let _segment = self.closed.remove(at - 1);
-        let _whole = self.replace(at - 1, low);
+        let _high = self.replace(at - 1, whole);
         Ok(())
     }
 }

@@ -1,34 +1,41 @@
 //! The entries of one segment.
-ghost use Rattle.std.specs.Prelude.{◌≡◌, ◌≤◌, ◌++◌, ◌∷◌, [], length, filter, OnOk, OnErr, IfOk};
-ghost use Rattle.deadlist.specs.Entries.{is_after, is_upto, chunk_entries};
+ghost use Rattle.std.specs.Prelude.{◌≡◌, ◌≤◌, ◌++◌, ◌∷◌, [], length, filter, OnOk, IfOk};
+ghost use Rattle.std.specs.Option.{option_to_list};
+ghost use Rattle.std.specs.List.Sorted.{IsPermutation};
+ghost use Rattle.deadlist.specs.Entries.{is_after, is_upto, run_entries};
 
+use crate::run::Run;
 use base::number::Dead;
 use std::alloc::{AllocError, Global};
 use std::marker::Model;
-use std::mem;
-use std::sync::Arc;
 
-/// How many entries a full chunk has.
-const CHUNK: usize = 256;
+/// How many entries wait at least before they are put in order.
+pub const FEW: usize = 64;
 
-/// Entries in the order in which they came: chunks that copies share, and a tail of its own.
+/// The entries of a segment: runs of them, each in order of birth, that copies share, and a tail of its own, whose entries wait to be put in
+/// order. Once settled, each run is more than twice as long as the next one, and the tail is short; so there are no more runs than the
+/// logarithm of the number of entries. No entry was born before `low`, and none after `high`.
 #[derive(Drop)]
 pub struct Pile {
-    chunks: Vec<Arc<Vec<Dead>>>,
+    runs: Vec<Run>,
     tail: Vec<Dead>,
     len: u64,
+    low: u64,
+    high: u64,
 }
 
 impl Model for Pile {
     ghost use Rattle.std.specs.Prelude.{◌≡◌, ◌++◌, List, length};
-    ghost use Rattle.deadlist.specs.Entries.{chunk_entries};
+    ghost use Rattle.deadlist.specs.Entries.{AreBornBy, AreBornFrom, run_entries};
     ghost use Rattle.base.specs.declared.number.Dead.{Dead};
 
     ghost Value = { List Dead };
 
-    ghost view = { λ p. chunk_entries p.chunks.items ++ p.tail.items };
+    ghost view = { λ p. run_entries p.runs.items ++ p.tail.items };
 
-    ghost invariant = { λ p. p.len ≡ length (chunk_entries p.chunks.items ++ p.tail.items) };
+    ghost invariant = { λ p. (p.len ≡ length (run_entries p.runs.items ++ p.tail.items))
+        × AreBornFrom p.low (run_entries p.runs.items ++ p.tail.items)
+        × AreBornBy p.high (run_entries p.runs.items ++ p.tail.items) };
 }
 
 impl Pile {
@@ -37,9 +44,11 @@ impl Pile {
         ensures { result ≡ [] }
     {
         Pile {
-            chunks: Vec::new(alloc),
+            runs: Vec::new(alloc),
             tail: Vec::new(alloc),
             len: 0,
+            low: u64::MAX,
+            high: 0,
         }
     }
 
@@ -50,166 +59,284 @@ impl Pile {
         self.len
     }
 
-    /// An equal one, which shares the full chunks.
+    /// An equal one, which shares the runs.
     pub fn copy(&self, alloc: Global) -> Result<Pile, AllocError>
         ensures { IfOk result (λ p. p ≡ self.now) }
     {
-        let mut chunks = Vec::with_capacity(alloc, self.chunks.len())?;
-        for chunk in &self.chunks {
-            chunks.push(Arc::try_clone(chunk)?)?;
+        let mut runs = Vec::with_capacity(alloc, self.runs.len())?;
+        for run in &self.runs {
+            runs.push(run.copy()?)?;
         }
         let tail = Vec::from_slice(alloc, self.tail.as_slice())?;
-        let len = self.len;
-        Ok(Pile { chunks, tail, len })
+        Ok(Pile {
+            runs,
+            tail,
+            len: self.len,
+            low: self.low,
+            high: self.high,
+        })
     }
 
     /// Puts an entry behind the others.
-    pub fn push(&mut self, alloc: Global, dead: Dead) -> Result<(), AllocError>
+    pub fn push(&mut self, dead: Dead) -> Result<(), AllocError>
         ensures ok { OnOk result (self.new ≡ self.old ++ dead ∷ []) }
     {
         let Some(len) = self.len.checked_add(1) else {
             return Err(AllocError);
         };
-        if self.tail.len() >= CHUNK {
-            close(alloc, &mut self.chunks, &mut self.tail)?;
-        }
         self.tail.push(dead)?;
         self.len = len;
+        self.low = self.low.min(dead.birth.0);
+        self.high = self.high.max(dead.birth.0);
         Ok(())
     }
 
-    /// Moves the other's entries behind its own, chunk by chunk. On an error both are as they were.
-    pub fn add(&mut self, alloc: Global, other: &mut Pile) -> Result<(), AllocError>
-        ensures ok { OnOk result (self.new ≡ self.old ++ other.old) }
-        ensures err { OnErr result (self.new ≡ self.old) }
-        ensures other_err { OnErr result (other.new ≡ other.old) }
+    /// The entries of both, in any order. It costs the runs and the tail of the one with fewer.
+    pub fn joined(self, other: Pile) -> Result<Pile, AllocError>
+        ensures { IfOk result (λ p. IsPermutation (self ++ other) p) }
+    {
+        if self.len < other.len {
+            return other.united(self);
+        }
+        self.united(other)
+    }
+
+    // Its own with those of the other.
+    fn united(self, other: Pile) -> Result<Pile, AllocError>
+        ensures { IfOk result (λ p. IsPermutation (self ++ other) p) }
     {
         let Some(len) = self.len.checked_add(other.len) else {
             return Err(AllocError);
         };
-        pour(
-            alloc,
-            &mut self.chunks,
-            &mut self.tail,
-            &mut other.chunks,
-            &mut other.tail,
-        )?;
-        self.len = len;
-        other.len = 0;
-        Ok(())
+        let (low, high) = (self.low.min(other.low), self.high.max(other.high));
+        let (mut runs, mut tail) = (self.runs, self.tail);
+        let (mut more, mut end) = (other.runs, other.tail);
+        runs.append(&mut more)?;
+        tail.append(&mut end)?;
+        Ok(Pile {
+            runs,
+            tail,
+            len,
+            low,
+            high,
+        })
     }
 
-    /// The entries born by the cut, and those born after it.
+    /// The entries of both in their order. It costs the entries of the other.
+    pub fn followed(self, other: &Pile) -> Result<Pile, AllocError>
+        ensures { IfOk result (λ p. p ≡ self ++ other.now) }
+    {
+        let Some(len) = self.len.checked_add(other.len) else {
+            return Err(AllocError);
+        };
+        let (low, high) = (self.low.min(other.low), self.high.max(other.high));
+        let (runs, tail) = (self.runs, self.tail);
+        let tail = other.behind(tail)?;
+        Ok(Pile {
+            runs,
+            tail,
+            len,
+            low,
+            high,
+        })
+    }
+
+    // Its entries behind these.
+    fn behind(&self, mut entries: Vec<Dead>) -> Result<Vec<Dead>, AllocError>
+        ensures { IfOk result (λ v. v.items ≡ entries.items ++ self.now) }
+    {
+        for run in &self.runs {
+            entries.extend_from_slice(run.as_slice())?;
+        }
+        entries.extend_from_slice(self.tail.as_slice())?;
+        Ok(entries)
+    }
+
+    /// The same entries in other runs, each more than twice as long as the next one, with a short tail. It costs the runs and the tail, and
+    /// where runs become one, their entries: over all pushes to a list of n entries each of these the logarithm of n at most.
+    pub fn settled(&self, alloc: Global) -> Result<Pile, AllocError>
+        ensures { IfOk result (λ p. IsPermutation self.now p) }
+    {
+        let mut runs = stacked(alloc, self.runs.as_slice())?;
+        let tail = stack_many(alloc, &mut runs, self.tail.as_slice())?;
+        Ok(Pile {
+            runs,
+            tail,
+            len: self.len,
+            low: self.low,
+            high: self.high,
+        })
+    }
+
+    /// The entries born by the cut, and those born after it. It costs the runs, in each the logarithm of its entries, and the tail.
     pub fn divide(&self, alloc: Global, cut: u64) -> Result<(Pile, Pile), AllocError>
         ensures { IfOk result
             (λ p. (p.0 ≡ filter (is_upto cut) self.now) × (p.1 ≡ filter (is_after cut) self.now)) }
     {
-        let mut low = Pile::new(alloc);
-        let mut high = Pile::new(alloc);
-        for chunk in &self.chunks {
-            deal(alloc, chunk.as_slice(), cut, &mut low, &mut high)?;
+        if self.high <= cut {
+            return Ok((self.copy(alloc)?, Pile::new(alloc)));
         }
-        deal(alloc, self.tail.as_slice(), cut, &mut low, &mut high)?;
+        if cut < self.low {
+            return Ok((Pile::new(alloc), self.copy(alloc)?));
+        }
+        self.halves(alloc, cut)
+    }
+
+    // The same, where the cut divides them.
+    fn halves(&self, alloc: Global, cut: u64) -> Result<(Pile, Pile), AllocError>
+        ensures { IfOk result
+            (λ p. (p.0 ≡ filter (is_upto cut) self.now) × (p.1 ≡ filter (is_after cut) self.now)) }
+    {
+        let count = self.count_upto(cut);
+        let (low_runs, high_runs) = divided(alloc, self.runs.as_slice(), cut)?;
+        let (low_tail, high_tail) = dealt(alloc, self.tail.as_slice(), cut)?;
+        let low = Pile {
+            runs: low_runs,
+            tail: low_tail,
+            len: count,
+            low: self.low,
+            high: cut,
+        };
+        let high = Pile {
+            runs: high_runs,
+            tail: high_tail,
+            len: self.len - count,
+            low: cut.saturating_add(1),
+            high: self.high,
+        };
         Ok((low, high))
     }
 
-    /// Its chunks and its tail.
-    pub fn chunks(&self) -> (&[Arc<Vec<Dead>>], &[Dead])
-        ensures { chunk_entries result.0.now ++ result.1.now ≡ self.now }
+    /// Its runs and its tail.
+    pub fn runs(&self) -> (&[Run], &[Dead])
+        ensures { run_entries result.0.now ++ result.1.now ≡ self.now }
     {
-        (self.chunks.as_slice(), self.tail.as_slice())
+        (self.runs.as_slice(), self.tail.as_slice())
     }
 
-    /// How many entries were born by the cut.
+    /// How many entries were born by the cut. It costs the runs, in each the logarithm of its entries, and the tail; and constant time where
+    /// the cut has all on one side.
     pub fn count_upto(&self, cut: u64) -> u64
         ensures { result ≡ length (filter (is_upto cut) self.now) }
     {
-        self.len() - self.count_after(cut)
+        if self.high <= cut {
+            return self.len;
+        }
+        if cut < self.low {
+            return 0;
+        }
+        self.counted_upto(cut)
     }
 
-    /// How many entries were born after the cut.
-    pub fn count_after(&self, cut: u64) -> u64
-        ensures { result ≡ length (filter (is_after cut) self.now) }
+    // The same, where the cut divides them.
+    fn counted_upto(&self, cut: u64) -> u64
+        ensures { result ≡ length (filter (is_upto cut) self.now) }
     {
         let _len = self.len;
         let mut count = 0;
-        for chunk in &self.chunks {
-            count += count_in(chunk.as_slice(), cut);
+        for run in &self.runs {
+            count += run.count_upto(cut) as u64;
         }
-        count + count_in(self.tail.as_slice(), cut)
+        let tail = self.tail.as_slice();
+        count + (tail.len() as u64 - count_in(tail, cut))
     }
 }
 
-/// Makes the tail a chunk, if it has an entry.
-fn close(
-    alloc: Global,
-    chunks: &mut Vec<Arc<Vec<Dead>>>,
-    tail: &mut Vec<Dead>,
-) -> Result<(), AllocError>
-    ensures same { chunk_entries chunks.new.items ++ tail.new.items
-        ≡ chunk_entries chunks.old.items ++ tail.old.items }
-    ensures ok { OnOk result (tail.new.items ≡ []) }
+/// The last of these runs, which is taken out, where it isn't more than twice as long as that.
+fn pop_short(runs: &mut Vec<Run>, len: usize) -> Option<Run>
+    ensures { runs.old.items ≡ runs.new.items ++ option_to_list result }
 {
-    if tail.is_empty() {
-        return Ok(());
+    let last = runs.last()?;
+    if last.len() / 2 > len {
+        return None;
     }
-    chunks.reserve(1)?;
-    match Arc::new(alloc, mem::replace(tail, Vec::new(alloc))) {
-        Ok(chunk) => chunks.push_reserved(chunk),
-        Err(failed) => {
-            *tail = failed.value;
-            return Err(AllocError);
-        }
+    runs.pop()
+}
+
+/// Puts a run behind the others, after it became one with each of the last that isn't more than twice as long. On an error some are gone.
+fn stack(alloc: Global, runs: &mut Vec<Run>, run: Run) -> Result<(), AllocError>
+    ensures ok { OnOk result
+        (IsPermutation (run_entries runs.old.items ++ run) (run_entries runs.new.items)) }
+{
+    let mut run = run;
+    while let Some(last) = pop_short(runs, run.len()) {
+        run = Run::merged(alloc, &last, &run)?;
+    }
+    runs.push(run)?;
+    Ok(())
+}
+
+/// Puts these entries behind the runs as one more, if they aren't few, and gives those that wait on. On an error some are gone.
+fn stack_many(alloc: Global, runs: &mut Vec<Run>, entries: &[Dead]) -> Result<Vec<Dead>, AllocError>
+    ensures { IfOk result (λ v. IsPermutation (run_entries runs.old.items ++ entries.now)
+        (run_entries runs.new.items ++ v.items)) }
+{
+    let own = Vec::from_slice(alloc, entries)?;
+    if own.len() < FEW {
+        return Ok(own);
+    }
+    let run = Run::new(alloc, own)?;
+    stack(alloc, runs, run)?;
+    Ok(Vec::new(alloc))
+}
+
+/// The same entries in runs each of which is more than twice as long as the next one.
+fn stacked(alloc: Global, runs: &[Run]) -> Result<Vec<Run>, AllocError>
+    ensures { IfOk result (λ v. IsPermutation (run_entries runs.now) (run_entries v.items)) }
+{
+    let mut stacked = Vec::with_capacity(alloc, runs.len())?;
+    for run in runs {
+        stack(alloc, &mut stacked, run.copy()?)?;
+    }
+    Ok(stacked)
+}
+
+/// Puts a run behind the others, if it has an entry.
+fn push_some(runs: &mut Vec<Run>, run: Run) -> Result<(), AllocError>
+    ensures ok { OnOk result (run_entries runs.new.items ≡ run_entries runs.old.items ++ run) }
+{
+    if run.len() > 0 {
+        runs.push(run)?;
     }
     Ok(())
 }
 
-/// Moves the entries of `more` and `end` behind those of `chunks` and `tail`.
-fn pour(
-    alloc: Global,
-    chunks: &mut Vec<Arc<Vec<Dead>>>,
-    tail: &mut Vec<Dead>,
-    more: &mut Vec<Arc<Vec<Dead>>>,
-    end: &mut Vec<Dead>,
-) -> Result<(), AllocError>
-    ensures ok { OnOk result (chunk_entries chunks.new.items ++ tail.new.items
-        ≡ (chunk_entries chunks.old.items ++ tail.old.items)
-        ++ (chunk_entries more.old.items ++ end.old.items)) }
-    ensures emptied { OnOk result (chunk_entries more.new.items ++ end.new.items ≡ []) }
-    ensures err { OnErr result (chunk_entries chunks.new.items ++ tail.new.items
-        ≡ chunk_entries chunks.old.items ++ tail.old.items) }
-    ensures err_more { OnErr result (more.new.items ≡ more.old.items) }
-    ensures err_end { OnErr result (end.new.items ≡ end.old.items) }
+/// The runs of entries born by the cut, and those of entries born after it.
+fn divided(alloc: Global, runs: &[Run], cut: u64) -> Result<(Vec<Run>, Vec<Run>), AllocError>
+    ensures { IfOk result
+        (λ p. (run_entries p.0.items ≡ filter (is_upto cut) (run_entries runs.now))
+        × (run_entries p.1.items ≡ filter (is_after cut) (run_entries runs.now))) }
 {
-    if more.is_empty() && tail.len() + end.len() <= CHUNK {
-        tail.append(end)?;
-        return Ok(());
+    let mut low = Vec::new(alloc);
+    let mut high = Vec::new(alloc);
+    for run in runs {
+        let (first, rest) = run.divide(alloc, cut)?;
+        push_some(&mut low, first)?;
+        push_some(&mut high, rest)?;
     }
-    close(alloc, chunks, tail)?;
-    chunks.append(more)?;
-    mem::swap(tail, end);
-    Ok(())
+    Ok((low, high))
 }
 
-/// Puts the entries born by the cut behind `low`, and the others behind `high`.
-fn deal(
+/// The entries born by the cut, and those born after it.
+pub fn dealt(
     alloc: Global,
     entries: &[Dead],
     cut: u64,
-    low: &mut Pile,
-    high: &mut Pile,
-) -> Result<(), AllocError>
-    ensures low { OnOk result (low.new ≡ low.old ++ filter (is_upto cut) entries.now) }
-    ensures high { OnOk result (high.new ≡ high.old ++ filter (is_after cut) entries.now) }
+) -> Result<(Vec<Dead>, Vec<Dead>), AllocError>
+    ensures { IfOk result
+        (λ p. (p.0.items ≡ filter (is_upto cut) entries.now)
+        × (p.1.items ≡ filter (is_after cut) entries.now)) }
 {
+    let mut low = Vec::new(alloc);
+    let mut high = Vec::new(alloc);
     for dead in entries {
         if dead.birth.0 <= cut {
-            low.push(alloc, *dead)?;
+            low.push(*dead)?;
         } else {
-            high.push(alloc, *dead)?;
+            high.push(*dead)?;
         }
     }
-    Ok(())
+    Ok((low, high))
 }
 
 /// How many of the entries were born after the cut.

@@ -64,10 +64,6 @@ nothing_before s = record {
   is = same_members o (from_list []) (difference empty s) (λ b h. absurd (no-empty o b h)) (λ b h. absurd (no-empty o b (from_difference o empty s b h).0));
 }
 
--- a list of which no cut is known is new
-pub fresh_few : (cs : List ℕ) → cs ≡ [] → length cs ≤ 1
-fresh_few cs none = subst (λ l. length l ≤ 1) (sym none) (omega arith)
-
 -- a file system without a snapshot, which has what stands below it
 pub fresh_dead : (bs : BlockSet) (es : List Dead) (ks : List Kept) (s : BlockSet) → es ≡ [] → ks ≡ [] → Lists [] (difference bs s) → Lists (map dead_block es) (difference (newest_blocks bs (snaps_in ks)) s)
 fresh_dead bs es ks s e k none = subst (λ x. Lists (map dead_block x) (difference (newest_blocks bs (snaps_in ks)) s)) (sym e)
@@ -76,12 +72,12 @@ fresh_dead bs es ks s e k none = subst (λ x. Lists (map dead_block x) (differen
 -- its live map kept as a snapshot, with its dead list
 module _ (bs : BlockSet) (ks later : List Kept) (k : Kept) (live : Map) (fresh : List Dead) (each : AreAccounted bs ks)
     (own : Lists (map dead_block (arc_value k.dead).entries) (difference (newest_blocks bs (snaps_in ks)) (blocks live))) (map_is : k.snapshot.map ≡ live)
-    (written : k.written ≡ size_without (blocks live) (newest_blocks bs (snaps_in ks))) (is : later ≡ ks ++ k ∷ []) (bare : fresh ≡ []) (few : length (arc_value k.dead).cuts ≤ 1) where
+    (written : k.written ≡ size_without (blocks live) (newest_blocks bs (snaps_in ks))) (is : later ≡ ks ++ k ∷ []) (bare : fresh ≡ []) (uncut : (arc_value k.dead).cuts ≡ []) where
   pub taken_accounted : AreAccounted bs later
   taken_accounted = subst (AreAccounted bs) (sym is)
       (accounted_more bs ks k each (record {
         dead = subst (λ m. Lists (map dead_block (arc_value k.dead).entries) (difference (newest_blocks bs (snaps_in ks)) (blocks m))) (sym map_is) own;
-        few = few;
+        uncut = uncut;
         written = written ∙ ap (λ m. size_without (blocks m) (newest_blocks bs (snaps_in ks))) (sym map_is);
       }))
 

@@ -12,7 +12,7 @@ use Rattle.world.proofs.lists.SetCounts.{same_members, in_union_left, in_union_r
 use Rattle.world.proofs.lineage.Shuffled.{written_few}
 use Rattle.file_system.specs.Counts.{IsCounted, dataset_count, snapshots_count}
 use Rattle.file_system.specs.Dead.{snaps_in}
-use Rattle.file_system.specs.declared.counts.Counts.{Counts}
+use Rattle.file_system.specs.declared.counts.UsedBlocks.{UsedBlocks}
 use Rattle.file_system.proofs.Accounts.{nothing_dead}
 
 -- ---- a file system without a snapshot
@@ -28,7 +28,7 @@ none_alone below live =
 pub same_own : (below live : Map) → below ≡ live → dataset_count below live ≡ 0
 same_own below live same = ap (λ (m : Map). dataset_count m live) same ∙ sym (dead_counts [] (difference (blocks live) (blocks live)) 0 (nothing_dead (blocks live))).0
 
-pub fresh_counted : (below : Map) (ks : List Kept) (live : Map) (c : Counts) → ks ≡ [] → below ≡ live → c.by_dataset ≡ 0 → c.by_snapshots ≡ 0 → IsCounted below (snaps_in ks) live c
+pub fresh_counted : (below : Map) (ks : List Kept) (live : Map) (c : UsedBlocks) → ks ≡ [] → below ≡ live → c.by_dataset ≡ 0 → c.by_snapshots ≡ 0 → IsCounted below (snaps_in ks) live c
 fresh_counted below ks live c bare same own alone = record {
   by_dataset = own ∙ sym (same_own below live same);
   by_snapshots = alone ∙ sym (ap (λ (l : List Kept). snapshots_count below (snaps_in l) live) bare ∙ none_alone below live);
@@ -36,7 +36,7 @@ fresh_counted below ks live c bare same own alone = record {
 
 -- ---- the same maps
 
-pub same_counted : (below : Map) (xs ys : List Snap) (live : Map) (c : Counts) → map (λ (t : Snap). t.map) xs ≡ map (λ (t : Snap). t.map) ys → IsCounted below xs live c → IsCounted below ys live c
+pub same_counted : (below : Map) (xs ys : List Snap) (live : Map) (c : UsedBlocks) → map (λ (t : Snap). t.map) xs ≡ map (λ (t : Snap). t.map) ys → IsCounted below xs live c → IsCounted below ys live c
 same_counted below xs ys live c same is = record {
   by_dataset = is.by_dataset;
   by_snapshots = is.by_snapshots ∙ ap (λ ms. size_without (blocks_of_all ms) (blocks_of_all (live ∷ below ∷ []))) same;
@@ -59,7 +59,7 @@ still_all (x ∷ ts) t b h = ⊎_elim
     (from_union o (blocks x.map) (blocks_of_all (map (λ (y : Snap). y.map) ts)) b h)
 
 -- the live map has all that it has
-pub taken_counted : (below : Map) (ts : List Snap) (t : Snap) (live : Map) (c : Counts) → t.map ≡ live → IsCounted below ts live c → IsCounted below (ts ++ t ∷ []) live c
+pub taken_counted : (below : Map) (ts : List Snap) (t : Snap) (live : Map) (c : UsedBlocks) → t.map ≡ live → IsCounted below ts live c → IsCounted below (ts ++ t ∷ []) live c
 taken_counted below ts t live c is counted =
     let beside = blocks_of_all (live ∷ below ∷ []) in
     let before = blocks_of_all (map (λ (x : Snap). x.map) ts) in

@@ -1,5 +1,5 @@
 -- The snapshots of a file system, where one of them is changed but for its map.
-use Rattle.std.proofs.Common.{◌≡◌, ◌≤◌, ℕ, zero, suc, cond, List, [], ◌∷◌, map, set, Some, refl, sym, ap, subst, ◌∙◌, arith, length}
+use Rattle.std.proofs.Common.{◌≡◌, ◌≤◌, ℕ, zero, suc, cond, List, [], ◌∷◌, map, set, Some, refl, sym, ap, subst, ◌∙◌, arith}
 use Rattle.std.specs.Arc.{arc_value}
 use Rattle.std.specs.FinSet.{difference}
 use Rattle.std.specs.Option.{option_map}
@@ -13,17 +13,17 @@ use Rattle.world.specs.Deadlists.{Lists}
 use Rattle.world.specs.Worlds.{AreRising}
 use Rattle.file_system.specs.Dead.{snaps_in, newest_blocks, IsAccounted, AreAccounted}
 use Rattle.file_system.specs.Deferred.{edited_if, IsEdited, edit_of}
-use Rattle.file_system.specs.declared.mark.Edit.{Edit}
-use Rattle.file_system.specs.declared.mark.Edit.TheVariants.{Defer, SetTags}
+use Rattle.file_system.specs.declared.mark.SnapshotEdit.{SnapshotEdit}
+use Rattle.file_system.specs.declared.mark.SnapshotEdit.TheVariants.{Defer, SetTags}
 use Rattle.file_system.proofs.Stacks.{is_it, is_other, group_above}
 
 -- ---- what an edit leaves
 
-pub same_name_of : (e : Edit) (t : Snap) → (edit_of e t).name ≡ t.name
+pub same_name_of : (e : SnapshotEdit) (t : Snap) → (edit_of e t).name ≡ t.name
 same_name_of Defer t = refl
 same_name_of (SetTags tags) t = refl
 
-pub same_map_of : (e : Edit) (t : Snap) → (edit_of e t).map ≡ t.map
+pub same_map_of : (e : SnapshotEdit) (t : Snap) → (edit_of e t).map ≡ t.map
 same_map_of Defer t = refl
 same_map_of (SetTags tags) t = refl
 
@@ -75,7 +75,7 @@ it_accounted : (bs : BlockSet) (now next : Kept) → next.snapshot.map ≡ now.s
 it_accounted bs now next map_is dead written a = record {
   dead = subst (λ m. Lists (map dead_block (arc_value next.dead).entries) (difference bs (blocks m))) (sym map_is)
       (subst (λ (h : Held). Lists (map dead_block h.entries) (difference bs (blocks now.snapshot.map))) (sym dead) a.dead);
-  few = subst (λ (h : Held). length h.cuts ≤ 1) (sym dead) a.few;
+  uncut = ap (λ (h : Held). h.cuts) dead ∙ a.uncut;
   written = written ∙ a.written ∙ ap (λ m. size_without (blocks m) bs) (sym map_is);
 }
 

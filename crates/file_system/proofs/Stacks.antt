@@ -21,7 +21,7 @@ use Rattle.world.specs.Sets.{Has}
 use Rattle.world.specs.Deadlists.{Lists, entries_upto}
 use Rattle.world.specs.Worlds.{AreRising}
 use Rattle.world.proofs.lineage.Shuffled.{lists_shuffled}
-use Rattle.file_system.specs.Dead.{snaps_in, newest_blocks, blocks_kept, group_kept, IsAbove, IsAccounted, AreAccounted}
+use Rattle.file_system.specs.Dead.{snaps_in, newest_blocks, blocks_kept, group_kept, IsAbove, IsAccounted, AreAccounted, AreUncut}
 use Rattle.file_system.specs.Splices.{oldest_blocks, lost_from, blocks_before, AreStacked, AreAbove, AreJoined, CanJoin, IsNext}
 use Rattle.file_system.specs.Origins.{origin_group}
 use Rattle.file_system.specs.Writes.{newest_group}
@@ -225,6 +225,16 @@ taken_all [] i e = absurd (omega arith)
 taken_all (k ∷ []) zero e = refl
 taken_all (k ∷ x ∷ ks) zero e = absurd (omega arith)
 taken_all (k ∷ ks) (suc i) e = ap (λ l. k ∷ l) (taken_all ks i (omega arith))
+
+-- none of their dead lists is cut
+pub are_uncut : (bs : BlockSet) (ks : List Kept) → AreAccounted bs ks → AreUncut ks
+are_uncut bs [] each = tt
+are_uncut bs (k ∷ ks) each = (each.0.uncut, are_uncut (blocks k.snapshot.map) ks each.1)
+
+pub uncut_at : (ks : List Kept) (i : ℕ) (k : Kept) → AreUncut ks → slice_get ks i ≡ Some k → (arc_value k.dead).cuts ≡ []
+uncut_at [] i k each e = absurd (no_item i k e)
+uncut_at (j ∷ ks) zero k each e = let same : j ≡ k = cc in subst (λ (x : Kept). (arc_value x.dead).cuts ≡ []) same each.0
+uncut_at (j ∷ ks) (suc i) k each e = uncut_at ks i k each.1 e
 
 accounted_at : (bs : BlockSet) (ks : List Kept) (i : ℕ) (t : Kept) → AreAccounted bs ks → slice_get ks i ≡ Some t → IsAccounted (newest_blocks bs (snaps_in (take i ks))) t
 accounted_at bs [] i t each e = absurd (no_item i t e)

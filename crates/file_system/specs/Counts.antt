@@ -7,7 +7,7 @@ use Rattle.model.specs.World.{Snap, blocks_of_all}
 use Rattle.model.specs.Sums.{size_without}
 use Rattle.world.specs.Sets.{Has}
 use Rattle.world.specs.Space.{AreBornBy}
-use Rattle.file_system.specs.declared.counts.Counts.{Counts}
+use Rattle.file_system.specs.declared.counts.UsedBlocks.{UsedBlocks}
 use Rattle.file_system.specs.declared.counts.Rest.{Rest}
 
 -- how many blocks a live map has that the origin, of this map below it, hasn't (zfsprops(7): usedbydataset)
@@ -19,7 +19,7 @@ abbrev pub snapshots_count : Map → List Snap → Map → ℕ
 snapshots_count below snaps live = size_without (blocks_of_all (map (λ t. t.map) snaps)) (blocks_of_all (live ∷ below ∷ []))
 
 -- these are the counts of these snapshots and this live map above their origin (zfsprops(7): usedbydataset, usedbysnapshots)
-pub record IsCounted (below : Map) (snaps : List Snap) (live : Map) (c : Counts) : Type 0 where
+pub record IsCounted (below : Map) (snaps : List Snap) (live : Map) (c : UsedBlocks) : Type 0 where
   pub by_dataset : c.by_dataset ≡ dataset_count below live
   pub by_snapshots : c.by_snapshots ≡ snapshots_count below snaps live
 
@@ -42,6 +42,6 @@ upto_count cut es = length (filter (is_upto cut) es)
 
 -- What is left of the counts of a live map of so many blocks once these are let go, of which the origin has those born by its group, and
 -- a snapshot those born later and by the newest group (profile)
-pub record IsRest (c : Counts) (nodes : ℕ) (released : List Dead) (base newest : ℕ) (r : Rest) : Type 0 where
+pub record IsRest (c : UsedBlocks) (nodes : ℕ) (released : List Dead) (base newest : ℕ) (r : Rest) : Type 0 where
   pub shared : r.shared + (c.by_dataset + upto_count base released) ≡ nodes
   pub by_snapshots : r.by_snapshots + upto_count base released ≡ c.by_snapshots + upto_count newest released

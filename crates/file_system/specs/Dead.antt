@@ -1,5 +1,5 @@
 -- The dead lists of a file system's datasets.
-use Rattle.std.specs.Prelude.{◌≡◌, ◌≤◌, ◌++◌, ℕ, List, [], ◌∷◌, Option, None, Some, map, filter, length, if◌then◌else◌}
+use Rattle.std.specs.Prelude.{◌≡◌, ◌≤◌, ◌++◌, ℕ, List, [], ◌∷◌, Option, None, Some, map, filter, if◌then◌else◌}
 use Rattle.std.specs.FinSet.{difference}
 use Rattle.std.specs.Arc.{arc_value}
 use Rattle.std.specs.Option.{option_map, option_map_or}
@@ -47,11 +47,11 @@ blocks_kept bs (Some k) = blocks k.snapshot.map
 abbrev pub group_kept : ℕ → Option Kept → ℕ
 group_kept base k = option_map_or (λ x. x.snapshot.group) k base
 
--- a snapshot's dead list has what stands before it, these blocks, and it hasn't, each block once, and two segments at most; and what it
--- has that these blocks lack is counted (On-Disk Specification, chapter 4: ds_deadlist_obj; zfsprops(7): written; segments are profile)
+-- a snapshot's dead list has what stands before it, these blocks, and it hasn't, each block once, in one segment; and what it has that
+-- these blocks lack is counted (On-Disk Specification, chapter 4: ds_deadlist_obj; zfsprops(7): written; segments are profile)
 pub record IsAccounted (bs : BlockSet) (k : Kept) : Type 0 where
   pub dead : Lists (map dead_block (arc_value k.dead).entries) (difference bs (blocks k.snapshot.map))
-  pub few : length (arc_value k.dead).cuts ≤ 1
+  pub uncut : (arc_value k.dead).cuts ≡ []
   pub written : k.written ≡ size_without (blocks k.snapshot.map) bs
 
 -- so it is with each of these snapshots, of which the first stands above these blocks (On-Disk Specification, chapter 4)
@@ -59,15 +59,19 @@ abbrev pub AreAccounted : BlockSet → List Kept → Type 0
 AreAccounted bs [] = Unit {0}
 AreAccounted bs (k ∷ ks) = IsAccounted bs k × AreAccounted (blocks k.snapshot.map) ks
 
--- What a file system keeps, above its origin: the dead lists of its snapshots, and that of its live map, each block once, and two
--- segments at most (On-Disk Specification, chapter 4: ds_deadlist_obj); and two counts of blocks (zfsprops(7): usedbydataset,
--- usedbysnapshots)
+-- no dead list of these snapshots is cut (profile)
+abbrev pub AreUncut : List Kept → Type 0
+AreUncut [] = Unit {0}
+AreUncut (k ∷ ks) = ((arc_value k.dead).cuts ≡ []) × AreUncut ks
+
+-- What a file system keeps, above its origin: the dead lists of its snapshots, and that of its live map, each block once, in one segment
+-- (On-Disk Specification, chapter 4: ds_deadlist_obj); and two counts of blocks (zfsprops(7): usedbydataset, usedbysnapshots)
 pub record IsKeeping (f : Inside) : Type 0 where
   pub accounted : AreAccounted (blocks_below (option_map arc_value f.origin)) (arc_value f.snapshots)
   pub dead :
       Lists (map dead_block (arc_value f.dead).entries)
       (difference (newest_blocks (blocks_below (option_map arc_value f.origin)) (snaps_in (arc_value f.snapshots))) (blocks f.live))
-  pub few : length (arc_value f.dead).cuts ≤ 1
+  pub uncut : (arc_value f.dead).cuts ≡ []
   pub counted : IsCounted (map_below (option_map arc_value f.origin)) (snaps_in (arc_value f.snapshots)) f.live f.counts
 
 -- These snapshots stand below a map, and these blocks with this group below them: the newest, or else the blocks below, have none that

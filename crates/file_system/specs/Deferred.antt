@@ -6,8 +6,8 @@ use Rattle.std.specs.Option.{option_map_or}
 use Rattle.model.specs.World.{Snap, FileSystem}
 use Rattle.snapshots.specs.declared.kept.Kept.{Kept}
 use Rattle.file_system.specs.Rows.{FileSystems}
-use Rattle.file_system.specs.declared.mark.Edit.{Edit}
-use Rattle.file_system.specs.declared.mark.Edit.TheVariants.{Defer, SetTags}
+use Rattle.file_system.specs.declared.mark.SnapshotEdit.{SnapshotEdit}
+use Rattle.file_system.specs.declared.mark.SnapshotEdit.TheVariants.{Defer, SetTags}
 
 -- ---- any change of one snapshot
 
@@ -70,6 +70,6 @@ tagged_of m name group tags = edited_of (with_tags tags) m name group
 -- ---- which change an edit is
 
 -- that of a deferred destroy, or that of other tags (zfs-destroy(8), -d; zfs-hold(8), zfs-release(8))
-abbrev pub edit_of : Edit → Snap → Snap
+abbrev pub edit_of : SnapshotEdit → Snap → Snap
 edit_of Defer = with_deferred
 edit_of (SetTags tags) = with_tags (arc_value tags)

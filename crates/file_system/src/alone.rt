@@ -97,8 +97,7 @@ fn set_of(
 impl FileSystem {
     /// The blocks of the snapshot of this group, which is there, that neither what stands before it has nor what comes after it: those
     /// that are lost where it goes, unless a clone of it has them (zfs-destroy(8): -n). NoMemory where there is none for them. It costs the
-    /// logarithm of the number of snapshots, the segments of the next dead list, where no cut stands at the group
-    /// before it the entries of one of them, and the number of these blocks.
+    /// logarithm of the number of snapshots, about the square of that of the entries of the next dead list, and the number of these blocks.
     pub fn alone(
         &self,
         alloc: Global,

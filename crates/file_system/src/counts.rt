@@ -24,7 +24,7 @@ use tree::Tree;
 /// How many blocks its live map has that its origin hasn't (zfsprops(7): usedbydataset), and how many its snapshots have that neither the
 /// live map nor the origin has (zfsprops(7): usedbysnapshots).
 #[derive(Clone, Copy)]
-pub struct Counts {
+pub struct UsedBlocks {
     pub by_dataset: u32,
     pub by_snapshots: u64,
 }
@@ -38,11 +38,11 @@ pub struct Rest {
 }
 
 /// The counts of a file system without a snapshot whose live map is its origin's, or has no block. Constant time.
-pub fn no_counts() -> Counts
+pub fn no_counts() -> UsedBlocks
     ensures by_dataset { result.by_dataset ≡ 0 }
     ensures by_snapshots { result.by_snapshots ≡ 0 }
 {
-    Counts {
+    UsedBlocks {
         by_dataset: 0,
         by_snapshots: 0,
     }
@@ -51,7 +51,7 @@ pub fn no_counts() -> Counts
 /// What is left of the counts where a live map of so many blocks lets go these, above an origin of the group `base` and a newest
 /// snapshot of the group `newest`. NoMemory where there are more blocks than a u64 counts. It costs their number.
 pub fn rest_of(
-    counts: Counts,
+    counts: UsedBlocks,
     nodes: u32,
     released: &[Dead],
     base: Group,
@@ -75,12 +75,12 @@ pub fn rest_of(
 }
 
 /// The counts with a live map of so many blocks, where so many are left. Constant time.
-pub fn counts_with(rest: Rest, nodes: u32) -> Counts
+pub fn counts_with(rest: Rest, nodes: u32) -> UsedBlocks
     requires { rest.shared ≤ nodes }
     ensures by_dataset { result.by_dataset + rest.shared ≡ nodes }
     ensures by_snapshots { result.by_snapshots ≡ rest.by_snapshots }
 {
-    Counts {
+    UsedBlocks {
         by_dataset: nodes - rest.shared,
         by_snapshots: rest.by_snapshots,
     }
@@ -95,7 +95,7 @@ pub fn recounted(
     live: &Tree,
     dead: &Deadlist,
     segments: &mut SegMeter,
-) -> Result<Counts, Refusal>
+) -> Result<UsedBlocks, Refusal>
     requires accounted { AreAccounted (blocks_below (option_copied origin)) kept.now }
     requires dead { Lists (map dead_block dead.now.entries) (difference (newest_blocks (blocks_below (option_copied origin)) (snaps_in kept.now)) (blocks live.now)) }
     requires line { AreLined (map_below (option_copied origin)) (group_below (option_copied origin)) (snaps_in kept.now) live.now }
@@ -110,7 +110,7 @@ pub fn recounted(
     }
     let below = u64::from(base_count(origin));
     let by_dataset = (u64::from(live.node_count()) + dropped - below) as u32;
-    Ok(Counts {
+    Ok(UsedBlocks {
         by_dataset,
         by_snapshots,
     })

@@ -29,10 +29,10 @@ ghost use Rattle.file_system.specs.Splices.{lost_from, without_group, AreAbove};
 ghost use Rattle.file_system.specs.Deferred.{deferred_at, edit_of, edited_at, tagged_at};
 ghost use Rattle.file_system.specs.Writes.{newest_group, young_after, IsWritten};
 
-use crate::counts::{Counts, counts_with, no_counts, recounted, rest_of};
+use crate::counts::{UsedBlocks, counts_with, no_counts, recounted, rest_of};
 use crate::dead::put;
 use crate::lost::Lost;
-use crate::mark::{Edit, edited};
+use crate::mark::{SnapshotEdit, edited};
 use crate::origin::{Origin, base_group, copy_of_origin, origin_in, origin_of};
 use crate::splice::{joined, joined_next, kept_of, place_of};
 use crate::written::{group_of, written_over};
@@ -47,7 +47,7 @@ use model::snapshot_id::SnapshotId;
 use shared_list::SharedList;
 use snapshots::bookmarks::Bookmarks;
 use snapshots::holds::Holds;
-use snapshots::{Kept, Line, Snapshot};
+use snapshots::{Kept, Snapshot, SnapshotList};
 use std::alloc::Global;
 use std::cmp::Ordering;
 use std::marker::Model;
@@ -63,11 +63,11 @@ pub struct FileSystem {
     pub(crate) name: Arc<DsName>,
     pub(crate) live: Tree,
     pub(crate) dead: Arc<Deadlist>,
-    pub(crate) snapshots: Arc<Line>,
+    pub(crate) snapshots: Arc<SnapshotList>,
     pub(crate) origin: Option<Arc<Origin>>,
     pub(crate) limits: Limits,
     pub(crate) bookmarks: Arc<Bookmarks>,
-    pub(crate) counts: Counts,
+    pub(crate) counts: UsedBlocks,
 }
 
 // By hand, so that it is proved once: a derived one is laid out anew in each crate that drops the type.
@@ -122,7 +122,7 @@ impl FileSystem {
     {
         let name = shared_name(alloc, name)?;
         let dead = Arc::new(alloc, Deadlist::new(alloc))?;
-        let snapshots = Arc::new(alloc, Line::new(alloc))?;
+        let snapshots = Arc::new(alloc, SnapshotList::new(alloc))?;
         let bookmarks = no_bookmarks(alloc)?;
         Ok(FileSystem {
             name,
@@ -150,7 +150,7 @@ impl FileSystem {
         let live = snapshot.tree().copy()?;
         let origin = origin_of(alloc, snapshot)?;
         let dead = Arc::new(alloc, Deadlist::new(alloc))?;
-        let snapshots = Arc::new(alloc, Line::new(alloc))?;
+        let snapshots = Arc::new(alloc, SnapshotList::new(alloc))?;
         let bookmarks = no_bookmarks(alloc)?;
         Ok(FileSystem {
             name: own_name,
@@ -353,8 +353,8 @@ impl FileSystem {
 
     /// Takes out the snapshot of this group, which is there. Its dead list becomes a part of that of what comes after it; the blocks that
     /// neither what stands before it nor what comes after it has are lost: the answer, which nobody has to walk. It costs the logarithm
-    /// of the number of snapshots, the chunks of them, the segments of both dead lists, and where no cut stands at the group before it, the
-    /// entries of one of them.
+    /// of the number of snapshots, the chunks of them, and for each of the two dead lists about the square of the logarithm of its entries,
+    /// and where runs of them become one, these.
     pub fn splice(
         &mut self,
         alloc: Global,
@@ -394,7 +394,7 @@ impl FileSystem {
         ensures err { OnErr result (self.new ≡ self.old) }
         ensures only { IfErr result (λ e. e ≡ Refusal.NoMemory) }
     {
-        self.edit(alloc, group, Edit::Defer)
+        self.edit(alloc, group, SnapshotEdit::Defer)
     }
 
     /// From now on the snapshot of this group, which is there, has these tags (zfs-hold(8), zfs-release(8)). NoMemory where there is none
@@ -406,11 +406,11 @@ impl FileSystem {
         ensures err { OnErr result (self.new ≡ self.old) }
         ensures only { IfErr result (λ e. e ≡ Refusal.NoMemory) }
     {
-        self.edit(alloc, group, Edit::SetTags(tags))
+        self.edit(alloc, group, SnapshotEdit::SetTags(tags))
     }
 
     // Makes this edit of the snapshot of this group, which is there. NoMemory where there is none for it; then all is as it was.
-    fn edit(&mut self, alloc: Global, group: Group, edit: Edit) -> Result<(), Refusal>
+    fn edit(&mut self, alloc: Global, group: Group, edit: SnapshotEdit) -> Result<(), Refusal>
         requires there { IsSome (find (λ t. t.group == group.0) self.old.system.snaps) }
         requires above { AreAbove self.old.below self.old.system }
         ensures ok { OnOk result (self.new ≡ with_system self.old (edited_at (edit_of edit) self.old.system group.0)) }
@@ -521,7 +521,7 @@ fn is_born_after(dead: &Dead, group: Group) -> bool
 
 // The snapshots to change: where they are, if they have no other owner, and else in a copy of them, which comes to their place. NoMemory
 // where there is none for the copy. By then they have one owner, so that they are there; but no contract says how many there are.
-fn own(line: &mut Arc<Line>, alloc: Global) -> Result<&mut Line, Refusal>
+fn own(line: &mut Arc<SnapshotList>, alloc: Global) -> Result<&mut SnapshotList, Refusal>
     ensures* lends { sem 𝓛 (LendsLine line.entry result) }
     ensures value { IfOk result (λ l. l.now ≡ arc_value line.old) }
     ensures only { IfErr result (λ e. e ≡ Refusal.NoMemory) }

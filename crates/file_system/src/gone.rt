@@ -102,15 +102,15 @@ impl FileSystem {
     // How many blocks on the side of the cut have gone with the datasets that are asked for, counted as by `gone_upto`, at the same cost.
     fn gone_with(&self, asked: Asked, segments: &mut SegMeter) -> u64
         ensures count { result ≡ min (2 ^ 64 - 1) (sum_by (λ g. size_on asked.side asked.cut.0 g.blocks) (dead_between (option_map (λ g. g.0) asked.from) (option_map (λ g. g.0) asked.until) self.now)) }
-        ensures meter { segments.new ≤ segments.old + 2 * length (dead_between (option_map (λ g. g.0) asked.from) (option_map (λ g. g.0) asked.until) self.now) }
+        ensures meter { segments.new ≤ segments.old + length (dead_between (option_map (λ g. g.0) asked.from) (option_map (λ g. g.0) asked.until) self.now) }
     {
         count_gone(self.snapshots.list(), &self.dead, asked, segments)
     }
 
     /// How many blocks born by the cut have gone from a dataset of this file system to the one after it: with each snapshot whose group is
     /// after `from` and no later than `until`, and with the live map where `until` is none; a block counts with each that it has gone with.
-    /// The count stops at the greatest u64. It costs the number of snapshots, and the segments of the dead lists of those between, each
-    /// of which has two at most (zfsprops(7): written@snapshot).
+    /// The count stops at the greatest u64. It costs the number of snapshots, and for each dead list of those between, which has one
+    /// segment, about the square of the logarithm of its entries (zfsprops(7): written@snapshot).
     pub fn gone_upto(
         &self,
         from: Option<Group>,
@@ -120,6 +120,7 @@ impl FileSystem {
     ) -> u64
         ensures count { result ≡ min (2 ^ 64 - 1) (sum_by (λ g. len (upto cut.0 g.blocks)) (dead_between (option_map (λ g. g.0) from) (option_map (λ g. g.0) until) self.now)) }
         ensures meter { segments.new ≤ segments.old + 2 * length (dead_between (option_map (λ g. g.0) from) (option_map (λ g. g.0) until) self.now) }
+        ensures once { segments.new ≤ segments.old + length (dead_between (option_map (λ g. g.0) from) (option_map (λ g. g.0) until) self.now) }
     {
         let side = Side::Upto;
         let asked = Asked {
@@ -142,6 +143,7 @@ impl FileSystem {
     ) -> u64
         ensures count { result ≡ min (2 ^ 64 - 1) (sum_by (λ g. len (after cut.0 g.blocks)) (dead_between (option_map (λ g. g.0) from) (option_map (λ g. g.0) until) self.now)) }
         ensures meter { segments.new ≤ segments.old + 2 * length (dead_between (option_map (λ g. g.0) from) (option_map (λ g. g.0) until) self.now) }
+        ensures once { segments.new ≤ segments.old + length (dead_between (option_map (λ g. g.0) from) (option_map (λ g. g.0) until) self.now) }
     {
         let side = Side::After;
         let asked = Asked {

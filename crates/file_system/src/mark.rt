@@ -11,7 +11,7 @@ use std::sync::Arc;
 
 /// A change of a snapshot that leaves its name, its map and its group as they are.
 #[derive(Drop)]
-pub enum Edit {
+pub enum SnapshotEdit {
     /// Its destroy is deferred (zfs-destroy(8), -d).
     Defer,
     /// It has these tags (zfs-hold(8), zfs-release(8)).
@@ -19,18 +19,18 @@ pub enum Edit {
 }
 
 // Makes the edit of this snapshot. Constant time.
-fn make(snapshot: &mut Snapshot, edit: Edit)
+fn make(snapshot: &mut Snapshot, edit: SnapshotEdit)
     ensures { snapshot.new ≡ edit_of edit snapshot.old }
 {
     match edit {
-        Edit::Defer => snapshot.defer(),
-        Edit::SetTags(tags) => snapshot.set_tags(tags),
+        SnapshotEdit::Defer => snapshot.defer(),
+        SnapshotEdit::SetTags(tags) => snapshot.set_tags(tags),
     }
 }
 
 /// What is kept of the snapshot at that place, with this edit of it. It costs the length of its name, and a walk over the chunks before it.
 /// NoMemory where there is none for it.
-pub fn edited(kept: &SharedList<Kept>, place: usize, edit: Edit) -> Result<Kept, Refusal>
+pub fn edited(kept: &SharedList<Kept>, place: usize, edit: SnapshotEdit) -> Result<Kept, Refusal>
     requires { place < length kept.now }
     ensures ok { IfOk result (λ k. IsEdited (edit_of edit) kept.now place k) }
     ensures err { IfErr result (λ e. e ≡ Refusal.NoMemory) }

@@ -18,14 +18,18 @@ use crate::splice::place_of;
 use base::meter::SegMeter;
 use base::refusal::Refusal;
 use model::snapshot_id::SnapshotId;
-use snapshots::Line;
+use snapshots::SnapshotList;
 use std::alloc::Global;
 use std::sync::Arc;
 
 // The first `count` of these snapshots, and the others, where each name is one snapshot's: where there are no others, the first are these
-// by one more owner. NoMemory where there is none for it. It costs what `Line::split_at` does where there are others, and else constant
+// by one more owner. NoMemory where there is none for it. It costs what `SnapshotList::split_at` does where there are others, and else constant
 // time.
-fn parted(alloc: Global, line: &Arc<Line>, count: usize) -> Result<(Arc<Line>, Arc<Line>), Refusal>
+fn parted(
+    alloc: Global,
+    line: &Arc<SnapshotList>,
+    count: usize,
+) -> Result<(Arc<SnapshotList>, Arc<SnapshotList>), Refusal>
     requires there { count ≤ length (arc_value line.now) }
     requires once { AreNamesOnce (arc_value line.now) }
     ensures first { IfOk result (λ parts. arc_value parts.0 ≡ take count (arc_value line.now)) }
@@ -33,7 +37,7 @@ fn parted(alloc: Global, line: &Arc<Line>, count: usize) -> Result<(Arc<Line>, A
     ensures err { IfErr result (λ e. e ≡ Refusal.NoMemory) }
 {
     if line.list().len() == count {
-        let rest = Arc::new(alloc, Line::new(alloc))?;
+        let rest = Arc::new(alloc, SnapshotList::new(alloc))?;
         return Ok((Arc::try_clone(line)?, rest));
     }
     let (first, rest) = line.split_at(alloc, count)?;
@@ -42,8 +46,12 @@ fn parted(alloc: Global, line: &Arc<Line>, count: usize) -> Result<(Arc<Line>, A
 }
 
 // These snapshots and the others after them, where each name is one snapshot's: these alone where there are no others. NoMemory where there
-// is none for it. It costs what `Line::joined` does where there are others, and else constant time.
-fn appended(alloc: Global, line: Arc<Line>, others: &Line) -> Result<Arc<Line>, Refusal>
+// is none for it. It costs what `SnapshotList::joined` does where there are others, and else constant time.
+fn appended(
+    alloc: Global,
+    line: Arc<SnapshotList>,
+    others: &SnapshotList,
+) -> Result<Arc<SnapshotList>, Refusal>
     requires once { AreNamesOnce (arc_value line ++ others.now) }
     ensures ok { IfOk result (λ all. arc_value all ≡ arc_value line ++ others.now) }
     ensures err { IfErr result (λ e. e ≡ Refusal.NoMemory) }
@@ -89,7 +97,7 @@ impl FileSystem {
     // all their dead lists and of its own.
     fn with_line(
         &self,
-        snapshots: Arc<Line>,
+        snapshots: Arc<SnapshotList>,
         origin: &Option<Arc<Origin>>,
         segments: &mut SegMeter,
     ) -> Result<FileSystem, Refusal>

@@ -1,5 +1,5 @@
 //! A snapshot that goes from those of a file system.
-ghost use Rattle.std.specs.Prelude.{◌≡◌, ℕ, ◌+◌, ◌<◌, ◌≤◌, ◌==◌, ◌-◌, false, min, Some, None, IsSome, IfOk, IfErr, OnOk, length, take, nat_le, nat_lt, slice_get};
+ghost use Rattle.std.specs.Prelude.{◌≡◌, ℕ, ◌+◌, ◌<◌, ◌≤◌, ◌==◌, [], Some, None, IsSome, IfOk, IfErr, length, take, nat_le, nat_lt, slice_get};
 ghost use Rattle.std.specs.List.{find, last_or};
 ghost use Rattle.std.specs.List.Sorted.{IsPermutation};
 ghost use Rattle.std.specs.Option.{option_copied, option_map, option_map_or};
@@ -8,7 +8,7 @@ ghost use Rattle.model.specs.World.{id_of, same_id};
 ghost use Rattle.model.specs.Ids.{snap_id};
 ghost use Rattle.shared_list.specs.Around.{IsAround};
 ghost use Rattle.world.specs.Worlds.{AreRising};
-ghost use Rattle.file_system.specs.Dead.{snaps_in};
+ghost use Rattle.file_system.specs.Dead.{snaps_in, AreUncut};
 ghost use Rattle.file_system.specs.Origins.{blocks_below, group_below};
 ghost use Rattle.file_system.specs.Splices.{AreJoined, CanJoin, IsNext};
 
@@ -23,12 +23,6 @@ use shared_list::{Around, SharedList};
 use snapshots::Kept;
 use std::alloc::Global;
 use std::sync::Arc;
-
-/// How many entries a dead list has at least that is cut.
-const MANY: u64 = 256;
-
-/// A cut stands at most so many snapshots below.
-const NEAR: usize = 64;
 
 fn is_before(kept: &Kept, group: Group) -> bool
     ensures { result ≡ nat_lt kept.now.snapshot.group group.0 }
@@ -81,59 +75,9 @@ pub fn before(kept: &SharedList<Kept>, place: usize) -> Option<&Kept>
     kept.get(place - 1)
 }
 
-/// Whether the last cut of a dead list stands at that group or after it. Constant time.
-fn is_cut_from(dead: &Deadlist, group: Group) -> bool
-    ensures { result ≡ option_map_or (nat_le group.0) (slice_get dead.now.cuts (length dead.now.cuts - 1)) false }
-{
-    match dead.cut_at(dead.segments().saturating_sub(2)) {
-        Some(cut) => group.0 <= cut.0,
-        None => false,
-    }
-}
-
-/// Cuts a long dead list at the group of a snapshot not far below that place, so that what the next ones below it lose is found among
-/// the few entries after the cut. A short list is left as it is, and so is one that has that cut or a later one. It costs the entries of
-/// one segment where it cuts, and else nothing. NoMemory where there is none for the cut; then nothing is changed.
-fn cut_below(
-    kept: &SharedList<Kept>,
-    base: Group,
-    place: usize,
-    dead: &mut Deadlist,
-    segments: &mut SegMeter,
-) -> Result<(), Refusal>
-    requires { place ≤ length kept.now }
-    ensures entries { IsPermutation dead.old.entries dead.new.entries }
-    ensures err { IfErr result (λ e. e ≡ Refusal.NoMemory) }
-{
-    let below = place - place % NEAR;
-    let near = group_of(before(kept, below), base);
-    if below == 0 || dead.len() < MANY || is_cut_from(dead, near) {
-        return Ok(());
-    }
-    dead.cut(near, segments)
-}
-
-/// Joins the first segments of a dead list until it has no more cuts than that. It costs those segments, and not their entries. NoMemory
-/// where there is none for it; then all entries are there as they were.
-fn keep_cuts(dead: &mut Deadlist, most: usize, segments: &mut SegMeter) -> Result<(), Refusal>
-    ensures entries { dead.new.entries ≡ dead.old.entries }
-    ensures few { OnOk result (length dead.new.cuts ≤ most) }
-    ensures err { IfErr result (λ e. e ≡ Refusal.NoMemory) }
-{
-    let all = dead.segments() - 1;
-    for _joined in most..all {
-        let Some(first) = dead.cut_at(0) else {
-            return Ok(());
-        };
-        dead.join(first, segments)?;
-    }
-    Ok(())
-}
-
 /// The dead list of what comes after the snapshot at that place, once that is gone, and what is lost with it: from the dead list that it
-/// has now, and from the group of what stands below the first of the snapshots. It has a cut at most, and none where it is the first. It
-/// costs the segments of both lists, and where no cut stands at the group before the place, the entries of one segment. NoMemory where
-/// there is none for it.
+/// has now, and from the group of what stands below the first of the snapshots. No list is cut. It costs for each list the square of the
+/// logarithm of its entries, and where runs of them become one, these. NoMemory where there is none for it.
 pub fn joined(
     kept: &SharedList<Kept>,
     base: Group,
@@ -141,9 +85,11 @@ pub fn joined(
     next: &Deadlist,
     segments: &mut SegMeter,
 ) -> Result<(Deadlist, Deadlist), Refusal>
-    requires { place < length kept.now }
+    requires place { place < length kept.now }
+    requires uncut { AreUncut kept.now }
+    requires next { next.now.cuts ≡ [] }
     ensures ok { IfOk result (λ p. AreJoined base.0 kept.now place next.now.entries p.0.entries p.1.entries) }
-    ensures few { IfOk result (λ p. length p.0.cuts ≤ min place 1) }
+    ensures uncut { IfOk result (λ p. p.0.cuts ≡ []) }
     ensures err { IfErr result (λ e. e ≡ Refusal.NoMemory) }
 {
     let Some(gone) = kept.get(place) else {
@@ -153,17 +99,13 @@ pub fn joined(
     let lost = own.take_after(group_of(before(kept, place), base), segments)?;
     let mut all = gone.dead.copy(segments)?;
     match all.append(own, segments) {
-        Ok(()) => {
-            cut_below(kept, base, place, &mut all, segments)?;
-            keep_cuts(&mut all, place.min(1), segments)?;
-            Ok((all, lost))
-        }
+        Ok(()) => Ok((all, lost)),
         Err((refusal, _own)) => Err(refusal),
     }
 }
 
 /// What is kept of the snapshot after the one at that place, once that is gone, and what is lost with it, where the first of them stands
-/// above this origin. It costs the segments of their dead lists, and the length of its name. NoMemory where there is none for it.
+/// above this origin. It costs what `joined` does, and the length of its name. NoMemory where there is none for it.
 pub fn joined_next(
     kept: &SharedList<Kept>,
     origin: Option<&Origin>,

@@ -1,6 +1,5 @@
--- The open group never falls.
-use Rattle.std.proofs.Common.{◌≡◌, ◌≤◌, ℕ, ◌+◌, Bool, true, false, ◌&&◌, List, [], ◌∷◌, ◌++◌, Option, Some, None, refl, sym, subst, ◌∙◌, arith}
-use Rattle.std.specs.Prelude.{if◌then◌else◌}
+-- The open group is never below that of the world that a step goes on from.
+use Rattle.std.proofs.Common.{◌≡◌, ◌≤◌, ℕ, ◌+◌, Bool, ◌&&◌, List, [], ◌∷◌, ◌++◌, Option, Some, None, refl, sym, subst, ◌∙◌, arith}
 use Rattle.std.specs.Option.{option_map_or}
 use Rattle.std.specs.FinMap.{insert, remove}
 use Rattle.base.specs.declared.number.Key.{Key}
@@ -12,14 +11,15 @@ use Rattle.stream.specs.Records.{changes_of}
 use Rattle.stream.specs.Spelling.{Sending}
 use Rattle.model.specs.Limits.{limited}
 use Rattle.model.specs.declared.request.Request.{Request}
-use Rattle.model.specs.declared.request.Request.TheVariants.{Create as ToCreate, Write as ToWrite, Punch as ToPunch, FreeObject as ToFreeObject, Snapshot as ToSnapshot, Read as ToRead, Get as ToGet, PoolGet as ToPoolGet, List as ToList, Rollback as ToRollback, Destroy as ToDestroy, Slice as ToSlice, Sync as ToSync, OpenView as ToOpenView, CloseView as ToCloseView, Clone as ToClone, Promote as ToPromote, Hold as ToHold, Release as ToRelease, Holds as ToHolds, Bookmark as ToBookmark, WrittenSince as ToWrittenSince, WouldFree as ToWouldFree, Set as ToSet, Send as ToSend, Receive as ToReceive}
+use Rattle.model.specs.declared.request.Request.TheVariants.{Create as ToCreate, Write as ToWrite, Punch as ToPunch, FreeObject as ToFreeObject, Snapshot as ToSnapshot, Read as ToRead, Get as ToGet, PoolGet as ToPoolGet, List as ToList, Rollback as ToRollback, Destroy as ToDestroy, Slice as ToSlice, Sync as ToSync, Abandon as ToAbandon, OpenView as ToOpenView, CloseView as ToCloseView, Clone as ToClone, Promote as ToPromote, Hold as ToHold, Release as ToRelease, Holds as ToHolds, Bookmark as ToBookmark, WrittenSince as ToWrittenSince, WouldFree as ToWouldFree, Set as ToSet, Send as ToSend, Receive as ToReceive}
 use Rattle.model.specs.declared.reply.Reply.{Reply}
 use Rattle.model.specs.World.{World, FileSystem, Snap, id_of, snap_at}
 use Rattle.model.specs.State.{State}
-use Rattle.model.specs.Rule.{Choice, Rule}
+use Rattle.model.specs.Rule.{Choice}
 use Rattle.model.specs.Edits.{with_file_system, with_tags, with_now, after_change}
-use Rattle.model.specs.Outcome.{is_needed, state_after_sweep, state_after}
-use Rattle.model.specs.Step.{Step, Follows, done, refused, out_of_memory}
+use Rattle.model.specs.Outcome.{is_needed, state_after_sweep}
+use Rattle.model.specs.Refusals.{refusal_of}
+use Rattle.model.specs.Step.{Step}
 use Rattle.model.specs.requests.{rule_of}
 use Rattle.model.specs.requests.Bookmark.{bookmarked, bookmark_of_snap}
 use Rattle.model.specs.requests.Change.{state_after_change}
@@ -32,6 +32,7 @@ use Rattle.model.specs.requests.Release.{without_tag}
 use Rattle.model.specs.requests.Rollback.{placed, back_at, after_rollback, rolled_back}
 use Rattle.model.specs.requests.Snapshot.{snap_of_live, with_snapshots, snapshots_taken, snapshot_names, guid_by}
 use Rattle.world.specs.Shapes.{Name}
+use Rattle.laws.proofs.Before.{world_before, step_joins}
 use Rattle.laws.proofs.Edits.{same_group}
 use Rattle.laws.proofs.Receiving.{before_group}
 
@@ -121,43 +122,39 @@ got s m (Some sent) force number =
 
 -- ---- steps
 
-followed : (s new : State) (r : Reply) (rule : Rule) → ((c : Choice) → s.now.group ≤ (rule.after s c).now.group) → Follows s rule r new → s.now.group ≤ new.now.group
-unfolding state_after state_after_sweep
-followed s new r rule after (done h) = subst (λ (x : State). s.now.group ≤ x.now.group) (sym h.new_is) (by_reading rule.only_reads (after h.choice))
-  where
-    by_reading : (b : Bool) → s.now.group ≤ (rule.after s h.choice).now.group → s.now.group ≤ (if b then s else state_after_sweep (rule.after s h.choice)).now.group
-    by_reading true k = omega arith
-    by_reading false k = k
-followed s new r rule after (refused h) = subst (λ (x : State). s.now.group ≤ x.now.group) (sym h.unchanged) (omega arith)
-followed s new r rule after (out_of_memory h) = subst (λ (x : State). s.now.group ≤ x.now.group) (sym h.unchanged) (omega arith)
+swept_group : (w : World) (s : State) → w.group ≤ s.now.group → w.group ≤ (state_after_sweep s).now.group
+unfolding state_after_sweep
+swept_group w s l = l
 
-pub step_group : (q : Request) (r : Reply) (s new : State) → Step s q r new → s.now.group ≤ new.now.group
-step_group q r s new step = followed s new r (rule_of q step.reading) (by_request q) step.follows
+pub step_group : (q : Request) (r : Reply) (s new : State) → Step s q r new → (world_before s q r).group ≤ new.now.group
+step_group q r s new step = step_joins (λ w v. w.group ≤ v.group) (λ w. omega arith) swept_group q r s new step (by_request q)
   where
-    by_request : (q : Request) (c : Choice) → s.now.group ≤ ((rule_of q step.reading).after s c).now.group
-    by_request (ToCreate name) c = omega arith
-    by_request (ToWrite target object block bytes) c = changed s target _ c
-    by_request (ToPunch target object block) c = changed s target _ c
-    by_request (ToFreeObject target object) c = changed s target _ c
-    by_request (ToSnapshot names recursive) c = took s (snapshot_names s.now names recursive)
-    by_request (ToRead target object block) c = omega arith
-    by_request (ToGet target property) c = omega arith
-    by_request (ToPoolGet property) c = omega arith
-    by_request ToList c = omega arith
-    by_request (ToRollback target later) c = at_least _ _ (rolled s.now target)
-    by_request (ToDestroy target recursive defer) c = at_least _ _ (destroyed s.now (λ t. defer && is_needed s.now s.views t) target recursive)
-    by_request (ToSlice count) c = omega arith
-    by_request ToSync c = omega arith
-    by_request (ToOpenView target) c = opened s target
-    by_request (ToCloseView view) c = omega arith
-    by_request (ToClone target name) c = cloned s target name
-    by_request (ToPromote name) c = turned s name
-    by_request (ToHold tag target) c = at_least _ _ (tagged s.now target (λ t. t.tags ++ tag ∷ []))
-    by_request (ToRelease tag target) c = at_least _ _ (tagged s.now target (λ t. without_tag t.tags tag))
-    by_request (ToHolds target) c = omega arith
-    by_request (ToBookmark target mark) c = at_least _ _ (marked s.now target mark)
-    by_request (ToWrittenSince target since) c = omega arith
-    by_request (ToWouldFree name first last) c = omega arith
-    by_request (ToSet name limit amount) c = at_least _ _ (same_group s.now name (λ f. limited f limit amount))
-    by_request (ToSend target from) c = omega arith
-    by_request (ToReceive m bytes force) c = got s m step.reading force c.number
+    by_request : (q : Request) (c : Choice) → refusal_of s (rule_of q step.reading) ≡ None → r ≡ (rule_of q step.reading).reply s
+        → (world_before s q r).group ≤ ((rule_of q step.reading).after s c).now.group
+    by_request (ToCreate name) c none is = omega arith
+    by_request (ToWrite target object block bytes) c none is = changed s target _ c
+    by_request (ToPunch target object block) c none is = changed s target _ c
+    by_request (ToFreeObject target object) c none is = changed s target _ c
+    by_request (ToSnapshot names recursive) c none is = took s (snapshot_names s.now names recursive)
+    by_request (ToRead target object block) c none is = omega arith
+    by_request (ToGet target property) c none is = omega arith
+    by_request (ToPoolGet property) c none is = omega arith
+    by_request ToList c none is = omega arith
+    by_request (ToRollback target later) c none is = at_least _ _ (rolled s.now target)
+    by_request (ToDestroy target recursive defer) c none is = at_least _ _ (destroyed s.now (λ t. defer && is_needed s.now s.views t) target recursive)
+    by_request (ToSlice count) c none is = omega arith
+    by_request ToSync c none is = omega arith
+    by_request ToAbandon c none is = subst (λ x. (world_before s ToAbandon x).group ≤ s.last.group) (sym is) (omega arith)
+    by_request (ToOpenView target) c none is = opened s target
+    by_request (ToCloseView view) c none is = omega arith
+    by_request (ToClone target name) c none is = cloned s target name
+    by_request (ToPromote name) c none is = turned s name
+    by_request (ToHold tag target) c none is = at_least _ _ (tagged s.now target (λ t. t.tags ++ tag ∷ []))
+    by_request (ToRelease tag target) c none is = at_least _ _ (tagged s.now target (λ t. without_tag t.tags tag))
+    by_request (ToHolds target) c none is = omega arith
+    by_request (ToBookmark target mark) c none is = at_least _ _ (marked s.now target mark)
+    by_request (ToWrittenSince target since) c none is = omega arith
+    by_request (ToWouldFree name first last) c none is = omega arith
+    by_request (ToSet name limit amount) c none is = at_least _ _ (same_group s.now name (λ f. limited f limit amount))
+    by_request (ToSend target from) c none is = omega arith
+    by_request (ToReceive m bytes force) c none is = got s m step.reading force c.number

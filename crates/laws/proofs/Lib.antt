@@ -11,7 +11,9 @@ pub mod Turning
 pub mod OrderedSteps
 pub mod Stepping
 pub mod Marking
+pub mod Before
 pub mod Groups
+pub mod Leading
 pub mod Lasting
 pub mod Marks
 pub mod Pools

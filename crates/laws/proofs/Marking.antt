@@ -16,15 +16,15 @@ use Rattle.stream.specs.Records.{changes_of}
 use Rattle.stream.specs.Spelling.{Sending}
 use Rattle.model.specs.Limits.{limited}
 use Rattle.model.specs.declared.request.Request.{Request}
-use Rattle.model.specs.declared.request.Request.TheVariants.{Create as ToCreate, Write as ToWrite, Punch as ToPunch, FreeObject as ToFreeObject, Snapshot as ToSnapshot, Read as ToRead, Get as ToGet, PoolGet as ToPoolGet, List as ToList, Rollback as ToRollback, Destroy as ToDestroy, Slice as ToSlice, Sync as ToSync, OpenView as ToOpenView, CloseView as ToCloseView, Clone as ToClone, Promote as ToPromote, Hold as ToHold, Release as ToRelease, Holds as ToHolds, Bookmark as ToBookmark, WrittenSince as ToWrittenSince, WouldFree as ToWouldFree, Set as ToSet, Send as ToSend, Receive as ToReceive}
+use Rattle.model.specs.declared.request.Request.TheVariants.{Create as ToCreate, Write as ToWrite, Punch as ToPunch, FreeObject as ToFreeObject, Snapshot as ToSnapshot, Read as ToRead, Get as ToGet, PoolGet as ToPoolGet, List as ToList, Rollback as ToRollback, Destroy as ToDestroy, Slice as ToSlice, Sync as ToSync, Abandon as ToAbandon, OpenView as ToOpenView, CloseView as ToCloseView, Clone as ToClone, Promote as ToPromote, Hold as ToHold, Release as ToRelease, Holds as ToHolds, Bookmark as ToBookmark, WrittenSince as ToWrittenSince, WouldFree as ToWouldFree, Set as ToSet, Send as ToSend, Receive as ToReceive}
 use Rattle.model.specs.declared.reply.Reply.{Reply}
 use Rattle.model.specs.World.{World, FileSystem, Snap, SnapId, Bookmark, id_of, same_id, snap_at, empty_file_system, map_of_snap}
 use Rattle.model.specs.State.{State}
-use Rattle.model.specs.Rule.{Choice, Rule}
+use Rattle.model.specs.Rule.{Choice}
 use Rattle.model.specs.Edits.{with_file_system, with_file_systems, with_losses, with_tags, with_now, after_change, without_snaps}
-use Rattle.model.specs.Outcome.{is_needed, state_after_sweep, state_after}
+use Rattle.model.specs.Outcome.{is_needed, state_after_sweep}
 use Rattle.model.specs.Refusals.{refusal_of}
-use Rattle.model.specs.Step.{Step, Follows, done, refused, out_of_memory}
+use Rattle.model.specs.Step.{Step}
 use Rattle.model.specs.requests.{rule_of}
 use Rattle.model.specs.requests.Bookmark.{bookmarked, bookmark_of_snap, bookmark_row, bookmark_rule, is_beside}
 use Rattle.model.specs.requests.Change.{state_after_change}
@@ -46,6 +46,7 @@ use Rattle.world.proofs.changes.Promotions.{IsPromotion, promotion_is}
 use Rattle.world.proofs.lineage.Put.{put_cases}
 use Rattle.world.proofs.removals.Sweep.{get-with_file_systems}
 use Rattle.world.proofs.views.ViewedRequests.{row_false}
+use Rattle.laws.proofs.Before.{world_before, step_joins}
 use Rattle.laws.proofs.Edits.{marks_left}
 
 -- the file system of that name has the bookmark, under this name
@@ -268,52 +269,42 @@ got s m (Some sent) force number = received_kept s.now m sent force number
 
 -- ---- steps
 
-followed : (s new : State) (r : Reply) (rule : Rule) → ((c : Choice) → refusal_of s rule ≡ None → MarksFrom s.now (rule.after s c).now) → Follows s rule r new
-    → MarksFrom s.now new.now
-unfolding state_after state_after_sweep
-followed s new r rule after (done h) = subst (λ (x : State). MarksFrom s.now x.now) (sym h.new_is) (by_reading rule.only_reads)
-  where
-    swept : MarksFrom s.now (state_after_sweep (rule.after s h.choice)).now
-    swept a at b k =
-        let x = rule.after s h.choice in
-        after h.choice h.not_refused a at b (without_kept x.now (λ t. t.deferred && not (is_needed x.now x.views t)) a at b k)
+swept_marks : (w : World) (s : State) → MarksFrom w s.now → MarksFrom w (state_after_sweep s).now
+unfolding state_after_sweep
+swept_marks w s k a at b h = k a at b (without_kept s.now (λ t. t.deferred && not (is_needed s.now s.views t)) a at b h)
 
-    by_reading : (c : Bool) → MarksFrom s.now (if c then s else state_after_sweep (rule.after s h.choice)).now
-    by_reading true = λ a at b k. inl k
-    by_reading false = swept
-followed s new r rule after (refused h) = subst (λ (x : State). MarksFrom s.now x.now) (sym h.unchanged) (λ a at b k. inl k)
-followed s new r rule after (out_of_memory h) = subst (λ (x : State). MarksFrom s.now x.now) (sym h.unchanged) (λ a at b k. inl k)
-
-pub step_marks : (q : Request) (r : Reply) (s new : State) → Step s q r new → MarksFrom s.now new.now
-step_marks q r s new step = followed s new r (rule_of q step.reading) (by_request q) step.follows
+pub step_marks : (q : Request) (r : Reply) (s new : State) → Step s q r new → MarksFrom (world_before s q r) new.now
+step_marks q r s new step = step_joins MarksFrom (λ w a at b h. inl h) swept_marks q r s new step (by_request q)
   where
     same : MarksFrom s.now s.now
     same a at b h = inl h
 
-    by_request : (q : Request) (c : Choice) → refusal_of s (rule_of q step.reading) ≡ None → MarksFrom s.now ((rule_of q step.reading).after s c).now
-    by_request (ToCreate name) c none = λ a at b h. inl (empty_kept s.now name empty_file_system refl a at b h)
-    by_request (ToWrite target object block bytes) c none = λ a at b h. inl (changed s target _ c a at b h)
-    by_request (ToPunch target object block) c none = λ a at b h. inl (changed s target _ c a at b h)
-    by_request (ToFreeObject target object) c none = λ a at b h. inl (changed s target _ c a at b h)
-    by_request (ToSnapshot names recursive) c none = λ a at b h. inl (took s (snapshot_names s.now names recursive) a at b h)
-    by_request (ToRead target object block) c none = same
-    by_request (ToGet target property) c none = same
-    by_request (ToPoolGet property) c none = same
-    by_request ToList c none = same
-    by_request (ToRollback target later) c none = λ a at b h. inl (rolled_kept s.now target a at b h)
-    by_request (ToDestroy target recursive defer) c none = λ a at b h. inl (destroyed_kept s.now (λ t. defer && is_needed s.now s.views t) target recursive a at b h)
-    by_request (ToSlice count) c none = same
-    by_request ToSync c none = same
-    by_request (ToOpenView target) c none = λ a at b h. inl (opened s target a at b h)
-    by_request (ToCloseView view) c none = same
-    by_request (ToClone target name) c none = λ a at b h. inl (cloned s target name a at b h)
-    by_request (ToPromote name) c none = λ a at b h. inl (turned s name a at b h)
-    by_request (ToHold tag target) c none = λ a at b h. inl (tagged s.now target (λ t. t.tags ++ tag ∷ []) a at b h)
-    by_request (ToRelease tag target) c none = λ a at b h. inl (tagged s.now target (λ t. without_tag t.tags tag) a at b h)
-    by_request (ToHolds target) c none = same
-    by_request (ToBookmark target mark) c none = made_from s target mark none
-    by_request (ToWrittenSince target since) c none = same
-    by_request (ToWouldFree name first last) c none = same
-    by_request (ToSet name limit amount) c none = λ a at b h. inl (one_kept s.now name (λ f. limited f limit amount) (λ f at b h. h) a at b h)
-    by_request (ToSend target from) c none = same
-    by_request (ToReceive m bytes force) c none = λ a at b h. inl (got s m step.reading force c.number a at b h)
+    by_request : (q : Request) (c : Choice) → refusal_of s (rule_of q step.reading) ≡ None → r ≡ (rule_of q step.reading).reply s
+        → MarksFrom (world_before s q r) ((rule_of q step.reading).after s c).now
+    by_request (ToCreate name) c none is = λ a at b h. inl (empty_kept s.now name empty_file_system refl a at b h)
+    by_request (ToWrite target object block bytes) c none is = λ a at b h. inl (changed s target _ c a at b h)
+    by_request (ToPunch target object block) c none is = λ a at b h. inl (changed s target _ c a at b h)
+    by_request (ToFreeObject target object) c none is = λ a at b h. inl (changed s target _ c a at b h)
+    by_request (ToSnapshot names recursive) c none is = λ a at b h. inl (took s (snapshot_names s.now names recursive) a at b h)
+    by_request (ToRead target object block) c none is = same
+    by_request (ToGet target property) c none is = same
+    by_request (ToPoolGet property) c none is = same
+    by_request ToList c none is = same
+    by_request (ToRollback target later) c none is = λ a at b h. inl (rolled_kept s.now target a at b h)
+    by_request (ToDestroy target recursive defer) c none is = λ a at b h. inl (destroyed_kept s.now (λ t. defer && is_needed s.now s.views t) target recursive a at b h)
+    by_request (ToSlice count) c none is = same
+    by_request ToSync c none is = same
+    by_request ToAbandon c none is = subst (λ x. MarksFrom (world_before s ToAbandon x) s.last) (sym is) (λ a at b h. inl h)
+    by_request (ToOpenView target) c none is = λ a at b h. inl (opened s target a at b h)
+    by_request (ToCloseView view) c none is = same
+    by_request (ToClone target name) c none is = λ a at b h. inl (cloned s target name a at b h)
+    by_request (ToPromote name) c none is = λ a at b h. inl (turned s name a at b h)
+    by_request (ToHold tag target) c none is = λ a at b h. inl (tagged s.now target (λ t. t.tags ++ tag ∷ []) a at b h)
+    by_request (ToRelease tag target) c none is = λ a at b h. inl (tagged s.now target (λ t. without_tag t.tags tag) a at b h)
+    by_request (ToHolds target) c none is = same
+    by_request (ToBookmark target mark) c none is = made_from s target mark none
+    by_request (ToWrittenSince target since) c none is = same
+    by_request (ToWouldFree name first last) c none is = same
+    by_request (ToSet name limit amount) c none is = λ a at b h. inl (one_kept s.now name (λ f. limited f limit amount) (λ f at b h. h) a at b h)
+    by_request (ToSend target from) c none is = same
+    by_request (ToReceive m bytes force) c none is = λ a at b h. inl (got s m step.reading force c.number a at b h)

@@ -1,5 +1,5 @@
 -- What a bookmark promises in every run.
-use Rattle.std.proofs.Common.{◌≡◌, ◌<◌, ℕ, List, [], ◌∷◌, Bool, true, false, not, ◌&&◌, Option, Some, None, refl, sym, ap, subst, ◌∙◌, ⊎_elim, inl, inr, true≢false, arith}
+use Rattle.std.proofs.Common.{◌≡◌, ℕ, List, [], Bool, true, false, not, ◌&&◌, Option, Some, None, refl, sym, ap, subst, ◌∙◌, ⊎_elim, inl, inr, true≢false}
 use Rattle.std.specs.List.{filter, find}
 use Rattle.std.specs.Option.{option_map, option_map_or, option_and_then}
 use Rattle.std.specs.FinMap.{get, insert}
@@ -10,9 +10,7 @@ use Rattle.base.specs.Surveys.{IsIn}
 use Rattle.base.specs.Names.{same_name}
 use Rattle.base.specs.declared.name.member.Member.{Member}
 use Rattle.base.specs.declared.name.target.Target.TheVariants.{Snapshot as OfSnapshot}
-use Rattle.model.specs.declared.request.Request.{Request}
 use Rattle.model.specs.declared.request.Request.TheVariants.{Bookmark as ToBookmark}
-use Rattle.model.specs.declared.reply.Reply.{Reply}
 use Rattle.model.specs.declared.reply.Reply.TheVariants.{Done, Refused}
 use Rattle.model.specs.World.{World, FileSystem, Snap, SnapId, Bookmark, Snapped, id_of, map_of, snap_named, bookmark_named}
 use Rattle.model.specs.State.{State}
@@ -20,10 +18,8 @@ use Rattle.model.specs.Edits.{with_file_system, with_now}
 use Rattle.model.specs.Outcome.{is_needed, state_after_sweep, state_after}
 use Rattle.model.specs.Refusals.{refusal_of}
 use Rattle.model.specs.Step.{Step, IsDone, Follows, done, refused, out_of_memory}
-use Rattle.model.specs.Run.{Run}
 use Rattle.model.specs.requests.Bookmark.{bookmarked, bookmark_of_snap, bookmark_row, bookmark_rule, is_beside}
 use Rattle.model.specs.requests.Rollback.{placed}
-use Rattle.world.specs.Dead.{IsThere}
 use Rattle.world.specs.RunLaws.{HasSnap}
 use Rattle.world.specs.Shapes.{name_order}
 use Rattle.world.proofs.lists.Finding.{append_none, from_find, one_name}
@@ -32,13 +28,12 @@ use Rattle.world.proofs.lineage.Put.{put_here}
 use Rattle.world.proofs.views.ViewedRequests.{row_false}
 use Rattle.world.proofs.removals.WithoutSnaps.{without_at}
 use Rattle.laws.specs.Lineages.{HasLineages}
-use Rattle.laws.specs.Bookmarks.{IsSource, IsRunWithin, IsMarkedBy, BookmarkMade, BookmarkStands, BookmarkLasts}
-use Rattle.laws.proofs.Groups.{step_group}
+use Rattle.laws.specs.Bookmarks.{IsSource, IsMarkedBy, BookmarkMade, BookmarkStands, BookmarkLasts}
 use Rattle.laws.proofs.Lineages.{kept_map, reach_older, line_source}
-use Rattle.laws.proofs.OrderedSteps.{step_ordered}
-use Rattle.laws.proofs.Lasting.{step_lineages}
-use Rattle.laws.proofs.Marking.{HasMark, step_marks}
-use Rattle.laws.proofs.Stepping.{Became, became_kept, became_source, step_became}
+use Rattle.laws.proofs.Leading.{Leads, step_leads, leads_lineages, HasSnapMap, leads_held}
+use Rattle.laws.proofs.Lasting.{first_holds, run_has, now_lasts}
+use Rattle.laws.proofs.Marking.{HasMark}
+use Rattle.laws.proofs.Stepping.{became_source}
 
 -- ---- a bookmark stands
 
@@ -53,29 +48,26 @@ marked_at w mark b e = by_system (get w.file_systems mark.file_system) refl e
     by_system None i k = absurd (no_value b k)
     by_system (Some f) i k = (f, i, k)
 
--- one step
-step_source : (q : Request) (r : Reply) (s t : State) (mark : Member) (b : Bookmark) (held : Map) → HasLineages s.now → IsMarkedBy mark b s
-    → IsMarkedBy mark b t → Step s q r t → IsSource s.now mark.file_system b.group held → IsSource t.now mark.file_system b.group held
-step_source q r s t mark b held lines was now step =
-    let f = marked_at s.now mark b was in
-    let e = marked_at t.now mark b now in
-    became_source s.now t.now lines.order (step_ordered q r s t lines.order step) mark.file_system f.0 e.0 f.1 e.1 mark.component b e.2
-    (lines.order.marks mark.file_system mark.component f.0 b f.1 f.2) held (step_became q r s t lines.order step)
+-- lineages, and the bookmark, for which this map serves as a source
+record HasSource (mark : Member) (b : Bookmark) (held : Map) (w : World) : Type 0 where
+  lines : HasLineages w
+  marked : bookmark_named w mark ≡ Some b
+  source : IsSource w mark.file_system b.group held
 
--- it holds in the first state
-first_holds : (Holds : State → Type 0) (s u : State) (qs : List Request) (rs : List Reply) → IsRunWithin Holds s qs rs u → Holds s
-first_holds Holds s u [] [] run = run.0
-first_holds Holds s u [] (r ∷ rs) run = absurd run
-first_holds Holds s u (q ∷ qs) [] run = absurd run
-first_holds Holds s u (q ∷ qs) (r ∷ rs) run = run.0
+leads_source : (mark : Member) (b : Bookmark) (held : Map) (w new : World) → HasSource mark b held w → Leads w new → bookmark_named new mark ≡ Some b → HasSource mark b held new
+leads_source mark b held w new h leads stands = record { lines = leads_lineages w new h.lines leads; marked = stands; source = source }
+  where
+    source : IsSource new mark.file_system b.group held
+    source =
+        let f = marked_at w mark b h.marked in
+        let e = marked_at new mark b stands in
+        became_source w new h.lines.order (leads.order h.lines.order) mark.file_system f.0 e.0 f.1 e.1 mark.component b e.2
+        (h.lines.order.marks mark.file_system mark.component f.0 b f.1 f.2) held (leads.became h.lines.order) h.source
 
 pub bookmark_stands : BookmarkStands
-bookmark_stands s u [] [] mark b held lines run source = subst (λ (x : State). IsSource x.now mark.file_system b.group held) run.1 source
-bookmark_stands s u [] (r ∷ rs) mark b held lines run source = absurd run
-bookmark_stands s u (q ∷ qs) [] mark b held lines run source = absurd run
-bookmark_stands s u (q ∷ qs) (r ∷ rs) mark b held lines (was, (t, step, rest)) source =
-    bookmark_stands t u qs rs mark b held (step_lineages q r s t lines step) rest
-    (step_source q r s t mark b held lines was (first_holds (IsMarkedBy mark b) t u qs rs rest) step source)
+bookmark_stands s u qs rs mark b held lines within run source =
+    (run_has (HasSource mark b held) (λ w. bookmark_named w mark ≡ Some b) (leads_source mark b held) (λ w stands. stands) s u qs rs
+    (record { lines = lines; marked = first_holds (IsMarkedBy mark b) s u qs rs run; source = source }) (inr within) run).0.source
 
 -- ---- it is made
 
@@ -138,13 +130,16 @@ module _ (s : State) (lines : HasLineages s.now) (name mark : Member) (t : Snap)
       subst (IsSource s.now mark.file_system t.group) (kept_map s.now lines.order mark.file_system f t (id_of t) at there refl)
       (line_source s.now lines mark.file_system f at k.0 (id_of t) k.1)
 
+  goes_on : Leads s.now u.now
+  goes_on = step_leads (ToBookmark (OfSnapshot name) mark) Done s u step
+
   made : IsMarkedBy mark (bookmark_of_snap t) u × IsSource u.now mark.file_system t.group t.map
   made = (
     ap (option_and_then (λ (x : FileSystem). get x.bookmarks mark.component)) after_at ∙ marked,
-    became_source s.now u.now lines.order (step_ordered (ToBookmark (OfSnapshot name) mark) Done s u lines.order step)
+    became_source s.now u.now lines.order (goes_on.order lines.order)
         mark.file_system f (record noted { snaps = filter (λ v. not (goes v)) noted.snaps }) at after_at
         mark.component (bookmark_of_snap t) marked (lines.order.closed mark.file_system t (f, at, there)) t.map
-        (step_became (ToBookmark (OfSnapshot name) mark) Done s u lines.order step) source,
+        (goes_on.became lines.order) source,
   )
 
 -- it is of the bookmark's file system, since the request isn't refused
@@ -180,70 +175,51 @@ bookmark_made s u name mark t lines named step = by_end step.follows
 -- ---- a bookmark lasts
 
 -- What holds after a bookmark was made of a snapshot of this identity, which held this map: of the file system of this name
-record IsKept (id : SnapId) (held : Map) (a : List ℕ) (s : State) : Type 0 where
-  lines : HasLineages s.now
-  closed : id.group < s.now.group
-  map : IsThere s.now (Snapped id) → map_of s.now (Snapped id) ≡ held
-  source : (at : List ℕ) → HasMark s.now a at (record { guid = id.guid; group = id.group }) → IsSource s.now a id.group held
+record IsKept (id : SnapId) (held : Map) (a : List ℕ) (w : World) : Type 0 where
+  snap : HasSnapMap id held w
+  source : (at : List ℕ) → HasMark w a at (record { guid = id.guid; group = id.group }) → IsSource w a id.group held
 
--- it holds after each step: a bookmark that stands stood before, or is made of that very snapshot
-step_kept : (id : SnapId) (held : Map) (a : List ℕ) (q : Request) (r : Reply) (s t : State) → IsKept id held a s → Step s q r t → IsKept id held a t
-step_kept id held a q r s t kept step = record {
-  lines = lines';
-  closed = let c = kept.closed in let g = step_group q r s t step in omega arith;
-  map = λ there. let was = became_kept s.now t.now kept.lines.order lines'.order became id kept.closed there in was.1 ∙ kept.map was.0;
-  source = λ at h. on at h (⊎_elim (λ k. (k.0, k.1, kept.source at k)) (λ k. (k.1.0, k.1.1, anew k.0 k.1 k.2)) (step_marks q r s t step a at b h));
+-- it goes on: a bookmark that stands stood before, or is made of that very snapshot
+leads_kept : (id : SnapId) (held : Map) (a : List ℕ) (w new : World) → IsKept id held a w → Leads w new → IsKept id held a new
+leads_kept id held a w new kept leads = record {
+  snap = leads_held id held w new kept.snap leads;
+  source = λ at h. on at h (⊎_elim (λ k. (k.0, k.1, kept.source at k)) (λ k. (k.1.0, k.1.1, anew k.0 k.1 k.2)) (leads.marks a at b h));
 }
   where
     b : Bookmark
     b = record { guid = id.guid; group = id.group }
 
-    lines' : HasLineages t.now
-    lines' = step_lineages q r s t kept.lines step
+    lines : HasLineages w
+    lines = kept.snap.lines
 
-    became : Became s.now t.now
-    became = step_became q r s t kept.lines.order step
-
-    anew : (u : Snap) → HasSnap s.now a u → b ≡ bookmark_of_snap u → IsSource s.now a id.group held
+    anew : (u : Snap) → HasSnap w a u → b ≡ bookmark_of_snap u → IsSource w a id.group held
     anew u (f, at, h) is =
-        let k = reach_older s.now kept.lines.order a f at f.snaps [] (sym (append_none f.snaps)) u h in
+        let k = reach_older w lines.order a f at f.snaps [] (sym (append_none f.snaps)) u h in
         let ids : id_of u ≡ id = λ i. record { group = (sym is i).group; guid = (sym is i).guid } in
-        let source = subst (λ y. IsSource s.now a y.group (map_of s.now (Snapped y))) ids (line_source s.now kept.lines a f at k.0 (id_of u) k.1) in
-        subst (IsSource s.now a id.group) (kept.map (a, f, u, at, h, ids)) source
+        let source = subst (λ y. IsSource w a y.group (map_of w (Snapped y))) ids (line_source w lines a f at k.0 (id_of u) k.1) in
+        subst (IsSource w a id.group) (kept.snap.map (a, f, u, at, h, ids)) source
 
-    on : (at : List ℕ) → HasMark t.now a at b → (f : FileSystem) × (get s.now.file_systems a ≡ Some f) × IsSource s.now a id.group held → IsSource t.now a id.group held
+    on : (at : List ℕ) → HasMark new a at b → (f : FileSystem) × (get w.file_systems a ≡ Some f) × IsSource w a id.group held → IsSource new a id.group held
     on at (f', is', marked) (f, is, source) =
-        became_source s.now t.now kept.lines.order lines'.order a f f' is is' at b marked kept.closed held became source
-
-run_kept : (id : SnapId) (held : Map) (a : List ℕ) (s u : State) (qs : List Request) (rs : List Reply) → IsKept id held a s → Run s qs rs u → IsKept id held a u
-run_kept id held a s u [] [] kept e = subst (IsKept id held a) e kept
-run_kept id held a s u [] (r ∷ rs) kept e = absurd e
-run_kept id held a s u (q ∷ qs) [] kept e = absurd e
-run_kept id held a s u (q ∷ qs) (r ∷ rs) kept (t, first, rest) = run_kept id held a t u qs rs (step_kept id held a q r s t kept first) rest
+        became_source w new lines.order (leads.order lines.order) a f f' is is' at b marked kept.snap.closed held (leads.became lines.order) source
 
 pub bookmark_lasts : BookmarkLasts
-bookmark_lasts s v u name mark t qs rs lines named step run stands =
+bookmark_lasts s v u name mark t qs rs lines named step within run stands =
     let m = marked_at u.now mark (bookmark_of_snap t) stands in
-    (run_kept (id_of t) t.map mark.file_system v u qs rs made_kept run).source mark.component m
+    (now_lasts (IsKept (id_of t) t.map mark.file_system) (leads_kept (id_of t) t.map mark.file_system) v u qs rs made_kept within run).source mark.component m
   where
-    q : Request
-    q = ToBookmark (OfSnapshot name) mark
-
     f : (f : FileSystem) × (get s.now.file_systems name.file_system ≡ Some f) × IsIn f.snaps t × (placed s.now (OfSnapshot name) ≡ Some (f, t))
     f = found_at s.now name t named
 
-    closed : t.group < s.now.group
-    closed = lines.order.closed name.file_system t (f.0, f.1, f.2)
+    held : HasSnapMap (id_of t) t.map s.now
+    held = record {
+      lines = lines;
+      closed = lines.order.closed name.file_system t (f.0, f.1, f.2);
+      map = λ there. kept_map s.now lines.order name.file_system f.0 t (id_of t) f.1 f.2 refl;
+    }
 
-    lines' : HasLineages v.now
-    lines' = step_lineages (ToBookmark (OfSnapshot name) mark) Done s v lines step
-
-    made_kept : IsKept (id_of t) t.map mark.file_system v
+    made_kept : IsKept (id_of t) t.map mark.file_system v.now
     made_kept = record {
-      lines = lines';
-      closed = let c = closed in let g = step_group (ToBookmark (OfSnapshot name) mark) Done s v step in omega arith;
-      map = λ there.
-          (became_kept s.now v.now lines.order lines'.order (step_became (ToBookmark (OfSnapshot name) mark) Done s v lines.order step) (id_of t) closed there).1
-          ∙ kept_map s.now lines.order name.file_system f.0 t (id_of t) f.1 f.2 refl;
+      snap = leads_held (id_of t) t.map s.now v.now held (step_leads (ToBookmark (OfSnapshot name) mark) Done s v step);
       source = λ at h. (bookmark_made s v name mark t lines named step).1;
     }

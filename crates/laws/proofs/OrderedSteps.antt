@@ -19,15 +19,15 @@ use Rattle.stream.specs.Records.{changes_of}
 use Rattle.stream.specs.Spelling.{Sending}
 use Rattle.model.specs.Limits.{limited}
 use Rattle.model.specs.declared.request.Request.{Request}
-use Rattle.model.specs.declared.request.Request.TheVariants.{Create as ToCreate, Write as ToWrite, Punch as ToPunch, FreeObject as ToFreeObject, Snapshot as ToSnapshot, Read as ToRead, Get as ToGet, PoolGet as ToPoolGet, List as ToList, Rollback as ToRollback, Destroy as ToDestroy, Slice as ToSlice, Sync as ToSync, OpenView as ToOpenView, CloseView as ToCloseView, Clone as ToClone, Promote as ToPromote, Hold as ToHold, Release as ToRelease, Holds as ToHolds, Bookmark as ToBookmark, WrittenSince as ToWrittenSince, WouldFree as ToWouldFree, Set as ToSet, Send as ToSend, Receive as ToReceive}
+use Rattle.model.specs.declared.request.Request.TheVariants.{Create as ToCreate, Write as ToWrite, Punch as ToPunch, FreeObject as ToFreeObject, Snapshot as ToSnapshot, Read as ToRead, Get as ToGet, PoolGet as ToPoolGet, List as ToList, Rollback as ToRollback, Destroy as ToDestroy, Slice as ToSlice, Sync as ToSync, Abandon as ToAbandon, OpenView as ToOpenView, CloseView as ToCloseView, Clone as ToClone, Promote as ToPromote, Hold as ToHold, Release as ToRelease, Holds as ToHolds, Bookmark as ToBookmark, WrittenSince as ToWrittenSince, WouldFree as ToWouldFree, Set as ToSet, Send as ToSend, Receive as ToReceive}
 use Rattle.model.specs.declared.reply.Reply.{Reply}
 use Rattle.model.specs.World.{World, FileSystem, Snap, SnapId, Bookmark, id_of, file_system_at, empty_file_system, map_of_snap, clones_of}
 use Rattle.model.specs.State.{State, Views, is_viewed}
-use Rattle.model.specs.Rule.{Choice, Rule}
+use Rattle.model.specs.Rule.{Choice}
 use Rattle.model.specs.Edits.{with_file_system, with_tags, with_losses, without_snaps, with_now, after_change}
-use Rattle.model.specs.Outcome.{is_needed, state_after_sweep, state_after}
+use Rattle.model.specs.Outcome.{is_needed, state_after_sweep}
 use Rattle.model.specs.Refusals.{state_asked, refusal_of}
-use Rattle.model.specs.Step.{Step, Follows, done, refused, out_of_memory}
+use Rattle.model.specs.Step.{Step}
 use Rattle.model.specs.requests.{rule_of}
 use Rattle.model.specs.requests.Bookmark.{bookmarked, bookmark_of_snap}
 use Rattle.model.specs.requests.Change.{state_after_change}
@@ -52,6 +52,7 @@ use Rattle.world.proofs.views.ViewedReceives.{receive_absent}
 use Rattle.world.proofs.views.ViewedRequests.{row_false, not_some, from_placed}
 use Rattle.world.proofs.removals.WithoutSnaps.{any_from}
 use Rattle.laws.specs.Lineages.{IsOrdered, origin_group}
+use Rattle.laws.proofs.Before.{world_before, step_joins}
 use Rattle.laws.proofs.Edits.{marks_left}
 use Rattle.laws.proofs.Orders.{same_followed, one_ordered, without_ordered, deferred_ordered, tagged_ordered, losses_ordered, added_ordered, left_ordered, taken_ordered}
 use Rattle.laws.proofs.Rising.{rising_filter}
@@ -321,44 +322,36 @@ unfolding state_after_sweep
 swept_ordered s o = losses_ordered (without_snaps s.now (λ t. t.deferred && not (is_needed s.now s.views t)))
     (without_ordered s.now o (λ t. t.deferred && not (is_needed s.now s.views t)) (swept_bare s)) s.now
 
-followed : (s new : State) (r : Reply) (rule : Rule) → IsOrdered s.now → ((c : Choice) → refusal_of s rule ≡ None → IsOrdered (rule.after s c).now)
-    → Follows s rule r new → IsOrdered new.now
-unfolding state_after
-followed s new r rule o after (done h) = subst (λ (x : State). IsOrdered x.now) (sym h.new_is) (by_reading rule.only_reads (swept_ordered (rule.after s h.choice) (after h.choice h.not_refused)))
+pub step_ordered : (q : Request) (r : Reply) (s new : State) → Step s q r new → IsOrdered (world_before s q r) → IsOrdered new.now
+step_ordered q r s new step =
+    step_joins (λ w v. IsOrdered w → IsOrdered v) (λ w o. o) (λ w t k o. swept_ordered t (k o)) q r s new step (by_request q)
   where
-    by_reading : (b : Bool) → IsOrdered (state_after_sweep (rule.after s h.choice)).now → IsOrdered (if b then s else state_after_sweep (rule.after s h.choice)).now
-    by_reading true k = o
-    by_reading false k = k
-followed s new r rule o after (refused h) = subst (λ (x : State). IsOrdered x.now) (sym h.unchanged) o
-followed s new r rule o after (out_of_memory h) = subst (λ (x : State). IsOrdered x.now) (sym h.unchanged) o
-
-pub step_ordered : (q : Request) (r : Reply) (s new : State) → IsOrdered s.now → Step s q r new → IsOrdered new.now
-step_ordered q r s new o step = followed s new r (rule_of q step.reading) o (by_request q) step.follows
-  where
-    by_request : (q : Request) (c : Choice) → refusal_of s (rule_of q step.reading) ≡ None → IsOrdered ((rule_of q step.reading).after s c).now
-    by_request (ToCreate name) c none = created s o name none
-    by_request (ToWrite target object block bytes) c none = changed s o target _ c
-    by_request (ToPunch target object block) c none = changed s o target _ c
-    by_request (ToFreeObject target object) c none = changed s o target _ c
-    by_request (ToSnapshot names recursive) c none = took s o names recursive none
-    by_request (ToRead target object block) c none = o
-    by_request (ToGet target property) c none = o
-    by_request (ToPoolGet property) c none = o
-    by_request ToList c none = o
-    by_request (ToRollback target later) c none = rolled s o target later none
-    by_request (ToDestroy target recursive defer) c none = destroyed s o target recursive defer none
-    by_request (ToSlice count) c none = record { once = o.once; closed = o.closed; marks = o.marks; rising = o.rising; origins = o.origins; begun = o.begun }
-    by_request ToSync c none = taken_ordered s.now o 0 [] refl
-    by_request (ToOpenView target) c none = opened s o target
-    by_request (ToCloseView view) c none = o
-    by_request (ToClone target name) c none = cloned s o target name none
-    by_request (ToPromote name) c none = promoted_on s o name
-    by_request (ToHold tag target) c none = tags_ordered s.now o target (λ t. t.tags ++ tag ∷ [])
-    by_request (ToRelease tag target) c none = tags_ordered s.now o target (λ t. without_tag t.tags tag)
-    by_request (ToHolds target) c none = o
-    by_request (ToBookmark target mark) c none = marked_ordered s.now o target mark
-    by_request (ToWrittenSince target since) c none = o
-    by_request (ToWouldFree name first last) c none = o
-    by_request (ToSet name limit amount) c none = kept_ordered s.now o name (λ f. limited f limit amount) (λ f. refl) (λ f. refl) (λ f mark b at h. o.marks name mark f b at h)
-    by_request (ToSend target from) c none = o
-    by_request (ToReceive m bytes force) c none = got s o m step.reading force c.number none
+    by_request : (q : Request) (c : Choice) → refusal_of s (rule_of q step.reading) ≡ None → r ≡ (rule_of q step.reading).reply s
+        → IsOrdered (world_before s q r) → IsOrdered ((rule_of q step.reading).after s c).now
+    by_request (ToCreate name) c none is o = created s o name none
+    by_request (ToWrite target object block bytes) c none is o = changed s o target _ c
+    by_request (ToPunch target object block) c none is o = changed s o target _ c
+    by_request (ToFreeObject target object) c none is o = changed s o target _ c
+    by_request (ToSnapshot names recursive) c none is o = took s o names recursive none
+    by_request (ToRead target object block) c none is o = o
+    by_request (ToGet target property) c none is o = o
+    by_request (ToPoolGet property) c none is o = o
+    by_request ToList c none is o = o
+    by_request (ToRollback target later) c none is o = rolled s o target later none
+    by_request (ToDestroy target recursive defer) c none is o = destroyed s o target recursive defer none
+    by_request (ToSlice count) c none is o = record { once = o.once; closed = o.closed; marks = o.marks; rising = o.rising; origins = o.origins; begun = o.begun }
+    by_request ToSync c none is o = taken_ordered s.now o 0 [] refl
+    by_request ToAbandon c none is o = subst (λ x. IsOrdered (world_before s ToAbandon x)) is o
+    by_request (ToOpenView target) c none is o = opened s o target
+    by_request (ToCloseView view) c none is o = o
+    by_request (ToClone target name) c none is o = cloned s o target name none
+    by_request (ToPromote name) c none is o = promoted_on s o name
+    by_request (ToHold tag target) c none is o = tags_ordered s.now o target (λ t. t.tags ++ tag ∷ [])
+    by_request (ToRelease tag target) c none is o = tags_ordered s.now o target (λ t. without_tag t.tags tag)
+    by_request (ToHolds target) c none is o = o
+    by_request (ToBookmark target mark) c none is o = marked_ordered s.now o target mark
+    by_request (ToWrittenSince target since) c none is o = o
+    by_request (ToWouldFree name first last) c none is o = o
+    by_request (ToSet name limit amount) c none is o = kept_ordered s.now o name (λ f. limited f limit amount) (λ f. refl) (λ f. refl) (λ f mark b at h. o.marks name mark f b at h)
+    by_request (ToSend target from) c none is o = o
+    by_request (ToReceive m bytes force) c none is o = got s o m step.reading force c.number none

@@ -9,11 +9,13 @@ use Rattle.base.specs.Map.{Block, Cell, block_of, blocks}
 use Rattle.base.specs.Surveys.{IsIn}
 use Rattle.base.specs.Names.{name_cmp, root_name}
 use Rattle.model.specs.World.{World, FileSystem, SnapId, Dataset, Live, Snapped, id_of, map_of, map_of_snap, empty_file_system}
-use Rattle.model.specs.State.{State, fresh_world, fresh_state}
+use Rattle.model.specs.Numbers.{IsWorldNumbered}
+use Rattle.model.specs.State.{fresh_world, fresh_state}
 use Rattle.world.specs.Dead.{IsThere, base_of, below_of}
+use Rattle.world.specs.RunLaws.{HasIdentities}
 use Rattle.world.specs.Sets.{Has}
 use Rattle.world.specs.Shapes.{Name, IsGood, IsAmong, Starts}
-use Rattle.world.specs.Worlds.{shapes, shape_of, snap_shape, AreRising, IsPoolState}
+use Rattle.world.specs.Worlds.{shapes, shape_of, snap_shape, AreRising, IsWorld}
 use Rattle.world.proofs.lineage.Bridge.{map_of_live, shape_at, from_shape, among, from_among, one_snap, start, starts, start_is, rising}
 use Rattle.world.proofs.maps.Cells.{in_blocks, from_blocks}
 use Rattle.world.proofs.lineage.Dead.{in_line}
@@ -21,9 +23,9 @@ use Rattle.world.proofs.lists.Maps.{no_value}
 use Rattle.world.proofs.lineage.Put.{put_cases}
 use Rattle.world.proofs.lineage.Requests.{lineage_facts}
 use Rattle.world.proofs.removals.Slices.{fresh_keeps}
-use Rattle.world.proofs.steps.States.{state_numbered}
+use Rattle.world.proofs.steps.States.{state_numbered, now_numbered, last_numbered}
 use Rattle.world.proofs.steps.StateSteps.{begun}
-use Rattle.laws.specs.Lineages.{origin_group, IsOrdered, HasBirths}
+use Rattle.laws.specs.Lineages.{origin_group, IsOrdered, HasLineages, HasBirths}
 use Rattle.laws.specs.Runs.{LineagesBegin, BlocksGiveLineages, PoolsHaveLineages, BirthsBegin, NumbersBegin}
 use Rattle.laws.specs.Views.{PoolsAreViewing}
 use Rattle.laws.proofs.Lineages.{cell_there}
@@ -63,23 +65,26 @@ module _ (w : World) (g : ℕ) (good : IsGood (shapes w.file_systems) g) where
       let ids : id_of t.0 ≡ st.0.id = sym {b = id_of t.0} (ap (λ y. y.id) {y = snap_shape t.0} t.2) in
       (k.0, x.0, t.0, x.1, t.1, ◌∙◌ {a = id_of t.0} ids k.4)
 
-pool_ordered : (s : State) → IsPoolState s → IsOrdered s.now
-pool_ordered s good =
-    let lines = good.now.systems.lines in
+world_ordered : (size : ℕ) (w : World) → IsWorld size w → IsOrdered w
+world_ordered size w good =
+    let lines = good.systems.lines in
     record {
-      once = λ q other t u h k ids. one_snap s.now.file_systems s.now.group lines q other h.0 k.0 t u h.1 k.1 h.2 k.2 ids;
-      closed = λ q t h.
-          (lineage_facts (shapes s.now.file_systems) s.now.group lines).1 (id_of t) (snap_shape t)
-          (q, shape_of h.0, shape_at s.now.file_systems q h.0 h.1, among h.0.snaps t h.2, refl);
-      marks = λ q mark f b at h. (good.now.systems.tidy q f at).bookmarks mark b h;
-      rising = rises s.now s.now.group lines;
-      origins = origin_there s.now s.now.group lines;
-      begun = begun s.now.file_systems s.now.group good.now.systems;
+      once = λ q other t u h k ids. one_snap w.file_systems w.group lines q other h.0 k.0 t u h.1 k.1 h.2 k.2 ids;
+      closed = λ q t h. (lineage_facts (shapes w.file_systems) w.group lines).1 (id_of t) (snap_shape t) (q, shape_of h.0, shape_at w.file_systems q h.0 h.1, among h.0.snaps t h.2, refl);
+      marks = λ q mark f b at h. (good.systems.tidy q f at).bookmarks mark b h;
+      rising = rises w w.group lines;
+      origins = origin_there w w.group lines;
+      begun = begun w.file_systems w.group good.systems;
     }
 
+world_lineages : (size : ℕ) (w : World) → IsWorld size w → IsWorldNumbered size w → HasLineages w
+world_lineages size w good numbers = blocks_give_lineages size w numbers (world_ordered size w good) (in_line w w.group good.systems.lines refl)
+
 pub pools_have_lineages : PoolsHaveLineages
-pools_have_lineages s good = blocks_give_lineages s.size s.now (state_numbered s good).world (pool_ordered s good)
-    (in_line s.now s.now.group good.now.systems.lines refl)
+pools_have_lineages s good = (
+  world_lineages s.size s.now good.now (now_numbered s.size s.now s.last good.pair good.now),
+  world_lineages s.size s.last good.last (last_numbered s.size s.now s.last good.pair good.last),
+)
 
 -- ---- a new pool
 
@@ -110,11 +115,17 @@ fresh_births = record { born = λ d k c h. absurd (none d k c h); rise = λ d k 
 
 pub births_begin : BirthsBegin
 unfolding fresh_state
-births_begin id size = fresh_births
+births_begin id size = (fresh_births, fresh_births)
 
 -- ---- views
 
+identities : (w : World) → IsOrdered w → HasIdentities w
+identities w order = record { once = order.once; closed = order.closed }
+
 pub pools_are_viewing : PoolsAreViewing
-pools_are_viewing s good numbered =
-    let order = pool_ordered s good in
-    record { numbers = numbered; there = good.views; once = order.once; closed = order.closed }
+pools_are_viewing s good numbered = record {
+  numbers = numbered;
+  there = good.views;
+  now = identities s.now (world_ordered s.size s.now good.now);
+  last = identities s.last (world_ordered s.size s.last good.last);
+}

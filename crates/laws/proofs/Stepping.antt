@@ -1,6 +1,6 @@
 -- What served as a source for a file system serves so after a step, whatever was asked for.
-use Rattle.std.proofs.Common.{◌≡◌, ◌<◌, ◌≤◌, ℕ, Option, Some, None, Bool, true, false, not, ◌&&◌, List, [], ◌∷◌, ◌++◌, refl, sym, ap, subst, ◌∙◌, inl, inr, true≢false, arith}
-use Rattle.std.specs.Prelude.{if◌then◌else◌, is_some}
+use Rattle.std.proofs.Common.{◌≡◌, ◌<◌, ◌≤◌, ℕ, Option, Some, None, Bool, false, not, ◌&&◌, List, [], ◌∷◌, ◌++◌, refl, sym, ap, subst, ◌∙◌, inl, inr, true≢false, arith}
+use Rattle.std.specs.Prelude.{is_some}
 use Rattle.std.specs.Option.{option_map_or}
 use Rattle.std.specs.FinMap.{get, insert, remove, contains_key}
 use Rattle.base.specs.declared.refusal.Refusal.TheVariants.{Exists}
@@ -13,15 +13,15 @@ use Rattle.base.specs.declared.name.target.Target.TheVariants.{FileSystem as OfF
 use Rattle.model.specs.Limits.{limited}
 use Rattle.model.specs.declared.limits.Limit.{Limit}
 use Rattle.model.specs.declared.request.Request.{Request}
-use Rattle.model.specs.declared.request.Request.TheVariants.{Create as ToCreate, Write as ToWrite, Punch as ToPunch, FreeObject as ToFreeObject, Snapshot as ToSnapshot, Read as ToRead, Get as ToGet, PoolGet as ToPoolGet, List as ToList, Rollback as ToRollback, Destroy as ToDestroy, Slice as ToSlice, Sync as ToSync, OpenView as ToOpenView, CloseView as ToCloseView, Clone as ToClone, Promote as ToPromote, Hold as ToHold, Release as ToRelease, Holds as ToHolds, Bookmark as ToBookmark, WrittenSince as ToWrittenSince, WouldFree as ToWouldFree, Set as ToSet, Send as ToSend, Receive as ToReceive}
+use Rattle.model.specs.declared.request.Request.TheVariants.{Create as ToCreate, Write as ToWrite, Punch as ToPunch, FreeObject as ToFreeObject, Snapshot as ToSnapshot, Read as ToRead, Get as ToGet, PoolGet as ToPoolGet, List as ToList, Rollback as ToRollback, Destroy as ToDestroy, Slice as ToSlice, Sync as ToSync, Abandon as ToAbandon, OpenView as ToOpenView, CloseView as ToCloseView, Clone as ToClone, Promote as ToPromote, Hold as ToHold, Release as ToRelease, Holds as ToHolds, Bookmark as ToBookmark, WrittenSince as ToWrittenSince, WouldFree as ToWouldFree, Set as ToSet, Send as ToSend, Receive as ToReceive}
 use Rattle.model.specs.declared.reply.Reply.{Reply}
 use Rattle.model.specs.World.{World, FileSystem, Snap, SnapId, Bookmark, Snapped, id_of, empty_file_system, map_of, map_of_snap}
 use Rattle.model.specs.State.{State}
-use Rattle.model.specs.Rule.{Choice, Rule}
+use Rattle.model.specs.Rule.{Choice}
 use Rattle.model.specs.Edits.{with_file_system, with_tags, without_snaps, with_now}
-use Rattle.model.specs.Outcome.{is_needed, state_after_sweep, state_after}
+use Rattle.model.specs.Outcome.{is_needed, state_after_sweep}
 use Rattle.model.specs.Refusals.{refusal_of}
-use Rattle.model.specs.Step.{Step, Follows, done, refused, out_of_memory}
+use Rattle.model.specs.Step.{Step}
 use Rattle.model.specs.requests.{rule_of}
 use Rattle.model.specs.requests.Bookmark.{bookmarked, bookmark_of_snap}
 use Rattle.model.specs.requests.Change.{state_after_change}
@@ -40,6 +40,7 @@ use Rattle.world.proofs.lists.Maps.{same_value, no_value}
 use Rattle.world.proofs.views.ViewedRequests.{row_false, from_placed}
 use Rattle.laws.specs.Lineages.{IsOrdered, HasLineages, HasBirths}
 use Rattle.laws.specs.Bookmarks.{IsSource}
+use Rattle.laws.proofs.Before.{world_before, step_joins}
 use Rattle.laws.proofs.Edits.{went_same, went_written, went_back, same_later, one_later, without_later, deferred_later, tagged_later, added_later, empty_later, left_later, taken_later}
 use Rattle.laws.proofs.Receiving.{got}
 use Rattle.laws.proofs.Lineages.{found}
@@ -211,46 +212,36 @@ turned_over s o name = by_promotion (promotion_of s.now name) refl
 
 -- ---- steps
 
-followed : (s new : State) (r : Reply) (rule : Rule) → ((c : Choice) → refusal_of s rule ≡ None → Became s.now (rule.after s c).now)
-    → Follows s rule r new → Became s.now new.now
-unfolding state_after
-followed s new r rule became (done h) = subst (λ (x : State). Became s.now x.now) (sym h.new_is) (by_reading rule.only_reads (became_swept s.now (rule.after s h.choice) (became h.choice h.not_refused)))
+pub step_became : (q : Request) (r : Reply) (s new : State) → Step s q r new → IsOrdered (world_before s q r) → Became (world_before s q r) new.now
+step_became q r s new step =
+    step_joins (λ w v. IsOrdered w → Became w v) (λ w o. went (same_later w)) (λ w t k o. became_swept w t (k o)) q r s new step (by_request q)
   where
-    by_reading : (b : Bool) → Became s.now (state_after_sweep (rule.after s h.choice)).now
-        → Became s.now (if b then s else state_after_sweep (rule.after s h.choice)).now
-    by_reading true k = went (same_later s.now)
-    by_reading false k = k
-followed s new r rule became (refused h) = subst (λ (x : State). Became s.now x.now) (sym h.unchanged) (went (same_later s.now))
-followed s new r rule became (out_of_memory h) = subst (λ (x : State). Became s.now x.now) (sym h.unchanged) (went (same_later s.now))
-
-pub step_became : (q : Request) (r : Reply) (s new : State) → IsOrdered s.now → Step s q r new → Became s.now new.now
-step_became q r s new o step = followed s new r (rule_of q step.reading) (by_request q) step.follows
-  where
-    by_request : (q : Request) (c : Choice) → refusal_of s (rule_of q step.reading) ≡ None
-        → Became s.now ((rule_of q step.reading).after s c).now
-    by_request (ToCreate name) c none = went (created s name none)
-    by_request (ToWrite target object block bytes) c none = went (changed s target _ c)
-    by_request (ToPunch target object block) c none = went (changed s target _ c)
-    by_request (ToFreeObject target object) c none = went (changed s target _ c)
-    by_request (ToSnapshot names recursive) c none = went (took s (snapshot_names s.now names recursive))
-    by_request (ToRead target object block) c none = went (same_later s.now)
-    by_request (ToGet target property) c none = went (same_later s.now)
-    by_request (ToPoolGet property) c none = went (same_later s.now)
-    by_request ToList c none = went (same_later s.now)
-    by_request (ToRollback target later) c none = went (went_to_snap s.now o target)
-    by_request (ToDestroy target recursive defer) c none = went (destroyed s.now (λ t. defer && is_needed s.now s.views t) target recursive)
-    by_request (ToSlice count) c none = went (same_later s.now)
-    by_request ToSync c none = went (same_later s.now)
-    by_request (ToOpenView target) c none = went (opened s target)
-    by_request (ToCloseView view) c none = went (same_later s.now)
-    by_request (ToClone target name) c none = went (cloned s target name none)
-    by_request (ToPromote name) c none = turned_over s o name
-    by_request (ToHold tag target) c none = went (tagged s target (λ t. t.tags ++ tag ∷ []))
-    by_request (ToRelease tag target) c none = went (tagged s target (λ t. without_tag t.tags tag))
-    by_request (ToHolds target) c none = went (same_later s.now)
-    by_request (ToBookmark target mark) c none = went (noted s.now target mark)
-    by_request (ToWrittenSince target since) c none = went (same_later s.now)
-    by_request (ToWouldFree name first last) c none = went (same_later s.now)
-    by_request (ToSet name limit amount) c none = went (set_one s.now name limit amount)
-    by_request (ToSend target from) c none = went (same_later s.now)
-    by_request (ToReceive m bytes force) c none = went (got s o m step.reading force c.number none)
+    by_request : (q : Request) (c : Choice) → refusal_of s (rule_of q step.reading) ≡ None → r ≡ (rule_of q step.reading).reply s
+        → IsOrdered (world_before s q r) → Became (world_before s q r) ((rule_of q step.reading).after s c).now
+    by_request (ToCreate name) c none is o = went (created s name none)
+    by_request (ToWrite target object block bytes) c none is o = went (changed s target _ c)
+    by_request (ToPunch target object block) c none is o = went (changed s target _ c)
+    by_request (ToFreeObject target object) c none is o = went (changed s target _ c)
+    by_request (ToSnapshot names recursive) c none is o = went (took s (snapshot_names s.now names recursive))
+    by_request (ToRead target object block) c none is o = went (same_later s.now)
+    by_request (ToGet target property) c none is o = went (same_later s.now)
+    by_request (ToPoolGet property) c none is o = went (same_later s.now)
+    by_request ToList c none is o = went (same_later s.now)
+    by_request (ToRollback target later) c none is o = went (went_to_snap s.now o target)
+    by_request (ToDestroy target recursive defer) c none is o = went (destroyed s.now (λ t. defer && is_needed s.now s.views t) target recursive)
+    by_request (ToSlice count) c none is o = went (same_later s.now)
+    by_request ToSync c none is o = went (same_later s.now)
+    by_request ToAbandon c none is o = subst (λ x. Became (world_before s ToAbandon x) s.last) (sym is) (went (same_later s.last))
+    by_request (ToOpenView target) c none is o = went (opened s target)
+    by_request (ToCloseView view) c none is o = went (same_later s.now)
+    by_request (ToClone target name) c none is o = went (cloned s target name none)
+    by_request (ToPromote name) c none is o = turned_over s o name
+    by_request (ToHold tag target) c none is o = went (tagged s target (λ t. t.tags ++ tag ∷ []))
+    by_request (ToRelease tag target) c none is o = went (tagged s target (λ t. without_tag t.tags tag))
+    by_request (ToHolds target) c none is o = went (same_later s.now)
+    by_request (ToBookmark target mark) c none is o = went (noted s.now target mark)
+    by_request (ToWrittenSince target since) c none is o = went (same_later s.now)
+    by_request (ToWouldFree name first last) c none is o = went (same_later s.now)
+    by_request (ToSet name limit amount) c none is o = went (set_one s.now name limit amount)
+    by_request (ToSend target from) c none is o = went (same_later s.now)
+    by_request (ToReceive m bytes force) c none is o = went (got s o m step.reading force c.number none)

@@ -14,6 +14,7 @@ use Rattle.model.specs.Run.{Run}
 use Rattle.model.specs.requests.Bookmark.{bookmark_of_snap}
 use Rattle.world.specs.Dead.{group_of}
 use Rattle.laws.specs.Lineages.{IsBefore, SharesUntil, HasLineages}
+use Rattle.laws.specs.Runs.{GoesBackWithin}
 
 -- What was held in this group serves as a source for a file system: it shares with its live map, and with each dataset before that whose
 -- group is not below this one, what they have from this group and before (zfs-send(8), -i with a bookmark; On-Disk Specification, chapter 4)
@@ -38,19 +39,19 @@ IsRunWithin Holds s [] [] u = Holds s × (s ≡ u)
 IsRunWithin Holds s (q ∷ qs) (r ∷ rs) u = Holds s × ((t : State) × Step s q r t × IsRunWithin Holds t qs rs u)
 IsRunWithin Holds s _ _ u = ⊥
 
--- What serves as a source in a bookmark's group serves so after each run in which the bookmark stands: whatever is written, received,
--- snapped, rolled back, cloned, promoted or destroyed meanwhile, its snapshot too, and whatever numbers the steps choose (zfs-send(8), -i
--- with a bookmark)
+-- What serves as a source in a bookmark's group serves so after each run in which the bookmark stands and no Abandon goes back to before it:
+-- whatever is written, received, snapped, rolled back, cloned, promoted or destroyed meanwhile, its snapshot too, and whatever numbers the
+-- steps choose (zfs-send(8), -i with a bookmark)
 abbrev pub BookmarkStands : Type 0
 BookmarkStands =
     (s u : State) (qs : List Request) (rs : List Reply) (mark : Member) (b : Bookmark) (held : Map)
-    → HasLineages s.now → IsRunWithin (IsMarkedBy mark b) s qs rs u → IsSource s.now mark.file_system b.group held
+    → HasLineages s.now → GoesBackWithin qs rs → IsRunWithin (IsMarkedBy mark b) s qs rs u → IsSource s.now mark.file_system b.group held
     → IsSource u.now mark.file_system b.group held
 
--- So does what a snapshot had, once a bookmark is made of it, after each run at whose end the bookmark is there: also where it was destroyed
--- meanwhile and made again, which only that very snapshot allows (zfs-bookmark(8); zfs-send(8), -i with a bookmark)
+-- So does what a snapshot had, once a bookmark is made of it, after each such run at whose end the bookmark is there: also where it was
+-- destroyed meanwhile and made again, which only that very snapshot allows (zfs-bookmark(8); zfs-send(8), -i with a bookmark)
 abbrev pub BookmarkLasts : Type 0
 BookmarkLasts =
     (s v u : State) (name mark : Member) (t : Snap) (qs : List Request) (rs : List Reply) → HasLineages s.now → snap_named s.now name ≡ Some t
-    → Step s (ToBookmark (OfSnapshot name) mark) Done v → Run v qs rs u → IsMarkedBy mark (bookmark_of_snap t) u
+    → Step s (ToBookmark (OfSnapshot name) mark) Done v → GoesBackWithin qs rs → Run v qs rs u → IsMarkedBy mark (bookmark_of_snap t) u
     → IsSource u.now mark.file_system t.group t.map

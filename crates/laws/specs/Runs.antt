@@ -1,7 +1,9 @@
 -- What holds in a new pool, and again after every run, whatever numbers its steps choose.
-use Rattle.std.specs.Prelude.{◌≡◌, ℕ, List, ◌++◌, length}
+use Rattle.std.specs.Prelude.{◌≡◌, ◌<◌, ℕ, List, ◌++◌, Some, length, slice_get}
 use Rattle.model.specs.declared.request.Request.{Request}
+use Rattle.model.specs.declared.request.Request.TheVariants.{Sync as ToSync, Abandon as ToAbandon}
 use Rattle.model.specs.declared.reply.Reply.{Reply}
+use Rattle.model.specs.declared.reply.Reply.TheVariants.{Done, Group as GroupIs}
 use Rattle.model.specs.World.{World, SnapId, Dataset, Snapped, map_of}
 use Rattle.model.specs.Numbers.{IsWorldNumbered, IsNumbered}
 use Rattle.model.specs.State.{State, fresh_state}
@@ -16,15 +18,25 @@ RunSplits =
     (s u : State) (qs more : List Request) (rs others : List Reply) → length qs ≡ length rs → Run s (qs ++ more) (rs ++ others) u
     → (t : State) × Run s qs rs t × Run t more others u
 
+-- it holds of the present world, and of the last synced one, to which Abandon goes back (profile)
+abbrev pub InBoth : (World → Type 0) → State → Type 0
+InBoth Holds s = Holds s.now × Holds s.last
+
+-- each Abandon of a run that is done comes after a Sync of the run that is done: so it goes back to no world older than the run (profile)
+abbrev pub GoesBackWithin : List Request → List Reply → Type 0
+GoesBackWithin qs rs =
+    (i : ℕ) → slice_get qs i ≡ Some ToAbandon → slice_get rs i ≡ Some Done
+    → (j : ℕ) × (g : ℕ) × (j < i) × (slice_get qs j ≡ Some ToSync) × (slice_get rs j ≡ Some (GroupIs g))
+
 -- ---- lineages and births
 
 -- a pool has lineages as it is created (profile)
 abbrev pub LineagesBegin : Type 0
-LineagesBegin = (id size : ℕ) → HasLineages (fresh_state id size).now
+LineagesBegin = (id size : ℕ) → InBoth HasLineages (fresh_state id size)
 
 -- it has them again after every run, whatever numbers its steps choose (profile)
 abbrev pub LineagesLast : Type 0
-LineagesLast = (s u : State) (qs : List Request) (rs : List Reply) → HasLineages s.now → Run s qs rs u → HasLineages u.now
+LineagesLast = (s u : State) (qs : List Request) (rs : List Reply) → InBoth HasLineages s → Run s qs rs u → InBoth HasLineages u
 
 -- A world has them where it is in order, a number names one block, and a block of a dataset is in the one before exactly when it was born by
 -- that one's group (On-Disk Specification, chapters 2 and 4: birth, ds_prev_snap_txg)
@@ -33,20 +45,20 @@ BlocksGiveLineages = (size : ℕ) (w : World) → IsWorldNumbered size w → IsO
 
 -- so each state of a pool has them (profile)
 abbrev pub PoolsHaveLineages : Type 0
-PoolsHaveLineages = (s : State) → IsPoolState s → HasLineages s.now
+PoolsHaveLineages = (s : State) → IsPoolState s → InBoth HasLineages s
 
--- a snapshot that is there before a run and after it has the map that it had (zfs-snapshot(8))
+-- a snapshot that is there before a run and after it has the map that it had, where no Abandon goes back to before the run (zfs-snapshot(8))
 abbrev pub SnapshotsKeep : Type 0
 SnapshotsKeep =
-    (s u : State) (qs : List Request) (rs : List Reply) (id : SnapId) → HasLineages s.now → Run s qs rs u → IsThere s.now (Snapped id) → IsThere u.now (Snapped id)
-    → map_of u.now (Snapped id) ≡ map_of s.now (Snapped id)
+    (s u : State) (qs : List Request) (rs : List Reply) (id : SnapId) → HasLineages s.now → GoesBackWithin qs rs → Run s qs rs u → IsThere s.now (Snapped id)
+    → IsThere u.now (Snapped id) → map_of u.now (Snapped id) ≡ map_of s.now (Snapped id)
 
 -- births are up to the open group and rise in a new pool, and again after every run (On-Disk Specification, chapters 2 and 3)
 abbrev pub BirthsBegin : Type 0
-BirthsBegin = (id size : ℕ) → HasBirths (fresh_state id size).now
+BirthsBegin = (id size : ℕ) → InBoth HasBirths (fresh_state id size)
 
 abbrev pub BirthsLast : Type 0
-BirthsLast = (s u : State) (qs : List Request) (rs : List Reply) → HasLineages s.now → HasBirths s.now → Run s qs rs u → HasBirths u.now
+BirthsLast = (s u : State) (qs : List Request) (rs : List Reply) → InBoth HasLineages s → InBoth HasBirths s → Run s qs rs u → InBoth HasBirths u
 
 -- ---- numbers
 

@@ -11,6 +11,10 @@ ghost use Rattle.world.specs.RunLaws.{RunGrows, ViewsBegin, ViewsLast, ViewsStan
 /// of a snapshot has its guid and group. As long as it stands, the map that the snapshot had then is a source for its file system: what was born
 /// by that group, in the live map or in a dataset before it of no lower group, is in that map, at the same key and with the same bytes, and so
 /// is all below it, even where the snapshot was destroyed (zfs-send(8), -i). It is enough for that to find the bookmark at the run's end.
+///
+/// What a snapshot had and what a bookmark stands for is promised over a run in which no Abandon goes back to before it: where one is done, a Sync
+/// was done before it in the run. One that goes back to an older world undoes the bookmark with all that was made since, and the same groups are
+/// filled anew.
 pub fn run_laws()
     ensures grows { RunGrows }
     ensures splits { RunSplits }
@@ -27,7 +31,8 @@ pub fn run_laws()
 /// A new pool has lineages, and has them after every run, whatever numbers its steps choose: identities are each one snapshot's, groups are
 /// closed and fall along each lineage, origins are there, and what a dataset has from the group of the one before it and from before that,
 /// that one has at the same key, in the same block and with the same bytes, with all below. A pool's state has them, as has each world in
-/// order in which a block of a dataset is in the one before exactly when it was born by that one's group.
+/// order in which a block of a dataset is in the one before exactly when it was born by that one's group. A state has them where its present
+/// world has and the last synced one, to which Abandon goes back.
 ///
 /// So it is with births, none of which is later than the open group, or than that of the block above; and with numbers, each of which names one
 /// block.

@@ -2,7 +2,7 @@
 use crate::names::{kept, letters};
 use base::number::Guid;
 use base::refusal::Refusal;
-use snapshots::{Kept, Line};
+use snapshots::{Kept, SnapshotList};
 use std::alloc::Global;
 
 /// How many names there are: snapshot k has name k % NAMES, and its guid is k.
@@ -17,7 +17,7 @@ fn has_guid(kept: Option<&Kept>, guid: Option<u64>) -> bool {
 }
 
 /// Whether the snapshots stand there in their order.
-fn stand(line: &Line, count: u16) -> bool {
+fn stand(line: &SnapshotList, count: u16) -> bool {
     let mut guid = 0;
     for kept in line.list().iter() {
         if kept.snapshot.guid() != Guid(guid) {
@@ -29,7 +29,7 @@ fn stand(line: &Line, count: u16) -> bool {
 }
 
 /// Whether each name finds its first snapshot, and no other name finds one.
-fn are_found(line: &Line, count: u16) -> bool {
+fn are_found(line: &SnapshotList, count: u16) -> bool {
     for n in 0..NAMES {
         let first = if n < count { Some(u64::from(n)) } else { None };
         if !has_guid(line.get(&letters(n)), first) {
@@ -40,7 +40,7 @@ fn are_found(line: &Line, count: u16) -> bool {
 }
 
 /// Whether the line has snapshots 0 up to the count, and no other.
-fn agrees(line: &Line, count: u16) -> bool {
+fn agrees(line: &SnapshotList, count: u16) -> bool {
     let last = if count > 0 {
         Some(u64::from(count - 1))
     } else {
@@ -49,12 +49,12 @@ fn agrees(line: &Line, count: u16) -> bool {
     has_guid(line.last(), last) && stand(line, count) && are_found(line, count)
 }
 
-fn push(alloc: Global, line: &mut Line, k: u16) -> Result<(), Refusal> {
+fn push(alloc: Global, line: &mut SnapshotList, k: u16) -> Result<(), Refusal> {
     let kept = kept(alloc, k % NAMES, u64::from(k), 0)?;
     line.push(alloc, kept)
 }
 
-fn is_filled(alloc: Global, line: &mut Line, range: (u16, u16)) -> Result<bool, Refusal> {
+fn is_filled(alloc: Global, line: &mut SnapshotList, range: (u16, u16)) -> Result<bool, Refusal> {
     for k in range.0..range.1 {
         push(alloc, line, k)?;
         if !agrees(line, k.saturating_add(1)) {
@@ -66,7 +66,7 @@ fn is_filled(alloc: Global, line: &mut Line, range: (u16, u16)) -> Result<bool, 
 
 /// Whether a line has all snapshots in the end, the last of names that are there, and its copy has what it had.
 fn is_right(alloc: Global) -> Result<bool, Refusal> {
-    let mut line = Line::new(alloc);
+    let mut line = SnapshotList::new(alloc);
     let low = agrees(&line, 0) && is_filled(alloc, &mut line, (0, 100))?;
     let half = line.copy()?;
     let high = is_filled(alloc, &mut line, (100, 200))?;
@@ -79,7 +79,7 @@ fn a_line_has_its_snapshots_in_order_and_by_name(rt: HostRuntime) {
 }
 
 /// Pushes snapshots; what is refused leaves all as it was, and is done when it is asked again.
-fn are_pushed(alloc: Global, line: &mut Line, range: (u16, u16)) -> bool {
+fn are_pushed(alloc: Global, line: &mut SnapshotList, range: (u16, u16)) -> bool {
     for k in range.0..range.1 {
         if let Err(refusal) = push(alloc, line, k) {
             if refusal != Refusal::NoMemory || !agrees(line, k) || push(alloc, line, k).is_err() {
@@ -90,7 +90,7 @@ fn are_pushed(alloc: Global, line: &mut Line, range: (u16, u16)) -> bool {
     agrees(line, range.1)
 }
 
-fn copied(line: &Line, count: u16) -> Option<Line> {
+fn copied(line: &SnapshotList, count: u16) -> Option<SnapshotList> {
     match line.copy() {
         Ok(copy) => Some(copy),
         Err(refusal) => {
@@ -104,7 +104,7 @@ fn copied(line: &Line, count: u16) -> Option<Line> {
 
 /// Pushes snapshots enough for more than one chunk, then more beside a copy.
 fn refuses_well(alloc: Global) -> bool {
-    let mut line = Line::new(alloc);
+    let mut line = SnapshotList::new(alloc);
     if !are_pushed(alloc, &mut line, (0, 70)) {
         return false;
     }

@@ -6,14 +6,14 @@ ghost use Rattle.snapshots.specs.Index.{AreNamesOnce};
 use crate::names::{kept, letters};
 use base::number::Guid;
 use base::refusal::Refusal;
-use snapshots::{Kept, Line};
+use snapshots::{Kept, SnapshotList};
 use std::alloc::Global;
 use std::marker::Model;
 
 /// Snapshots of one file system, each under a name of its own.
 #[derive(Drop)]
 struct Own {
-    line: Line,
+    line: SnapshotList,
 }
 
 impl Model for Own {
@@ -35,7 +35,7 @@ impl Model for Own {
 impl Own {
     fn new(alloc: Global) -> Own {
         Own {
-            line: Line::new(alloc),
+            line: SnapshotList::new(alloc),
         }
     }
 

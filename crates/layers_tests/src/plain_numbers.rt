@@ -1,10 +1,11 @@
-//! Block numbers beside a plain program of the same, which keeps a state for each number and walks through all of them.
+//! Block numbers beside a plain program of the same, which keeps two states for each number and walks through all of them.
 ghost use Rattle.std.specs.Prelude.{◌≤◌};
 
 use base::number::BlockNo;
+use base::refusal::Refusal;
 use std::alloc::{AllocError, Global};
 use std::process::Abort;
-use zalloc::{Allocator, BlockState, Counts, MOST_BLOCKS};
+use zalloc::{Allocator, BlockState, Counts, MOST_BLOCKS, Numbers};
 
 /// The state of each number, in a plain list.
 #[derive(Drop)]
@@ -51,13 +52,37 @@ impl Plain {
             }
         }
     }
+
+    fn copy_from(&mut self, other: &Plain) {
+        for (state, others) in self.states.iter_mut().zip(&other.states) {
+            *state = *others;
+        }
+    }
+
+    /// Whether an allocator of `n` numbers has the same states, and as many in each.
+    fn is_that_of(&self, allocator: &Allocator, n: u32) -> bool {
+        for number in 0..n {
+            if allocator.state(BlockNo(number)) != self.state(number) {
+                return false;
+            }
+        }
+        let Counts {
+            free,
+            allocated,
+            waiting,
+        } = allocator.counts();
+        free as usize == self.count(BlockState::Free)
+            && allocated as usize == self.count(BlockState::Allocated)
+            && waiting as usize == self.count(BlockState::Waiting)
+    }
 }
 
 /// Numbers, and the plain program beside them.
 #[derive(Drop)]
 struct Pair {
-    numbers: Allocator,
-    plain: Plain,
+    numbers: Numbers,
+    present: Plain,
+    synced: Plain,
 }
 
 impl Pair {
@@ -65,17 +90,18 @@ impl Pair {
         requires { n ≤ MOST_BLOCKS }
     {
         Pair {
-            numbers: Allocator::new(alloc, n).expect(rt, "room for the numbers"),
-            plain: Plain::new(alloc, n as usize).expect(rt, "room for the states"),
+            numbers: Numbers::new(alloc, n).expect(rt, "room for the numbers"),
+            present: Plain::new(alloc, n as usize).expect(rt, "room for the states"),
+            synced: Plain::new(alloc, n as usize).expect(rt, "room for the states"),
         }
     }
 
     /// Takes a Free number, or releases an Allocated one.
     fn turn(&mut self, number: u32, wait: bool) {
-        match self.numbers.state(BlockNo(number)) {
+        match self.numbers.present().state(BlockNo(number)) {
             Some(BlockState::Free) => {
                 self.numbers.take(BlockNo(number));
-                self.plain.set(number, BlockState::Allocated);
+                self.present.set(number, BlockState::Allocated);
             }
             Some(BlockState::Allocated) => {
                 self.numbers.release(BlockNo(number), wait);
@@ -84,7 +110,7 @@ impl Pair {
                 } else {
                     BlockState::Free
                 };
-                self.plain.set(number, state);
+                self.present.set(number, state);
             }
             Some(BlockState::Waiting) | None => {}
         }
@@ -92,32 +118,25 @@ impl Pair {
 
     fn end_group(&mut self) {
         self.numbers.end_group();
-        self.plain.end_group();
+        self.present.end_group();
+        self.synced.copy_from(&self.present);
+    }
+
+    fn restore(&mut self) {
+        self.numbers.restore();
+        self.present.copy_from(&self.synced);
     }
 
     fn is_same_at(&self, number: u32) -> bool {
-        self.numbers.state(BlockNo(number)) == self.plain.state(number)
-            && self.numbers.find(number).map(|b| b.0) == self.plain.find(number)
-    }
-
-    fn has_same_counts(&self) -> bool {
-        let Counts {
-            free,
-            allocated,
-            waiting,
-        } = self.numbers.counts();
-        free as usize == self.plain.count(BlockState::Free)
-            && allocated as usize == self.plain.count(BlockState::Allocated)
-            && waiting as usize == self.plain.count(BlockState::Waiting)
+        let present = self.numbers.present();
+        present.state(BlockNo(number)) == self.present.state(number)
+            && present.find(number).map(|b| b.0) == self.present.find(number)
+            && self.numbers.synced().state(BlockNo(number)) == self.synced.state(number)
     }
 
     fn has_same_states(&self, n: u32) -> bool {
-        for number in 0..n {
-            if self.numbers.state(BlockNo(number)) != self.plain.state(number) {
-                return false;
-            }
-        }
-        self.has_same_counts()
+        self.present.is_that_of(self.numbers.present(), n)
+            && self.synced.is_that_of(self.numbers.synced(), n)
     }
 }
 
@@ -130,24 +149,27 @@ fn mixed(seed: u64) -> u64 {
 }
 
 /// Turns many of the first 4,096 numbers, at random: those that are even in some rounds, and all in others, so that the
-/// extents grow many, and few again.
+/// extents grow many, and few again. Now and then a group ends, or the numbers go back to where the last one ended.
 fn turns_alike(pair: &mut Pair, rounds: u32) -> bool {
     let mut seed = 7;
     for round in 0..rounds {
         seed = mixed(seed);
         let number = (seed & 4095) as u32;
-        let is_free = pair.plain.state(number) == Some(BlockState::Free);
+        let is_free = pair.present.state(number) == Some(BlockState::Free);
         if (number & 1 == 0) != is_free || round & 8192 == 0 {
             pair.turn(number, seed >> 60 == 0);
         }
-        if seed >> 52 == 0 {
+        if seed >> 53 == 0 {
             pair.end_group();
+        }
+        if seed >> 53 == 1 {
+            pair.restore();
         }
         if round & 7 == 0 && !pair.is_same_at(number) {
             return false;
         }
     }
-    pair.has_same_counts()
+    true
 }
 
 fn go_alike(rt: &impl Abort, alloc: Global, n: u32) -> bool
@@ -155,8 +177,10 @@ fn go_alike(rt: &impl Abort, alloc: Global, n: u32) -> bool
 {
     let mut pair = Pair::new(rt, alloc, n);
     let are_alike = turns_alike(&mut pair, 65536) && pair.has_same_states(n);
+    pair.restore();
+    let are_restored = pair.has_same_states(n);
     pair.end_group();
-    are_alike && pair.has_same_states(n)
+    are_alike && are_restored && pair.has_same_states(n)
 }
 
 #[test]
@@ -165,4 +189,37 @@ fn random_turns_are_as_in_the_plain_program(rt: HostRuntime) {
     assert!(rt; go_alike(&rt, alloc, 4096));
     assert!(rt; go_alike(&rt, alloc, 1000));
     assert!(rt; go_alike(&rt, alloc, 1));
+}
+
+/// One of three numbers is taken.
+fn is_shown(rt: &impl Abort, alloc: Global, text: &str) -> bool {
+    let mut pair = Pair::new(rt, alloc, 3);
+    pair.turn(1, false);
+    let numbers = &pair.numbers;
+    let shown = format!(in alloc; "{numbers:?}").expect(rt, "room for a text");
+    shown.as_str() == text
+}
+
+#[test]
+fn counts_now_and_then_are_shown(rt: HostRuntime) {
+    assert!(rt;
+        is_shown(
+            &rt,
+            rt.alloc(),
+            "Numbers { present: Allocator { free: 2, allocated: 1, waiting: 0 }, synced: Allocator { free: 3, allocated: 0, waiting: 0 } }"
+        )
+    );
+}
+
+fn is_made_or_refused(alloc: Global) -> bool {
+    match Numbers::new(alloc, 7) {
+        Ok(numbers) => numbers.synced().counts().free == 7,
+        Err(refusal) => refusal == Refusal::NoMemory,
+    }
+}
+
+// Run with each allocation refused in turn.
+#[test]
+fn refused_memory_makes_no_numbers(rt: HostRuntime) {
+    assert!(rt; is_made_or_refused(rt.alloc()));
 }

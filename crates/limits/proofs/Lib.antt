@@ -13,3 +13,7 @@ pub mod Rows
 pub mod Places
 pub mod Ahead
 pub mod Kept
+pub mod SameKeys
+pub mod SameLines
+pub mod Added
+pub mod Recounted

@@ -53,7 +53,7 @@ filter_rest p d (suc n) (x ∷ xs) h =
     filter_rest p d n xs (λ i l m. h (suc i) (omega (arith, l)) (omega (arith, m)))
     ∙ sym (ap (λ b. cond b (x ∷ filter p xs) (filter p xs)) (h zero (omega arith) (omega arith)))
 
-place_in : (xs : List (List ℕ)) (x : List ℕ) → IsIn xs x → (i : ℕ) × (i < length xs) × (get_or xs i [] ≡ x)
+pub place_in : (xs : List (List ℕ)) (x : List ℕ) → IsIn xs x → (i : ℕ) × (i < length xs) × (get_or xs i [] ≡ x)
 place_in [] x h = absurd h
 place_in (y ∷ ys) x h = ⊎_elim (λ is. (zero, omega arith, sym is)) (λ k. let r = place_in ys x k in (suc r.0, (let l = r.1 in omega (arith, l)), r.2)) h
 

@@ -1,9 +1,10 @@
 -- The account of a row of a table is that of its file system.
-use Rattle.std.proofs.Common.{◌≡◌, ℕ, zero, suc, ◌+◌, ◌-◌, ◌<◌, ◌≤◌, List, [], ◌∷◌, length, get_or, Option, Some, None, map, refl, sym, ap, ◌∙◌, inl, inr, arith}
+use Rattle.std.proofs.Common.{◌≡◌, ℕ, zero, suc, ◌+◌, ◌-◌, ◌<◌, ◌≤◌, List, [], ◌∷◌, length, get_or, Option, Some, None, is_some, map, refl, sym, ap, ◌∙◌, inl, inr, arith}
 use Rattle.std.specs.Prelude.{unwrap_or}
 use Rattle.std.specs.Option.{option_map}
-use Rattle.std.specs.FinMap.{get, entries}
+use Rattle.std.specs.FinMap.{get, entries, keys}
 use Rattle.std.specs.FinSet.{len}
+use Rattle.std.proofs.lemmas.List.{get_or_default}
 use Rattle.base.specs.Map.{blocks}
 use Rattle.model.specs.World.{FileSystem, Live, previous_of, map_of_snap, blocks_of_all, union_of}
 use Rattle.model.specs.Sums.{size_without, used_by_refreservation, written_of, referenced_of}
@@ -20,9 +21,11 @@ use Rattle.datasets.specs.Clones.{below_in, row_in}
 use Rattle.datasets.proofs.Above.{below_is_map, newest_is}
 use Rattle.accounts.specs.Space.{own_of}
 use Rattle.accounts.proofs.Levels.{here_is}
+use Rattle.accounts.proofs.Names.{in_keys}
 use Rattle.accounts.proofs.Space.{own_total}
 use Rattle.limits.specs.Ledgers.{account_in, accounts_in}
 use Rattle.limits.specs.Rows.{IsRowOf, own_in, written_in, unwritten_in, account_at}
+use Rattle.limits.proofs.Order.{no_entry, keys_long, entry_at, place_in}
 
 -- the file system that was found
 pub found_row : (t : Datasets) (name : List ℕ) (r : Row) → Some r ≡ option_map {T = FileSystem} {U = Row} (λ f. row_in t.file_systems (name, f)) (get t.file_systems name)
@@ -36,6 +39,14 @@ found_row t name r e = at (get t.file_systems name) refl e
         let named : r.name ≡ name = ap (λ (x : Row). x.name) is in
         let same : r.system ≡ f = ap (λ (x : Row). x.system) is in
         (record { there = ap (get t.file_systems) named ∙ g ∙ ap Some (sym same); is = is ∙ (λ i. row_in t.file_systems (sym named i, sym same i)) }, named)
+
+-- or that none was found
+pub not_found : (t : Datasets) (name : List ℕ) → None ≡ option_map {T = FileSystem} {U = Row} (λ f. row_in t.file_systems (name, f)) (get t.file_systems name) → get t.file_systems name ≡ None
+not_found t name e = at (get t.file_systems name) refl e
+  where
+    at : (x : Option FileSystem) → get t.file_systems name ≡ x → None ≡ option_map {T = FileSystem} {U = Row} (λ f. row_in t.file_systems (name, f)) x → get t.file_systems name ≡ None
+    at None g h = g
+    at (Some f) g h = absurd (no_value (row_in t.file_systems (name, f)) h)
 
 -- what a row has of its own
 own_is : (t : Datasets) (e : Entry) → own_in (row_in t.file_systems e) ≡ own_of (world_of t) e.1
@@ -94,6 +105,20 @@ total_item value f (y ∷ ys) (suc i) x lt is = let r = total_item value f ys i 
 module _ (t : Datasets) (good : AreFileSystems t.file_systems t.group) (r : Row) (of : IsRowOf t r) where
   pub row_unwritten : unwritten_in r ≡ used_by_refreservation (world_of t) r.name r.system
   row_unwritten = ap unwritten_in of.is ∙ unwritten_is t good r.name r.system of.there
+
+  -- it has no more of its own than all have together
+  pub row_own : own_in r ≤ len (union_of (world_of t))
+  row_own =
+      let ks = keys t.file_systems in
+      let p = place_in ks r.name (in_keys t.file_systems r.name (ap is_some of.there)) in
+      let e = get_or (entries t.file_systems) p.0 no_entry in
+      let long = keys_long t.file_systems in
+      let within : p.0 < length (entries t.file_systems) = (let l = p.1 in omega (arith, l, long)) in
+      let same : e.1 ≡ r.system = same_value e.1 r.system (sym (entry_at t.file_systems p.0 p.1) ∙ ap (get t.file_systems) p.2 ∙ of.there) in
+      let item = total_item (row_in t.file_systems) own_in (entries t.file_systems) p.0 e within (get_or_default (entries t.file_systems) p.0 no_entry e within) in
+      let own : own_in r ≡ own_in (row_in t.file_systems e) = ap own_in of.is ∙ ap (λ (s : FileSystem). own_in (row_in t.file_systems (e.0, s))) (sym same) in
+      let all = all_own t good (map (row_in t.file_systems) (entries t.file_systems)) refl in
+      omega (arith, item, own, all)
 
   pub row_account : account_at r ≡ account_in (world_of t) r.name r.system
   row_account = ap account_at of.is ∙ account_is t good r.name r.system of.there

@@ -1,5 +1,5 @@
 -- Worlds that differ in what one file system has and keeps of its own, and the lines of a ledger that differ with it.
-use Rattle.std.specs.Prelude.{◌≡◌, ◌⊎◌, ℕ, ◌+◌, ◌-◌, ◌<◌, ◌≤◌, ◌^◌, List, [], ◌∷◌, Some, None, true, false, length, slice_index_or}
+use Rattle.std.specs.Prelude.{◌≡◌, ◌⊎◌, ℕ, ◌+◌, ◌-◌, ◌<◌, ◌≤◌, ◌^◌, List, [], ◌∷◌, Some, None, IsSome, is_some, true, false, length, slice_index_or}
 use Rattle.std.specs.FinMap.{get, keys}
 use Rattle.base.specs.declared.refusal.Refusal.{Refusal}
 use Rattle.base.specs.declared.refusal.Refusal.TheVariants.{Quota, RefQuota}
@@ -24,6 +24,21 @@ pub record IsChanged (old new : World) (name : List ℕ) (here referenced : ℕ)
   pub others_referenced : (other : List ℕ) → ¬ (other ≡ name) → referenced_of new (Live other) ≡ referenced_of old (Live other)
   pub is_here : used_here new name ≡ here
   pub is_referenced : referenced_of new (Live name) ≡ referenced
+
+-- an earlier world in which a single file system has, keeps and refers to what it does now (zfsprops(7): used, referenced)
+abbrev pub IsRecounted : World → World → List ℕ → Type 0
+IsRecounted old new name = IsChanged old new name (used_here new name) (referenced_of new (Live name))
+
+-- A world with one file system more than another, which has and keeps nothing of its own; each other has, keeps and refers to the same in both
+-- (zfs-create(8), zfs-clone(8))
+pub record IsAdded (old new : World) (name : List ℕ) : Type 0 where
+  pub hierarchy : IsHierarchy new.file_systems
+  pub gone : get old.file_systems name ≡ None
+  pub there : IsSome (get new.file_systems name)
+  pub names : (other : List ℕ) → ¬ (other ≡ name) → is_some (get new.file_systems other) ≡ is_some (get old.file_systems other)
+  pub limits : (other : List ℕ) (f g : FileSystem) → get old.file_systems other ≡ Some f → get new.file_systems other ≡ Some g → g.limits ≡ f.limits
+  pub here : AreSameBut old new []
+  pub referenced : (other : List ℕ) → ¬ (other ≡ name) → referenced_of new (Live other) ≡ referenced_of old (Live other)
 
 -- a line whose file system has and keeps so much of its own and refers to so much (zfsprops(7): used, referenced)
 abbrev pub amended : Line → ℕ → ℕ → Line

@@ -2,21 +2,22 @@
 //! the first level that is charged what it was.
 ghost use Rattle.std.specs.Prelude.{◌≡◌, ◌<◌, ◌≤◌, ◌^◌, ℕ, Some, IsSome, IfSome, IfNone, IfOk, IfErr, length, slice_index_or};
 ghost use Rattle.std.specs.FinMap.{get, keys, len};
+ghost use Rattle.std.specs.FinSet as set;
 ghost use Rattle.std.specs.List.{All};
 ghost use Rattle.base.specs.declared.refusal.Refusal.{Refusal};
 ghost use Rattle.model.specs.Hierarchy.{IsHierarchy};
 ghost use Rattle.model.specs.Rule.{first_of};
 ghost use Rattle.model.specs.State.{State};
-ghost use Rattle.model.specs.World.{World};
+ghost use Rattle.model.specs.World.{World, union_of};
 ghost use Rattle.model.specs.requests.Change.{limit_row};
 ghost use Rattle.world.specs.Tables.{world_of};
 ghost use Rattle.accounts.specs.Limits.{AreQuotasMet};
 ghost use Rattle.limits.specs.Lines.{used_in, charge_in, IsSmall};
 ghost use Rattle.limits.specs.Ledgers.{ledger_of, IsSpaceOf};
 ghost use Rattle.limits.specs.Places.{IsParentAt};
-ghost use Rattle.limits.specs.Changes.{IsChanged, IsModest, IsNear, IsNext, IsTop, IsWithinQuotas, IsOverQuota, IsLedgerOf, amended};
+ghost use Rattle.limits.specs.Changes.{IsChanged, IsModest, IsNear, IsNext, IsTop, IsWithinQuotas, IsOverQuota, IsLedgerOf, IsRecounted, amended};
 
-use crate::account::Account;
+use crate::account::{Account, account_of};
 use crate::ledger::Ledger;
 use crate::line::Line;
 use crate::near::Near;
@@ -62,6 +63,21 @@ impl Ledger {
         ensures { (old new : World) → IsHierarchy old.file_systems → keys old.file_systems ≡ keys table.now.file_systems → self.old ≡ ledger_of old → IsChanged old new name.now here referenced → self.new ≡ ledger_of new }
     {
         settle_lines(table, &mut self.lines, &self.near, name, here, referenced);
+    }
+
+    /// The account of the file system of this name is read anew from its row, where it is there: where this is the ledger of an earlier world
+    /// with the names of the table, from which the table's differs in that account alone, it becomes the table's. It takes no memory. It costs
+    /// for each level of the name at most the logarithm of the number of file systems, and the length of the name.
+    pub fn recount(&mut self, table: &Table, name: &DsName)
+        requires own { (old : World) × IsLedgerOf old (keys table.now.file_systems) self.old × IsRecounted old (world_of table.now) name.now }
+        requires few { set.len (union_of (world_of table.now)) < 2 ^ 32 }
+        ensures { self.new ≡ ledger_of (world_of table.now) }
+    {
+        table.facts();
+        if let Some(file_system) = self.find(table, name) {
+            let account = account_of(file_system);
+            self.settle(table, name, account.here, account.referenced);
+        }
     }
 }
 

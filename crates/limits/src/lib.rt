@@ -5,6 +5,7 @@
 #![tactic(auto)]
 
 mod account;
+mod adding;
 mod change;
 mod charging;
 mod ledger;

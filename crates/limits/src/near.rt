@@ -58,6 +58,21 @@ impl Near {
         }
     }
 
+    /// One file system more stands at that place, and its parent may stand at the other: what stood there or behind it stands one place further.
+    /// It costs the number of places.
+    pub fn open(&mut self, place: usize, parent: usize) {
+        for near in self.parents.iter_mut() {
+            if *near >= place {
+                *near = near.saturating_add(1);
+            }
+        }
+        if place < self.parents.len() {
+            self.parents[place..].rotate_right(1);
+            self.parents[place] = parent;
+        }
+        self.last = place;
+    }
+
     // Where this name stands among those before a place and above it, or else any place. It costs the levels between.
     fn up_to(&self, file_systems: &[Arc<FileSystem>], name: &[u8], place: usize) -> usize {
         let mut at = place.saturating_sub(1);

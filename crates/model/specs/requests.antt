@@ -3,7 +3,7 @@ use Rattle.std.specs.Prelude.{◌≡◌, ℕ, Option, None, Some}
 use Rattle.std.specs.Prelude.{List as ListOf}
 use Rattle.stream.specs.Spelling.{Sending, IsStream, IsNoStream}
 use Rattle.model.specs.declared.request.Request.{Request}
-use Rattle.model.specs.declared.request.Request.TheVariants.{Create as ToCreate, Write as ToWrite, Punch as ToPunch, FreeObject as ToFreeObject, Snapshot as ToSnapshot, Read as ToRead, Get as ToGet, PoolGet as ToPoolGet, List as ToList, Rollback as ToRollback, Destroy as ToDestroy, Slice as ToSlice, Sync as ToSync, OpenView as ToOpenView, CloseView as ToCloseView, Clone as ToClone, Promote as ToPromote, Hold as ToHold, Release as ToRelease, Holds as ToHolds, Bookmark as ToBookmark, WrittenSince as ToWrittenSince, WouldFree as ToWouldFree, Set as ToSet, Send as ToSend, Receive as ToReceive}
+use Rattle.model.specs.declared.request.Request.TheVariants.{Create as ToCreate, Write as ToWrite, Punch as ToPunch, FreeObject as ToFreeObject, Snapshot as ToSnapshot, Read as ToRead, Get as ToGet, PoolGet as ToPoolGet, List as ToList, Rollback as ToRollback, Destroy as ToDestroy, Slice as ToSlice, Sync as ToSync, Abandon as ToAbandon, OpenView as ToOpenView, CloseView as ToCloseView, Clone as ToClone, Promote as ToPromote, Hold as ToHold, Release as ToRelease, Holds as ToHolds, Bookmark as ToBookmark, WrittenSince as ToWrittenSince, WouldFree as ToWouldFree, Set as ToSet, Send as ToSend, Receive as ToReceive}
 use Rattle.model.specs.declared.reply.Reply.TheVariants.{Done}
 use Rattle.model.specs.State.{State}
 use Rattle.model.specs.Rule.{Rule}
@@ -20,6 +20,7 @@ use Rattle.model.specs.requests.Rollback.{rollback_rule}
 use Rattle.model.specs.requests.Destroy.{destroy_rule}
 use Rattle.model.specs.requests.Slice.{slice_rule}
 use Rattle.model.specs.requests.Sync.{sync_rule}
+use Rattle.model.specs.requests.Abandon.{abandon_rule}
 use Rattle.model.specs.requests.OpenView.{open_view_rule}
 use Rattle.model.specs.requests.CloseView.{close_view_rule}
 use Rattle.model.specs.requests.Clone.{clone_rule}
@@ -47,6 +48,7 @@ pub mod Rollback
 pub mod Destroy
 pub mod Slice
 pub mod Sync
+pub mod Abandon
 pub mod OpenView
 pub mod CloseView
 pub mod Clone
@@ -86,6 +88,7 @@ rule_of (ToRollback target later) reading = rollback_rule target later
 rule_of (ToDestroy target recursive defer) reading = destroy_rule target recursive defer
 rule_of (ToSlice count) reading = slice_rule count
 rule_of ToSync reading = sync_rule
+rule_of ToAbandon reading = abandon_rule
 rule_of (ToOpenView target) reading = open_view_rule target
 rule_of (ToCloseView view) reading = close_view_rule view
 rule_of (ToClone target name) reading = clone_rule target name

@@ -154,6 +154,11 @@ pub enum Request {
     /// Makes the present world the last synced one and opens the next group: what waited is free. The reply is Group, the new open
     /// group. It is refused TooMany where the open group is the last one, 2^63 - 1, else perhaps NoMemory.
     Sync,
+    /// Goes back to the last synced world, its open group included: all that was changed since the last sync is undone, but for the counters
+    /// of guids and of views, which go on (zpool-checkpoint(8) rewinds so to a checkpoint; here the last sync is one). A snapshot of that world
+    /// whose destroy was deferred and that only a view kept goes. The reply is Done. It is refused Busy where a view is open, else perhaps
+    /// NoMemory.
+    Abandon,
     /// Opens a view of a snapshot, which is then in use until the view is closed (a view counts as a hold, zfs-hold(8)). The reply is
     /// Opened, with the view's number and what the snapshot is. It is refused NotSnapshot where the name is no snapshot's, NoDataset where
     /// no snapshot has it, Deferred where the snapshot's destroy is deferred, TooMany where 1,024 views are open or the next view's number
@@ -354,6 +359,7 @@ impl Request {
             (Request::Slice { count: n }, Request::Slice { count: m }) => *n == *m,
             (Request::List, Request::List) => true,
             (Request::Sync, Request::Sync) => true,
+            (Request::Abandon, Request::Abandon) => true,
             (Request::OpenView { target: t }, Request::OpenView { target: u }) => t.same(u),
             (Request::Clone { target: t, name: a }, Request::Clone { target: u, name: b }) => {
                 t.same(u) && a.same(b)

@@ -11,6 +11,6 @@ mod same;
 
 pub use cell::Cell;
 pub use leaf::Leaf;
-pub use node::{Inner, Level, Root, span};
+pub use node::{Inner, Level, Root, span, step};
 pub use owner::{keep, owner_at, owner_count, owner_in};
 pub use same::{Same, same_kid};

@@ -88,7 +88,7 @@ pub fn span(depth: u32) -> u32
 }
 
 /// The place below on the way to a key, and the key's index among those that the place covers.
-fn step(depth: u32, at: u32) -> (usize, u32)
+pub fn step(depth: u32, at: u32) -> (usize, u32)
     requires deep { 0 < depth }
     requires shallow { depth ≤ 5 }
     requires covered { at < 16 ^ depth }

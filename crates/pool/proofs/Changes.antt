@@ -160,7 +160,7 @@ module _ (s : State) (numbers : List BlockState) (sound : IsSound s numbers) whe
           → Foretells s name (changes_of (u ∷ [])) outlook → CanSettle (datasets_of s) new name lines outlook
       settles_now = can_settle s sound.steady numbers sound.states name (changes_of (u ∷ [])) new done (here (Ok done) applied).ok can_now.steady there
 
-      pub may_settle : MaySettle s.last.group numbers (Blocks done)
+      pub may_settle : MaySettle s.last s.size numbers (Blocks done)
       may_settle = (release_them s sound.steady numbers sound.states new _ _ can_now, take_them s sound.steady numbers sound.states new _ _ can_now)
 
       pub done_now : (q : Request) → Asks q (OfFileSystem name) (Ok u) → Step s q Done (with_datasets s new)

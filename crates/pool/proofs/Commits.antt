@@ -7,21 +7,21 @@ use Rattle.zalloc.specs.States.{after_group}
 use Rattle.tree.specs.Taking.{takes}
 use Rattle.model.specs.State.{State}
 use Rattle.model.specs.Targets.{guid_limit}
-use Rattle.model.specs.World.{SnapId, union_of}
+use Rattle.model.specs.World.{SnapId, union_of, reach_of}
 use Rattle.world.specs.Tables.{Datasets, world_of}
 use Rattle.steps.specs.Settles.{releases}
 use Rattle.steps.specs.Steady.{IsSteady}
-use Rattle.steps.specs.Edits.{datasets_of, with_datasets, put, lose, with_freeing, synced, viewing, closed, CanPut, CanLose, CanFree, CanChange, CanSync}
+use Rattle.steps.specs.Edits.{datasets_of, with_datasets, put, lose, with_freeing, synced, viewing, closed, gone_back, CanPut, CanLose, CanFree, CanChange, CanSync}
 use Rattle.steps.specs.Received.{put_freeing, CanReceive}
 use Rattle.steps.proofs.quotas.Balanced as balanced
-use Rattle.steps.proofs.numbers.Known.{states_of, of_states}
+use Rattle.steps.proofs.numbers.Known.{states_of, of_states, are_known}
 use Rattle.steps.proofs.requests.Losing.{lose_states}
 use Rattle.steps.proofs.questions.Properties.{are_balanced}
 use Rattle.steps.proofs.numbers.Putting.{put_states, kept_states}
 use Rattle.steps.proofs.requests.Receiving.{receive_states}
 use Rattle.steps.proofs.requests.Slicing.{freed_states}
 use Rattle.steps.proofs.requests.Syncing.{sync_steady, sync_states}
-use Rattle.pool.specs.Pools.{IsSound}
+use Rattle.pool.specs.Pools.{synced_numbers, IsSound}
 
 -- what datasets have can be counted by so many bits
 pub few : (s : State) (numbers : List BlockState) → IsSound s numbers → set.len (union_of (world_of (datasets_of s))) < 2 ^ 32
@@ -72,6 +72,15 @@ module _ (s : State) (numbers : List BlockState) (sound : IsSound s numbers) whe
   sound_swept number to can = record {
     steady = can.steady;
     states = lose_states (closed s number) numbers (of_states (closed s number) numbers (states_of s numbers sound.states)) to can;
+    guids = sound.guids;
+    small = sound.small;
+  }
+
+  -- and where the last synced datasets are back, without what nothing needs there
+  pub sound_back : (to : Datasets) → CanLose (gone_back s) to → IsSound (lose (gone_back s) to) (synced_numbers s.size s.last)
+  sound_back to can = record {
+    steady = can.steady;
+    states = lose_states (gone_back s) (synced_numbers s.size s.last) (of_states (gone_back s) (synced_numbers s.size s.last) (are_known (reach_of s.last) (reach_of s.last) s.size)) to can;
     guids = sound.guids;
     small = sound.small;
   }

@@ -41,24 +41,24 @@ module _ (k : Keep) (w : World) (held : IsHeld k w) (m : Member) (bytes : List �
   abbrev s : State
   s = state_in k w
 
-  sound : IsSound (put_freeing s i.to i.freeing) (numbers_after s.last.group k.allocator (Blocks i.done))
-  sound = sound_received s k.allocator held.sound i.to i.freeing _ _ is.can
+  sound : IsSound (put_freeing s i.to i.freeing) (numbers_after s.last s.size k.numbers.present (Blocks i.done))
+  sound = sound_received s k.numbers.present held.sound i.to i.freeing _ _ is.can
 
   pub intake_few : set.len (union_of (world_of i.to)) < 2 ^ 32
-  intake_few = few (put_freeing s i.to i.freeing) (numbers_after s.last.group k.allocator (Blocks i.done)) sound
+  intake_few = few (put_freeing s i.to i.freeing) (numbers_after s.last s.size k.numbers.present (Blocks i.done)) sound
 
   pub intake_bare : w.ledger ≡ None → IsUnlimited i.to.file_systems
   intake_bare none = is.unlimited (unlimited k w held none)
 
   pub intake_performed : (ledger : Option (List Line)) → IsAccounted i.to ledger
-      → IsPerformed s k.allocator (record { table = i.to; freeing = i.freeing; ledger = ledger }) (Receive m bytes force) (Ok (Blocks i.done))
+      → IsPerformed s k.numbers.present (record { table = i.to; freeing = i.freeing; ledger = ledger }) (Receive m bytes force) (Ok (Blocks i.done))
   intake_performed ledger kept = (
     record {
       sound = sound;
       kept = kept;
       may = (
-        receive_release s held.sound.steady k.allocator held.sound.states i.to i.freeing _ _ is.can,
-        receive_take s held.sound.steady k.allocator held.sound.states i.to i.freeing _ _ is.can,
+        receive_release s held.sound.steady k.numbers.present held.sound.states i.to i.freeing _ _ is.can,
+        receive_take s held.sound.steady k.numbers.present held.sound.states i.to i.freeing _ _ is.can,
       );
     },
     is.step,

@@ -77,16 +77,16 @@ module _ (k : Keep) (w : World) (held : IsHeld k w) where
     bare stays none = subst (λ (t : Datasets). IsUnlimited t.file_systems) (sym is) (stays (unlimited none))
 
     module _ (guids : ℕ) (fits : s.next_guid + guids ≤ guid_limit + 1) (can : CanPut s x guids) where
-      sound : IsSound (put s to guids) k.allocator
-      sound = commits.sound_put s k.allocator held.sound to guids (subst (λ t. CanPut s t guids) (sym is) can) fits
+      sound : IsSound (put s to guids) k.numbers.present
+      sound = commits.sound_put s k.numbers.present held.sound to guids (subst (λ t. CanPut s t guids) (sym is) can) fits
 
       pub few_with : set.len (union_of (world_of to)) < 2 ^ 32
-      few_with = commits.few (put s to guids) k.allocator sound
+      few_with = commits.few (put s to guids) k.numbers.present sound
 
       pub placed_with : (ledger : Option (List Line)) → IsAccounted to ledger → (q : Request) → Step s q Done (put s x guids) → (next : ℕ) → next ≡ s.next_guid + guids
-          → IsPerformed s k.allocator (record w { table = to; ledger = ledger }) q (Ok (Guids next))
+          → IsPerformed s k.numbers.present (record w { table = to; ledger = ledger }) q (Ok (Guids next))
       placed_with ledger kept q step next e = (
-        record { sound = subst (λ n. IsSound (record (with_datasets s to) { next_guid = n }) k.allocator) (sym e) sound; kept = kept; may = tt },
+        record { sound = subst (λ n. IsSound (record (with_datasets s to) { next_guid = n }) k.numbers.present) (sym e) sound; kept = kept; may = tt },
         subst (λ n. Step s q Done (record (with_datasets s to) { next_guid = n })) (sym e) (subst (λ t. Step s q Done (put s t guids)) (sym is) step),
       )
 
@@ -98,9 +98,9 @@ module _ (k : Keep) (w : World) (held : IsHeld k w) where
       few = few_with 0 fits_none can
 
       pub placed : (ledger : Option (List Line)) → IsAccounted to ledger → (q : Request) → Step s q Done (put s x 0)
-          → IsPerformed s k.allocator (record w { table = to; ledger = ledger }) q (Ok Nothing)
+          → IsPerformed s k.numbers.present (record w { table = to; ledger = ledger }) q (Ok Nothing)
       placed ledger kept q step = (
-        record { sound = subst (λ y. IsSound y k.allocator) (put_none s to) (sound 0 fits_none can); kept = kept; may = tt },
+        record { sound = subst (λ y. IsSound y k.numbers.present) (put_none s to) (sound 0 fits_none can); kept = kept; may = tt },
         subst (Step s q Done) (put_none s to) (subst (λ t. Step s q Done (put s t 0)) (sym is) step),
       )
 
@@ -110,17 +110,17 @@ module _ (k : Keep) (w : World) (held : IsHeld k w) where
     freed : freeing ≡ (lose s to).now.freeing
     freed = joined_losses s to freeing lost.joined
 
-    lost_sound : IsSound (lose s to) k.allocator
-    lost_sound = commits.sound_lost s k.allocator held.sound to (subst (CanLose s) (sym is) can)
+    lost_sound : IsSound (lose s to) k.numbers.present
+    lost_sound = commits.sound_lost s k.numbers.present held.sound to (subst (CanLose s) (sym is) can)
 
     pub lost_few : set.len (union_of (world_of to)) < 2 ^ 32
-    lost_few = commits.few (lose s to) k.allocator lost_sound
+    lost_few = commits.few (lose s to) k.numbers.present lost_sound
 
     pub lost_placed : (ledger : Option (List Line)) → IsAccounted to ledger → (q : Request) → Step s q Done (lose s x)
-        → IsPerformed s k.allocator (record w { table = to; freeing = freeing; ledger = ledger }) q (Ok Nothing)
+        → IsPerformed s k.numbers.present (record w { table = to; freeing = freeing; ledger = ledger }) q (Ok Nothing)
     lost_placed ledger kept q step = (
       record {
-        sound = subst (λ (y : BlockSet). IsSound (with_now s (record (world_of to) { freeing = y })) k.allocator) (sym freed) lost_sound;
+        sound = subst (λ (y : BlockSet). IsSound (with_now s (record (world_of to) { freeing = y })) k.numbers.present) (sym freed) lost_sound;
         kept = kept;
         may = tt;
       },

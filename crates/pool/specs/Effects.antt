@@ -1,22 +1,26 @@
 -- What a request leads to, and what it leaves to be done beside its world.
-use Rattle.std.specs.Prelude.{ℕ, List, Result, Ok, Err, map, length}
+use Rattle.std.specs.Prelude.{◌≡◌, ℕ, List, Result, Ok, Err, map, length}
 use Rattle.base.specs.Surveys.{dead_block}
 use Rattle.base.specs.declared.refusal.Refusal.{Refusal}
 use Rattle.zalloc.specs.declared.BlockState.{BlockState}
 use Rattle.zalloc.specs.States.{after_group}
 use Rattle.tree.specs.Taking.{takes, AllFree}
 use Rattle.model.specs.Edits.{with_now}
+use Rattle.model.specs.Ids.{snap_id}
 use Rattle.model.specs.State.{State}
 use Rattle.model.specs.Step.{Step}
+use Rattle.model.specs.World.{World as OneWorld}
 use Rattle.model.specs.declared.request.Request.{Request}
 use Rattle.model.specs.declared.reply.Reply.{Reply}
+use Rattle.model.specs.declared.snapshot_id.SnapshotId.{SnapshotId}
+use Rattle.removals.specs.Requests.{IsSweptBut}
 use Rattle.model.specs.declared.reply.Reply.TheVariants.{Done, Refused, Count, Group}
 use Rattle.steps.specs.Edits.{closed}
 use Rattle.steps.specs.Settles.{AllAllocated, releases}
-use Rattle.pool.specs.Pools.{world_in, IsSound, IsKept}
+use Rattle.pool.specs.Pools.{world_in, synced_numbers, IsSound, IsKept}
 use Rattle.pool.specs.declared.worlds.World.{World}
 use Rattle.pool.specs.declared.effect.Effect.{Effect}
-use Rattle.pool.specs.declared.effect.Effect.TheVariants.{Nothing, Guids, Blocks, Taken, Synced, Closed}
+use Rattle.pool.specs.declared.effect.Effect.TheVariants.{Nothing, Guids, Blocks, Taken, Synced, Abandoned, Closed}
 
 -- the state once that is done beside its present world (profile)
 abbrev pub effected : State → Effect → State
@@ -24,28 +28,39 @@ effected s Nothing = s
 effected s (Guids next) = record s { next_guid = next }
 effected s (Blocks done) = s
 effected s (Taken taken) = s
-effected s (Synced last) = record s { last = world_in last }
+effected s (Synced last viewed) = record s { last = world_in last }
+effected s Abandoned = s
 effected s (Closed number) = closed s number
 
--- the states of all numbers then, where the last sync opened this group (profile)
-abbrev pub numbers_after : ℕ → List BlockState → Effect → List BlockState
-numbers_after g numbers Nothing = numbers
-numbers_after g numbers (Guids next) = numbers
-numbers_after g numbers (Blocks done) = takes (releases g numbers (map dead_block done.released.items)) (map (λ n. n.0) done.taken.items)
-numbers_after g numbers (Taken taken) = releases g numbers (map dead_block taken.items)
-numbers_after g numbers (Synced last) = map after_group numbers
-numbers_after g numbers (Closed number) = numbers
+-- the states of all numbers then, where the last sync left this world, in a pool of so many blocks (profile)
+abbrev pub numbers_after : OneWorld → ℕ → List BlockState → Effect → List BlockState
+numbers_after last size numbers Nothing = numbers
+numbers_after last size numbers (Guids next) = numbers
+numbers_after last size numbers (Blocks done) = takes (releases last.group numbers (map dead_block done.released.items)) (map (λ n. n.0) done.taken.items)
+numbers_after last size numbers (Taken taken) = releases last.group numbers (map dead_block taken.items)
+numbers_after last size numbers (Synced to viewed) = map after_group numbers
+numbers_after last size numbers Abandoned = synced_numbers size last
+numbers_after last size numbers (Closed number) = numbers
 
--- that can be done: what is released is Allocated, and what is taken Free, each when its turn comes; and the world that was synced has its
--- ledger (profile)
-abbrev pub MaySettle : ℕ → List BlockState → Effect → Type 0
-MaySettle g numbers Nothing = Unit {0}
-MaySettle g numbers (Guids next) = Unit {0}
-MaySettle g numbers (Blocks done) =
-    AllAllocated g numbers (map dead_block done.released.items) × AllFree (releases g numbers (map dead_block done.released.items)) (map (λ n. n.0) done.taken.items)
-MaySettle g numbers (Taken taken) = AllAllocated g numbers (map dead_block taken.items)
-MaySettle g numbers (Synced last) = IsKept last
-MaySettle g numbers (Closed number) = Unit {0}
+-- A world can be the last synced one, where views show these snapshots: it has its ledger, no other snapshot of it waits for a sweep, and it
+-- gives all numbers the states that they have once nothing waits (profile)
+pub record CanBeLast (size : ℕ) (numbers : List BlockState) (to : World) (viewed : List SnapshotId) : Type 0 where
+  pub kept : IsKept to
+  pub swept : IsSweptBut to.table (map snap_id viewed)
+  pub states : map after_group numbers ≡ synced_numbers size (world_in to)
+
+-- that can be done: what is released is Allocated, and what is taken Free, each when its turn comes; and what was synced can be the last
+-- synced world (profile)
+abbrev pub MaySettle : OneWorld → ℕ → List BlockState → Effect → Type 0
+MaySettle last size numbers Nothing = Unit {0}
+MaySettle last size numbers (Guids next) = Unit {0}
+MaySettle last size numbers (Blocks done) =
+    AllAllocated last.group numbers (map dead_block done.released.items)
+    × AllFree (releases last.group numbers (map dead_block done.released.items)) (map (λ n. n.0) done.taken.items)
+MaySettle last size numbers (Taken taken) = AllAllocated last.group numbers (map dead_block taken.items)
+MaySettle last size numbers (Synced to viewed) = CanBeLast size numbers to viewed.items
+MaySettle last size numbers Abandoned = Unit {0}
+MaySettle last size numbers (Closed number) = Unit {0}
 
 -- the reply to the request (profile)
 abbrev pub reply_of : Effect → Reply
@@ -53,14 +68,15 @@ reply_of Nothing = Done
 reply_of (Guids next) = Done
 reply_of (Blocks done) = Done
 reply_of (Taken taken) = Count (length taken.items)
-reply_of (Synced last) = Group last.table.group
+reply_of (Synced last viewed) = Group last.table.group
+reply_of Abandoned = Done
 reply_of (Closed number) = Done
 
 -- with this world in place and that done beside it, the pool is sound again (profile)
 pub record Settles (s : State) (numbers : List BlockState) (w : World) (e : Effect) : Type 0 where
-  pub sound : IsSound (effected (with_now s (world_in w)) e) (numbers_after s.last.group numbers e)
+  pub sound : IsSound (effected (with_now s (world_in w)) e) (numbers_after s.last s.size numbers e)
   pub kept : IsKept w
-  pub may : MaySettle s.last.group numbers e
+  pub may : MaySettle s.last s.size numbers e
 
 -- a request was done by that, or it was refused, as a step says (profile)
 abbrev pub IsPerformed : State → List BlockState → World → Request → Result Effect Refusal → Type 0

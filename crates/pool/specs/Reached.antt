@@ -1,7 +1,7 @@
 -- What a request reaches of trees and of dead lists.
 use Rattle.std.specs.Prelude.{◌≡◌, Bool, true, false}
 use Rattle.model.specs.declared.request.Request.{Request}
-use Rattle.model.specs.declared.request.Request.TheVariants.{Write, Punch, FreeObject, Rollback, Promote, Destroy, Release, Receive, CloseView, Slice, Get, WrittenSince, WouldFree}
+use Rattle.model.specs.declared.request.Request.TheVariants.{Write, Punch, FreeObject, Rollback, Promote, Destroy, Release, Receive, CloseView, Slice, Abandon, Get, WrittenSince, WouldFree}
 use Rattle.model.specs.declared.reply.Reply.{Reply}
 use Rattle.lookups.specs.Named.{reads_lists}
 use Rattle.steps.specs.Edits.{datasets_of}
@@ -34,6 +34,7 @@ reaches_lists (Destroy target recursive defer) = true
 reaches_lists (Release tag target) = true
 reaches_lists (Receive snapshot bytes force) = true
 reaches_lists (CloseView view) = true
+reaches_lists Abandon = true
 reaches_lists (Slice count) = true
 reaches_lists (Get target property) = reads_lists target property
 reaches_lists (WrittenSince target since) = true

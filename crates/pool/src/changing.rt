@@ -32,7 +32,7 @@ impl Keep {
     ) -> Result<Effect, Refusal>
         requires held { IsHeld self.now world.old }
         requires batch { IfOk update (λ u. IsBatch (u ∷ [])) }
-        ensures performed { (q : Request) → Asks q target.now update.entry → IsPerformed (state_in self.now world.old) self.now.allocator world.new q result }
+        ensures performed { (q : Request) → Asks q target.now update.entry → IsPerformed (state_in self.now world.old) self.now.numbers.present world.new q result }
         ensures unchanged { OnErr result (world.new ≡ world.old) }
     {
         let name = live_name(&world.table, target)?;
@@ -56,7 +56,7 @@ impl Keep {
             alloc,
             from_ref(&update),
             synced,
-            &self.allocator,
+            self.numbers.present(),
             &mut meters.blocks,
             &mut meters.segments,
         )?;

@@ -12,20 +12,20 @@ use base::name::{DsName, Target};
 use base::refusal::Refusal;
 use snap::clones::{clone_snapshot, promote};
 use std::alloc::Global;
-use steps::renew;
+use steps::add_line;
 
 impl Keep {
     /// Adds a file system of this name. At `Err` the world is as it was. It costs what `Table::create` does.
     pub(crate) fn create(&self, world: &mut World, name: &DsName) -> Result<Effect, Refusal>
         requires { IsHeld self.now world.old }
-        ensures performed { IsPerformed (state_in self.now world.old) self.now.allocator world.new (Request.Create name.now) result }
+        ensures performed { IsPerformed (state_in self.now world.old) self.now.numbers.present world.new (Request.Create name.now) result }
         ensures unchanged { OnErr result (world.new ≡ world.old) }
     {
         if let Some(refusal) = world.table.create_refusal(name) {
             return Err(refusal);
         }
         world.table.create(name)?;
-        renew(&mut world.ledger, &world.table);
+        add_line(&mut world.ledger, &world.table, name);
         Ok(Effect::Nothing)
     }
 
@@ -37,11 +37,11 @@ impl Keep {
         name: &DsName,
     ) -> Result<Effect, Refusal>
         requires { IsHeld self.now world.old }
-        ensures performed { IsPerformed (state_in self.now world.old) self.now.allocator world.new (Request.Clone target.now name.now) result }
+        ensures performed { IsPerformed (state_in self.now world.old) self.now.numbers.present world.new (Request.Clone target.now name.now) result }
         ensures unchanged { OnErr result (world.new ≡ world.old) }
     {
         clone_snapshot(&mut world.table, target, name)?;
-        renew(&mut world.ledger, &world.table);
+        add_line(&mut world.ledger, &world.table, name);
         Ok(Effect::Nothing)
     }
 
@@ -55,7 +55,7 @@ impl Keep {
         segments: &mut SegMeter,
     ) -> Result<Effect, Refusal>
         requires { IsHeld self.now world.old }
-        ensures performed { IsPerformed (state_in self.now world.old) self.now.allocator world.new (Request.Promote name.now) result }
+        ensures performed { IsPerformed (state_in self.now world.old) self.now.numbers.present world.new (Request.Promote name.now) result }
         ensures unchanged { OnErr result (world.old.ledger ≡ None → world.new ≡ world.old) }
     {
         promote(alloc, &mut world.table, name, segments)?;

@@ -1,5 +1,13 @@
 //! Destroys and rollbacks.
-ghost use Rattle.std.specs.Prelude.{◌≡◌, None, OnErr};
+ghost use Rattle.std.specs.Prelude.{◌≡◌, ◌<◌, ◌^◌, false, None, OnErr};
+ghost use Rattle.std.specs.FinSet as set;
+ghost use Rattle.base.specs.declared.name.member.Member.{Member};
+ghost use Rattle.base.specs.declared.name.target.Target.{Target};
+ghost use Rattle.model.specs.World.{union_of};
+ghost use Rattle.world.specs.Tables.{Datasets, world_of};
+ghost use Rattle.accounts.specs.Limits.{IsUnlimited};
+ghost use Rattle.steps.specs.Handed.{IsAccounted};
+ghost use Rattle.steps.specs.Limiting.{CanRecount};
 ghost use Rattle.model.specs.declared.request.Request.{Request};
 ghost use Rattle.pool.specs.Pools.{state_in, IsHeld};
 ghost use Rattle.pool.specs.Effects.{IsPerformed};
@@ -10,9 +18,10 @@ use crate::worlds::World;
 use base::meter::SegMeter;
 use base::name::Target;
 use base::refusal::Refusal;
+use datasets::Table;
 use removals::{destroy, rollback};
 use std::alloc::Global;
-use steps::renew;
+use steps::{Ledger, recount, renew};
 
 impl Keep {
     /// Destroys what the target names. At `Err` the world is as it was. It costs what `removals::destroy` does.
@@ -26,7 +35,7 @@ impl Keep {
         segments: &mut SegMeter,
     ) -> Result<Effect, Refusal>
         requires { IsHeld self.now world.old }
-        ensures performed { IsPerformed (state_in self.now world.old) self.now.allocator world.new (Request.Destroy target.now recursive defer) result }
+        ensures performed { IsPerformed (state_in self.now world.old) self.now.numbers.present world.new (Request.Destroy target.now recursive defer) result }
         ensures unchanged { OnErr result (world.new ≡ world.old) }
     {
         destroy(
@@ -40,7 +49,7 @@ impl Keep {
             segments,
         )?;
         world.table.facts();
-        renew(&mut world.ledger, &world.table);
+        follow_destroy(&mut world.ledger, &world.table, target, recursive);
         Ok(Effect::Nothing)
     }
 
@@ -55,7 +64,7 @@ impl Keep {
         segments: &mut SegMeter,
     ) -> Result<Effect, Refusal>
         requires { IsHeld self.now world.old }
-        ensures performed { IsPerformed (state_in self.now world.old) self.now.allocator world.new (Request.Rollback target.now later) result }
+        ensures performed { IsPerformed (state_in self.now world.old) self.now.numbers.present world.new (Request.Rollback target.now later) result }
         ensures unchanged { OnErr result (world.old.ledger ≡ None → world.new ≡ world.old) }
     {
         rollback(
@@ -71,5 +80,24 @@ impl Keep {
             Some(refusal) => Err(refusal),
             None => Ok(Effect::Nothing),
         }
+    }
+}
+
+// The ledger becomes that of these datasets, to which a destroy of that target has led: of one snapshot its file system alone has another
+// account, and of a bookmark none has. It takes no memory. For one snapshot it costs what `recount` does, for a bookmark nothing, and else what
+// `renew` does.
+fn follow_destroy(ledger: &mut Option<Ledger>, table: &Table, target: &Target, recursive: bool)
+    requires snapshot { (m : Member) → target.now ≡ Target.Snapshot m → recursive ≡ false → (old : Datasets) × CanRecount old table.now m.file_system ledger.old }
+    requires bookmark { (m : Member) → target.now ≡ Target.Bookmark m → IsAccounted table.now ledger.old }
+    requires unlimited { ledger.old ≡ None → IsUnlimited table.now.file_systems }
+    requires few { set.len (union_of (world_of table.now)) < 2 ^ 32 }
+    ensures { IsAccounted table.now ledger.new }
+{
+    match target {
+        Target::Snapshot(name) if !recursive => {
+            recount(ledger, table, &name.member().file_system);
+        }
+        Target::Bookmark(_) => {}
+        _ => renew(ledger, table),
     }
 }

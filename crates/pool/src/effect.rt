@@ -5,6 +5,7 @@ ghost use Rattle.pool.specs.Effects.{reply_of};
 use crate::worlds::World;
 use base::number::Dead;
 use model::reply::Reply;
+use model::snapshot_id::SnapshotId;
 use tree::Changed;
 
 /// What a request that has changed a world leaves to be done to all that stands beside it.
@@ -13,15 +14,28 @@ pub(crate) enum Effect {
     /// Nothing: the same blocks are reached.
     Nothing,
     /// The counter of guids goes on with this number.
-    Guids { next: u64 },
+    Guids {
+        next: u64,
+    },
     /// A live map has changed: blocks are released, and numbers taken.
-    Blocks { done: Changed },
+    Blocks {
+        done: Changed,
+    },
     /// Blocks were taken out of what is to be freed, and are released.
-    Taken { taken: Vec<Dead> },
-    /// The world is synced: this is the last synced one now, and what waits is free.
-    Synced { last: World },
+    Taken {
+        taken: Vec<Dead>,
+    },
+    /// The world is synced: this is the last synced one now, the open views show these snapshots, and what waits is free.
+    Synced {
+        last: World,
+        viewed: Vec<SnapshotId>,
+    },
+    /// The world is the last synced one again: each number has the state that it had then.
+    Abandoned,
     /// The view of this number is closed.
-    Closed { number: u64 },
+    Closed {
+        number: u64,
+    },
 }
 
 impl Effect {
@@ -31,7 +45,7 @@ impl Effect {
     {
         match self {
             Effect::Taken { taken } => Reply::Count(taken.len() as u64),
-            Effect::Synced { last } => Reply::Group(last.table.group().0),
+            Effect::Synced { last, .. } => Reply::Group(last.table.group().0),
             _ => Reply::Done,
         }
     }

@@ -1,28 +1,33 @@
 //! What stands beside the present world of a pool.
 ghost use Rattle.std.specs.Prelude.{◌≡◌, map};
 ghost use Rattle.base.specs.Surveys.{dead_block};
+ghost use Rattle.model.specs.Ids.{snap_id};
+ghost use Rattle.removals.specs.Requests.{IsSweptBut};
 ghost use Rattle.steps.specs.Settles.{AllAllocated, releases};
-ghost use Rattle.pool.specs.Pools.{state_in, AreBelow, IsKept};
+ghost use Rattle.tree.specs.Taking.{takes, AllFree};
+ghost use Rattle.pool.specs.Pools.{state_in, world_in, synced_numbers, AreBelow, IsKept};
 ghost use Rattle.pool.specs.Effects.{effected, numbers_after, MaySettle};
 
 use crate::effect::Effect;
 use crate::worlds::World;
 use base::meter::{Meter, SegMeter};
-use base::number::{Dead, Group};
-use tree::take_all;
+use base::number::{BlockNo, Dead, Group};
+use model::snapshot_id::SnapshotId;
 use views::Views;
-use zalloc::Allocator;
+use zalloc::Numbers;
 
 /// All that a pool keeps beside its present world.
 pub(crate) struct Keep {
     /// The world that the last sync left.
     pub(crate) last: World,
+    /// The snapshots that views showed then: a deferred destroy of one of them may have waited for its view alone.
+    pub(crate) viewed: Vec<SnapshotId>,
     pub(crate) views: Views,
     pub(crate) next_guid: u64,
     /// How many blocks the pool has.
     pub(crate) size: u32,
     pub(crate) id: u32,
-    pub(crate) allocator: Allocator,
+    pub(crate) numbers: Numbers,
 }
 
 // By hand, so that it is proved once: a derived one is laid out anew in each crate that drops the type.
@@ -30,15 +35,17 @@ impl Drop for Keep {
     fn drop(self) {
         let Keep {
             last,
+            viewed,
             views,
             next_guid: _,
             size: _,
             id: _,
-            allocator,
+            numbers,
         } = self;
         drop(last);
+        drop(viewed);
         drop(views);
-        drop(allocator);
+        drop(numbers);
     }
 }
 
@@ -59,11 +66,15 @@ impl Drop for Meters {
 
 impl Keep {
     /// Does what a request has left to be done once its world is in place; nothing else changes the states of numbers. It takes no memory. It
-    /// costs the blocks that are released and the numbers that are taken; a sync costs what waits, and what only the world before it reached.
+    /// costs the blocks that are released and the numbers that are taken; a sync costs what waits, and what only the world before it reached;
+    /// it and an abandon cost the numbers that have changed since the last sync.
     pub(crate) fn settle(&mut self, effect: Effect)
-        requires { MaySettle self.old.last.table.group self.old.allocator effect }
+        requires may { MaySettle (world_in self.old.last) self.old.size self.old.numbers.present effect }
+        requires synced { self.old.numbers.synced ≡ synced_numbers self.old.size (world_in self.old.last) }
         ensures state { (w : World) → state_in self.new w ≡ effected (state_in self.old w) effect }
-        ensures numbers { self.new.allocator ≡ numbers_after self.old.last.table.group self.old.allocator effect }
+        ensures numbers { self.new.numbers.present ≡ numbers_after (world_in self.old.last) self.old.size self.old.numbers.present effect }
+        ensures synced { self.new.numbers.synced ≡ synced_numbers self.new.size (world_in self.new.last) }
+        ensures swept { IsSweptBut self.old.last.table (map snap_id self.old.viewed.items) → IsSweptBut self.new.last.table (map snap_id self.new.viewed.items) }
         ensures kept { IsKept self.old.last → IsKept self.new.last }
         ensures below { AreBelow self.old.views.opened self.old.views.next → AreBelow self.new.views.opened self.new.views.next }
     {
@@ -71,27 +82,41 @@ impl Keep {
             Effect::Nothing => {}
             Effect::Guids { next } => self.next_guid = next,
             Effect::Blocks { done } => {
-                release_all(&mut self.allocator, &done.released, self.last.table.group());
-                take_all(&mut self.allocator, &done.taken);
+                release_all(&mut self.numbers, &done.released, self.last.table.group());
+                take_all(&mut self.numbers, &done.taken);
             }
             Effect::Taken { taken } => {
-                release_all(&mut self.allocator, &taken, self.last.table.group());
+                release_all(&mut self.numbers, &taken, self.last.table.group());
             }
-            Effect::Synced { last } => {
+            Effect::Synced { last, viewed } => {
                 self.last = last;
-                self.allocator.end_group();
+                self.viewed = viewed;
+                self.numbers.end_group();
             }
+            Effect::Abandoned => self.numbers.restore(),
             Effect::Closed { number } => self.views.close(number),
         }
     }
 }
 
 // Releases each of these blocks, to wait where it was born before the group.
-fn release_all(allocator: &mut Allocator, released: &[Dead], group: Group)
-    requires { AllAllocated group.0 allocator.old (map dead_block released.now) }
-    ensures { allocator.new ≡ releases group.0 allocator.old (map dead_block released.now) }
+fn release_all(numbers: &mut Numbers, released: &[Dead], group: Group)
+    requires { AllAllocated group.0 numbers.old.present (map dead_block released.now) }
+    ensures present { numbers.new.present ≡ releases group.0 numbers.old.present (map dead_block released.now) }
+    ensures synced { numbers.new.synced ≡ numbers.old.synced }
 {
     for dead in released {
-        allocator.release(dead.block, dead.birth.0 < group.0);
+        numbers.release(dead.block, dead.birth.0 < group.0);
+    }
+}
+
+// Takes each of these numbers.
+fn take_all(numbers: &mut Numbers, taken: &[BlockNo])
+    requires { AllFree numbers.old.present (map (λ n. n.0) taken.now) }
+    ensures present { numbers.new.present ≡ takes numbers.old.present (map (λ n. n.0) taken.now) }
+    ensures synced { numbers.new.synced ≡ numbers.old.synced }
+{
+    for number in taken {
+        numbers.take(*number);
     }
 }

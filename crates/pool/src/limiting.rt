@@ -33,9 +33,9 @@ impl Keep {
     pub(crate) fn space(&self, freeing: u64) -> Space
         ensures size { result.size ≡ self.now.size }
         ensures freeing { result.freeing ≡ freeing }
-        ensures waiting { result.waiting ≡ count_by is_waiting self.now.allocator }
+        ensures waiting { result.waiting ≡ count_by is_waiting self.now.numbers.present }
     {
-        let waiting = self.allocator.counts().waiting;
+        let waiting = self.numbers.present().counts().waiting;
         Space {
             size: self.size,
             freeing,
@@ -52,7 +52,7 @@ impl Keep {
         ensures ledger { IsAccounted world.old.table world.new.ledger }
         ensures none { world.old.ledger ≡ None → result ≡ None }
         ensures bare { world.old.ledger ≡ None → world.new.ledger ≡ None }
-        ensures over { (s : State) → IsSound s self.now.allocator → s.size ≡ self.now.size → (world.old.ledger ≡ None → IsUnlimited s.now.file_systems) → IsOver s world.old.table (set.len world.old.freeing) result }
+        ensures over { (s : State) → IsSound s self.now.numbers.present → s.size ≡ self.now.size → (world.old.ledger ≡ None → IsUnlimited s.now.file_systems) → IsOver s world.old.table (set.len world.old.freeing) result }
     {
         let space = self.space(world.freeing.len());
         over(&mut world.ledger, &world.table, space)
@@ -77,7 +77,7 @@ impl Keep {
             &world.ledger,
             &world.table,
             space,
-            self.allocator.counts(),
+            self.numbers.present().counts(),
             request,
             &mut meters.blocks,
             &mut meters.segments,
@@ -94,7 +94,7 @@ impl Keep {
         amount: Option<Blocks>,
     ) -> Result<Effect, Refusal>
         requires { IsHeld self.now world.old }
-        ensures performed { IsPerformed (state_in self.now world.old) self.now.allocator world.new (Request.Set name.now limit amount) result }
+        ensures performed { IsPerformed (state_in self.now world.old) self.now.numbers.present world.new (Request.Set name.now limit amount) result }
         ensures unchanged { OnErr result (world.new ≡ world.old) }
     {
         let space = self.space(world.freeing.len());

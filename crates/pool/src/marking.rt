@@ -12,7 +12,7 @@ use base::name::{MarkName, Tag, Target};
 use base::refusal::Refusal;
 use marks::{bookmark, hold, release};
 use std::alloc::Global;
-use steps::renew;
+use steps::recount;
 
 impl Keep {
     /// Gives a snapshot a tag. At `Err` the world is as it was. It costs what `marks::hold` does.
@@ -24,11 +24,10 @@ impl Keep {
         target: &Target,
     ) -> Result<Effect, Refusal>
         requires { IsHeld self.now world.old }
-        ensures performed { IsPerformed (state_in self.now world.old) self.now.allocator world.new (Request.Hold tag.now target.now) result }
+        ensures performed { IsPerformed (state_in self.now world.old) self.now.numbers.present world.new (Request.Hold tag.now target.now) result }
         ensures unchanged { OnErr result (world.new ≡ world.old) }
     {
         hold(alloc, &mut world.table, target, tag)?;
-        renew(&mut world.ledger, &world.table);
         Ok(Effect::Nothing)
     }
 
@@ -42,7 +41,7 @@ impl Keep {
         segments: &mut SegMeter,
     ) -> Result<Effect, Refusal>
         requires { IsHeld self.now world.old }
-        ensures performed { IsPerformed (state_in self.now world.old) self.now.allocator world.new (Request.Release tag.now target.now) result }
+        ensures performed { IsPerformed (state_in self.now world.old) self.now.numbers.present world.new (Request.Release tag.now target.now) result }
         ensures unchanged { OnErr result (world.new ≡ world.old) }
     {
         release(
@@ -54,7 +53,10 @@ impl Keep {
             tag,
             segments,
         )?;
-        renew(&mut world.ledger, &world.table);
+        let Target::Snapshot(name) = target else {
+            unreachable!()
+        };
+        recount(&mut world.ledger, &world.table, &name.member().file_system);
         Ok(Effect::Nothing)
     }
 
@@ -67,11 +69,10 @@ impl Keep {
         mark: &MarkName,
     ) -> Result<Effect, Refusal>
         requires { IsHeld self.now world.old }
-        ensures performed { IsPerformed (state_in self.now world.old) self.now.allocator world.new (Request.Bookmark target.now mark.now) result }
+        ensures performed { IsPerformed (state_in self.now world.old) self.now.numbers.present world.new (Request.Bookmark target.now mark.now) result }
         ensures unchanged { OnErr result (world.new ≡ world.old) }
     {
         bookmark(alloc, &mut world.table, target, mark)?;
-        renew(&mut world.ledger, &world.table);
         Ok(Effect::Nothing)
     }
 }

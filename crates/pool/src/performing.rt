@@ -27,7 +27,7 @@ impl Keep {
         requires held { IsHeld self.now world.old }
         requires no_question { kind_of request.now ≢ Kind.Question }
         requires no_view { kind_of request.now ≢ Kind.View }
-        ensures performed { IsPerformed (state_in self.now world.old) self.now.allocator world.new request.now result }
+        ensures performed { IsPerformed (state_in self.now world.old) self.now.numbers.present world.new request.now result }
         ensures nodes { changes_blocks request.now ≡ false → meters.new.blocks ≡ meters.old.blocks }
         ensures segments { reaches_lists request.now ≡ false → meters.new.segments ≡ meters.old.segments }
         ensures unchanged { OnErr result ((kind_of request.now ≡ Kind.Change) ⊎ (world.old.ledger ≡ None) → world.new ≡ world.old) }
@@ -92,7 +92,8 @@ impl Keep {
             } => self.receive(alloc, world, snapshot, bytes, *force, meters),
             Request::CloseView { view } => self.close(alloc, world, *view, &mut meters.segments),
             Request::Slice { count } => self.slice(world, *count, meters),
-            Request::Sync => self.sync(world),
+            Request::Sync => self.sync(alloc, world),
+            Request::Abandon => self.abandon(alloc, world, &mut meters.segments),
             _ => unreachable!(),
         }
     }

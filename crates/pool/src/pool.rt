@@ -29,7 +29,7 @@ use std::marker::Model;
 use std::snapshot::Snapshot;
 use toll::Toll;
 use views::Views;
-use zalloc::{Allocator, MOST_BLOCKS};
+use zalloc::{MOST_BLOCKS, Numbers};
 
 /// A pool of blocks with its file systems and snapshots. Contracts see its state, and the state of each block number.
 pub struct Pool {
@@ -118,17 +118,18 @@ impl Pool {
         ensures meters { IfOk result (λ p. (p.nodes ≡ 0) × (p.segments ≡ 0)) }
         ensures only { IfErr result (λ e. e ≡ Refusal.NoMemory) }
     {
-        let allocator = Allocator::new(alloc, blocks)?;
+        let numbers = Numbers::new(alloc, blocks)?;
         let present = World::new(alloc)?;
         let last = present.copy()?;
         let views = Views::new(alloc)?;
         let keep = Keep {
             last,
+            viewed: Vec::new(alloc),
             views,
             next_guid: 1,
             size: blocks,
             id,
-            allocator,
+            numbers,
         };
         let meters = Meters {
             blocks: Meter::new(Toll::new()),
@@ -223,7 +224,7 @@ impl Pool {
     }
 
     /// Does what was just prepared. It takes no memory. It costs the blocks that it releases and takes; a sync costs what waits, and what only
-    /// the world before it reached.
+    /// the world before it reached; it and an abandon cost the numbers that have changed since the last sync.
     pub fn commit(&mut self, ready: Ready)
         requires { ready.from ≡ self.old }
         ensures to { self.new.state ≡ ready.to }
@@ -245,7 +246,7 @@ impl Pool {
     /// destroyed, several snapshots, a rollback and a receive are made on a copy, which costs a count for each file system, and so is a
     /// snapshot and a promote where a file system has a limit. A name costs the logarithm of the number of file systems, and a snapshot's also
     /// that of the number of its file system's snapshots. A write or a punch costs the path to its leaf, and to free an object its nodes; a
-    /// sync costs a count for each file system; each other request costs what the function says that makes it, as `Table::create`,
+    /// sync and an abandon cost a count for each file system; each other request costs what the function says that makes it, as `Table::create`,
     /// `snap::clones::promote`, `removals::destroy`. What only reads costs what `steps::answer` says, and the opening of a view what
     /// `sources::sources_of` does.
     pub fn apply(&mut self, alloc: Global, request: &Request) -> Reply

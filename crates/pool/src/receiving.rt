@@ -25,14 +25,14 @@ impl Keep {
         meters: &mut Meters,
     ) -> Result<Effect, Refusal>
         requires { IsHeld self.now world.old }
-        ensures performed { IsPerformed (state_in self.now world.old) self.now.allocator world.new (Request.Receive snapshot.now bytes.now force) result }
+        ensures performed { IsPerformed (state_in self.now world.old) self.now.numbers.present world.new (Request.Receive snapshot.now bytes.now force) result }
         ensures unchanged { OnErr result (world.new ≡ world.old) }
     {
         let present = Present {
             table: &world.table,
             freeing: &world.freeing,
             synced: self.last.table.group(),
-            allocator: &self.allocator,
+            allocator: self.numbers.present(),
             size: self.size,
             is_limited: world.ledger.is_some(),
         };

@@ -23,7 +23,7 @@ impl Keep {
         recursive: bool,
     ) -> Result<Effect, Refusal>
         requires { IsHeld self.now world.old }
-        ensures performed { IsPerformed (state_in self.now world.old) self.now.allocator world.new (Request.Snapshot names.now recursive) result }
+        ensures performed { IsPerformed (state_in self.now world.old) self.now.numbers.present world.new (Request.Snapshot names.now recursive) result }
         ensures unchanged { OnErr result (world.old.ledger ≡ None → world.new ≡ world.old) }
     {
         let guids = Guids {

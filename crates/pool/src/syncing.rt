@@ -1,4 +1,4 @@
-//! Syncs and slices.
+//! Syncs, slices, and the way back to the last synced world.
 ghost use Rattle.std.specs.Prelude.{◌≡◌, OnErr};
 ghost use Rattle.model.specs.declared.request.Request.{Request};
 ghost use Rattle.pool.specs.Pools.{state_in, IsHeld};
@@ -6,28 +6,58 @@ ghost use Rattle.pool.specs.Effects.{IsPerformed};
 
 use crate::effect::Effect;
 use crate::keep::{Keep, Meters};
-use crate::worlds::World;
+use crate::worlds::{World, copy_of};
+use base::meter::SegMeter;
 use base::refusal::Refusal;
 use destroyer::Slice;
+use removals::Edit;
+use std::alloc::Global;
+use steps::renew;
 
 /// The last group, which no sync closes (profile).
 const LAST_GROUP: u64 = 9223372036854775807;
 
 impl Keep {
     /// Closes the open group: a copy of the world in its next group is to be the last synced one. At `Err` the world is as it was. It costs
-    /// what `World::copy` does.
-    pub(crate) fn sync(&self, world: &mut World) -> Result<Effect, Refusal>
+    /// what `World::copy` does, and the number of open views.
+    pub(crate) fn sync(&self, alloc: Global, world: &mut World) -> Result<Effect, Refusal>
         requires { IsHeld self.now world.old }
-        ensures performed { IsPerformed (state_in self.now world.old) self.now.allocator world.new Request.Sync result }
+        ensures performed { IsPerformed (state_in self.now world.old) self.now.numbers.present world.new Request.Sync result }
         ensures unchanged { OnErr result (world.new ≡ world.old) }
     {
         if world.table.group().0 >= LAST_GROUP {
             return Err(Refusal::TooMany);
         }
+        let viewed = self.views.viewed(alloc)?;
         let mut last = world.copy()?;
         last.table.close_group();
         world.table.close_group();
-        Ok(Effect::Synced { last })
+        Ok(Effect::Synced { last, viewed })
+    }
+
+    /// Puts the last synced datasets in the place of those of this world, with what was to be freed then, and lets the snapshots go that only
+    /// a view had kept. Busy where a view is open. At `Err` the world is as it was. It costs what `Edit::of` does, the number of file systems
+    /// times its logarithm where one has a limit, and for each snapshot that a view showed at the last sync what `Edit::sweep` does.
+    pub(crate) fn abandon(
+        &self,
+        alloc: Global,
+        world: &mut World,
+        segments: &mut SegMeter,
+    ) -> Result<Effect, Refusal>
+        requires { IsHeld self.now world.old }
+        ensures performed { IsPerformed (state_in self.now world.old) self.now.numbers.present world.new Request.Abandon result }
+        ensures unchanged { OnErr result (world.new ≡ world.old) }
+    {
+        if self.views.len() > 0 {
+            return Err(Refusal::Busy);
+        }
+        let mut edit = Edit::of(&self.last.table, &self.last.freeing)?;
+        edit.sweep(alloc, &self.views, &self.viewed, segments)?;
+        let ledger = copy_of(&self.last.ledger)?;
+        edit.put(&mut world.table, &mut world.freeing);
+        world.ledger = ledger;
+        renew(&mut world.ledger, &world.table);
+        Ok(Effect::Abandoned)
     }
 
     /// Takes so many blocks out of those that are to be freed. At `Err` the world is as it was. It costs what `Freeing::slice` does.
@@ -38,7 +68,7 @@ impl Keep {
         meters: &mut Meters,
     ) -> Result<Effect, Refusal>
         requires { IsHeld self.now world.old }
-        ensures performed { IsPerformed (state_in self.now world.old) self.now.allocator world.new (Request.Slice count) result }
+        ensures performed { IsPerformed (state_in self.now world.old) self.now.numbers.present world.new (Request.Slice count) result }
         ensures unchanged { OnErr result (world.new ≡ world.old) }
     {
         let slice = world

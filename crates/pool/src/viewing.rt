@@ -67,7 +67,7 @@ impl Keep {
         segments: &mut SegMeter,
     ) -> Result<Effect, Refusal>
         requires { IsHeld self.now world.old }
-        ensures performed { IsPerformed (state_in self.now world.old) self.now.allocator world.new (Request.CloseView number) result }
+        ensures performed { IsPerformed (state_in self.now world.old) self.now.numbers.present world.new (Request.CloseView number) result }
         ensures unchanged { OnErr result (world.new ≡ world.old) }
     {
         if self.views.find(number).is_none() {

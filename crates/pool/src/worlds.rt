@@ -67,8 +67,8 @@ impl World {
     }
 }
 
-// A copy of the ledger, where there is one. NoMemory where there is none for it.
-fn copy_of(ledger: &Option<Ledger>) -> Result<Option<Ledger>, Refusal>
+/// A copy of the ledger, where there is one. NoMemory where there is none for it. It costs the number of file systems.
+pub(crate) fn copy_of(ledger: &Option<Ledger>) -> Result<Option<Ledger>, Refusal>
     ensures ok { IfOk result (λ l. l ≡ ledger.now) }
     ensures err { IfErr result (λ e. e ≡ Refusal.NoMemory) }
 {

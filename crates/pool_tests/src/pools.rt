@@ -74,6 +74,7 @@ fn prepared_and_left(rt: HostRuntime) {
     assert!(rt;
         leaves(&rt, alloc, write_of(&rt, alloc))
             && leaves(&rt, alloc, Request::Sync)
+            && leaves(&rt, alloc, Request::Abandon)
             && leaves(&rt, alloc, creation_of(&rt, alloc))
     );
 }
@@ -188,4 +189,40 @@ fn refused_memory_changes_nothing(rt: HostRuntime) {
     let write = write_of(&rt, alloc);
     let creation = creation_of(&rt, alloc);
     assert!(rt; is_tried_or_refused(alloc, write, creation));
+}
+
+/// Whether a request is done.
+fn is_done(alloc: Global, pool: &mut Pool, request: Request) -> bool {
+    let reply = pool.apply(alloc, &request);
+    let done = reply.same(&Reply::Done);
+    drop(request);
+    drop(reply);
+    done
+}
+
+/// Whether a pool that was written to is as it was made once it has gone back, and as it was written where it hasn't.
+fn goes_back_or_stays(alloc: Global, pool: &mut Pool, write: Request) -> bool {
+    let written = is_done(alloc, pool, write);
+    let gone = is_done(alloc, pool, Request::Abandon);
+    let empty = answers(alloc, pool, allocated(), Reply::Value(Value::Size(0)));
+    empty == (gone || !written)
+}
+
+/// Whether a pool goes back or stays, or is refused memory itself.
+fn goes_back_or_is_refused(alloc: Global, write: Request) -> bool {
+    match Pool::create(alloc, 1, 12) {
+        Ok(mut pool) => goes_back_or_stays(alloc, &mut pool, write),
+        Err(refusal) => {
+            drop(write);
+            refusal.same(Refusal::NoMemory)
+        }
+    }
+}
+
+/// Run it with each allocation refused in turn: an abandon that is refused memory leaves the pool as it is.
+#[test]
+fn refused_memory_is_no_way_back(rt: HostRuntime) {
+    let alloc = rt.alloc();
+    let write = write_of(&rt, alloc);
+    assert!(rt; goes_back_or_is_refused(alloc, write));
 }

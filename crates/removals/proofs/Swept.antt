@@ -24,8 +24,8 @@ use Rattle.world.proofs.lists.Listed.{in_map}
 use Rattle.world.proofs.removals.Sweep.{get-with_file_systems}
 use Rattle.world.proofs.removals.WithoutSnaps.{get-without, from_without, without_twice, without_none}
 use Rattle.removals.specs.Named.{has_clone, is_held, is_kept, has_clone_named}
-use Rattle.removals.specs.Families.{ArePartOf, unneeded, without_unneeded, removed_origin, without_origin, without_origins}
-use Rattle.removals.specs.Requests.{swept, destroyed, IsSweptBy}
+use Rattle.removals.specs.Families.{ArePartOf, unneeded, without_unneeded, without_each, removed_origin, without_origin, without_origins}
+use Rattle.removals.specs.Requests.{swept, destroyed, IsSweptBut, IsSweptBy}
 use Rattle.removals.proofs.Clones.{uncloned_is, is_uncloned}
 use Rattle.removals.proofs.Closed.{filter_alike, named_at}
 use Rattle.removals.proofs.Needed.{not_true, needed_is, kept_parts, if_due, unneeded_parts}
@@ -243,6 +243,50 @@ module _ (t u : Datasets) (part : ArePartOf u t) (views : Views) (clean : IsSwep
   pub all_swept : IsOneToAnId u → without_origins u views (entries t.file_systems) ≡ swept u views
   all_swept once = rows_swept (entries t.file_systems) u once views
       ∙ ap (λ ss. record u { file_systems = ss }) (same_gone (world_of u) (λ s. list_any (is_gone_origin u s) (entries t.file_systems) && is_due u views s) (λ s. s.deferred && not (is_needed (world_of u) views s)) each)
+
+-- ---- those of a list
+
+each_out : (ids : List SnapId) (t : Datasets) → IsOneToAnId t → (views : Views) → without_each t views ids ≡ without t (λ u. list_any (same_id (id_of u)) ids && is_due t views u)
+each_out [] t once views = sym (none_without t (λ u. false) (λ n f u at i. refl))
+each_out (id ∷ ids) t once views =
+    ap (λ v. without_each v views ids) (one_swept t once views id)
+    ∙ each_out ids (without t first) (once_left t once first) views
+    ∙ (λ i. without (without t first) (λ u. list_any (same_id (id_of u)) ids && due_stays t first views u i))
+    ∙ ap (λ ss. record t { file_systems = ss })
+    (without_twice (world_of t) first (λ u. list_any (same_id (id_of u)) ids && is_due t views u) (λ u. list_any (same_id (id_of u)) (id ∷ ids) && is_due t views u)
+    (λ u. either (same_id (id_of u) id) (list_any (same_id (id_of u)) ids) (is_due t views u)))
+  where
+    first : Snap → Bool
+    first u = same_id (id_of u) id && is_due t views u
+
+    either : (a b d : Bool) → (not (a && d) && not (b && d)) ≡ not ((a || b) && d)
+    either true b true = refl
+    either true true false = refl
+    either true false false = refl
+    either false b d = refl
+
+module _ (t : Datasets) (once : IsOneToAnId t) (views : Views) (ids : List SnapId) (clean : IsSweptBut t ids) where
+  -- those that are due are of the list
+  all_due : (n : Name) (f : FileSystem) (u : Snap) → get t.file_systems n ≡ Some f → IsIn f.snaps u
+      → (list_any (same_id (id_of u)) ids && is_due t views u) ≡ (u.deferred && not (is_needed (world_of t) views u))
+  all_due n f u at i = by_parts u.deferred (is_kept t views u) (list_any (same_id (id_of u)) ids)
+      (λ d. widen (nat_lt 0 (length u.tags)) (is_viewed views (id_of u)) (has_clone t (id_of u)) (list_any (same_id (id_of u)) ids) (clean n f u at i d))
+      ∙ sym (ap (λ b. u.deferred && not b) (needed_is t views u))
+    where
+      widen : (a v c l : Bool) → (a || (c || l)) ≡ true → (((a || v) || c) || l) ≡ true
+      widen true v c l h = refl
+      widen false true c l h = refl
+      widen false false c l h = h
+
+      by_parts : (d k l : Bool) → (d ≡ true → (k || l) ≡ true) → (l && (d && not k)) ≡ (d && not k)
+      by_parts false k l h = and_false l
+      by_parts true true l h = and_false l
+      by_parts true false true h = refl
+      by_parts true false false h = absurd (true≢false (sym (h refl)))
+
+  pub each_swept : without_each t views ids ≡ swept t views
+  each_swept = each_out ids t once views
+      ∙ ap (λ ss. record t { file_systems = ss }) (same_gone (world_of t) (λ u. list_any (same_id (id_of u)) ids && is_due t views u) (λ u. u.deferred && not (is_needed (world_of t) views u)) all_due)
 
 -- ---- a destroy of snapshots leaves nothing to sweep
 

@@ -58,6 +58,11 @@ unneeded t views id = option_and_then (λ p. if p.1.deferred && not (is_kept t v
 abbrev pub without_unneeded : Datasets → Views → SnapId → Datasets
 without_unneeded t views id = option_map_or (λ p. without_snap t (id_of p.1)) (unneeded t views id) t
 
+-- the datasets without those of these identities, one after another, and the same where there is none (zfs-destroy(8), -d)
+abbrev pub without_each : Datasets → Views → List SnapId → Datasets
+without_each t views [] = t
+without_each t views (id ∷ ids) = without_each (without_unneeded t views id) views ids
+
 -- the origin of a file system that isn't there any more (zfs-destroy(8))
 abbrev pub removed_origin : Datasets → Entry → Option SnapId
 removed_origin t r = if is_some (get t.file_systems r.0) then None else r.1.origin

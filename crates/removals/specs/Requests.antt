@@ -1,5 +1,5 @@
 -- What a rollback, a destroy and the close of a view leave of datasets, and why the first two are refused.
-use Rattle.std.specs.Prelude.{◌≡◌, ◌&&◌, ◌||◌, ℕ, List, Bool, true, not, Option, None, Some, if◌then◌else◌, nat_lt}
+use Rattle.std.specs.Prelude.{◌≡◌, ◌&&◌, ◌||◌, ℕ, List, Bool, true, not, Option, None, Some, if◌then◌else◌, nat_lt, length}
 use Rattle.std.specs.List.{list_any}
 use Rattle.std.specs.FinMap.{get, remove}
 use Rattle.std.specs.Option.{option_and_then}
@@ -10,7 +10,7 @@ use Rattle.base.specs.declared.name.member.Member.{Member}
 use Rattle.base.specs.declared.name.target.Target.{Target}
 use Rattle.datasets.specs.Origins.{origin_group}
 use Rattle.datasets.specs.Writes.{newest_group}
-use Rattle.model.specs.World.{FileSystem, Snap}
+use Rattle.model.specs.World.{FileSystem, Snap, SnapId, id_of, same_id}
 use Rattle.model.specs.State.{Views}
 use Rattle.model.specs.Edits.{with_file_system, without_snaps}
 use Rattle.model.specs.Outcome.{is_needed}
@@ -19,7 +19,7 @@ use Rattle.model.specs.requests.Rollback.{rolled_back, back_row}
 use Rattle.model.specs.requests.Destroy.{file_systems_named, without_file_systems, after_destroy, destroy_row}
 use Rattle.world.specs.Tables.{Datasets, world_of}
 use Rattle.snapshots.specs.Marks.{Marks, has_newer}
-use Rattle.removals.specs.Named.{is_held_after, has_clone_and_is_later}
+use Rattle.removals.specs.Named.{is_held_after, has_clone, has_clone_and_is_later}
 use Rattle.removals.specs.Families.{unneeded}
 
 -- the datasets after a rollback (zfs-rollback(8))
@@ -66,6 +66,12 @@ swept t views = record t { file_systems = (without_snaps (world_of t) (λ u. u.d
 -- deferred and no tag, no other view and no clone needs it (zfs-destroy(8), -d)
 abbrev pub gone_with : Datasets → Views → ℕ → Option (List ℕ × Snap)
 gone_with t views number = option_and_then (unneeded t (remove views number)) (get views number)
+
+-- each snapshot whose destroy is deferred has a tag or a clone, or is one of these (zfs-destroy(8), -d)
+abbrev pub IsSweptBut : Datasets → List SnapId → Type 0
+IsSweptBut t ids =
+    (name : List ℕ) (f : FileSystem) (u : Snap) → get t.file_systems name ≡ Some f → IsIn f.snaps u → u.deferred ≡ true
+    → (nat_lt 0 (length u.tags) || (has_clone t (id_of u) || list_any (same_id (id_of u)) ids)) ≡ true
 
 -- each snapshot whose destroy is deferred is needed: there is nothing to sweep (zfs-destroy(8), -d)
 abbrev pub IsSweptBy : Datasets → Views → Type 0

@@ -79,9 +79,7 @@ fn placed<'a>(table: &'a Table, name: &Member) -> Option<(&'a FileSystem, &'a Sn
     ensures found { option_map (λ p. (p.0.now.system, p.1.now)) result ≡ placed (world_of table.now) (Target.Snapshot name.now) }
     ensures named { IfSome result (λ p. p.0.now.name ≡ name.now.file_system) }
 {
-    let file_system = table.find(&name.file_system)?;
-    let snapshot = file_system.snapshot_named(name.component.as_bytes())?;
-    Some((file_system, snapshot))
+    table.snapshot_named(&name.file_system, &name.component)
 }
 
 // Whether this file system has a snapshot or a bookmark of a later group. It costs the number of its bookmarks.

@@ -1,5 +1,5 @@
 //! The deferred snapshots that go with their last clones.
-ghost use Rattle.std.specs.Prelude.{◌≡◌, IfErr, OnOk};
+ghost use Rattle.std.specs.Prelude.{◌≡◌, IfErr, OnOk, map};
 ghost use Rattle.std.specs.Option.{option_map};
 ghost use Rattle.base.specs.declared.refusal.Refusal.{Refusal};
 ghost use Rattle.datasets.specs.Rows.{entry_of};
@@ -9,7 +9,7 @@ ghost use Rattle.world.specs.Sets.{AreDisjoint};
 ghost use Rattle.world.specs.Tables.{world_of};
 ghost use Rattle.removals.specs.Edits.{HasLost};
 ghost use Rattle.removals.specs.Families.{ArePartOf, unneeded, removed_origin, without_origin, without_unneeded};
-ghost use Rattle.removals.specs.Requests.{swept, IsSweptBy};
+ghost use Rattle.removals.specs.Requests.{swept, IsSweptBut, IsSweptBy};
 
 use crate::edit::{Edit, member};
 use base::meter::SegMeter;
@@ -88,6 +88,31 @@ fn remove_unneeded_origin(
     match removed_origin(&edit.to, file_system) {
         Some(id) => lose_unneeded(edit, alloc, views, id, segments),
         None => Ok(()),
+    }
+}
+
+impl Edit {
+    /// Lets those of these snapshots go whose destroy is deferred and that no tag, no open view and no clone needs, where no other snapshot
+    /// waits for that (zfs-destroy(8), -d). NoMemory where there is none for it, and then the edit is of no use. It costs for each of them
+    /// what `unneeded` does and, where it goes, what `Edit::remove_snapshot` does.
+    pub fn sweep(
+        &mut self,
+        alloc: Global,
+        views: &Views,
+        ids: &[SnapshotId],
+        segments: &mut SegMeter,
+    ) -> Result<(), Refusal>
+        requires apart { AreDisjoint (union_of (world_of self.old.to)) self.old.freeing }
+        requires swept { IsSweptBut self.old.to (map snap_id ids.now) }
+        ensures ok { OnOk result (self.new.to ≡ swept self.old.to views.now.opened) }
+        ensures lost { OnOk result (HasLost self.old.to self.old.freeing self.new.to self.new.freeing) }
+        ensures err { IfErr result (λ e. e ≡ Refusal.NoMemory) }
+    {
+        self.to.facts();
+        for id in ids {
+            lose_unneeded(self, alloc, views, *id, segments)?;
+        }
+        Ok(())
     }
 }
 

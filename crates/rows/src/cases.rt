@@ -1,7 +1,8 @@
 //! Cases: they are read from the lines of a file, and asked of fresh pools.
 use crate::asked::{Asked, Way};
 use crate::texts::Texts;
-use anyhow::{Context, Result, bail};
+use crate::walks::Walk;
+use anyhow::{Context, Result};
 use std::alloc::Global;
 use std::{fmt, str};
 
@@ -29,6 +30,7 @@ impl fmt::Display for Tally {
 struct Case {
     name: String,
     pools: Vec<Asked>,
+    walk: Walk,
     lines: u32,
     is_wrong: bool,
 }
@@ -47,6 +49,7 @@ impl Case {
         Ok(Case {
             name,
             pools,
+            walk: Walk::new(alloc),
             lines: 0,
             is_wrong: false,
         })
@@ -62,6 +65,24 @@ impl Case {
                 let (name, way) = (&self.name, pool.way().text());
                 let (line, came, wanted) = (text_of(line), text_of(&printed), text_of(wanted));
                 println!(rt; "{name}, {way}: {line}\n  came   {came}\n  wanted {wanted}")?;
+            }
+        }
+        Ok(())
+    }
+
+    /// Takes so many steps of the walk in each way, by numbers from this one on, and prints where it was when a way back missed its end.
+    fn walk(&mut self, rt: &impl Print, seed: u32, steps: u32) -> Result<()> {
+        self.lines = self.lines.saturating_add(steps);
+        for pool in &mut self.pools {
+            let missed = self.walk.take(pool, seed, steps)?;
+            if let Some(taken) = missed
+                && !self.is_wrong
+            {
+                self.is_wrong = true;
+                let (name, way) = (&self.name, pool.way().text());
+                println!(rt;
+                    "{name}, {way}: the walk by {seed} came back to something else after {taken} steps"
+                )?;
             }
         }
         Ok(())
@@ -147,10 +168,33 @@ impl Cases {
         if let Some(bounds) = line.strip_prefix("meters ") {
             return self.measure(rt, bounds);
         }
+        if let Some(numbers) = line.strip_prefix("walk ") {
+            return self.walk(rt, numbers);
+        }
+        if let Some(step) = line.strip_prefix("step ") {
+            let line = self.texts.filled(step, 0)?;
+            return self.case()?.walk.add_step(line);
+        }
+        if let Some(question) = line.strip_prefix("ask ") {
+            let line = self.texts.filled(question, 0)?;
+            return self.case()?.walk.add_question(line);
+        }
         match line.strip_prefix("for ") {
             Some(rows) => self.run_repeated(rt, rows),
             None => self.run_row(rt, line, 0),
         }
+    }
+
+    /// The case that is being run.
+    fn case(&mut self) -> Result<&mut Case> {
+        self.current.as_mut().context("no case has begun")
+    }
+
+    /// Takes `7 500`, so many steps of a walk by numbers from the first on.
+    fn walk(&mut self, rt: &impl Print, numbers: &str) -> Result<()> {
+        let (seed, steps) = numbers.split_once(' ').context("a number of steps")?;
+        let (seed, steps) = (seed.parse::<u32>()?, steps.parse::<u32>()?);
+        self.case()?.walk(rt, seed, steps)
     }
 
     /// Runs `1 to 256: row`, the row for each of these numbers.
@@ -169,10 +213,7 @@ impl Cases {
         let (line, reply) = row.split_once(" => ").context("a line and its reply")?;
         let line = self.texts.filled(line, number)?;
         let wanted = self.texts.wanted(reply, number)?;
-        match &mut self.current {
-            Some(case) => case.ask(rt, &line, &wanted),
-            None => bail!("a row stands before any case"),
-        }
+        self.case()?.ask(rt, &line, &wanted)
     }
 
     /// Looks at what the row above has reached: `6 36 3` for 6 to 36 nodes, and 3 segments at most.
@@ -182,10 +223,7 @@ impl Cases {
             .split_once(' ')
             .context("a greatest number of segments")?;
         let (least, most) = (least.parse::<u64>()?, most.parse::<u64>()?);
-        match &mut self.current {
-            Some(case) => case.measure(rt, least, most, few.parse::<u64>()?),
-            None => bail!("meters stand before any case"),
-        }
+        self.case()?.measure(rt, least, most, few.parse::<u64>()?)
     }
 
     /// Counts the case that was run, where there is one.

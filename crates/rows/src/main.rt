@@ -8,6 +8,8 @@
 //! | `pool 1000 1: a name` | a case begins, of a fresh pool of so many blocks with this id |
 //! | `list => p` | a script line and its reply, which may be `61..`, or `silent` where there is none |
 //! | `for 1 to 256: hold t{} p@s => ok` | the row for each of these numbers, which stand for `{}` |
+//! | `step write p 0 0 61`, `ask list` | the case's walks may take the one line, and ask the other |
+//! | `walk 7 500` | 500 of its steps are taken, by numbers from 7 on: after each `abandon` that is done its questions are answered as they were after the last `sync` |
 //! | `meters 6 36 3` | the row above reached 6 nodes of trees at least and 36 at most, and 3 segments of dead lists at most |
 //!
 //! In a row `{0x7f}` stands for that byte. Each case is asked of one pool by `apply`, and of another by `prepare` and then `commit`. Of a case
@@ -17,6 +19,7 @@
 mod asked;
 mod cases;
 mod texts;
+mod walks;
 
 use anyhow::{Context, Result};
 use cases::{Cases, Tally};

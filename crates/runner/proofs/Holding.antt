@@ -5,7 +5,7 @@ use Rattle.std.specs.List.{list_any, position, position_or_len, prefix_len}
 use Rattle.std.specs.List.Sorted.{IsPermutation}
 use Rattle.std.proofs.lemmas.List.Sorted.{IsPermutation-refl}
 use Rattle.model.specs.declared.request.Request.{Request}
-use Rattle.model.specs.declared.request.Request.TheVariants.{Create, Write, Punch, FreeObject, Snapshot, Read, Get, PoolGet, List as ToList, Rollback, Destroy, Slice, Sync, OpenView, CloseView, Clone, Promote, Hold, Release, Holds, Bookmark, WrittenSince, WouldFree, Set, Send, Receive}
+use Rattle.model.specs.declared.request.Request.TheVariants.{Create, Write, Punch, FreeObject, Snapshot, Read, Get, PoolGet, List as ToList, Rollback, Destroy, Slice, Sync, Abandon, OpenView, CloseView, Clone, Promote, Hold, Release, Holds, Bookmark, WrittenSince, WouldFree, Set, Send, Receive}
 use Rattle.model.specs.declared.reply.Reply.{Reply}
 use Rattle.model.specs.declared.reply.Reply.TheVariants.{Done, Refused, Data, Value, Group, Names, Count, Opened, Stream}
 use Rattle.session.specs.ViewCalls.{is_of_views}
@@ -27,6 +27,7 @@ same_held (Rollback target later) r held e = IsPermutation-refl held
 same_held (Destroy target recursive defer) r held e = IsPermutation-refl held
 same_held (Slice count) r held e = IsPermutation-refl held
 same_held Sync r held e = IsPermutation-refl held
+same_held Abandon r held e = IsPermutation-refl held
 same_held (OpenView target) r held e = absurd (cc e)
 same_held (CloseView view) r held e = absurd (cc e)
 same_held (Clone target name) r held e = IsPermutation-refl held

@@ -5,7 +5,7 @@ use Rattle.std.specs.List.Sorted.{IsPermutation}
 use Rattle.base.specs.declared.refusal.Refusal.{Refusal}
 use Rattle.base.specs.declared.refusal.Refusal.TheVariants.{NoView}
 use Rattle.model.specs.declared.request.Request.{Request}
-use Rattle.model.specs.declared.request.Request.TheVariants.{Create, Write, Punch, FreeObject, Snapshot, Read, Get, PoolGet, List as ToList, Rollback, Destroy, Slice, Sync, OpenView, CloseView, Clone, Promote, Hold, Release, Holds, Bookmark, WrittenSince, WouldFree, Set, Send, Receive}
+use Rattle.model.specs.declared.request.Request.TheVariants.{Create, Write, Punch, FreeObject, Snapshot, Read, Get, PoolGet, List as ToList, Rollback, Destroy, Slice, Sync, Abandon, OpenView, CloseView, Clone, Promote, Hold, Release, Holds, Bookmark, WrittenSince, WouldFree, Set, Send, Receive}
 use Rattle.model.specs.declared.reply.Reply.{Reply}
 use Rattle.model.specs.declared.reply.Reply.TheVariants.{Done, Refused, Data, Value, Group, Names, Count, Opened, Stream}
 use Rattle.model.specs.declared.entry.Entry.{Entry}
@@ -53,6 +53,7 @@ opened_by (Rollback target later) r = []
 opened_by (Destroy target recursive defer) r = []
 opened_by (Slice count) r = []
 opened_by Sync r = []
+opened_by Abandon r = []
 opened_by (OpenView target) r = where_opened r
 opened_by (CloseView view) r = []
 opened_by (Clone target name) r = []
@@ -82,6 +83,7 @@ closed_by (Rollback target later) r = []
 closed_by (Destroy target recursive defer) r = []
 closed_by (Slice count) r = []
 closed_by Sync r = []
+closed_by Abandon r = []
 closed_by (OpenView target) r = []
 closed_by (CloseView view) r = where_done view r
 closed_by (Clone target name) r = []

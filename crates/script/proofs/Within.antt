@@ -12,7 +12,7 @@ use Rattle.base.specs.declared.refusal.Refusal.TheVariants.{BadName, NoMemory}
 use Rattle.base.specs.declared.name.member.Member.{Member}
 use Rattle.base.specs.declared.name.target.Target.{Target}
 use Rattle.base.specs.declared.name.target.Target.TheVariants.{FileSystem, Snapshot, Bookmark}
-use Rattle.base.specs.Names.{is_name_byte, is_component, is_name, is_mark, is_member, member_at, whole_length}
+use Rattle.base.specs.Names.{is_name_byte, is_component, is_name, is_mark, is_member, member_at, name_limit, whole_length}
 use Rattle.base.specs.Reading.{name_of, component_of, target_of, target_at, snap_in, snap_of}
 use Rattle.model.specs.declared.request.Request.TheVariants.{WrittenSince, WouldFree}
 use Rattle.script.specs.Words.{file_system_of, within, word_within, snap_within}
@@ -75,7 +75,7 @@ before_mark [] after h = refl
 before_mark (b ∷ fs) after h = one_more b fs after (eqb b 47) (before_mark fs after) refl h
 
 name_bytes : (fs : List ℕ) → is_name fs ≡ true → list_all (list_all is_name_byte) (slice_split (λ b. eqb b 47) fs) ≡ true
-name_bytes fs h = at (nat_lt 255 (length fs)) h
+name_bytes fs h = at (nat_lt name_limit (length fs)) h
   where
     at : (long : Bool) → cond long false (list_all is_component (slice_split (λ b. eqb b 47) fs)) ≡ true → list_all (list_all is_name_byte) (slice_split (λ b. eqb b 47) fs) ≡ true
     at true e = absurd (false≢true e)
@@ -108,14 +108,14 @@ snap_of-whole fs word h =
     ap (λ o. snap_in (target_at bs o)) (mark_after fs word h)
     ∙ ap (λ m. snap_in (cond (is_member bs m) (cond (eqb (get_or bs (length fs) 0) 64) (Some (Snapshot m)) (Some (Bookmark m))) None)) (member_of fs word)
     ∙ ap (λ b. snap_in (cond (is_member bs (within fs word)) (cond b (Some (Snapshot (within fs word))) (Some (Bookmark (within fs word)))) None)) mark
-    ∙ ap (λ b. snap_in (cond (cond (nat_lt 255 (length bs)) false (cond b (is_component word) false)) (Some (Snapshot (within fs word))) None)) h
-    ∙ ap (λ k. snap_in (cond (cond (nat_lt 255 k) false (is_component word)) (Some (Snapshot (within fs word))) None)) n
-    ∙ whole_if fs word (nat_lt 255 (whole_length (within fs word))) (is_component word)
+    ∙ ap (λ b. snap_in (cond (cond (nat_lt name_limit (length bs)) false (cond b (is_component word) false)) (Some (Snapshot (within fs word))) None)) h
+    ∙ ap (λ k. snap_in (cond (cond (nat_lt name_limit k) false (is_component word)) (Some (Snapshot (within fs word))) None)) n
+    ∙ whole_if fs word (nat_lt name_limit (whole_length (within fs word))) (is_component word)
 
 -- ---- a target's file system
 
 member_name : (bs : List ℕ) (m : Member) → is_member bs m ≡ true → is_name m.file_system ≡ true
-member_name bs m h = at (nat_lt 255 (length bs)) (is_name m.file_system) refl h
+member_name bs m h = at (nat_lt name_limit (length bs)) (is_name m.file_system) refl h
   where
     at : (long good : Bool) → is_name m.file_system ≡ good → cond long false (cond good (is_component m.component) false) ≡ true → is_name m.file_system ≡ true
     at true good e k = absurd (false≢true k)

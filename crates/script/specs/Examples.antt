@@ -7,7 +7,7 @@ use Rattle.base.specs.declared.name.target.Target.TheVariants.{FileSystem, Snaps
 use Rattle.model.specs.declared.request.Property.TheVariants.{Used, Available, Referenced, Written, UsedByDataset, UsedBySnapshots, UsedByChildren, UsedByRefReservation, Quota, RefQuota, Reservation, RefReservation, Guid, CreateTxg, Origin, Clones, UserRefs, DeferDestroy}
 use Rattle.model.specs.declared.limits.Limit.TheVariants as limits
 use Rattle.model.specs.declared.request.PoolProperty.TheVariants.{Free, Freeing}
-use Rattle.model.specs.declared.request.Request.TheVariants.{Create, Write, Punch, FreeObject, Snapshot as TakeSnapshots, Read, Get, PoolGet, List as ListNames, Rollback, Destroy, Slice, Sync, OpenView, CloseView, Clone, Promote, Hold, Release, Holds, Bookmark as MakeBookmark, WrittenSince, WouldFree, Set, Send, Receive}
+use Rattle.model.specs.declared.request.Request.TheVariants.{Create, Write, Punch, FreeObject, Snapshot as TakeSnapshots, Read, Get, PoolGet, List as ListNames, Rollback, Destroy, Slice, Sync, Abandon, OpenView, CloseView, Clone, Promote, Hold, Release, Holds, Bookmark as MakeBookmark, WrittenSince, WouldFree, Set, Send, Receive}
 use Rattle.model.specs.declared.reply.Reply.TheVariants.{Done, Refused, Value as ValueIs, Group, Names, Count, Opened, Stream}
 use Rattle.model.specs.declared.reply.Value.TheVariants.{Size, Named, Truth}
 use Rattle.script.specs.Lines.{lines}
@@ -152,6 +152,8 @@ pub record WorkedLines : Type 0 where
   pub list : meaning (codes "list") ≡ Asks ListNames
   pub sync : meaning (codes "sync") ≡ Asks Sync
   pub sync_extra : meaning (codes "sync extra") ≡ Faulty BadLine
+  pub abandon : meaning (codes "abandon") ≡ Asks Abandon
+  pub abandon_extra : meaning (codes "abandon x") ≡ Faulty BadLine
   pub free : meaning (codes "pget free") ≡ Asks (PoolGet Free)
   pub freeing : meaning (codes "pget freeing") ≡ Asks (PoolGet Freeing)
   pub no_such_property : meaning (codes "pget nothing") ≡ Faulty BadLine

@@ -9,7 +9,7 @@ use Rattle.base.specs.declared.name.member.Member.{Member}
 use Rattle.base.specs.declared.name.target.Target.{Target}
 use Rattle.base.specs.Reading.{name_of, snap_of, mark_of, tag_of, target_of}
 use Rattle.model.specs.declared.request.Request.{Request}
-use Rattle.model.specs.declared.request.Request.TheVariants.{Create, Write, Punch, FreeObject, Snapshot, Read, Get, PoolGet, List as ListNames, Rollback, Destroy, Slice, Sync, OpenView, CloseView, Clone, Promote, Hold, Release, Holds, Bookmark, WrittenSince, WouldFree, Set, Send, Receive}
+use Rattle.model.specs.declared.request.Request.TheVariants.{Create, Write, Punch, FreeObject, Snapshot, Read, Get, PoolGet, List as ListNames, Rollback, Destroy, Slice, Sync, Abandon, OpenView, CloseView, Clone, Promote, Hold, Release, Holds, Bookmark, WrittenSince, WouldFree, Set, Send, Receive}
 use Rattle.script.specs.Lines.{line_limit}
 use Rattle.script.specs.Words.{is_printable, words_of, is_word, number_of_word, block_of_word, bytes_of_word, property_of_word, pool_property_of_word, at_equals, limit_of_word, amount_of_word, since_word, file_system_of, word_within, snap_within}
 
@@ -194,7 +194,7 @@ receive_of operands = received_of (has_option (codes "-F") operands) (after_opti
 unfoldable pub pool_get_of : List (List ℕ) → Meaning
 pool_get_of operands = shaped (one_of operands) (λ w. shaped (pool_property_of_word w) (λ property. Asks (PoolGet property)))
 
--- `list`, `sync`: a request without operands (profile)
+-- `list`, `sync`, `abandon`: a request without operands (profile)
 abbrev pub bare : Request → List (List ℕ) → Meaning
 bare request [] = Asks request
 bare request (word ∷ words) = Faulty BadLine
@@ -217,6 +217,7 @@ command_of command operands =
     else if bytes_eq command (codes "promote") then name_request_of Promote operands
     else if bytes_eq command (codes "slice") then number_request_of Slice operands
     else if bytes_eq command (codes "sync") then bare Sync operands
+    else if bytes_eq command (codes "abandon") then bare Abandon operands
     else if bytes_eq command (codes "view") then target_request_of OpenView operands
     else if bytes_eq command (codes "unview") then number_request_of CloseView operands
     else if bytes_eq command (codes "hold") then tag_request_of Hold operands

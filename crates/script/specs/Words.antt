@@ -9,7 +9,7 @@ use Rattle.hex.specs.declared.error.FromHexError.{FromHexError}
 use Rattle.base.specs.declared.name.member.Member.{Member}
 use Rattle.base.specs.declared.name.target.Target.{Target}
 use Rattle.base.specs.declared.name.target.Target.TheVariants.{FileSystem, Snapshot, Bookmark}
-use Rattle.base.specs.Names.{whole_length}
+use Rattle.base.specs.Names.{name_limit, whole_length}
 use Rattle.base.specs.Reading.{component_of}
 use Rattle.model.specs.declared.limits.Limit.{Limit}
 use Rattle.model.specs.declared.limits.Limit.TheVariants as limits
@@ -143,7 +143,7 @@ within file_system word = record { file_system = file_system; component = word }
 
 -- WORD: one component, which with the file system's name and the `@` is at most 255 bytes (zfs(8); the limit is profile)
 unfoldable pub word_within : List ℕ → List ℕ → Option (List ℕ)
-word_within file_system word = if nat_lt 255 (whole_length (within file_system word)) then None else component_of word
+word_within file_system word = if nat_lt name_limit (whole_length (within file_system word)) then None else component_of word
 
 -- the snapshot that WORD names within a file system (zfs(8))
 abbrev pub snap_within : List ℕ → List ℕ → Option Member

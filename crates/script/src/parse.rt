@@ -98,6 +98,8 @@ fn other_command_at(
         slice(operands)
     } else if command == b"sync".as_slice() {
         sync(operands)
+    } else if command == b"abandon".as_slice() {
+        abandon(operands)
     } else if command == b"view".as_slice() {
         open_view(alloc, operands)
     } else if command == b"unview".as_slice() {
@@ -453,6 +455,14 @@ fn sync(operands: Option<&[u8]>) -> Result<Request, Refusal>
 {
     no_operand(operands)?;
     Ok(Request::Sync)
+}
+
+#[inline(never)]
+fn abandon(operands: Option<&[u8]>) -> Result<Request, Refusal>
+    ensures { Means result (bare Request.Abandon (words_left (option_copied operands.entry))) }
+{
+    no_operand(operands)?;
+    Ok(Request::Abandon)
 }
 
 #[tactic(auto, unfolding(crate::specs::Words::pool_property_of_word))]

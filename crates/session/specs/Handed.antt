@@ -4,4 +4,3 @@ pub use Rattle.session.specs.Entered.{is_opened}
 pub use Rattle.session.specs.History.{IsLegal}
 pub use Rattle.session.specs.Receipts.{Placed, Kept, kept_code}
 pub use Rattle.session.specs.Whole.{IsAnswered}
-pub use Rattle.session.specs.declared.book.book.TheConstants.{CALL_LIMIT}

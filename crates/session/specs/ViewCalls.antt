@@ -2,7 +2,7 @@
 use Rattle.std.specs.Prelude.{◌≡◌, ◌≢◌, Bool, true, false}
 use Rattle.base.specs.declared.name.target.Target.{Target}
 use Rattle.model.specs.declared.request.Request.{Request}
-use Rattle.model.specs.declared.request.Request.TheVariants.{Create, Write, Punch, FreeObject, Snapshot, Read, Get, PoolGet, List, Rollback, Destroy, Slice, Sync, OpenView, CloseView, Clone, Promote, Hold, Release, Holds, Bookmark, WrittenSince, WouldFree, Set, Send, Receive}
+use Rattle.model.specs.declared.request.Request.TheVariants.{Create, Write, Punch, FreeObject, Snapshot, Read, Get, PoolGet, List, Rollback, Destroy, Slice, Sync, Abandon, OpenView, CloseView, Clone, Promote, Hold, Release, Holds, Bookmark, WrittenSince, WouldFree, Set, Send, Receive}
 use Rattle.model.specs.declared.reply.Reply.TheVariants.{Opened as TheOpened, Done}
 use Rattle.session.specs.Entering.{Ran, IsFullOrNoMemory}
 use Rattle.session.specs.Entered.{is_opened}
@@ -28,6 +28,7 @@ is_of_views (Rollback target later) = false
 is_of_views (Destroy target recursive defer) = false
 is_of_views (Slice count) = false
 is_of_views Sync = false
+is_of_views Abandon = false
 is_of_views (OpenView target) = true
 is_of_views (CloseView view) = true
 is_of_views (Clone target name) = false

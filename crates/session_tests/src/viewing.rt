@@ -362,9 +362,9 @@ fn views_by_themselves(rt: HostRuntime) {
 // A view is opened by `open_view` alone. One that is forgotten leaves the snapshot busy, until the pool itself closes it.
 fn opens_and_forgets<K: Opening, R: Wait + Abort>(rt: &R, alloc: Global, pool: Pool)
     requires opening { pool.state ≡ K.opening }
-    requires limit { 5 ≡ K.limit }
+    requires limit { 6 ≡ K.limit }
 {
-    let session: Session<K> = opened(rt, alloc, pool, 5);
+    let session: Session<K> = opened(rt, alloc, pool, 6);
     let mut seat = seat_of(rt, alloc, &session);
     let taken = takes_a_snapshot(rt, alloc, &session, &mut seat);
     let none = runs_nothing(rt, alloc, &session, &mut seat);
@@ -378,10 +378,19 @@ fn opens_and_forgets<K: Opening, R: Wait + Abort>(rt: &R, alloc: Global, pool: P
         4,
         Wanted::Refused(Refusal::Busy),
     );
+    let barred = runs(
+        rt,
+        alloc,
+        &session,
+        &mut seat,
+        Ok(Request::Abandon),
+        5,
+        Wanted::Refused(Refusal::Busy),
+    );
     let full = finds_no_room(rt, alloc, &session, &mut seat);
     let kept = is_handed_back(rt, alloc, &session, &mut seat, view);
     let ended = ends_by_itself(rt, alloc, session.end(), seat);
-    assert!(rt; taken && none && refused && busy && full && kept && ended);
+    assert!(rt; taken && none && refused && busy && barred && full && kept && ended);
 }
 
 // Whether a call and a batch of requests on views run nothing.
@@ -451,7 +460,8 @@ fn is_handed_back<K: Opening, R: Wait>(
     }
 }
 
-// Whether the pool itself closes view 1 once the session has ended, and then destroys its snapshot.
+// Whether the pool itself closes view 1 once the session has ended, and only then destroys its snapshot and goes back to its last synced
+// world.
 fn ends_by_itself<K: Opening>(
     rt: &impl Abort,
     alloc: Global,
@@ -470,16 +480,21 @@ fn ends_by_itself<K: Opening>(
 
 fn closes_and_destroys(rt: &impl Abort, alloc: Global, pool: &mut Pool) -> bool {
     let destroy = destroy_of(alloc, b"p@s").expect(rt, "memory");
-    let busy = pool.apply(alloc, &destroy);
-    let closed = pool.apply(alloc, &Request::CloseView { view: 1 });
-    let gone = pool.apply(alloc, &destroy);
+    let busy = Reply::Refused(Refusal::Busy);
+    let same = is_answered(alloc, pool, &destroy, &busy)
+        && is_answered(alloc, pool, &Request::Abandon, &busy)
+        && is_answered(alloc, pool, &Request::CloseView { view: 1 }, &Reply::Done)
+        && is_answered(alloc, pool, &destroy, &Reply::Done)
+        && is_answered(alloc, pool, &Request::Abandon, &Reply::Done);
     drop(destroy);
-    let same = busy.same(&Reply::Refused(Refusal::Busy))
-        && closed.same(&Reply::Done)
-        && gone.same(&Reply::Done);
     drop(busy);
-    drop(closed);
-    drop(gone);
+    same
+}
+
+fn is_answered(alloc: Global, pool: &mut Pool, request: &Request, wanted: &Reply) -> bool {
+    let reply = pool.apply(alloc, request);
+    let same = reply.same(wanted);
+    drop(reply);
     same
 }
 

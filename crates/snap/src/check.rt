@@ -11,7 +11,7 @@ ghost use Rattle.world.specs.Tables.{world_of};
 ghost use Rattle.snap.specs.Taking.{naming_row};
 
 use crate::named::Named;
-use base::name::{NAME_LIMIT, SnapName};
+use base::name::SnapName;
 use base::refusal::Refusal;
 use datasets::Table;
 use std::alloc::Global;
@@ -40,20 +40,11 @@ pub fn any_missing(table: &Table, names: &[SnapName]) -> bool
     names.iter().any(|name| is_missing(table, name))
 }
 
-// Whether the whole name, as `p/a@s`, is too long. Constant time.
-fn is_too_long(name: &Named) -> bool
-    ensures { result ≡ nat_lt name_limit (whole_length name.now) }
-{
-    let file_system = name.file_system.as_bytes().len();
-    let component = name.component.as_bytes().len();
-    file_system >= NAME_LIMIT || component >= NAME_LIMIT - file_system
-}
-
 // Whether one of the names is too long. It costs their number.
 fn any_too_long(all: &[Named]) -> bool
     ensures { result ≡ list_any (λ m. nat_lt name_limit (whole_length m)) all.now }
 {
-    all.iter().any(|name| is_too_long(name))
+    all.iter().any(|name| name.is_too_long())
 }
 
 // Whether a snapshot of this name is there. It costs the logarithm of the number of file systems, and that of the number of snapshots

@@ -1,11 +1,13 @@
 //! What the names of a request stand for.
-ghost use Rattle.std.specs.Prelude.{◌≡◌, ◌++◌, IfOk, IfErr, OnOk, map};
+ghost use Rattle.std.specs.Prelude.{◌≡◌, ◌++◌, IfOk, IfErr, OnOk, map, nat_lt};
 ghost use Rattle.std.specs.Arc.{arc_value};
 ghost use Rattle.std.specs.List.{filter};
+ghost use Rattle.base.specs.Names.{whole_length};
+ghost use Rattle.model.specs.Targets.{name_limit};
 ghost use Rattle.datasets.specs.Rows.{Row};
 ghost use Rattle.snap.specs.Taking.{all_of, is_in_family};
 
-use base::name::{Component, DsName, Member, SnapName};
+use base::name::{Component, DsName, Member, NAME_LIMIT, SnapName};
 use base::refusal::Refusal;
 use datasets::{FileSystem, Table};
 use std::alloc::Global;
@@ -25,6 +27,17 @@ impl<'a> Model for Named<'a> {
     ghost Value = { Member };
 
     ghost view = { λ n. record { file_system = n.file_system.now; component = n.component.now } };
+}
+
+impl<'a> Named<'a> {
+    /// Whether the whole name, as `p/a@s`, has more than 255 bytes (zfs(8); the limit is profile). Constant time.
+    pub(crate) fn is_too_long(&self) -> bool
+        ensures { result ≡ nat_lt name_limit (whole_length self.now) }
+    {
+        let file_system = self.file_system.as_bytes().len();
+        let component = self.component.as_bytes().len();
+        file_system >= NAME_LIMIT || component >= NAME_LIMIT - file_system
+    }
 }
 
 /// Whether the name is the ancestor's own or a descendant's (zfs-destroy(8), -r). It costs the length of the ancestor's name.

@@ -6,7 +6,7 @@ use Rattle.std.specs.Coded.{Coded, coded_ℕ, coded_list}
 use Rattle.std.specs.declared.alloc.Global.{Global}
 use Rattle.std.specs.declared.sync.Arc.{Arc}
 use Rattle.std.specs.FinMap as finmap
-use Rattle.std.specs.FinMap.{FinMap, entries, values, len, from_entries}
+use Rattle.std.specs.FinMap.{FinMap, entries, values, from_entries}
 use Rattle.base.specs.Names.{name_cmp}
 use Rattle.model.specs.declared.snapshot_id.SnapshotId.{SnapshotId}
 use Rattle.model.specs.Codes.{bookmark_code}

@@ -5,11 +5,11 @@ pub mod bookmarks;
 mod by_name;
 pub mod holds;
 mod kept;
-mod line;
 mod parts;
 mod snapshot;
+mod snapshot_list;
 
 pub use by_name::ByName;
 pub use kept::Kept;
-pub use line::Line;
 pub use snapshot::Snapshot;
+pub use snapshot_list::SnapshotList;

@@ -9,17 +9,21 @@ ghost use Rattle.snapshots.specs.Index.{IsIndex, AreNamesOnce};
 
 use crate::by_name::ByName;
 use crate::kept::Kept;
-use crate::line::{Line, copy_of_index, forget};
+use crate::snapshot_list::{SnapshotList, copy_of_index, forget};
 use base::refusal::Refusal;
 use shared_list::SharedList;
 use std::alloc::Global;
 use std::sync::Arc;
 
-impl Line {
+impl SnapshotList {
     /// The first `count` of them, and the others, where each name is one snapshot's. It costs the number of chunks, which is a 32nd of that
     /// of the snapshots or less, and for each snapshot of the smaller part the logarithm of their number and at most three chunks of an
     /// index. NoMemory where there is none for it.
-    pub fn split_at(&self, alloc: Global, count: usize) -> Result<(Line, Line), Refusal>
+    pub fn split_at(
+        &self,
+        alloc: Global,
+        count: usize,
+    ) -> Result<(SnapshotList, SnapshotList), Refusal>
         requires there { count ≤ length self.now }
         requires once { AreNamesOnce self.now }
         ensures first { IfOk result (λ parts. parts.0 ≡ take count self.now) }
@@ -30,11 +34,11 @@ impl Line {
         let rest = first.split_off(count)?;
         let index = copy_of_index(&self.by_name)?;
         let (of_first, of_rest) = parted(alloc, index, &first, &rest)?;
-        let first = Line {
+        let first = SnapshotList {
             kept: first,
             by_name: of_first,
         };
-        let rest = Line {
+        let rest = SnapshotList {
             kept: rest,
             by_name: of_rest,
         };
@@ -44,7 +48,7 @@ impl Line {
     /// These and the others after them, where each name is one snapshot's. It costs the number of chunks, which is a 32nd of that of the
     /// snapshots or less, and for each snapshot of the smaller part the logarithm of the number of all and at most a chunk of an index.
     /// NoMemory where there is none for it.
-    pub fn joined(&self, others: &Line) -> Result<Line, Refusal>
+    pub fn joined(&self, others: &SnapshotList) -> Result<SnapshotList, Refusal>
         requires once { AreNamesOnce (self.now ++ others.now) }
         ensures ok { IfOk result (λ all. all ≡ self.now ++ others.now) }
         ensures err { IfErr result (λ e. e ≡ Refusal.NoMemory) }
@@ -53,7 +57,7 @@ impl Line {
         let mut kept = self.kept.copy()?;
         let mut others = others.kept.copy()?;
         kept.append(&mut others)?;
-        Ok(Line { kept, by_name })
+        Ok(SnapshotList { kept, by_name })
     }
 }
 
@@ -90,7 +94,7 @@ fn alone(alloc: Global, kept: &SharedList<Kept>) -> Result<Option<ByName>, Refus
 }
 
 // The index of these and the others after them, from that of the greater part.
-fn index_of_both(line: &Line, others: &Line) -> Result<Option<ByName>, Refusal>
+fn index_of_both(line: &SnapshotList, others: &SnapshotList) -> Result<Option<ByName>, Refusal>
     requires { AreNamesOnce (line.now ++ others.now) }
     ensures ok { IfOk result (λ b. IsIndex b (line.now ++ others.now)) }
     ensures err { IfErr result (λ e. e ≡ Refusal.NoMemory) }

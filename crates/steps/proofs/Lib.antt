@@ -3,3 +3,4 @@ pub mod quotas
 pub mod questions
 pub mod requests
 pub mod asked
+pub mod ledgers

@@ -1,5 +1,7 @@
 pub mod Creating
 pub mod Syncing
+pub mod Sweeping
+pub mod Abandoning
 pub mod Planning
 pub mod Changing
 pub mod Fresh

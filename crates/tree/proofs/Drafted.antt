@@ -24,7 +24,7 @@ use Rattle.batch.specs.Touch.{touched, stays, claims, released, claim_of, own_bl
 use Rattle.batch.specs.Updates.{changes_of}
 use Rattle.batch.specs.declared.draft.Draft.{Draft}
 use Rattle.batch.specs.declared.numbers.NewBlock.{NewBlock}
-use Rattle.batch.specs.declared.plan.Claim.{Claim}
+use Rattle.batch.specs.declared.findings.Claim.{Claim}
 use Rattle.batch.specs.declared.update.Update.{Update}
 use Rattle.batch.proofs.Batch.{IsAsked, claim_keys_once, released_to, released_from, released_blocks_once}
 use Rattle.batch.proofs.Filled.{claim_key, new_key, filled_has, placed_keys}

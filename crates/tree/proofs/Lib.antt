@@ -12,3 +12,4 @@ pub mod BranchKeys
 pub mod BranchBlocks
 pub mod Putting
 pub mod Contents
+pub mod Told

@@ -19,7 +19,7 @@ use Rattle.tree.specs.Change.{Shown, IsChange}
 use Rattle.batch.specs.Room.{IsKept}
 use Rattle.tree.specs.ChangeParts.{made_pair}
 use Rattle.batch.specs.declared.update.Update.{Update}
-use Rattle.batch.specs.declared.plan.Claim.{Claim}
+use Rattle.batch.specs.declared.findings.Claim.{Claim}
 use Rattle.batch.specs.declared.numbers.NewBlock.{NewBlock}
 use Rattle.node.specs.Entries.{key_at}
 use Rattle.node.specs.Shape.{Part}

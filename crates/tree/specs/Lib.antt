@@ -13,3 +13,5 @@ pub mod BranchCode
 pub mod BranchParts
 pub mod Others
 pub mod Blocks
+pub mod Bytes
+pub mod Telling

@@ -1,9 +1,13 @@
 -- What reading a key reaches.
-use Rattle.std.specs.Prelude.{ℕ, zero, suc, ◌+◌, ◌-◌, cond, nat_le, is_some}
+use Rattle.std.specs.Prelude.{ℕ, zero, suc, ◌+◌, ◌-◌, ◌/◌, ◌^◌, cond, nat_le, is_some}
 use Rattle.std.specs.FinMap.{get}
 use Rattle.base.specs.declared.number.Key.{Key}
 use Rattle.base.specs.Key.{parent}
 use Rattle.base.specs.Map.{Map}
+
+-- the key of a level over a leaf (On-Disk Specification, chapter 3)
+abbrev pub key_over : ℕ → ℕ → Key
+key_over leaf l = record { level = l; index = leaf / 16 ^ l }
 
 -- how many of a key and its next n ancestors are present (On-Disk Specification, chapter 3)
 abbrev pub present_up : ℕ → Map → Key → ℕ

@@ -1,6 +1,7 @@
 //! Shared versions of a dataset's tree of blocks.
 #![tactic(auto)]
 
+mod block;
 mod build;
 mod change;
 mod copy;
@@ -9,9 +10,11 @@ mod reading;
 mod renew;
 mod same;
 mod subtree;
+mod telling;
 mod tree;
 
 pub use batch::{Draft, Few, Forecast, NewBlock, Update};
+pub use block::{Block, Root};
 pub use change::Changed;
 pub use node::Cell;
 pub use subtree::Subtree;

@@ -1,9 +1,10 @@
 -- Rows of open views as entries: a search by number, those of other numbers, and whether one shows a snapshot.
-use Rattle.std.proofs.Common.{◌≡◌, ℕ, zero, suc, ◌+◌, ◌<◌, ◌≤◌, Bool, true, false, cond, not, List, [], ◌∷◌, length, get_or, map, Some, None, refl, sym, ap, subst, ◌∙◌, arith, inl, inr}
-use Rattle.std.specs.Prelude.{IsTrue, ◌==◌, ◌&&◌, ◌||◌}
+use Rattle.std.proofs.Common.{◌≡◌, ℕ, zero, suc, ◌+◌, ◌<◌, ◌≤◌, Bool, true, false, cond, not, List, [], ◌∷◌, length, get_or, map, Some, None, Result, Ok, Err, refl, sym, ap, subst, ◌∙◌, arith, inl, inr}
+use Rattle.std.specs.Prelude.{IsTrue, ◌==◌, ◌&&◌, ◌||◌, IfOk, Vec}
 use Rattle.std.proofs.lemmas.Bool.{and_parts, ne_eqb, cases_lt}
 use Rattle.std.proofs.lemmas.Bool.Decides.{nat_tests}
 use Rattle.std.proofs.lemmas.List.Sorted.{searchable_from_sorted}
+use Rattle.std.specs.declared.alloc.Global.{Global}
 use Rattle.std.specs.List.{filter, list_any}
 use Rattle.std.specs.List.Sorted.{IsNonDecreasingBy, IsPartitionPoint}
 use Rattle.std.specs.Ordering.{nat_cmp, is_lt, ordering_index}
@@ -13,7 +14,8 @@ use Rattle.std.specs.FinMap.{find, remove, is_sorted, nat_cmp-IsAntisymmetric}
 use Rattle.std.specs.FinMap.Entries.{below_all}
 use Rattle.model.specs.World.{SnapId, same_id}
 use Rattle.model.specs.Ids.{snap_id}
-use Rattle.model.specs.State.{is_viewed}
+use Rattle.model.specs.State.{Views, is_viewed}
+use Rattle.model.specs.declared.snapshot_id.SnapshotId.{SnapshotId}
 use Rattle.world.specs.Usage.{IsEntry}
 use Rattle.views.specs.declared.row.Open.{Open}
 use Rattle.views.specs.Entries.{entry_of}
@@ -104,6 +106,16 @@ any_without k id (v ∷ vs) =
 -- a view shows a snapshot where the map has its identity
 pub viewed_is : (vs : List Open) → IsTrue (is_sorted nat_cmp (map entry_of vs)) → (id : SnapId) → list_any (λ (v : Open). same_id id (snap_id v.snapshot)) vs ≡ is_viewed (views_of (map entry_of vs)) id
 viewed_is vs h id = any_is id vs ∙ ap (λ (es : List Entry). list_any (same_id id) (map (λ e. e.1) es)) (sym (entries_are (map entry_of vs) h))
+
+-- and the list of what they show has it then
+any_listed : (id : SnapId) (vs : List Open) → list_any (same_id id) (map snap_id (map (λ (v : Open). v.snapshot) vs)) ≡ list_any (λ (v : Open). same_id id (snap_id v.snapshot)) vs
+any_listed id [] = refl
+any_listed id (v ∷ vs) = ap (λ b. same_id id (snap_id v.snapshot) || b) (any_listed id vs)
+
+pub viewed_listed : {E : Type 0} (vs : List Open) → IsTrue (is_sorted nat_cmp (map entry_of vs)) → (m : Views) → views_of (map entry_of vs) ≡ m → (r : Result (Vec SnapshotId Global) E)
+    → IfOk r (λ ids. ids.items ≡ map (λ (v : Open). v.snapshot) vs) → IfOk r (λ ids. (id : SnapId) → list_any (same_id id) (map snap_id ids.items) ≡ is_viewed m id)
+viewed_listed vs h m is (Ok ids) same = λ id. ap (λ l. list_any (same_id id) (map snap_id l)) same ∙ any_listed id vs ∙ viewed_is vs h id ∙ ap (λ x. is_viewed x id) is
+viewed_listed vs h m is (Err e) same = tt
 
 -- and one of another number does where the map without that number has it
 pub viewed_beside_is : (vs : List Open) → IsTrue (is_sorted nat_cmp (map entry_of vs)) → (k : ℕ) (id : SnapId)

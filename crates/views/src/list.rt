@@ -1,16 +1,17 @@
 //! The open views of a pool, by their numbers.
-ghost use Rattle.std.specs.Prelude.{◌≡◌, ◌+◌, ◌<◌, ◌≤◌, ℕ, false, Some, IfOk, IfErr};
+ghost use Rattle.std.specs.Prelude.{◌≡◌, ◌+◌, ◌<◌, ◌≤◌, ℕ, false, Some, IfOk, IfErr, map};
+ghost use Rattle.std.specs.List.{list_any};
 ghost use Rattle.std.specs.Option.{option_map};
 ghost use Rattle.std.specs.FinMap as finmap;
 ghost use Rattle.std.specs.FinMap.{get, insert, remove, len};
 ghost use Rattle.base.specs.declared.refusal.Refusal.{Refusal};
-ghost use Rattle.model.specs.World.{SnapId};
+ghost use Rattle.model.specs.World.{SnapId, same_id};
 ghost use Rattle.model.specs.State.{is_viewed};
 ghost use Rattle.model.specs.Ids.{snap_id};
 ghost use Rattle.model.specs.Targets.{number_limit};
 ghost use Rattle.views.specs.Viewing.{is_full};
 
-use crate::row::{Open, any_other_shows, any_shows, shown};
+use crate::row::{Open, any_other_shows, any_shows, identities, shown};
 use base::refusal::Refusal;
 use model::snapshot_id::SnapshotId;
 use std::alloc::Global;
@@ -103,6 +104,14 @@ impl Views {
         ensures { result ≡ is_viewed self.now.opened (snap_id id) }
     {
         any_shows(&self.open, id)
+    }
+
+    /// The snapshots that the open views show, as many as are open. NoMemory where there is none for the list. It costs their number.
+    pub fn viewed(&self, alloc: Global) -> Result<Vec<SnapshotId>, Refusal>
+        ensures ok { IfOk result (λ ids. (id : SnapId) → list_any (same_id id) (map snap_id ids.items) ≡ is_viewed self.now.opened id) }
+        ensures err { IfErr result (λ e. e ≡ Refusal.NoMemory) }
+    {
+        identities(alloc, &self.open)
     }
 
     /// Whether an open view other than that of this number shows this snapshot. It costs the number of open views.

@@ -1,14 +1,17 @@
 //! Open views in rising order of their numbers.
-ghost use Rattle.std.specs.Prelude.{◌≡◌, ◌==◌, ◌&&◌, not, map, IsTrue};
+ghost use Rattle.std.specs.Prelude.{◌≡◌, ◌==◌, ◌&&◌, not, map, IsTrue, IfOk, IfErr};
 ghost use Rattle.std.specs.List.{list_any};
 ghost use Rattle.std.specs.Option.{option_map};
 ghost use Rattle.std.specs.Ordering.{nat_cmp};
 ghost use Rattle.std.specs.FinMap.{find, is_sorted};
+ghost use Rattle.base.specs.declared.refusal.Refusal.{Refusal};
 ghost use Rattle.model.specs.World.{same_id};
 ghost use Rattle.model.specs.Ids.{snap_id};
 ghost use Rattle.views.specs.Entries.{entry_of};
 
+use base::refusal::Refusal;
 use model::snapshot_id::SnapshotId;
+use std::alloc::Global;
 
 /// An open view: its number, and the identity of the snapshot that it shows.
 #[derive(Clone, Copy)]
@@ -22,6 +25,18 @@ fn shows(view: &Open, id: SnapshotId) -> bool
     ensures { result ≡ same_id (snap_id id) (snap_id view.now.snapshot) }
 {
     id == view.snapshot
+}
+
+/// The identities of the snapshots that the views show. NoMemory where there is none for the list. It costs their number.
+pub fn identities(alloc: Global, views: &[Open]) -> Result<Vec<SnapshotId>, Refusal>
+    ensures ok { IfOk result (λ ids. ids.items ≡ map (λ v. v.snapshot) views.now) }
+    ensures err { IfErr result (λ e. e ≡ Refusal.NoMemory) }
+{
+    let mut ids = Vec::with_capacity(alloc, views.len())?;
+    for view in views {
+        ids.push_reserved(view.snapshot);
+    }
+    Ok(ids)
 }
 
 /// Whether one of the views shows this snapshot. It costs their number.

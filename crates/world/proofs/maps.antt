@@ -1,5 +1,4 @@
 pub mod Trees
 pub mod Cells
 pub mod Rewrites
-pub mod Presence
 pub mod BlockCounts

@@ -1,8 +1,8 @@
 -- The first world, what a write loses, and removals one after the other.
-use Rattle.std.specs.Prelude.{◌≡◌, ℕ, zero, suc, ◌<◌, ◌≤◌, ◌⊎◌, [], Some, None}
+use Rattle.std.specs.Prelude.{◌≡◌, ℕ, zero, suc, ◌<◌, ◌⊎◌, [], Some, None}
 use Rattle.std.specs.FinSet.{empty, difference, union}
-use Rattle.world.specs.Sets.{Has, IsSubset}
-use Rattle.world.specs.Blocks.{Block, BlockSet, after, upto}
+use Rattle.world.specs.Sets.{IsSubset}
+use Rattle.world.specs.Blocks.{BlockSet, after}
 use Rattle.world.specs.Shapes.{Name, SnapShape, Dataset, Shapes, lineages, IsGood, Drops, RemovesFileSystem}
 use Rattle.world.specs.Lineage.{IsUnion}
 

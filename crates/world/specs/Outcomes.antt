@@ -1,11 +1,9 @@
 -- What further requests do to a world (the page of each subcommand), as the model will say it.
-use Rattle.std.specs.Prelude.{ℕ, Bool, not, List, [], ◌∷◌, ◌++◌, Option, Some, nat_lt, nat_le}
-use Rattle.std.specs.List.{filter, list_any}
-use Rattle.std.specs.Option.{option_map, option_map_or, option_and_then}
-use Rattle.std.specs.FinMap.{entries, insert, retain_keys, from_entries}
+use Rattle.std.specs.Prelude.{ℕ, Bool, not, List, [], ◌∷◌}
+use Rattle.std.specs.FinMap.{retain_keys}
 use Rattle.base.specs.Names.{same_name}
-use Rattle.model.specs.World.{World, FileSystem, Snap, SnapId, id_of, same_id, empty_file_system, file_system_at, snap_at, map_of_snap}
-use Rattle.model.specs.Edits.{with_file_system, without_snaps, with_losses}
+use Rattle.model.specs.World.{World, SnapId, id_of, same_id}
+use Rattle.model.specs.Edits.{without_snaps, with_losses}
 pub use Rattle.model.specs.requests.Snapshot.{snap_of_live, with_snapshot, with_snapshots}
 pub use Rattle.model.specs.requests.Rollback.{snaps_upto, snaps_after, back_at, after_rollback}
 pub use Rattle.model.specs.requests.Destroy.{without_file_systems, is_one_of}

@@ -23,16 +23,22 @@ RunGrows =
 abbrev pub HasSnap : World → List ℕ → Snap → Type 0
 HasSnap w name t = (x : FileSystem) × (get w.file_systems name ≡ Some x) × IsIn x.snaps t
 
--- What holds of views and snapshots between two steps (profile; identities and groups: On-Disk Specification, chapter 4)
+-- What holds of the identities of a world's snapshots (On-Disk Specification, chapter 4)
+pub record HasIdentities (w : World) : Type 0 where
+  -- an identity is one snapshot's, in one file system
+  pub once : (name other : List ℕ) (t u : Snap) → HasSnap w name t → HasSnap w other u → id_of t ≡ id_of u → (name ≡ other) × (t ≡ u)
+  -- each snapshot's group is closed
+  pub closed : (name : List ℕ) (t : Snap) → HasSnap w name t → t.group < w.group
+
+-- What holds of views and snapshots between two steps (profile)
 pub record IsViewing (s : State) : Type 0 where
   -- no open view has a number that is still to be given
   pub numbers : (v : ℕ) (id : SnapId) → get s.views v ≡ Some id → v < s.next_view
   -- the snapshot of each open view is there
   pub there : (v : ℕ) (id : SnapId) → get s.views v ≡ Some id → IsSome (snap_at s.now id)
-  -- an identity is one snapshot's, in one file system
-  pub once : (name other : List ℕ) (t u : Snap) → HasSnap s.now name t → HasSnap s.now other u → id_of t ≡ id_of u → (name ≡ other) × (t ≡ u)
-  -- each snapshot's group is closed
-  pub closed : (name : List ℕ) (t : Snap) → HasSnap s.now name t → t.group < s.now.group
+  -- identities are in order in the present world, and in the last synced one, to which Abandon goes back
+  pub now : HasIdentities s.now
+  pub last : HasIdentities s.last
 
 -- this holds of a pool as it is created (profile)
 abbrev pub ViewsBegin : Type 0

@@ -1,13 +1,13 @@
 -- A set of numbers whose slots change.
-use Rattle.std.proofs.Common.{◌≡◌, ◌≢◌, ℕ, ◌+◌, ◌-◌, ◌*◌, ◌/◌, ◌%◌, ◌<◌, ◌≤◌, ◌⊎◌, true, false, not, ◌&&◌, ◌||◌, List, length, set, Option, arith, ap, sym, ◌∙◌, subst, ⊎_elim, length-set}
+use Rattle.std.proofs.Common.{◌≡◌, ◌≢◌, ℕ, ◌+◌, ◌-◌, ◌*◌, ◌/◌, ◌%◌, ◌<◌, ◌≤◌, ◌⊎◌, true, false, not, ◌&&◌, ◌||◌, List, length, set, get_or, Option, inl, inr, refl, arith, ap, sym, ◌∙◌, subst, ⊎_elim, length-set}
 use Rattle.std.specs.Prelude.{slice_index}
-use Rattle.std.proofs.lemmas.List.{get_or-set_same, get_or-set_other}
+use Rattle.std.proofs.lemmas.List.{get_or-set_same, get_or-set_other, get_or_default}
 use Rattle.std.proofs.lemmas.Bool.{cases_eq, cases_lt}
 use Rattle.zalloc.specs.declared.extents.Slot.{Slot}
 use Rattle.zalloc.specs.declared.extents.Extents.{Extents}
 use Rattle.zalloc.specs.Bits.{is_one, IsEven, IsLowest}
 use Rattle.zalloc.specs.Extents.{extent, is_within}
-use Rattle.zalloc.specs.Laid.{no_slot, slot_at, held_by, is_held, place_of, IsCover, IsLaid, IsRewritten, AreWith, AreWithout, AreFirst}
+use Rattle.zalloc.specs.Laid.{no_slot, slot_at, held_by, is_held, place_of, IsCover, IsLaid, IsKept, IsRewritten, IsWritten, AreSame, AreWith, AreWithout, AreFirst}
 use Rattle.zalloc.proofs.States.{at_one, off_one, on_one, on_none, not_one, not_none}
 use Rattle.zalloc.proofs.Words.{even_same}
 
@@ -71,7 +71,7 @@ module _ (n : ℕ) (slots : List Slot) (covers : List ℕ) (homes : List (Option
   word_there k ne = ap (λ (x : Slot). is_one x.word (k % 64)) (slot_other slots s (slice_index covers (k / 64)) (with_word (slot_at slots s) c) ne)
 
 -- one number more or fewer in a slot of one window
-module _ (x y : Extents) (l : IsLaid x.numbers x.slots.items x.covers x.homes.items) (s b c : ℕ) (within : b < x.numbers) (cover : IsCover x.slots.items s (b / 64)) (single : (slot_at x.slots.items s).past ≤ (slot_at x.slots.items s).first + 1) (a : IsRewritten s c x y) where
+module _ (x y : Extents) (l : IsLaid x.numbers x.slots.items x.covers x.homes) (s b c : ℕ) (within : b < x.numbers) (cover : IsCover x.slots.items s (b / 64)) (single : (slot_at x.slots.items s).past ≤ (slot_at x.slots.items s).first + 1) (a : IsRewritten s c x y) where
   here : place_of x b ≡ s
   here = (l.own s (b / 64) cover).1
 
@@ -118,7 +118,7 @@ module _ (x y : Extents) (l : IsLaid x.numbers x.slots.items x.covers x.homes.it
     }
 
 -- the first number from b on, in the slot that covers b
-module _ (x : Extents) (l : IsLaid x.numbers x.slots.items x.covers x.homes.items) (s b : ℕ) (cover : IsCover x.slots.items s (b / 64)) where
+module _ (x : Extents) (l : IsLaid x.numbers x.slots.items x.covers x.homes) (s b : ℕ) (cover : IsCover x.slots.items s (b / 64)) where
   abbrev pub slot : Slot
   slot = slot_at x.slots.items s
 
@@ -162,3 +162,48 @@ module _ (x : Extents) (l : IsLaid x.numbers x.slots.items x.covers x.homes.item
               let e : f ≡ k = omega (arith, q, r) in
               subst (λ j. is_held x j ≡ true) e (near f (omega (arith, same, cover.from)) (omega (arith, same, cover.upto)) ∙ ap (is_one slot.word) place ∙ low.one);
         }
+
+-- a window has the bits of a word
+pub written_same : (x : Extents) (w c v : ℕ) → ((k : ℕ) → k / 64 ≡ w → is_one v (k % 64) ≡ is_held x k) → v ≡ c → IsWritten w c x x
+written_same x w c v bits e = record {
+  numbers = refl;
+  here = λ k h p. sym (bits k p) ∙ ap (λ z. is_one z (k % 64)) e;
+  there = λ k h ne. refl;
+}
+
+pub written_in : (x m r y : Extents) (w s c : ℕ) → IsKept m → AreSame x m → IsCover m.slots.items s w → (slot_at m.slots.items s).past ≤ (slot_at m.slots.items s).first + 1 → IsRewritten s c m r → AreSame r y → IsWritten w c x y
+written_in x m r y w s c kept a cover single b d = record {
+  numbers = d.numbers ∙ b.numbers ∙ a.numbers;
+  here = λ k h e.
+      let p : k < m.numbers = omega (arith, h, a.numbers) in
+      d.held k (omega (arith, p, b.numbers)) ∙ b.here k p (ap (slice_index m.covers) e ∙ (kept.laid.own s w cover).1);
+  there = λ k h ne.
+      let p : k < m.numbers = omega (arith, h, a.numbers) in
+      d.held k (omega (arith, p, b.numbers))
+      ∙ b.there k p (λ q. let u = subst (λ i. IsCover m.slots.items i (k / 64)) q (kept.laid.cover (k / 64) (omega (arith, p))) in ne (omega (arith, u.from, u.upto, cover.from, cover.upto, single)))
+      ∙ a.held k h;
+}
+
+-- the numbers are those of another set, but for the windows of a list from a place on
+abbrev pub AreLeft : Extents → Extents → List ℕ → ℕ → Type 0
+AreLeft x y ws i = (k : ℕ) → k < x.numbers → (is_held x k ≡ is_held y k) ⊎ ((j : ℕ) × (i ≤ j) × (j < length ws) × (get_or ws j (k / 64) ≡ k / 64))
+
+pub left_fewer : (x y v : Extents) (ws : List ℕ) (i w c : ℕ) → IsWritten w c x v → ((k : ℕ) → k / 64 ≡ w → is_one c (k % 64) ≡ is_held y k) → get_or ws i 0 ≡ w → i < length ws → AreLeft x y ws i → AreLeft v y ws (i + 1)
+left_fewer x y v ws i w c a bits e lt left k h =
+    let p : k < x.numbers = omega (arith, h, a.numbers) in
+    ⊎_elim
+    (λ (q : k / 64 ≡ w). inl (a.here k p q ∙ bits k q))
+    (λ (ne : k / 64 ≡ w → ⊥). ⊎_elim
+    (λ (q : is_held x k ≡ is_held y k). inl (a.there k p ne ∙ q))
+    (λ (t : (j : ℕ) × (i ≤ j) × (j < length ws) × (get_or ws j (k / 64) ≡ k / 64)).
+    let other : t.0 ≢ i = λ z. ne (sym t.3 ∙ ap (λ j. get_or ws j (k / 64)) z ∙ get_or_default ws i (k / 64) 0 lt ∙ e) in
+    inr (t.0, omega (arith, t.1, other), t.2, t.3))
+    (left k p))
+    (cases_eq (k / 64) w)
+
+pub left_none : (x y : Extents) (ws : List ℕ) (i : ℕ) → length ws ≤ i → AreLeft x y ws i → (k : ℕ) → k < x.numbers → is_held x k ≡ is_held y k
+left_none x y ws i past left k h =
+    ⊎_elim
+    (λ (q : is_held x k ≡ is_held y k). q)
+    (λ (t : (j : ℕ) × (i ≤ j) × (j < length ws) × (get_or ws j (k / 64) ≡ k / 64)). absurd (omega (arith, t.1, t.2, past)))
+    (left k h)

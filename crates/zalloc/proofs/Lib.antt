@@ -1,9 +1,15 @@
 pub mod Counting
+pub mod Exchanged
 pub mod Finding
+pub mod Freed
 pub mod Groups
 pub mod Laid
 pub mod Moves
+pub mod Noted
+pub mod Pairing
+pub mod Shorter
 pub mod Slots
 pub mod Spread
 pub mod States
+pub mod Stored
 pub mod Words

@@ -6,6 +6,7 @@ use Rattle.std.proofs.lemmas.List.Sums.{sum_by-set, sum_by-cons, count_by-le-len
 use Rattle.zalloc.specs.declared.extents.Slot.{Slot}
 use Rattle.zalloc.specs.Bits.{IsEven}
 use Rattle.zalloc.specs.Laid.{no_slot, slot_at, IsPlaced, IsCover, IsLaid}
+use Rattle.zalloc.specs.Places.{nowhere}
 
 read_home : (homes : List (Option ℕ)) (w : ℕ) (o : Option ℕ) → w < length homes → get_or homes w None ≡ o → slice_get homes w ≡ Some o
 read_home [] w o p h = absurd (omega arith)
@@ -80,9 +81,6 @@ placed_anew slot slots new homes s p h made at e =
     }
 
 -- one slot for all windows
-abbrev nowhere : Option ℕ
-nowhere = None
-
 refl_none : (m : ℕ) → get_or (replicate m nowhere) 0 None ≡ None
 refl_none zero = refl
 refl_none (suc m) = refl

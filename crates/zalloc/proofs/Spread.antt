@@ -1,6 +1,6 @@
 -- Numbers in a row, number by number.
 use Rattle.std.proofs.Common.{◌≡◌, ℕ, ◌<◌, ◌≤◌, ◌⊎◌, inl, inr, Bool, true, false, not, ◌&&◌, ◌||◌, ltb, leb, arith, refl, ap, sym, ◌∙◌}
-use Rattle.std.proofs.lemmas.Bool.{lt-ltb, le-ltb, le-leb, lt-leb, and_parts, and_from, ltb-true, leb-true}
+use Rattle.std.proofs.lemmas.Bool.{lt-ltb, le-ltb, le-leb, lt-leb, and_from}
 use Rattle.std.proofs.lemmas.Bool.Decides.{leb_tells, nat_tests}
 use Rattle.zalloc.specs.declared.extents.Extent.{Extent}
 use Rattle.zalloc.specs.Extents.{extent, is_within}
@@ -15,9 +15,6 @@ is_within_true e k p q = and_from (leb e.first k) (ltb k e.past) (le-leb e.first
 pub within_not : (e : Extent) (k : ℕ) → (k < e.first) ⊎ (e.past ≤ k) → is_within e k ≡ false
 within_not e k (inl h) = rw (lt-leb e.first k h) refl
 within_not e k (inr h) = rw (le-ltb k e.past h) (elim (leb_tells e.first k) [ inl g ↦ rw g.0 refl | inr g ↦ rw g.0 refl ])
-
-pub within_tells : (e : Extent) (k : ℕ) → is_within e k ≡ true → (e.first ≤ k) × (k < e.past)
-within_tells e k h = let p = and_parts (leb e.first k) (ltb k e.past) h in (leb-true e.first k p.0, ltb-true k e.past p.1)
 
 -- numbers in a row, and those that follow
 or_both : (p q x : Bool) → (q || (p || x)) ≡ ((p || q) || x)

@@ -12,8 +12,7 @@ use Rattle.zalloc.specs.declared.BlockState.TheVariants.{Free, Allocated, Waitin
 use Rattle.zalloc.specs.declared.extents.Extents.{Extents}
 use Rattle.zalloc.specs.States.{is_free, after_group}
 use Rattle.zalloc.specs.Extents.{extent, is_within}
-use Rattle.zalloc.specs.declared.extents.Extent.{Extent}
-use Rattle.zalloc.specs.Laid.{is_held, AreWith, AreWithout, AreFirst}
+use Rattle.zalloc.specs.Laid.{is_held, AreWith, AreWithout}
 use Rattle.zalloc.specs.Allocator.{state_from, states_from}
 use Rattle.zalloc.proofs.Counting.{one, count_set}
 use Rattle.zalloc.proofs.Spread.{within_not, is_within_true}
@@ -179,28 +178,20 @@ room_for p xs i s t e a b =
     let g = ap {B = ℕ} one b in
     omega (arith, count_set p xs i s t e, count_by-le-length p (slice_set xs i t), length-set xs i t, f, g)
 
--- numbers that wait become Free, some in a row
-none_and : (f i : Bool) → f ≡ false → (f && not i) ≡ false
-none_and f i h = rw h refl
+-- the sets of two allocators that show the same state
+same_parts : (f w g v : Bool) → (f ≡ true → w ≡ false) → (g ≡ true → v ≡ false) → state_from f w ≡ state_from g v → (f ≡ g) × (w ≡ v)
+same_parts true w true v a b e = (refl, a refl ∙ sym (b refl))
+same_parts true w false true a b e = cc
+same_parts true w false false a b e = cc
+same_parts false true true v a b e = cc
+same_parts false false true v a b e = cc
+same_parts false true false true a b e = (refl, refl)
+same_parts false true false false a b e = cc
+same_parts false false false true a b e = cc
+same_parts false false false false a b e = (refl, refl)
 
-pub either_step : (i f w : Bool) → (i ≡ true → w ≡ true) → ((i || f) || (w && not i)) ≡ (f || w)
-either_step true true w h = refl
-either_step true false w h = sym (h refl)
-either_step false f true h = refl
-either_step false f false h = refl
-
-pub apart_step : (i f w : Bool) → (f ≡ true → w ≡ false) → (i || f) ≡ true → (w && not i) ≡ false
-apart_step true f true h e = refl
-apart_step true f false h e = refl
-apart_step false f true h e = h e
-apart_step false f false h e = refl
-
-pub moved_step : (x : Extents) (from k : ℕ) (e : Extent) → AreFirst x from e → (k < from → is_held x k ≡ false) → k < e.past → (is_held x k && not (is_within e k)) ≡ false
-moved_step x from k e a before h =
-    ⊎_elim
-    (λ (p : k < from). none_and (is_held x k) (is_within e k) (before p))
-    (λ (p : from ≤ k). ⊎_elim
-    (λ (q : k < e.first). none_and (is_held x k) (is_within e k) (a.below k p q))
-    (λ (q : e.first ≤ k). not_one (is_held x k) (is_within e k) (is_within_true e k q h))
-    (cases_lt k e.first))
-    (cases_lt k from)
+pub same_held : (x y v w : Extents) (k : ℕ) → v.numbers ≡ x.numbers → ((j : ℕ) → j < x.numbers → is_held x j ≡ true → is_held y j ≡ false) → ((j : ℕ) → j < v.numbers → is_held v j ≡ true → is_held w j ≡ false) → k < x.numbers → slice_get (states_from x y) k ≡ slice_get (states_from v w) k → (is_held x k ≡ is_held v k) × (is_held y k ≡ is_held w k)
+same_held x y v w k n a b h e =
+    let p : k < v.numbers = omega (arith, h, n) in
+    same_parts (is_held x k) (is_held y k) (is_held v k) (is_held w k) (a k h) (b k p)
+    (some_same (state_from (is_held x k) (is_held y k)) (state_from (is_held v k) (is_held w k)) (sym (state_get x y k h) ∙ e ∙ state_get v w k p))

@@ -1,11 +1,11 @@
 -- The bits of a word.
-use Rattle.std.proofs.Common.{◌≡◌, ℕ, ◌-◌, ◌*◌, ◌%◌, ◌^◌, ◌<◌, ◌≤◌, inl, inr, min, true, false, arith, ap, sym, ◌∙◌, ⊎_elim}
+use Rattle.std.proofs.Common.{◌≡◌, ℕ, ◌-◌, ◌*◌, ◌%◌, ◌^◌, ◌<◌, ◌≤◌, inl, inr, min, max, zero, suc, true, false, ◌||◌, arith, refl, ap, sym, ◌∙◌, ⊎_elim}
 use Rattle.std.specs.Prelude.{◌==◌}
-use Rattle.std.proofs.Common.{bit_and, w64}
+use Rattle.std.proofs.Common.{bit_and, bit_or, w64}
 use Rattle.std.specs.Int.{bit_at, trailing_zeros}
 use Rattle.std.proofs.lemmas.Bool.{eq-eqb, ne_eqb, cases_lt}
 use Rattle.std.proofs.lemmas.Nat.{and_le_l}
-use Rattle.std.proofs.lemmas.Nat.Bits.{bit_at-zero, bit_at_ones, bit_at_and, bit_at-lt, bit_at_mask_inside, bit_at_mask_below, bit_at-trailing_zeros, ones_shl}
+use Rattle.std.proofs.lemmas.Nat.Bits.{bit_at-zero, bit_at_ones, bit_at_and, bit_at_or, bit_at-lt, bit_at_mask_inside, bit_at_mask_below, bit_at-trailing_zeros, ones_shl}
 use Rattle.zalloc.specs.Bits.{is_one, IsEven, IsLowest}
 
 pub one_from : (word i : ℕ) → bit_at word i ≡ 1 → is_one word i ≡ true
@@ -22,6 +22,18 @@ all_ones i h = one_from 18446744073709551615 i (bit_at_ones 64 i h)
 
 pub no_ones : (i : ℕ) → is_one 0 i ≡ false
 no_ones i = none_from 0 i (bit_at-zero i)
+
+-- the bits of two words
+max_one : (x y : ℕ) → x < 2 → y < 2 → (max x y == 1) ≡ ((x == 1) || (y == 1))
+max_one zero zero p q = refl
+max_one zero (suc zero) p q = refl
+max_one (suc zero) zero p q = refl
+max_one (suc zero) (suc zero) p q = refl
+max_one x (suc (suc y)) p q = absurd (omega arith)
+max_one (suc (suc x)) y p q = absurd (omega arith)
+
+pub either_one : (a b i : ℕ) → is_one (bit_or a b) i ≡ (is_one a i || is_one b i)
+either_one a b i = ap (λ (x : ℕ). x == 1) (bit_at_or a b i) ∙ max_one (bit_at a i) (bit_at b i) (bit_at-lt a i) (bit_at-lt b i)
 
 pub even_same : (word i j : ℕ) → IsEven word → i < 64 → j < 64 → is_one word i ≡ is_one word j
 even_same word i j (inl e) p q = ap (λ x. is_one x i) e ∙ no_ones i ∙ sym (no_ones j) ∙ ap (λ x. is_one x j) (sym e)

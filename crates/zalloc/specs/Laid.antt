@@ -39,7 +39,7 @@ pub record IsLaid (n : ℕ) (slots : List Slot) (covers : List ℕ) (homes : Lis
 
 -- and there is room for a slot of each window
 pub record IsKept (e : Extents) : Type 0 where
-  pub laid : IsLaid e.numbers e.slots.items e.covers e.homes.items
+  pub laid : IsLaid e.numbers e.slots.items e.covers e.homes
   pub room : e.numbers / WINDOW + 1 ≤ vec_capacity e.slots
 
 abbrev pub is_held : Extents → ℕ → Bool
@@ -54,6 +54,12 @@ pub record IsRewritten (s word : ℕ) (old new : Extents) : Type 0 where
   pub numbers : new.numbers ≡ old.numbers
   pub here : (k : ℕ) → k < old.numbers → place_of old k ≡ s → is_held new k ≡ is_one word (k % WINDOW)
   pub there : (k : ℕ) → k < old.numbers → place_of old k ≢ s → is_held new k ≡ is_held old k
+
+-- a window's numbers have the bits of a word, and the others are as before
+pub record IsWritten (window word : ℕ) (old new : Extents) : Type 0 where
+  pub numbers : new.numbers ≡ old.numbers
+  pub here : (k : ℕ) → k < old.numbers → k / WINDOW ≡ window → is_held new k ≡ is_one word (k % WINDOW)
+  pub there : (k : ℕ) → k < old.numbers → k / WINDOW ≢ window → is_held new k ≡ is_held old k
 
 -- the same numbers
 pub record AreSame (old new : Extents) : Type 0 where

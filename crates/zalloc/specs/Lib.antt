@@ -3,5 +3,9 @@ pub mod Bits
 pub mod Covers
 pub mod Extents
 pub mod Laid
+pub mod Numbers
+pub mod Paired
+pub mod Places
 pub mod States
 pub mod Tallies
+pub mod Touched

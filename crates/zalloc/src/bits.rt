@@ -1,5 +1,5 @@
 //! The numbers of a window as the bits of a word.
-ghost use Rattle.std.specs.Prelude.{◌≡◌, ◌≢◌, ℕ, ◌<◌, ◌≤◌, true, false, IfSome, IfNone};
+ghost use Rattle.std.specs.Prelude.{◌≡◌, ◌≢◌, ℕ, ◌<◌, ◌≤◌, ◌||◌, true, false, IfSome, IfNone};
 ghost use Rattle.zalloc.specs.Bits.{is_one, is_even as is_even_word, IsEven, IsLowest};
 
 /// Whether a bit is one.
@@ -26,6 +26,13 @@ pub fn without(word: u64, bit: u32) -> u64
     ensures others { (i : ℕ) → i < 64 → i ≢ bit → is_one result i ≡ is_one word i }
 {
     word & !(1 << bit)
+}
+
+/// The bits of one word or another.
+pub fn either(one: u64, other: u64) -> u64
+    ensures { (i : ℕ) → is_one result i ≡ (is_one one i || is_one other i) }
+{
+    one | other
 }
 
 /// The lowest bit that is one, from one on.

@@ -1,16 +1,18 @@
 //! A set of numbers, kept as extents of windows.
-ghost use Rattle.std.specs.Prelude.{◌≡◌, ◌≢◌, ℕ, ◌+◌, ◌-◌, ◌/◌, ◌<◌, ◌≤◌, ◌⊎◌, true, false, length, count_by, is_some, slice_get, IfSome, IfNone, IfOk, Some, vec_capacity};
-ghost use Rattle.zalloc.specs.Bits.{IsEven};
+ghost use Rattle.std.specs.Prelude.{◌≡◌, ◌≢◌, ℕ, ◌+◌, ◌-◌, ◌/◌, ◌%◌, ◌<◌, ◌≤◌, ◌⊎◌, true, false, length, count_by, is_some, slice_get, slice_set, slice_index, slice_index_or, None, IfSome, IfNone, IfOk, Some, vec_capacity};
+ghost use Rattle.std.specs.List.{Contains};
+ghost use Rattle.zalloc.specs.Bits.{is_one, IsEven};
 ghost use Rattle.zalloc.specs.Extents.{extent as make_extent};
-ghost use Rattle.zalloc.specs.Laid.{IsKept, IsPlaced, IsCover, IsRewritten, AreSame, AreWith, AreWithout, AreFirst, is_held, slot_at, place_of};
+ghost use Rattle.zalloc.specs.Laid.{IsKept, IsPlaced, IsCover, IsRewritten, IsWritten, AreSame, AreWith, AreWithout, AreFirst, is_held, slot_at};
 
 use crate::MOST_BLOCKS;
 use crate::bits::{even, has, is_even, lowest, with, without};
 use crate::covers::Covers;
+use crate::places::Places;
 use std::alloc::{AllocError, Global};
 
 /// How many numbers a window has.
-const WINDOW: u32 = 64;
+pub const WINDOW: u32 = 64;
 
 /// The numbers from `first` on and below `past`.
 #[derive(Clone, Copy, PartialEq, Eq, Debug)]
@@ -21,7 +23,7 @@ pub struct Extent {
 
 /// The windows from `first` on and below `past`, and which numbers of each are in the set, as the bits of a word: a slot of many
 /// windows has all of their numbers or none.
-#[derive(Drop)]
+#[derive(Clone, Copy)]
 pub struct Slot {
     first: u32,
     past: u32,
@@ -32,14 +34,15 @@ pub struct Slot {
 ///
 /// The numbers are divided into windows of 64. Windows in a row that have all of their numbers in the set, or none, are one slot;
 /// a window that has some is a slot of its own. `covers` has the slot of each window. A slot is made when it is first needed, at
-/// the end of `slots`, in the room that `new` reserves; `homes` has, for each window, the slot that was made where it was the
-/// first. Of the last window's bits those from `numbers` on mean nothing.
+/// the end of `slots`, in the room that `new` reserves; `homes` has, for each window that was ever the first of a slot, the place
+/// for that. Where a slot is divided, or joined with the next, the longer one keeps its place, so that the windows of the shorter
+/// one are written: two windows may exchange their places for it. Of the last window's bits those from `numbers` on mean nothing.
 #[derive(Drop)]
 pub struct Extents {
     numbers: u32,
     slots: Vec<Slot>,
     covers: Covers,
-    homes: Vec<Option<u32>>,
+    homes: Places,
 }
 
 impl Extents {
@@ -53,8 +56,8 @@ impl Extents {
         let windows = numbers / WINDOW + 1;
         let mut slots = Vec::with_capacity(alloc, windows as usize)?;
         let covers = Covers::new(alloc, windows)?;
-        let mut homes = vec![in alloc; None; windows as usize]?;
-        homes[0] = Some(0);
+        let mut homes = Places::new(alloc, windows)?;
+        homes.set(0, 0);
         slots.push_reserved(Slot {
             first: 0,
             past: windows,
@@ -80,7 +83,7 @@ impl Extents {
             numbers: self.numbers,
             slots,
             covers: self.covers.copy()?,
-            homes: Vec::from_slice(alloc, &self.homes)?,
+            homes: self.homes.copy()?,
         })
     }
 
@@ -91,14 +94,14 @@ impl Extents {
         self.numbers
     }
 
-    /// The place of the slot that covers a number.
-    fn place(&self, number: u32) -> usize
+    /// The place of the slot that covers a window.
+    fn place(&self, window: u32) -> usize
         requires kept { IsKept self.now }
-        requires within { number < self.now.numbers }
-        ensures place { result ≡ place_of self.now number }
-        ensures cover { IsCover self.now.slots.items result (number / WINDOW) }
+        requires within { window < self.now.numbers / WINDOW + 1 }
+        ensures place { result ≡ slice_index self.now.covers window }
+        ensures cover { IsCover self.now.slots.items result window }
     {
-        self.covers.get(number / WINDOW) as usize
+        self.covers.get(window) as usize
     }
 
     /// The first number of the set from `from` on, as an extent.
@@ -109,7 +112,7 @@ impl Extents {
     {
         let mut start = from;
         while start < self.numbers {
-            let slot = &self.slots[self.place(start)];
+            let slot = &self.slots[self.place(start / WINDOW)];
             if let Some(bit) = lowest(slot.word, start % WINDOW) {
                 return self.below(start / WINDOW * WINDOW + bit);
             }
@@ -140,7 +143,49 @@ impl Extents {
         requires within { number < self.now.numbers }
         ensures { result ≡ is_held self.now number }
     {
-        has(self.slots[self.place(number)].word, number % WINDOW)
+        has(
+            self.slots[self.place(number / WINDOW)].word,
+            number % WINDOW,
+        )
+    }
+
+    /// The bits of a window's numbers.
+    pub fn word(&self, window: u32) -> u64
+        requires kept { IsKept self.now }
+        requires within { window < self.now.numbers / WINDOW + 1 }
+        ensures { (k : ℕ) → k / WINDOW ≡ window → is_one result (k % WINDOW) ≡ is_held self.now k }
+    {
+        self.slots[self.place(window)].word
+    }
+
+    /// Gives a window's numbers the bits of a word. It costs a `contains` where they have them, and else a `remove`.
+    pub fn write(&mut self, window: u32, word: u64)
+        requires kept { IsKept self.old }
+        requires within { window < self.old.numbers / WINDOW + 1 }
+        ensures kept { IsKept self.new }
+        ensures written { IsWritten window word self.old self.new }
+    {
+        if self.word(window) == word {
+            return;
+        }
+        let at = self.make_room(window);
+        self.rewrite(at, word);
+        self.join(at);
+    }
+
+    /// Makes the set another one with as many numbers, from which it differs in these windows alone. It costs a `write` for each.
+    pub fn copy_windows(&mut self, other: &Extents, windows: &[u32])
+        requires kept { IsKept self.old }
+        requires other { IsKept other.now }
+        requires numbers { self.old.numbers ≡ other.now.numbers }
+        requires within { (i : ℕ) → i < length windows.now → slice_index windows.now i < self.old.numbers / WINDOW + 1 }
+        requires same { (k : ℕ) → k < self.old.numbers → (is_held self.old k ≡ is_held other.now k) ⊎ Contains windows.now (k / WINDOW) }
+        ensures kept { IsKept self.new }
+        ensures same { AreSame other.now self.new }
+    {
+        for window in windows {
+            self.write(*window, other.word(*window));
+        }
     }
 
     /// Adds numbers that the set has none of.
@@ -153,7 +198,7 @@ impl Extents {
         ensures with { AreWith extent self.old self.new }
     {
         for number in extent.first..extent.past {
-            let at = self.make_room(number);
+            let at = self.make_room(number / WINDOW);
             self.put(at, number);
             self.join(at);
         }
@@ -169,7 +214,7 @@ impl Extents {
         ensures without { AreWithout extent self.old self.new }
     {
         for number in extent.first..extent.past {
-            let at = self.make_room(number);
+            let at = self.make_room(number / WINDOW);
             self.cut(at, number);
             self.join(at);
         }
@@ -215,25 +260,56 @@ impl Extents {
         self.slots[at].word = word;
     }
 
-    /// Divides slots until the window of a number has one of its own, and answers its place.
-    fn make_room(&mut self, number: u32) -> usize
+    /// Divides slots until a window has one of its own, and answers its place.
+    fn make_room(&mut self, window: u32) -> usize
         requires kept { IsKept self.old }
-        requires within { number < self.old.numbers }
+        requires within { window < self.old.numbers / WINDOW + 1 }
         ensures kept { IsKept self.new }
         ensures same { AreSame self.old self.new }
-        ensures cover { IsCover self.new.slots.items result (number / WINDOW) }
+        ensures cover { IsCover self.new.slots.items result window }
         ensures single { (slot_at self.new.slots.items result).past ≤ (slot_at self.new.slots.items result).first + 1 }
     {
-        let mut at = self.place(number);
+        let mut at = self.place(window);
         while self.slots[at].first + 1 < self.slots[at].past {
-            let window = border(&self.slots[at], number / WINDOW);
-            self.split(at, window);
-            at = self.place(number);
+            let first = border(&self.slots[at], window);
+            self.split(at, first);
+            at = self.place(window);
         }
         at
     }
 
-    /// Divides a slot in two, of which the second begins at a window.
+    /// Whether two slots have the places of these windows' own.
+    fn are_homes(&self, one: u32, at: usize, two: u32, to: usize) -> bool
+        requires one { one < length self.now.homes }
+        requires two { two < length self.now.homes }
+        requires at { at ≤ MOST_BLOCKS }
+        requires to { to ≤ MOST_BLOCKS }
+        ensures one { result ≡ true → slice_index_or self.now.homes one None ≡ Some at }
+        ensures two { result ≡ true → slice_index_or self.now.homes two None ≡ Some to }
+    {
+        self.homes.has(one, at as u32) && self.homes.has(two, to as u32)
+    }
+
+    /// Puts two slots each at the other's place, which their first windows then have.
+    fn exchange(&mut self, at: usize, one: Slot, to: usize, two: Slot)
+        requires at { at < length self.old.slots.items }
+        requires to { to < length self.old.slots.items }
+        requires few { length self.old.slots.items ≤ MOST_BLOCKS }
+        requires one { one.first < length self.old.homes }
+        requires two { two.first < length self.old.homes }
+        ensures numbers { self.new.numbers ≡ self.old.numbers }
+        ensures slots { self.new.slots.items ≡ slice_set (slice_set self.old.slots.items at two) to one }
+        ensures room { vec_capacity self.new.slots ≡ vec_capacity self.old.slots }
+        ensures covers { self.new.covers ≡ self.old.covers }
+        ensures homes { self.new.homes ≡ slice_set (slice_set self.old.homes one.first (Some to)) two.first (Some at) }
+    {
+        self.homes.set(one.first, to as u32);
+        self.homes.set(two.first, at as u32);
+        self.slots[at] = two;
+        self.slots[to] = one;
+    }
+
+    /// Divides a slot in two, of which the second begins at a window. The shorter one gets another place.
     #[inline(never)]
     fn split(&mut self, at: usize, window: u32)
         requires kept { IsKept self.old }
@@ -257,6 +333,13 @@ impl Extents {
             word: whole.word,
         };
         let to = place_slot(&mut self.slots, &mut self.homes, above);
+        if window - below.first < past - window
+            && self.are_homes(below.first, at, window, to as usize)
+        {
+            self.exchange(at, below, to as usize, above);
+            self.covers.cover(below.first, window, to);
+            return;
+        }
         self.slots[at] = below;
         self.covers.cover(window, past, to);
     }
@@ -310,7 +393,7 @@ impl Extents {
         }
     }
 
-    /// Joins a slot with the next.
+    /// Joins a slot with the next. The place of the longer one stays.
     #[inline(never)]
     fn take_over(&mut self, at: usize, next: usize)
         requires kept { IsKept self.old }
@@ -331,11 +414,17 @@ impl Extents {
             past,
             word: one.word,
         };
-        self.slots[next] = Slot {
+        let idle = Slot {
             first: border,
             past: border,
             word: 0,
         };
+        if border - joined.first < past - border && self.are_homes(joined.first, at, border, next) {
+            self.exchange(at, joined, next, idle);
+            self.covers.cover(joined.first, border, next as u32);
+            return;
+        }
+        self.slots[next] = idle;
         self.slots[at] = joined;
         self.covers.cover(border, past, at as u32);
     }
@@ -376,7 +465,7 @@ fn border(slot: &Slot, window: u32) -> u32
 }
 
 /// Puts a slot at the place that its first window has, or makes that place.
-fn place_slot(slots: &mut Vec<Slot>, homes: &mut [Option<u32>], slot: Slot) -> u32
+fn place_slot(slots: &mut Vec<Slot>, homes: &mut Places, slot: Slot) -> u32
     requires first { slot.first < length homes.old }
     requires few { length homes.old ≤ MOST_BLOCKS }
     requires made { length slots.old.items ≡ count_by is_some homes.old }
@@ -385,8 +474,8 @@ fn place_slot(slots: &mut Vec<Slot>, homes: &mut [Option<u32>], slot: Slot) -> u
     ensures placed { IsPlaced slot slots.old.items slots.new.items homes.old homes.new result }
     ensures room { vec_capacity slots.new ≡ vec_capacity slots.old }
 {
-    let window = slot.first as usize;
-    match homes[window] {
+    let window = slot.first;
+    match homes.get(window) {
         Some(place) => {
             slots[place as usize] = slot;
             place
@@ -394,7 +483,7 @@ fn place_slot(slots: &mut Vec<Slot>, homes: &mut [Option<u32>], slot: Slot) -> u
         None => {
             let place = slots.len() as u32;
             slots.push_reserved(slot);
-            homes[window] = Some(place);
+            homes.set(window, place);
             place
         }
     }

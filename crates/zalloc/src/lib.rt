@@ -6,22 +6,30 @@
 //! or full takes little memory, and one full of holes is searched as fast.
 #![tactic(auto)]
 
-ghost use Rattle.std.specs.Prelude.{◌≡◌, ◌≢◌, ℕ, ◌<◌, ◌≤◌, ◌||◌, true, false, IfSome, IfNone, IfOk, IfErr, Some, slice_get, slice_set, map, count_by, if◌then◌else◌, replicate};
+ghost use Rattle.std.specs.Prelude.{◌≡◌, ◌≢◌, ℕ, ◌+◌, ◌/◌, ◌<◌, ◌≤◌, ◌||◌, true, false, length, IfSome, IfNone, IfOk, IfErr, Some, slice_get, slice_set, map, count_by, if◌then◌else◌, replicate};
 ghost use Rattle.zalloc.specs.States.{is_free, is_waiting, is_allocated, after_group};
 ghost use Rattle.zalloc.specs.Laid.{IsKept, is_held};
+ghost use Rattle.zalloc.specs.Paired.{AreSameBut};
 ghost use Rattle.zalloc.specs.Tallies.{IsTaken};
 ghost use Rattle.zalloc.specs.declared.BlockState.TheVariants.{Free, Allocated, Waiting};
+ghost use Rattle.zalloc.specs.declared.extents.TheConstants.{WINDOW};
 
 mod bits;
 mod covers;
 mod extents;
+mod numbers;
+mod places;
+mod touched;
 
 use base::number::BlockNo;
 use base::refusal::Refusal;
-use extents::{Extent, Extents};
+use bits::either;
+use extents::{Extent, Extents, WINDOW};
+pub use numbers::Numbers;
 use std::alloc::Global;
 use std::fmt;
 use std::marker::Model;
+use touched::Touched;
 
 /// The most numbers that a pool has (profile).
 pub const MOST_BLOCKS: u32 = 4194304;
@@ -48,7 +56,7 @@ pub struct Counts {
 /// The state of each number below the size of the pool. Contracts see the list of the states.
 ///
 /// The Free numbers are one set of extents, and the Waiting ones another; every other number is Allocated. An empty pool takes
-/// 25 bytes for each 64 numbers, and 64 numbers of which some are Free, and not all, take 16 bytes more, as many where some wait.
+/// 17 bytes for each 64 numbers, and 64 numbers of which some are Free, and not all, take 16 bytes more, as many where some wait.
 /// The room for the most extents is reserved by `new` and by `copy`, and the system gives its pages when they are first used: no
 /// other function takes memory.
 pub struct Allocator {
@@ -161,7 +169,8 @@ impl Allocator {
     }
 
     /// Makes a Free number Allocated. Constant time, but where the numbers of a window were all in the same state, or are now: a slot
-    /// is divided or joined then, and what covers its windows is written, a number for each 4,096 numbers of it and 256 at most.
+    /// is divided or joined then, and what covers the windows of the shorter part is written, a number for each 4,096 numbers of
+    /// it and at most 256 more.
     pub fn take(&mut self, b: BlockNo)
         requires { slice_get self.old b.0 ≡ Some Free }
         ensures { self.new ≡ slice_set self.old b.0 Allocated }
@@ -193,13 +202,28 @@ impl Allocator {
         }
     }
 
-    /// Makes each Waiting number Free. It costs a `take` and a `release` for each, and none by the size of the pool else.
+    /// Makes each Waiting number Free. It costs a `take` and a `release` for each 64 numbers of which some wait, and none by the size of
+    /// the pool else.
     pub fn end_group(&mut self)
         ensures { self.new ≡ map after_group self.old }
     {
         free_all(&mut self.free, &mut self.waiting);
         self.free_count += self.waiting_count;
         self.waiting_count = 0;
+    }
+
+    /// Makes the states those of another allocator, from which they differ only where a number was touched. It costs by how many
+    /// windows were, and none by the size of the pool.
+    fn catch_up(&mut self, other: &Allocator, touched: &Touched)
+        requires len { length self.old ≡ length other.now }
+        requires flags { length touched.now ≡ length self.old / WINDOW + 1 }
+        requires same { AreSameBut touched.now self.old other.now }
+        ensures { self.new ≡ other.now }
+    {
+        self.free.copy_windows(&other.free, touched.noted());
+        self.waiting.copy_windows(&other.waiting, touched.noted());
+        self.free_count = other.free_count;
+        self.waiting_count = other.waiting_count;
     }
 }
 
@@ -215,7 +239,7 @@ impl fmt::Debug for Allocator {
     }
 }
 
-/// Adds the numbers that wait to the Free ones.
+/// Adds the numbers that wait to the Free ones, window by window.
 fn free_all(free: &mut Extents, waiting: &mut Extents)
     requires free { IsKept free.old }
     requires waiting { IsKept waiting.old }
@@ -230,8 +254,9 @@ fn free_all(free: &mut Extents, waiting: &mut Extents)
 {
     let mut from = 0;
     while let Some(extent) = waiting.next(from) {
-        waiting.remove(extent);
-        free.insert(extent);
-        from = extent.past;
+        let window = extent.first / WINDOW;
+        free.write(window, either(free.word(window), waiting.word(window)));
+        waiting.write(window, 0);
+        from = (window + 1) * WINDOW;
     }
 }

@@ -27,8 +27,9 @@ pub fn receive_laws()
 /// dataset gives what it holds. In a state with lineages (each of a pool, and each that a run leads to from one with lineages), whose numbers each
 /// name one block, the records since the group of a source carry what the source held to what each dataset holds that is as late or later in the
 /// source's lineage. A snapshot of the lineage is such a source, the origin of a clone and those before it too, and so is the snapshot that a
-/// bookmark was made of, after each run at whose end the bookmark is there, even where the snapshot was destroyed (zfs-send(8), -i). So it is in a history that has a
-/// bookmark made: of a snapshot that was there then.
+/// bookmark was made of, after each run at whose end the bookmark is there and in which no Abandon goes back to before it (each that is done comes
+/// after a Sync that is), even where the snapshot was destroyed (zfs-send(8), -i). So it is in a history that has a bookmark made: of a snapshot
+/// that was there then.
 pub fn dataset_send_laws()
     ensures full { FullSendOf }
     ensures full_after { FullSendAfter }

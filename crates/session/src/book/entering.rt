@@ -56,6 +56,8 @@ fn answers_done(request: &Request) -> bool
             | Request::Bookmark { .. }
             | Request::Set { .. }
             | Request::Receive { .. }
+            | Request::Abandon
+            | Request::CloseView { .. }
     )
 }
 

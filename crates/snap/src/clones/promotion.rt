@@ -13,8 +13,9 @@ ghost use Rattle.world.specs.Worlds.{AreRising};
 ghost use Rattle.datasets.specs.Promotions.{promotion_between};
 ghost use Rattle.snap.specs.Requests.{promoted, promote_refusal, KeepsPrevious};
 
+use crate::named::Named;
 use base::meter::SegMeter;
-use base::name::{Component, DsName, NAME_LIMIT};
+use base::name::{Component, DsName};
 use base::number::Group;
 use base::refusal::Refusal;
 use datasets::{FileSystem, Table};
@@ -84,15 +85,6 @@ fn promotion_of<'a>(
     Some((clone, owner, origin))
 }
 
-// Whether the whole name of a snapshot, as `p/a@s`, is too long. Constant time.
-fn is_too_long(file_system: &DsName, component: &Component) -> bool
-    ensures { result ≡ nat_lt name_limit (whole_length (record { file_system = file_system.now; component = component.now })) }
-{
-    let file_system = file_system.as_bytes().len();
-    let component = component.as_bytes().len();
-    file_system >= NAME_LIMIT || component >= NAME_LIMIT - file_system
-}
-
 // Whether a snapshot of this file system up to that group would have too long a name under the other one's. It costs the number of these
 // snapshots.
 fn any_too_long(owner: &FileSystem, group: Group, name: &DsName) -> bool
@@ -103,7 +95,11 @@ fn any_too_long(owner: &FileSystem, group: Group, name: &DsName) -> bool
         if kept.snapshot.group() > group {
             return false;
         }
-        if is_too_long(name, kept.snapshot.name()) {
+        let renamed = Named {
+            file_system: name,
+            component: kept.snapshot.name(),
+        };
+        if renamed.is_too_long() {
             return true;
         }
     }

@@ -21,7 +21,7 @@ use Rattle.world.proofs.lists.Listed.{in_map, map_in, different_map, length-mapp
 use Rattle.steps.proofs.numbers.Lookups.{some_of}
 use Rattle.world.proofs.lists.Finding.{in_filter, from_filter}
 use Rattle.steps.proofs.numbers.Surveys.{room_after, in_list, from_in_list, len-from_list}
-use Rattle.world.proofs.maps.Presence.{same_presence}
+use Rattle.base.proofs.Presence.{same_presence}
 
 -- what a change with numbers that no block has takes of the pool's room
 module _ (m : Map) (base : ℕ) (now last : BlockSet) (group : ℕ) (one : AreKeysOne m) (inside : (b : Block) → Has (blocks m) b → Has now b)

@@ -1,7 +1,7 @@
 -- A pool as it is created: the root file system alone, empty.
-use Rattle.std.proofs.Common.{◌≡◌, ℕ, zero, suc, ◌<◌, Some, refl, sym, ap, subst, ◌∙◌, ⊎_elim, replicate, arith}
+use Rattle.std.proofs.Common.{◌≡◌, ℕ, zero, suc, ◌<◌, Some, refl, sym, ap, subst, ◌∙◌, ⊎_elim, replicate, arith, List}
 use Rattle.std.specs.Prelude.{slice_get}
-use Rattle.std.specs.FinMap.{get-empty}
+use Rattle.std.specs.FinMap.{get, get-empty}
 use Rattle.std.specs.FinMap as finmap
 use Rattle.std.specs.FinSet.{difference}
 use Rattle.std.proofs.lemmas.Bool.{false_from_ne_true}
@@ -11,7 +11,7 @@ use Rattle.base.specs.Map.{Block, BlockSet}
 use Rattle.zalloc.specs.declared.BlockState.{BlockState}
 use Rattle.zalloc.specs.declared.BlockState.TheVariants.{Free}
 use Rattle.base.specs.Surveys.{IsIn}
-use Rattle.model.specs.World.{FileSystem, empty_file_system, reach_of}
+use Rattle.model.specs.World.{Snap, FileSystem, empty_file_system, reach_of}
 use Rattle.model.specs.State.{fresh_state, fresh_world, is_number_of}
 use Rattle.model.specs.Hierarchy.{FileSystems}
 use Rattle.model.specs.Numbers.{HasStates}
@@ -37,12 +37,16 @@ first = finmap.insert finmap.empty root_name empty_file_system
 pub first_unlimited : IsUnlimited first
 first_unlimited = unlimited_put finmap.empty (λ name f at. absurd (no_value f (sym (get-empty name_cmp name) ∙ at))) root_name empty_file_system refl
 
+-- there is no snapshot
+pub none_first : (q : List ℕ) (x : FileSystem) (t : Snap) → get first q ≡ Some x → IsIn x.snaps t → ⊥
+none_first q x t at h = ⊎_elim
+    (λ k. subst (λ (y : FileSystem). IsIn y.snaps t) k.1 h)
+    (λ k. no_value x (sym (get-empty name_cmp q) ∙ k.1))
+    (put_cases finmap.empty root_name empty_file_system q x at)
+
 first_swept : (id size : ℕ) → IsSwept (fresh_state id size)
 unfolding fresh_state fresh_world
-first_swept id size q x t at h d = ⊎_elim
-    (λ k. absurd (subst (λ (y : FileSystem). IsIn y.snaps t) k.1 h))
-    (λ k. absurd (no_value x (sym (get-empty name_cmp q) ∙ k.1)))
-    (put_cases finmap.empty root_name empty_file_system q x at)
+first_swept id size q x t at h d = absurd (none_first q x t at h)
 
 -- what holds between two steps holds of it
 pub first_steady : (id size : ℕ) → IsSteady (fresh_state id size)

@@ -13,10 +13,9 @@ use Rattle.base.specs.declared.name.target.Target.{Target}
 use Rattle.base.specs.declared.name.target.Target.TheVariants.{FileSystem as OfFileSystem, Snapshot as OfSnapshot, Bookmark as OfBookmark}
 use Rattle.model.specs.declared.request.Request.TheVariants.{OpenView, CloseView}
 use Rattle.model.specs.declared.reply.Reply.TheVariants.{Done, Refused, Opened}
-use Rattle.model.specs.World.{World, FileSystem, Snap, SnapId, id_of, reach_of}
+use Rattle.model.specs.World.{World, FileSystem, Snap, SnapId, id_of}
 use Rattle.model.specs.State.{State}
-use Rattle.model.specs.Outcome.{is_needed, state_after_sweep}
-use Rattle.model.specs.Edits.{without_snaps}
+use Rattle.model.specs.Outcome.{is_needed}
 use Rattle.model.specs.Targets.{number_limit}
 use Rattle.model.specs.Refusals.{refusal_of}
 use Rattle.model.specs.Rule.{first_of}
@@ -27,22 +26,17 @@ use Rattle.model.specs.requests.CloseView.{close_view_rule}
 use Rattle.model.specs.requests.Send.{sight_of}
 use Rattle.world.specs.Shapes.{Name, view_order}
 use Rattle.world.specs.Tables.{world_of}
-use Rattle.world.specs.Worlds.{IsPoolState, IsSwept}
+use Rattle.world.specs.Worlds.{IsPoolState}
 use Rattle.world.proofs.lists.Finding.{from_find}
-use Rattle.world.proofs.changes.Kept.{losses_reach}
 use Rattle.world.proofs.lists.Maps.{same_value, no_value, key_cases, get-insert_same, get-insert_other, get-remove_same, get-remove_other}
 use Rattle.world.proofs.lineage.Bridge.{snap_is_at}
-use Rattle.world.proofs.steps.StateSteps.{sweep_swept}
-use Rattle.world.proofs.steps.States.{sweep_keeps}
-use Rattle.world.proofs.removals.WithoutSnaps.{without_from}
-use Rattle.accounts.specs.Limits.{HasLimits}
-use Rattle.accounts.proofs.Steps.{sweep_limits}
 use Rattle.removals.specs.Requests.{swept}
 use Rattle.steps.specs.Steady.{IsSteady, snap_in}
 use Rattle.steps.specs.Edits.{datasets_of, lose, viewing, closed, CanLose, StaysUnlimited}
 use Rattle.steps.proofs.numbers.Ruled.{no_choice, refused_by, done_by, swept_by}
 use Rattle.steps.proofs.quotas.Unlimited.{unlimited_without}
 use Rattle.steps.proofs.requests.Seeing.{needed_more}
+use Rattle.steps.proofs.requests.Sweeping.{after_is, sweep_can}
 
 -- ---- a view opened
 
@@ -155,33 +149,14 @@ module _ (s : State) (number : ℕ) where
     left_good : IsPoolState (closed s number)
     left_good = record { now = steady.good.now; last = steady.good.last; pair = steady.good.pair; views = λ v id e. steady.good.views v id (was v id e) }
 
-    after_is : lose (closed s number) (swept (datasets_of s) (remove s.views number)) ≡ state_after_sweep (closed s number)
-    unfolding state_after_sweep
-    after_is = refl
-
     -- where there was no limit, there is none
     pub close_unlimited : StaysUnlimited (closed s number) (swept (datasets_of s) (remove s.views number))
     close_unlimited none = unlimited_without (world_of (datasets_of s)) none (λ u. u.deferred && not (is_needed (world_of (datasets_of s)) (remove s.views number) u))
 
-    left_limits : HasLimits (state_after_sweep (closed s number))
-    left_limits = sweep_limits (closed s number) left_good (record { now = steady.limits.now; last = steady.limits.last })
-
-    left_reach : reach_of (state_after_sweep (closed s number)).now ≡ reach_of s.now
-    unfolding state_after_sweep
-    left_reach = losses_reach s.size s.now (without_snaps s.now (λ u. u.deferred && not (is_needed s.now (remove s.views number) u))) steady.good.now
-        (without_from s.now (λ u. u.deferred && not (is_needed s.now (remove s.views number) u))) (sweep_keeps (closed s number) left_good).now.systems refl
-
     -- without the view, what nothing needs goes
     pub close_can : CanLose (closed s number) (swept (datasets_of s) (remove s.views number))
-    close_can = record {
-      steady = record {
-        good = subst IsPoolState (sym after_is) (sweep_keeps (closed s number) left_good);
-        swept = subst IsSwept (sym after_is) (sweep_swept (closed s number));
-        limits = subst HasLimits (sym after_is) left_limits;
-      };
-      reach = ap (λ (x : State). reach_of x.now) after_is ∙ left_reach;
-    }
+    close_can = sweep_can (closed s number) left_good (record { now = steady.limits.now; last = steady.limits.last })
 
     pub close_done : (id : SnapId) → get s.views number ≡ Some id → Step s (CloseView number) Done (lose (closed s number) (swept (datasets_of s) (remove s.views number)))
     close_done id e = swept_by (CloseView number) (close_view_rule number) (None, refl, refl) s no_choice (lose (closed s number) (swept (datasets_of s) (remove s.views number))) Done refl refl
-        (row_of false (ap (λ x. not (is_some x)) e)) refl after_is close_can.steady
+        (row_of false (ap (λ x. not (is_some x)) e)) refl (after_is (closed s number) left_good (record { now = steady.limits.now; last = steady.limits.last })) close_can.steady

@@ -12,7 +12,7 @@ use Rattle.zalloc.specs.declared.BlockState.{BlockState}
 use Rattle.tree.specs.Change.{Shown, IsChange, IsKept}
 use Rattle.world.proofs.lists.Maps.{same_value, no_value}
 use Rattle.world.proofs.changes.Numbered.{change_keeps_cells}
-use Rattle.world.proofs.maps.Presence.{same_presence}
+use Rattle.base.proofs.Presence.{same_presence}
 use Rattle.world.proofs.maps.Rewrites.{rewrite_is_change}
 
 module _ (m : Map) (ch : Changes) (g young : ℕ) (number : Key → ℕ) where

@@ -25,7 +25,7 @@ use Rattle.world.proofs.lists.Maps.{same_value, some_of}
 use Rattle.world.proofs.lineage.Lineage.{in_after, from_after}
 use Rattle.world.proofs.maps.Cells.{in_blocks, from_blocks, from_new_blocks}
 use Rattle.world.proofs.maps.Rewrites.{rewrite_is_change}
-use Rattle.world.proofs.maps.Presence.{same_presence}
+use Rattle.base.proofs.Presence.{same_presence}
 use Rattle.world.proofs.lineage.Bridge.{map_of_live, in_world}
 use Rattle.world.proofs.lists.Finding.{in_filter, from_filter}
 use Rattle.world.proofs.changes.Kept.{reach_is}

@@ -1,4 +1,4 @@
-use Rattle.std.proofs.Common.{◌≡◌, ℕ, ◌<◌, ◌≤◌, ◌⊎◌, inr, ⊎_elim, List, [], ◌∷◌, ap, arith}
+use Rattle.std.proofs.Common.{◌≡◌, ℕ, ◌<◌, ◌≤◌, inr, ⊎_elim, List, [], ◌∷◌, ap, arith}
 use Rattle.world.specs.Blocks.{BlockSet}
 use Rattle.world.specs.Lineage.{Row, IsSound}
 use Rattle.world.specs.Shapes.{Name, SnapId, Dataset, SnapShape, Shapes, Before, before_next, before_live, row, IsAmong, HasSnapshot, IsTail, lineages, IsGood}

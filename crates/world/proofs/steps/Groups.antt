@@ -1,4 +1,4 @@
--- The open group goes up; a sync.
+-- The open group goes up; a sync, and the way back to the last synced world.
 use Rattle.std.proofs.Common.{◌≡◌, ℕ, ◌+◌, ◌≤◌, refl, sym, subst, ◌⊎◌, inr, ⊎_elim, arith}
 use Rattle.std.specs.FinMap as finmap
 use Rattle.std.specs.FinSet.{union}
@@ -8,7 +8,7 @@ use Rattle.model.specs.Edits.{with_next_group}
 use Rattle.world.specs.Sets.{Has}
 use Rattle.world.specs.Blocks.{block_order as o}
 use Rattle.world.specs.Worlds.{FileSystems, AreFileSystems, IsWorld, ArePaired, AreMapsFrom, AreReached, Place, InNow, InLast, maps_of_both}
-use Rattle.world.proofs.lists.SetCounts.{in_union_left, from_union}
+use Rattle.world.proofs.lists.SetCounts.{in_union_left, in_union_right, from_union}
 use Rattle.world.proofs.lineage.Moves.{raise_keeps_world}
 use Rattle.world.proofs.changes.Drawn.{cells_from}
 use Rattle.world.proofs.changes.Kept.{world_same}
@@ -60,3 +60,25 @@ module _ (size : ℕ) (w : World) (good : IsWorld size w) where
         where
           in_both : (b : Block) → Has (union now now) b → Has (union now last) b
           in_both b h = in_union_left o now last b (⊎_elim (λ l. l) (λ l. l) (from_union o now now b h))
+
+-- the way back: the last synced world is the present one again
+pub back_pairs : (size : ℕ) (now last : World) → ArePaired size now last → ArePaired size last last
+back_pairs size now last pair = record {
+  cells = cells_from (maps_of_both now last) (maps_of_both last last) from pair.cells;
+  reached = back_reached (reach_of now) (reach_of last) last.group now.group pair.reached;
+}
+  where
+    from : (p : Place) → (maps_of_both last last p ≡ finmap.empty) ⊎ ((q : Place) × (maps_of_both last last p ≡ maps_of_both now last q))
+    from (InNow d) = inr (InLast d, refl)
+    from (InLast d) = inr (InLast d, refl)
+
+    back_reached : (present synced : BlockSet) (before group : ℕ) → AreReached present synced before group size → AreReached synced synced before before size
+    back_reached present synced before group reached = record {
+      unique = λ a b h g n. reached.unique a b (in_both a h) (in_both b g) n;
+      small = λ b h. reached.small b (in_both b h);
+      since = record { older = reached.since.older; later = omega arith; stays = λ b h l. h };
+      born = λ b h. let l = reached.since.older b h in omega arith;
+    }
+      where
+        in_both : (b : Block) → Has (union synced synced) b → Has (union present synced) b
+        in_both b h = in_union_right o present synced b (⊎_elim (λ l. l) (λ l. l) (from_union o synced synced b h))

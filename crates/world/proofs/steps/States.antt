@@ -4,11 +4,11 @@ use Rattle.std.specs.Prelude.{IsSome, is_some, nat_lt}
 use Rattle.std.specs.List.{filter, list_any}
 use Rattle.std.specs.Option.{option_map_or}
 use Rattle.std.specs.FinMap.{get, entries, values}
-use Rattle.std.specs.FinSet.{union, difference}
+use Rattle.std.specs.FinSet.{difference}
 use Rattle.std.proofs.lemmas.Bool.{false_from_ne_true, or_left, or_right, lt-ltb, and_parts}
 use Rattle.base.specs.Map.{Block}
 use Rattle.base.specs.Surveys.{IsIn}
-use Rattle.model.specs.World.{World, FileSystem, Snap, SnapId, id_of, same_id, snap_at, clones_of, union_of, reach_of}
+use Rattle.model.specs.World.{World, FileSystem, Snap, SnapId, id_of, same_id, snap_at, map_of, clones_of, union_of, reach_of}
 use Rattle.model.specs.State.{State, waiting_of, is_viewed}
 use Rattle.model.specs.Numbers.{IsWorldNumbered, IsNumbered}
 use Rattle.model.specs.Outcome.{is_needed, state_after_sweep}
@@ -17,7 +17,8 @@ use Rattle.world.specs.Sets.{Has}
 use Rattle.world.specs.Blocks.{block_order as o}
 use Rattle.world.specs.Shapes.{Name, name_order, view_order}
 use Rattle.world.specs.Usage.{IsEntry}
-use Rattle.world.specs.Worlds.{IsWorld, ArePaired, IsPoolState, InNow}
+use Rattle.world.specs.Worlds.{IsWorld, AreCellsOne, ArePaired, IsPoolState, InNow, InLast}
+use Rattle.world.specs.Reach.{AreNumbersUnique}
 use Rattle.world.specs.Dead.{HasNoCloneIn}
 use Rattle.world.proofs.lists.SetCounts.{in_union_left, in_union_right, from_difference}
 use Rattle.world.proofs.lists.Maps.{entry_of}
@@ -30,28 +31,36 @@ use Rattle.world.proofs.removals.WithoutSnaps.{without_at, without_good, without
 
 -- ---- numbers
 
-module _ (size : ℕ) (now last : World) (good : IsWorld size now) (pair : ArePaired size now last) where
-  in_both : (b : Block) → Has (reach_of now) b → Has (union (reach_of now) (reach_of last)) b
-  in_both b h = in_union_left o (reach_of now) (reach_of last) b h
+-- in a world over whose maps, and over what it reaches, a number names one block
+module _ (size : ℕ) (w : World) (good : IsWorld size w) (cells : AreCellsOne (map_of w)) (unique : AreNumbersUnique (reach_of w)) where
+  in_reach : (b : Block) → Has (union_of w) b ⊎ Has w.freeing b → Has (reach_of w) b
+  in_reach b h = subst (λ s. Has s b) (sym (reach_is w)) (⊎_elim (λ k. in_union_left o (union_of w) w.freeing b k) (λ k. in_union_right o (union_of w) w.freeing b k) h)
 
-  in_reach : (b : Block) → Has (union_of now) b ⊎ Has now.freeing b → Has (reach_of now) b
-  in_reach b h = subst (λ s. Has s b) (sym (reach_is now)) (⊎_elim (λ k. in_union_left o (union_of now) now.freeing b k) (λ k. in_union_right o (union_of now) now.freeing b k) h)
-
-  pub world_numbered : IsWorldNumbered size now
-  world_numbered = record {
+  one_numbered : IsWorldNumbered size w
+  one_numbered = record {
     trees = good.trees;
-    one_block = λ d e. pair.cells (InNow d) (InNow e);
+    one_block = cells;
     freeing_apart = λ n h. false_from_ne_true _ (λ k.
-        let a = from_number now.freeing n h in
-        let b = from_number (union_of now) n k in
-        let same = pair.reached.unique b.0 a.0 (in_both b.0 (in_reach b.0 (inl b.1))) (in_both a.0 (in_reach a.0 (inr a.1))) (b.2 ∙ sym a.2) in
-        good.freeing_apart b.0 b.1 (subst (λ x. Has now.freeing x) (sym same) a.1));
+        let a = from_number w.freeing n h in
+        let b = from_number (union_of w) n k in
+        let same = unique b.0 a.0 (in_reach b.0 (inl b.1)) (in_reach a.0 (inr a.1)) (b.2 ∙ sym a.2) in
+        good.freeing_apart b.0 b.1 (subst (λ x. Has w.freeing x) (sym same) a.1));
   }
+
+-- so in the present world, and in the last synced one
+module _ (size : ℕ) (now last : World) (pair : ArePaired size now last) where
+  pub now_numbered : IsWorld size now → IsWorldNumbered size now
+  now_numbered good = one_numbered size now good (λ d e. pair.cells (InNow d) (InNow e))
+      (λ a b h k. pair.reached.unique a b (in_union_left o (reach_of now) (reach_of last) a h) (in_union_left o (reach_of now) (reach_of last) b k))
+
+  pub last_numbered : IsWorld size last → IsWorldNumbered size last
+  last_numbered good = one_numbered size last good (λ d e. pair.cells (InLast d) (InLast e))
+      (λ a b h k. pair.reached.unique a b (in_union_right o (reach_of now) (reach_of last) a h) (in_union_right o (reach_of now) (reach_of last) b k))
 
 pub state_numbered : (s : State) → IsPoolState s → IsNumbered s
 unfolding waiting_of
 state_numbered s good = record {
-  world = world_numbered s.size s.now s.last good.now good.pair;
+  world = now_numbered s.size s.now s.last good.pair good.now;
   waiting_apart = λ n h. false_from_ne_true _ (λ k.
       let a = from_number (difference (reach_of s.last) (reach_of s.now)) n h in
       let b = from_number (reach_of s.now) n k in

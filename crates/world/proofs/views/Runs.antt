@@ -7,7 +7,7 @@ use Rattle.base.specs.Names.{name_cmp, root_name}
 use Rattle.model.specs.World.{FileSystem, Snap, snap_at, empty_file_system}
 use Rattle.model.specs.State.{State, fresh_world, fresh_state}
 use Rattle.model.specs.Step.{Step}
-use Rattle.world.specs.RunLaws.{RunGrows, HasSnap, IsViewing, ViewsBegin, ViewsLast, ViewsStand}
+use Rattle.world.specs.RunLaws.{RunGrows, HasSnap, HasIdentities, IsViewing, ViewsBegin, ViewsLast, ViewsStand}
 use Rattle.world.specs.Shapes.{Name}
 use Rattle.world.proofs.lists.Maps.{no_value}
 use Rattle.world.proofs.lineage.Put.{put_cases}
@@ -30,13 +30,16 @@ fresh_bare name t h = ⊎_elim
     (λ k. no_value h.0 (sym (get-empty name_cmp name) ∙ k.1))
     (put_cases empty root_name empty_file_system name h.0 h.1)
 
+fresh_identities : HasIdentities fresh_world
+fresh_identities = record { once = λ name other t u h k ids. absurd (fresh_bare name t h); closed = λ name t h. absurd (fresh_bare name t h) }
+
 pub views_begin : ViewsBegin
 unfolding fresh_state
 views_begin id size = record {
   numbers = λ v i e. absurd (no_value i (sym (get-empty nat_cmp v) ∙ e));
   there = λ v i e. absurd (no_value i (sym (get-empty nat_cmp v) ∙ e));
-  once = λ name other t u h k ids. absurd (fresh_bare name t h);
-  closed = λ name t h. absurd (fresh_bare name t h);
+  now = fresh_identities;
+  last = fresh_identities;
 }
 
 pub views_last : ViewsLast

@@ -1,11 +1,11 @@
 -- A promote leaves each snapshot, perhaps in another file system.
-use Rattle.std.proofs.Common.{◌≡◌, ◌<◌, ◌≤◌, ℕ, Bool, true, false, List, ◌++◌, Option, Some, refl, sym, ap, subst, ◌∙◌, ◌⊎◌, inl, inr, ⊎_elim, arith}
+use Rattle.std.proofs.Common.{◌≡◌, ◌<◌, ◌≤◌, Bool, true, false, Some, refl, sym, ap, subst, ◌∙◌, ⊎_elim, arith}
 use Rattle.std.specs.Prelude.{nat_le, nat_lt}
 use Rattle.std.specs.FinMap.{get, insert}
 use Rattle.std.proofs.lemmas.Bool.{lt-ltb, ltb-true, leb-true, leb-false}
 use Rattle.base.specs.Surveys.{IsIn}
 use Rattle.model.specs.World.{World, FileSystem, Snap, id_of}
-use Rattle.model.specs.State.{Views, is_viewed}
+use Rattle.model.specs.State.{Views}
 use Rattle.model.specs.requests.Promote.{Promotion, promotion_of, promoted_snaps, promoted, demoted, after_promotion}
 use Rattle.world.specs.RunLaws.{HasSnap}
 use Rattle.world.specs.Shapes.{Name, name_order}

@@ -9,7 +9,7 @@ use Rattle.base.specs.Rewrite.{rewrite}
 use Rattle.base.specs.declared.name.member.Member.{Member}
 use Rattle.stream.specs.Records.{changes_of}
 use Rattle.stream.specs.Spelling.{Sending}
-use Rattle.model.specs.World.{World, FileSystem, Snap, empty_file_system}
+use Rattle.model.specs.World.{World, Snap, empty_file_system}
 use Rattle.model.specs.State.{State, Views}
 use Rattle.model.specs.Edits.{with_file_system, with_losses, after_change}
 use Rattle.model.specs.requests.Change.{limit_row}

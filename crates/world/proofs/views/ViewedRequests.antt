@@ -1,9 +1,9 @@
 -- A request that isn't refused leaves the snapshots of open views: what its row says of them.
-use Rattle.std.proofs.Common.{◌≡◌, Bool, true, false, cond, not, ◌&&◌, ◌||◌, List, [], ◌∷◌, Option, Some, None, refl, sym, ap, subst, ◌∙◌, true≢false, ◌⊎◌, inl, inr, ⊎_elim, map, length, arith}
+use Rattle.std.proofs.Common.{◌≡◌, ℕ, Bool, true, false, cond, not, ◌&&◌, ◌||◌, List, [], ◌∷◌, Option, Some, None, refl, sym, ap, subst, ◌∙◌, true≢false, ◌⊎◌, inl, inr, ⊎_elim, map, length, arith}
 use Rattle.std.specs.Prelude.{nat_lt, nat_le, is_some}
 use Rattle.std.specs.List.{find, list_any}
 use Rattle.std.specs.Option.{option_map, option_map_or, option_and_then}
-use Rattle.std.specs.FinMap.{get, insert, remove, contains_key}
+use Rattle.std.specs.FinMap.{get, insert, remove, contains_key, len, entries, values, len-entries}
 use Rattle.std.proofs.lemmas.Bool.{leb-false, lt-ltb, or_cases, or_left, or_right, and_parts, false_from_ne_true, not_from_false}
 use Rattle.base.specs.declared.refusal.Refusal.{Refusal}
 use Rattle.base.specs.declared.refusal.Refusal.TheVariants.{Exists, Busy}
@@ -25,10 +25,11 @@ use Rattle.world.specs.RunLaws.{HasSnap}
 use Rattle.world.specs.Shapes.{Name}
 use Rattle.world.proofs.lists.Maps.{same_value, no_value}
 use Rattle.world.proofs.lists.Finding.{from_find, from_filter, in_filter, in_flat, any_none, or_none, one_name}
-use Rattle.world.proofs.lists.Listed.{map_in}
+use Rattle.world.proofs.lists.Listed.{in_map, map_in}
 use Rattle.world.proofs.lineage.Put.{put_other, put_cases}
 use Rattle.world.proofs.removals.Families.{retained_there, from_retained}
 use Rattle.world.proofs.removals.WithoutSnaps.{any_from}
+use Rattle.world.proofs.steps.States.{positive}
 use Rattle.world.proofs.views.Viewed.{AreOnce, AreClosed, IsSafe, snap_found, safe_fewer, safe_same, safe_then, safe_losses, one_changed, some_gone, some_deferred}
 
 -- ---- rows
@@ -46,6 +47,12 @@ row_false (x ∷ xs) none r h = by_first x.0 refl (λ k. row_false xs k r) none 
 not_viewed : (w : World) (views : Views) (ids : List SnapId) → is_busy w views ids ≡ false → (id : SnapId) → IsIn ids id → is_viewed views id ≡ true → ⊥
 not_viewed w views ids e id h seen =
     true≢false (sym seen ∙ (or_none _ _ (any_none (λ id. is_viewed views id || option_map_or (λ (p : Name × Snap). nat_lt 0 (length p.1.tags)) (snap_at w id) false) ids e id h)).0)
+
+-- where no view is open no snapshot has one
+pub none_viewed : (views : Views) → nat_lt 0 (len views) ≡ false → (id : SnapId) → is_viewed views id ≡ true → ⊥
+none_viewed views none id seen =
+    let k = in_map (λ (e : ℕ × SnapId). e.1) (entries views) id (any_from (values views) id seen) in
+    true≢false (sym (positive (entries views) k.0 k.1) ∙ sym (ap (nat_lt 0) (len-entries views)) ∙ none)
 
 pub not_true : (b : Bool) → (b ≡ true → ⊥) → not b ≡ true
 not_true b wrong = not_from_false b (false_from_ne_true b wrong)

@@ -1,27 +1,25 @@
-use Rattle.std.proofs.Common.{◌||◌, ◌∙◌, sym, arith}
-use Rattle.zalloc.specs.Extents.{is_within}
-use Rattle.zalloc.specs.Laid.{is_held}
-use Rattle.zalloc.proofs.Spread.{within_tells}
-use Rattle.zalloc.proofs.States.{either_step, apart_step, moved_step}
+use Rattle.std.proofs.Common.{◌/◌, ◌∙◌, refl, sym, arith}
+use Rattle.zalloc.proofs.Freed.{freed_either, freed_apart, freed_below}
 use Rattle.zalloc.proofs.free_all.Goals as goal
 
 pub loop-extent-preserved : goal.loop-extent-preserved
 loop-extent-preserved c =
     let i = c.loop-extent.invariant in
-    let e = c.in-Some.extent in
-    let found = c.in-Some.ensures.found in
-    let w = c.remove.ensures.without in
-    let f = c.insert.ensures.with in
+    let f = c.in-Some.extent in
+    let w = f.first / 64 in
     let x = c.loop-extent.free in
     let y = c.loop-extent.waiting in
+    let a = c.write.ensures.written in
+    let b = c.write-in-Some.ensures.written in
+    let n = i.same ∙ sym i.numbers in
+    let v = c.write.new.self in
+    let z = c.write-in-Some.new.self in
     record {
-      free = c.insert.ensures.kept;
-      waiting = c.remove.ensures.kept;
-      numbers = f.numbers ∙ i.numbers;
-      same = w.numbers ∙ i.same;
-      either = λ k h.
-          (λ j. f.held k (omega (arith, h, i.numbers)) j || w.held k (omega (arith, h, i.same)) j)
-          ∙ either_step (is_within e k) (is_held x k) (is_held y k) (λ t. let p = within_tells e k t in found.held k p.0 p.1) ∙ i.either k h;
-      apart = λ k h t. w.held k (omega (arith, h, i.same)) ∙ apart_step (is_within e k) (is_held x k) (is_held y k) (i.apart k h) (sym (f.held k (omega (arith, h, i.numbers))) ∙ t);
-      moved = λ k h p. w.held k (omega (arith, h, i.same)) ∙ moved_step y c.loop-extent.from k e found (i.moved k h) p;
+      free = c.write.ensures.kept;
+      waiting = c.write-in-Some.ensures.kept;
+      numbers = a.numbers ∙ i.numbers;
+      same = b.numbers ∙ i.same;
+      either = λ k h. freed_either x y v z w c.either.result c.word.result c.word-in-Some.result a b n c.either.ensures c.word.ensures c.word-in-Some.ensures k (omega (arith, h, i.numbers)) ∙ i.either k h;
+      apart = λ k h t. freed_apart x y v z w c.either.result c.word.result c.word-in-Some.result a b n c.either.ensures c.word.ensures c.word-in-Some.ensures k (omega (arith, h, i.numbers)) (i.apart k h) t;
+      moved = λ k h p. freed_below x y v z w c.either.result c.word.result c.word-in-Some.result a b n c.either.ensures c.word.ensures c.word-in-Some.ensures c.loop-extent.from f c.in-Some.ensures.found refl k (omega (arith, h, i.numbers)) (i.moved k h) p;
     }

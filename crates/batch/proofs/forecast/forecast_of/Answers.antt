@@ -1,4 +1,4 @@
--- The lists of a plan, by the lemmas of Forecasts.
+-- The lists of the findings, by the lemmas of Forecasts.
 use Rattle.std.proofs.Common.{◌++◌, List, length, map, sym, ap, subst, ◌∙◌}
 use Rattle.std.proofs.lemmas.List.{length-map}
 use Rattle.base.specs.declared.number.Dead.{Dead}
@@ -20,8 +20,8 @@ findings_of-requires-clause-order c = batch_in_order c.args.updates.now c.requir
 pub returns-clause-ok : goal.returns-clause-ok
 returns-clause-ok c =
     let u = c.args.updates.now in
-    let claimed = c.in_ok-plan.ensures.claims in
-    let kept = c.in_ok-add_kept.ensures.ok ∙ (λ i. c.in_ok-plan.ensures.released i ++ kept_of ((c.deref.ensures ∙ claimed) i)) in
+    let claimed = c.in_ok-findings.ensures.claims in
+    let kept = c.in_ok-add_kept.ensures.ok ∙ (λ i. c.in_ok-findings.ensures.released i ++ kept_of ((c.deref.ensures ∙ claimed) i)) in
     record {
       made = map claim_key (claims (said u) 0 5 0 (whole c.args.root.now));
       survey = subst (λ (ds : List Dead). IsSurvey (map_of (root_forest c.args.root.now)) (changes_of u) (map dead_block ds) (map claim_key (claims (said u) 0 5 0 (whole c.args.root.now)))) (sym kept)
@@ -31,4 +31,4 @@ returns-clause-ok c =
 
 pub returns-clause-metered : goal.returns-clause-metered
 returns-clause-metered c =
-    root_counts c.args.root.now c.args.updates.now c.requires.sound c.requires.batch c.write_count.ensures.sized _ _ c.in_ok-plan.ensures.metered
+    root_counts c.args.root.now c.args.updates.now c.requires.sound c.requires.batch c.write_count.ensures.sized _ _ c.in_ok-findings.ensures.metered

@@ -1,4 +1,4 @@
-use Rattle.std.proofs.Common.{◌≡◌, ◌+◌, is_some, map, ap, sym, subst, ◌∙◌, true≢false, ◌≤◌, length, arith}
+use Rattle.std.proofs.Common.{◌≡◌, ◌+◌, is_some, map, ap, sym, subst, ◌∙◌, true≢false}
 use Rattle.std.specs.FinSet.{difference}
 use Rattle.std.specs.Option.{option_copied}
 use Rattle.base.specs.Map.{Map, BlockSet, blocks}
@@ -11,7 +11,7 @@ use Rattle.world.specs.Deadlists.{Lists}
 use Rattle.file_system.specs.Dead.{blocks_kept}
 use Rattle.file_system.specs.Origins.{blocks_below, group_below}
 use Rattle.file_system.specs.Splices.{blocks_before, AreJoined}
-use Rattle.file_system.proofs.Stacks.{some_at, before_blocks, between_dead, between_lost}
+use Rattle.file_system.proofs.Stacks.{are_uncut, uncut_at, some_at, before_blocks, between_dead, between_lost}
 use Rattle.file_system.proofs.splice.joined_next.Goals as goal
 
 -- one stands after it
@@ -35,6 +35,15 @@ written_over-written-requires c =
     subst (λ (s : BlockSet). Lists (map dead_block c.in_ok-dead.dead.entries) (difference s (blocks c.tree.result.now))) (sym before)
     (subst (λ (m : Map). Lists (map dead_block c.in_ok-dead.dead.entries) (difference (blocks_before bs ks c.args.place) (blocks m))) (sym tree) dead)
 
+pub joined-requires-clause-uncut : goal.joined-requires-clause-uncut
+joined-requires-clause-uncut c = are_uncut (blocks_below (option_copied c.args.origin)) c.args.kept.now c.requires.accounted
+
+-- nor is that of the next one cut
+pub joined-requires-clause-next : goal.joined-requires-clause-next
+joined-requires-clause-next c =
+    ap (λ (h : Held). h.cuts) c.deref.ensures
+    ∙ uncut_at c.args.kept.now (c.args.place + 1) c.in-Some.next.now (are_uncut (blocks_below (option_copied c.args.origin)) c.args.kept.now c.requires.accounted) (sym c.in-Some.ensures)
+
 pub returns-clause-ok : goal.returns-clause-ok
 returns-clause-ok c =
     let ks = c.args.kept.now in
@@ -56,7 +65,7 @@ returns-clause-ok c =
       accounted = record {
         dead = subst (λ (h : Held). Lists (map dead_block h.entries) (difference (blocks_before bs ks c.args.place) (blocks c.in_ok-snapshot.snapshot.map))) (sym c.in_ok-dead-2.ensures.ok)
             (subst (λ (t : Snap). Lists (map dead_block c.in_ok-dead.dead.entries) (difference (blocks_before bs ks c.args.place) (blocks t.map))) (sym snap) dead);
-        few = subst (λ (h : Held). length h.cuts ≤ 1) (sym c.in_ok-dead-2.ensures.ok) (let f = c.in_ok-dead.ensures.few in omega arith);
+        uncut = ap (λ (h : Held). h.cuts) c.in_ok-dead-2.ensures.ok ∙ c.in_ok-dead.ensures.uncut;
         written = c.written_over-written.ensures ∙ ap (λ (m : Map). size_without (blocks m) (blocks_kept bs (option_copied c.before-2.result))) c.tree.ensures ∙ ap (size_without (blocks c.in_ok-snapshot.snapshot.map)) before;
       };
       lost_is = between_lost bs (group_below (option_copied c.args.origin)) ks c.args.place c.requires n (sym c.in-Some.ensures) c.deref.result.now.entries c.in_ok-dead.dead.entries c.in_ok-dead.lost.entries is j;

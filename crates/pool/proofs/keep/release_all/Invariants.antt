@@ -3,8 +3,10 @@ use Rattle.base.specs.Surveys.{dead_block}
 use Rattle.steps.specs.Settles.{AllAllocated, releases}
 use Rattle.pool.proofs.keep.release_all.Given as goal
 
--- what is left to release leads to the same states, and each of it is Allocated
+-- what is left to release leads to the same states, each of it is Allocated, and the states of the last sync stay
 abbrev pub invariant-loop-dead : goal.invariant-loop-dead
-invariant-loop-dead l =
-    (releases l.group.0 l.allocator (map dead_block (drop l.dead-index l.released)) ≡ releases l.group.0 l.initial.allocator (map dead_block l.released))
-    × AllAllocated l.group.0 l.allocator (map dead_block (drop l.dead-index l.released))
+invariant-loop-dead l = record {
+  left : releases l.group.0 l.numbers.present (map dead_block (drop l.dead-index l.released)) ≡ releases l.group.0 l.initial.numbers.present (map dead_block l.released);
+  may : AllAllocated l.group.0 l.numbers.present (map dead_block (drop l.dead-index l.released));
+  synced : l.numbers.synced ≡ l.initial.numbers.synced;
+}

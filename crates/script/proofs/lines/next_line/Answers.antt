@@ -1,5 +1,5 @@
 use Rattle.std.proofs.Common.{◌≡◌, ap, subst, ◌∙◌, arith, eqb, length, vec_len, rules}
-use Rattle.std.proofs.KnownBytes.{Keeps-refl, Keeps-trans}
+use Rattle.std.proofs.KnownBytes.{Keeps-trans}
 use Rattle.script.specs.Lines.{Looks}
 use Rattle.script.proofs.LinesLemmas.{TakesMore-more, GivesLine-feed, GivesLine-end, GivesNone-end, MatchBool-nonempty, HasMore-before}
 use Rattle.script.proofs.lines.next_line.Goals as goal

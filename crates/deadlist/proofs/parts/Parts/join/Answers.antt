@@ -61,8 +61,8 @@ returns-clause-entries c =
     let next : c.upto-at.result ≡ suc (c.upto-at.result - 1) = omega (arith, at, pos) in
     let le = front_le (λ u. nat_le u g) s.closed.items in
     let lt : c.upto-at.result - 1 < length s.closed.items = omega (arith, at, pos, le) in
-    let pile : c.add.new.self ≡ both_piles s.closed.items s.last (c.upto-at.result - 1) = c.in_ok-add.ensures.ok ∙ ap (λ (x : List Dead). x ++ c.in_ok-high.high) (c.in_ok-low.ensures ∙ c.pile.ensures) ∙ ap (λ (x : List Dead). pile_at s.closed.items s.last (c.upto-at.result - 1) ++ x) (c.in_ok-high.ensures ∙ c.pile-2.ensures ∙ ap (pile_at s.closed.items s.last) next) in
-    rw (c.replace-whole.ensures.closed, c.replace-whole.ensures.last, c.remove-segment.ensures.items, pile) (joined_entries s.closed.items s.last (c.upto-at.result - 1) lt)
+    let pile : c.in_ok-whole.whole ≡ both_piles s.closed.items s.last (c.upto-at.result - 1) = c.in_ok-whole.ensures ∙ ap (λ (x : List Dead). x ++ c.pile-2.result.now) (c.in_ok-low.ensures ∙ c.pile.ensures) ∙ ap (λ (x : List Dead). pile_at s.closed.items s.last (c.upto-at.result - 1) ++ x) (c.pile-2.ensures ∙ ap (pile_at s.closed.items s.last) next) in
+    rw (c.replace-high.ensures.closed, c.replace-high.ensures.last, c.remove-segment.ensures.items, pile) (joined_entries s.closed.items s.last (c.upto-at.result - 1) lt)
 
 pub returns-clause-cuts : goal.returns-clause-cuts
 returns-clause-cuts c =
@@ -73,8 +73,8 @@ returns-clause-cuts c =
     let pos = ended_pos s.closed.items 0 g s.last c.requires stands in
     let up : suc (c.upto-at.result - 1) ≡ ended g s.closed.items = omega (arith, at, pos) in
     let next : c.upto-at.result ≡ suc (c.upto-at.result - 1) = omega (arith, at, pos) in
-    let pile : c.add.new.self ≡ both_piles s.closed.items s.last (c.upto-at.result - 1) = c.in_ok-add.ensures.ok ∙ ap (λ (x : List Dead). x ++ c.in_ok-high.high) (c.in_ok-low.ensures ∙ c.pile.ensures) ∙ ap (λ (x : List Dead). pile_at s.closed.items s.last (c.upto-at.result - 1) ++ x) (c.in_ok-high.ensures ∙ c.pile-2.ensures ∙ ap (pile_at s.closed.items s.last) next) in
-    rw (c.replace-whole.ensures.closed, c.remove-segment.ensures.items, pile) (joined_uppers s.closed.items 0 g s.last (c.upto-at.result - 1) c.requires stands up)
+    let pile : c.in_ok-whole.whole ≡ both_piles s.closed.items s.last (c.upto-at.result - 1) = c.in_ok-whole.ensures ∙ ap (λ (x : List Dead). x ++ c.pile-2.result.now) (c.in_ok-low.ensures ∙ c.pile.ensures) ∙ ap (λ (x : List Dead). pile_at s.closed.items s.last (c.upto-at.result - 1) ++ x) (c.pile-2.ensures ∙ ap (pile_at s.closed.items s.last) next) in
+    rw (c.replace-high.ensures.closed, c.remove-segment.ensures.items, pile) (joined_uppers s.closed.items 0 g s.last (c.upto-at.result - 1) c.requires stands up)
 
 pub returns-clause-cut : goal.returns-clause-cut
 returns-clause-cut c =
@@ -87,5 +87,5 @@ returns-clause-cut c =
     let next : c.upto-at.result ≡ suc (c.upto-at.result - 1) = omega (arith, at, pos) in
     let le = front_le (λ u. nat_le u g) s.closed.items in
     let lt : c.upto-at.result - 1 < length s.closed.items = omega (arith, at, pos, le) in
-    let pile : c.add.new.self ≡ both_piles s.closed.items s.last (c.upto-at.result - 1) = c.in_ok-add.ensures.ok ∙ ap (λ (x : List Dead). x ++ c.in_ok-high.high) (c.in_ok-low.ensures ∙ c.pile.ensures) ∙ ap (λ (x : List Dead). pile_at s.closed.items s.last (c.upto-at.result - 1) ++ x) (c.in_ok-high.ensures ∙ c.pile-2.ensures ∙ ap (pile_at s.closed.items s.last) next) in
-    rw (c.replace-whole.ensures.closed, c.replace-whole.ensures.last, c.remove-segment.ensures.items, pile) (joined_cut s.closed.items 0 s.last (c.upto-at.result - 1) c.requires lt)
+    let pile : c.in_ok-whole.whole ≡ both_piles s.closed.items s.last (c.upto-at.result - 1) = c.in_ok-whole.ensures ∙ ap (λ (x : List Dead). x ++ c.pile-2.result.now) (c.in_ok-low.ensures ∙ c.pile.ensures) ∙ ap (λ (x : List Dead). pile_at s.closed.items s.last (c.upto-at.result - 1) ++ x) (c.pile-2.ensures ∙ ap (pile_at s.closed.items s.last) next) in
+    rw (c.replace-high.ensures.closed, c.replace-high.ensures.last, c.remove-segment.ensures.items, pile) (joined_cut s.closed.items 0 s.last (c.upto-at.result - 1) c.requires lt)

@@ -1,17 +1,16 @@
-use Rattle.std.proofs.Common.{arith}
-use Rattle.deadlist.proofs.Filters.{split_length}
+use Rattle.std.proofs.Common.{◌++◌, length, ap, sym, ◌∙◌}
+use Rattle.deadlist.specs.Entries.{run_entries}
+use Rattle.deadlist.proofs.Births.{upto_born_by, upto_born_from}
 use Rattle.deadlist.proofs.pile.Pile.count_upto.Goals as goal
 
-pub overflow_sub-result : goal.overflow_sub-result
-overflow_sub-result c =
-    let s = split_length c.args.cut c.args.self.now in
-    let l = c.len.ensures in
-    let a = c.count_after.ensures in
-    omega (arith, s, l, a)
+pub returns-then-self-cut : goal.returns-then-self-cut
+returns-then-self-cut c =
+    let s = c.self.inside in
+    let es = run_entries s.runs.items ++ s.tail.items in
+    rw (← c.self.view_is) (c.self.invariant.0 ∙ ap length (sym (upto_born_by s.high c.args.cut es c.self.invariant.2 c.if-self-cut.true)))
 
-pub returns : goal.returns
-returns c =
-    let s = split_length c.args.cut c.args.self.now in
-    let l = c.len.ensures in
-    let a = c.count_after.ensures in
-    omega (arith, s, l, a)
+pub returns-then-cut-self : goal.returns-then-cut-self
+returns-then-cut-self c =
+    let s = c.self.inside in
+    let es = run_entries s.runs.items ++ s.tail.items in
+    rw (← c.self.view_is) (ap length (sym (upto_born_from s.low c.args.cut es c.self.invariant.1 c.if-cut-self.true)))

@@ -1,4 +1,4 @@
-use Rattle.std.proofs.Common.{◌≡◌, ℕ, List, ◌+◌, ◌<◌, ◌≤◌, arith, rules, refl, sym, subst, ap, ◌∙◌, map, length}
+use Rattle.std.proofs.Common.{◌≡◌, ℕ, List, ◌+◌, ◌<◌, ◌≤◌, arith, rules, refl, sym, subst, ap, ◌∙◌, map}
 use Rattle.std.specs.Prelude.{max, nat_lt}
 use Rattle.std.specs.List.{filter}
 use Rattle.base.specs.Surveys.{dead_block}
@@ -12,7 +12,7 @@ use Rattle.base.specs.Map.{Map, blocks}
 use Rattle.world.specs.Deadlists.{Lists}
 use Rattle.world.proofs.lineage.Shuffled.{lists_shuffled}
 use Rattle.file_system.specs.Counts.{AreLined, IsCounted, IsRest, upto_count}
-use Rattle.file_system.specs.declared.counts.Counts.{Counts}
+use Rattle.file_system.specs.declared.counts.UsedBlocks.{UsedBlocks}
 use Rattle.file_system.specs.declared.counts.Rest.{Rest}
 use Rattle.file_system.specs.Dead.{snaps_in, newest_blocks, IsAbove, HasGained}
 use Rattle.file_system.specs.Origins.{origin_group, map_below, blocks_below, group_below}
@@ -75,14 +75,14 @@ invariant_of-self c =
       accounted = c.self.invariant.accounted;
       dead = subst (λ (m : Map). Lists (map dead_block (arc_value c.put.new.dead).entries) (difference below (blocks m))) (sym c.in_err-changed.ensures.err)
           (lists_shuffled dead_block _ _ _ c.in_err-changed.ensures.dead_err c.self.invariant.dead);
-      few = subst (λ (l : List ℕ). length l ≤ 1) (sym c.in_err-changed.ensures.cuts) c.self.invariant.few;
+      uncut = c.in_err-changed.ensures.cuts ∙ c.self.invariant.uncut;
       counted = subst (λ (m : Map). IsCounted (map_below (option_map arc_value c.self.inside.origin)) (snaps_in (arc_value c.self.inside.snapshots)) m c.self.inside.counts) (sym c.in_err-changed.ensures.err) c.self.invariant.counted;
     }
 
 -- ---- the counts
 
 -- what is left of the counts, by the entries of a slice
-rest_over : (es : List Dead) (n : Counts) (nodes : ℕ) (rs : List Dead) (base newest : ℕ) (r : Rest) → rs ≡ es → IsRest n nodes rs base newest r → IsRest n nodes es base newest r
+rest_over : (es : List Dead) (n : UsedBlocks) (nodes : ℕ) (rs : List Dead) (base newest : ℕ) (r : Rest) → rs ≡ es → IsRest n nodes rs base newest r → IsRest n nodes es base newest r
 rest_over es n nodes rs base newest r e is = subst (λ l. IsRest n nodes l base newest r) e is
 
 -- what is let go of the origin's is a part of what the live map has of it
@@ -178,7 +178,7 @@ invariant_of-self-2 c =
       accounted = c.self.invariant.accounted;
       dead = dead_changed bs base c.self.inside.live c.put.new.live (changes_of c.args.updates.now) c.args.group.0 c.young_from-young.result.0 c.args.allocator.now (change_done c.self.inside.live c.put.new.live done)
           put c.in_ok-draft.ensures.unique snaps above late early _ _ c.in_ok-draft.draft.released.items gained (ap (map dead_block) c.in_ok-changed.ensures.ok.released) refl c.self.invariant.dead;
-      few = subst (λ (l : List ℕ). length l ≤ 1) (sym c.in_ok-changed.ensures.cuts) c.self.invariant.few;
+      uncut = c.in_ok-changed.ensures.cuts ∙ c.self.invariant.uncut;
       counted = (
           let snaps = snaps_in (arc_value c.self.inside.snapshots) in
           let o = option_map arc_value c.self.inside.origin in

@@ -6,7 +6,7 @@ use Rattle.deadlist.specs.Held.{Held}
 use Rattle.world.specs.Deadlists.{Lists}
 use Rattle.file_system.specs.Dead.{AreAccounted}
 use Rattle.file_system.proofs.Counted.{fresh_counted}
-use Rattle.file_system.proofs.Accounts.{fresh_dead, nothing_dead, fresh_few}
+use Rattle.file_system.proofs.Accounts.{fresh_dead, nothing_dead}
 use Rattle.file_system.proofs.file_system.FileSystem.clone_of.Goals as goal
 
 -- there is no snapshot, and the live map has what the origin has
@@ -19,6 +19,6 @@ invariant_of-result c =
       accounted = subst (AreAccounted (blocks below)) (sym none) tt;
       dead = fresh_dead (blocks below) _ _ (blocks c.in_ok-live.live) (ap (λ (h : Held). h.entries) c.in_ok-dead.ensures.ok ∙ c.new.ensures.entries) none
           (subst (λ (m : Map). Lists [] (difference (blocks m) (blocks c.in_ok-live.live))) (sym same) (nothing_dead (blocks c.in_ok-live.live)));
-      few = fresh_few _ (ap (λ (h : Held). h.cuts) c.in_ok-dead.ensures.ok ∙ c.new.ensures.cuts);
+      uncut = ap (λ (h : Held). h.cuts) c.in_ok-dead.ensures.ok ∙ c.new.ensures.cuts;
       counted = fresh_counted below _ c.in_ok-live.live _ none same c.no_counts.ensures.by_dataset c.no_counts.ensures.by_snapshots;
     }

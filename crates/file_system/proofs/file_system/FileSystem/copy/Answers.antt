@@ -1,4 +1,4 @@
-use Rattle.std.proofs.Common.{◌≡◌, List, Option, map, sym, ap, subst, ◌∙◌, ◌≤◌, length}
+use Rattle.std.proofs.Common.{◌≡◌, List, Option, map, sym, ap, subst, ◌∙◌}
 use Rattle.std.specs.Arc.{arc_value}
 use Rattle.std.specs.FinSet.{difference}
 use Rattle.std.specs.Option.{option_map}
@@ -28,7 +28,7 @@ invariant_of-result c =
           (subst (λ (m : Map). Lists (map dead_block es) (difference (newest_blocks was (snaps_in ks)) (blocks m))) (sym live)
           (subst (λ (h : Held). Lists (map dead_block h.entries) (difference (newest_blocks was (snaps_in ks)) (blocks c.self.inside.live))) (sym c.in_ok-dead.ensures)
           (subst (λ (l : List Kept). Lists (map dead_block (arc_value c.self.inside.dead).entries) (difference (newest_blocks was (snaps_in l)) (blocks c.self.inside.live))) (sym c.in_ok-snapshots.ensures) c.self.invariant.dead)));
-      few = subst (λ (h : Held). length h.cuts ≤ 1) (sym c.in_ok-dead.ensures) c.self.invariant.few;
+      uncut = ap (λ (h : Held). h.cuts) c.in_ok-dead.ensures ∙ c.self.invariant.uncut;
       counted = subst (λ (p : Option Origin). IsCounted (map_below p) (snaps_in ks) c.in_ok-live.live c.self.inside.counts) (sym c.in_ok-origin.ensures.ok)
           (subst (λ (l : List Kept). IsCounted (map_below (option_map arc_value c.self.inside.origin)) (snaps_in l) c.in_ok-live.live c.self.inside.counts) (sym c.in_ok-snapshots.ensures)
           (subst (λ (m : Map). IsCounted (map_below (option_map arc_value c.self.inside.origin)) (snaps_in (arc_value c.self.inside.snapshots)) m c.self.inside.counts) (sym live) c.self.invariant.counted));

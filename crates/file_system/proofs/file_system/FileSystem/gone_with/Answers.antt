@@ -27,7 +27,7 @@ returns-clause-count c =
     ∙ ap (λ n. min (2 ^ 64 - 1) n) (gone_counted a (blocks_below (option_map arc_value c.self.inside.origin)) ks es c.self.inside.live c.self.invariant.accounted c.self.invariant.dead)
     ∙ ap (λ (r : Row). min (2 ^ 64 - 1) (gone_size a (gone_in (blocks r.below) r.system.snaps r.system.live))) c.self.view_is
 
--- each of the lists has two segments at most
+-- each of the lists has one segment
 pub returns-clause-meter : goal.returns-clause-meter
 returns-clause-meter c =
     let ks = arc_value c.self.inside.snapshots in
@@ -35,7 +35,7 @@ returns-clause-meter c =
     let a : Asked = c.args.asked in
     let kept : c.list.result.now ≡ ks = c.list.ensures ∙ c.deref.ensures in
     let dead : c.deref-2.result.now.cuts ≡ cuts = ap (λ (h : Held). h.cuts) c.deref-2.ensures in
-    let few = segments_counted a (blocks_below (option_map arc_value c.self.inside.origin)) ks cuts c.self.inside.live c.self.invariant.accounted c.self.invariant.few in
+    let few = segments_counted a (blocks_below (option_map arc_value c.self.inside.origin)) ks cuts c.self.inside.live c.self.invariant.accounted c.self.invariant.uncut in
     let named : length (filter (λ (g : Gone). is_asked a g.group) (gone_in (blocks_below (option_map arc_value c.self.inside.origin)) (snaps_in ks) c.self.inside.live)) ≡ length (dead_between (option_map (λ (g : Group). g.0) c.args.asked.from) (option_map (λ (g : Group). g.0) c.args.asked.until) c.args.self.now) =
     ap (λ (r : Row). length (dead_between (option_map (λ (g : Group). g.0) c.args.asked.from) (option_map (λ (g : Group). g.0) c.args.asked.until) r)) c.self.view_is in
     let reached : segment_count a c.list.result.now c.deref-2.result.now.cuts ≡ segment_count a ks cuts = λ i. segment_count a (kept i) (dead i) in

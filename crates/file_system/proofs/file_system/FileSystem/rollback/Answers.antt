@@ -14,7 +14,7 @@ use Rattle.file_system.specs.Dead.{snaps_in, newest_blocks, AreAccounted}
 use Rattle.file_system.specs.Origins.{origin_id, origin_group, map_below, blocks_below, group_below}
 use Rattle.file_system.specs.Losses.{newest_map}
 use Rattle.file_system.specs.Rows.{Row, system_of, with_system}
-use Rattle.file_system.proofs.Accounts.{newest_blocks_are, nothing_dead, fresh_few}
+use Rattle.file_system.proofs.Accounts.{newest_blocks_are, nothing_dead}
 use Rattle.file_system.proofs.Lines.{line_above, line_back}
 use Rattle.file_system.proofs.Losses.{newest_map_is}
 use Rattle.file_system.proofs.Stacks.{some_at}
@@ -99,7 +99,7 @@ invariant_of-self c =
     record {
       accounted = c.self.invariant.accounted;
       dead = dead;
-      few = fresh_few _ (ap (λ (h : Held). h.cuts) c.in_ok-dead.ensures.ok ∙ c.new.ensures.cuts);
+      uncut = ap (λ (h : Held). h.cuts) c.in_ok-dead.ensures.ok ∙ c.new.ensures.cuts;
       counted = subst (λ p. IsCounted (map_below p) (snaps_in ks) c.in_ok-live.live c.in_ok-counts.counts) origin
           (subst (λ l. IsCounted (map_below (option_copied c.origin_in-origin.result)) (snaps_in l) c.in_ok-live.live c.in_ok-counts.counts) kept c.in_ok-counts.ensures.ok);
     }

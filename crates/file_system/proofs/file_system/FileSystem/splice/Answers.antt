@@ -1,4 +1,4 @@
-use Rattle.std.proofs.Common.{◌≡◌, ◌<◌, ◌-◌, suc, Some, length, map, set, slice_get, ap, sym, subst, ◌∙◌, arith, ◌≤◌}
+use Rattle.std.proofs.Common.{◌≡◌, ◌<◌, ◌-◌, suc, Some, length, map, set, slice_get, ap, sym, subst, ◌∙◌, arith}
 use Rattle.std.specs.Prelude.{remove}
 use Rattle.std.specs.Arc.{arc_value}
 use Rattle.std.specs.FinSet.{difference}
@@ -12,13 +12,13 @@ use Rattle.snapshots.specs.Index.{AreNamesOnce}
 use Rattle.world.specs.Deadlists.{Lists}
 use Rattle.world.specs.Worlds.{AreRising}
 use Rattle.file_system.specs.Counts.{AreLined, IsCounted}
-use Rattle.file_system.specs.Dead.{snaps_in, newest_blocks, AreAccounted, IsAbove}
+use Rattle.file_system.specs.Dead.{snaps_in, newest_blocks, AreAccounted, AreUncut, IsAbove}
 use Rattle.file_system.specs.Origins.{origin_id, origin_group, map_below, blocks_below, group_below}
 use Rattle.file_system.specs.Rows.{Row, system_of, with_system}
 use Rattle.file_system.specs.Splices.{lost_from, without_group, AreStacked, AreJoined, IsNext}
 use Rattle.file_system.proofs.Fewer.{fewer_listed}
 use Rattle.file_system.proofs.Lines.{line_above}
-use Rattle.file_system.proofs.Stacks.{above_names, rising_from, next_snaps, next_accounted, next_dead, next_lost, last_accounted, last_dead, last_lost, others_stay}
+use Rattle.file_system.proofs.Stacks.{above_names, are_uncut, rising_from, next_snaps, next_accounted, next_dead, next_lost, last_accounted, last_dead, last_lost, others_stay}
 use Rattle.file_system.proofs.file_system.FileSystem.splice.Goals as goal
 
 -- each name is one snapshot's
@@ -30,8 +30,16 @@ pub remove-requires-clause-once : goal.remove-requires-clause-once
 remove-requires-clause-once c = subst AreNamesOnce (sym c.in_ok-own-2.ensures.value)
     (above_names c.args.self.now.below c.args.self.now.system (arc_value c.self.inside.snapshots) c.requires.above (ap (λ (r : Row). r.system.snaps) c.self.view_is))
 
-pub joined-requires : goal.joined-requires
-joined-requires c = c.place_of-place.ensures.within
+pub joined-requires-clause-place : goal.joined-requires-clause-place
+joined-requires-clause-place c = c.place_of-place.ensures.within
+
+pub joined-requires-clause-uncut : goal.joined-requires-clause-uncut
+joined-requires-clause-uncut c =
+    let kept : c.list-kept.result.now ≡ arc_value c.self.inside.snapshots = c.list-kept.ensures ∙ c.deref.ensures in
+    subst AreUncut (sym kept) (are_uncut (blocks_below (option_map arc_value c.self.inside.origin)) (arc_value c.self.inside.snapshots) c.self.invariant.accounted)
+
+pub joined-requires-clause-next : goal.joined-requires-clause-next
+joined-requires-clause-next c = ap (λ (h : Held). h.cuts) c.deref-2.ensures ∙ c.self.invariant.uncut
 
 pub remove-requires-clause-there : goal.remove-requires-clause-there
 remove-requires-clause-there c =
@@ -67,7 +75,7 @@ invariant_of-self-then-place-count c =
       accounted = subst (AreAccounted bs) (sym spliced) (next_accounted bs base ks i g live next lost is rising at c.self.invariant.accounted);
       dead = subst (λ l. Lists (map dead_block (arc_value c.self.inside.dead).entries) (difference (newest_blocks bs (snaps_in l)) (blocks live))) (sym spliced)
           (next_dead bs base ks i g live next lost is rising at (arc_value c.self.inside.dead).entries c.self.invariant.dead);
-      few = c.self.invariant.few;
+      uncut = c.self.invariant.uncut;
       counted = subst (λ l. IsCounted (map_below o) l live (record c.self.inside.counts { by_snapshots = c.self.inside.counts.by_snapshots - c.len.result })) (sym snaps)
           (record { by_dataset = c.self.invariant.counted.by_dataset; by_snapshots = omega (arith, c.len.ensures) });
     }
@@ -175,7 +183,7 @@ invariant_of-self-2 c =
       dead = subst (λ (h : Held). Lists (map dead_block h.entries) (difference (newest_blocks bs (snaps_in (arc_value (c.own-2.follows.lender c.remove.new.self)))) (blocks live))) (sym c.in_ok-dead-2.ensures.ok)
           (subst (λ l. Lists (map dead_block new) (difference (newest_blocks bs (snaps_in l)) (blocks live))) (sym removed)
           (last_dead bs base ks i g live old new lost j c.self.invariant.accounted c.self.invariant.dead rising each above at last));
-      few = subst (λ (h : Held). length h.cuts ≤ 1) (sym c.in_ok-dead-2.ensures.ok) (let f = c.in_ok-dead.ensures.few in omega arith);
+      uncut = ap (λ (h : Held). h.cuts) c.in_ok-dead-2.ensures.ok ∙ c.in_ok-dead.ensures.uncut;
       counted = subst (λ l. IsCounted (map_below o) l live (record c.self.inside.counts { by_snapshots = c.self.inside.counts.by_snapshots - c.len-2.result })) (sym snaps)
           (record { by_dataset = c.self.invariant.counted.by_dataset; by_snapshots = omega (arith, c.len-2.ensures) });
     }

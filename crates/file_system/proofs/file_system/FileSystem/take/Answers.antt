@@ -1,4 +1,4 @@
-use Rattle.std.proofs.Common.{◌≡◌, [], ◌∷◌, ◌++◌, map, sym, ap, subst, ◌∙◌, ◌≤◌, length}
+use Rattle.std.proofs.Common.{◌≡◌, [], ◌∷◌, ◌++◌, map, sym, ap, subst, ◌∙◌}
 use Rattle.std.specs.Arc.{arc_value}
 use Rattle.std.specs.Option.{option_map}
 use Rattle.std.specs.Result.{is_ok}
@@ -16,7 +16,7 @@ use Rattle.file_system.specs.Dead.{snaps_in, newest_blocks}
 use Rattle.file_system.specs.Origins.{origin_id, map_below, blocks_below}
 use Rattle.file_system.specs.Rows.{Row, system_of, with_system, with_snap}
 use Rattle.file_system.proofs.Counted.{taken_counted}
-use Rattle.file_system.proofs.Accounts.{snaps_more, taken_accounted, taken_dead, fresh_few}
+use Rattle.file_system.proofs.Accounts.{snaps_more, taken_accounted, taken_dead}
 use Rattle.file_system.proofs.file_system.FileSystem.take.Goals as goal
 
 -- the dead list goes with the snapshot, and the live map's begins anew
@@ -31,11 +31,11 @@ invariant_of-self-2 c =
     let written : k.written ≡ size_without (blocks live) (newest_blocks bs (snaps_in ks)) = c.written-written.ensures ∙ ap (λ (r : Row). size_without (blocks r.system.live) (newest_blocks (blocks r.below) r.system.snaps)) (sym c.self.view_is) in
     let bare = ap (λ (h : Held). h.entries) c.in_ok-fresh.ensures.ok ∙ c.new.ensures.entries in
     let pushed : arc_value (c.own.follows.lender c.push.new.self) ≡ ks ++ k ∷ [] = c.own.follows.holds c.push.new.self (ap is_ok c.in_ok-own.was) ∙ c.in_ok-push.ensures.ok ∙ ap (λ l. l ++ k ∷ []) c.in_ok-own.ensures.value in
-    let kept_few : length (arc_value k.dead).cuts ≤ 1 = subst (λ (h : Held). length h.cuts ≤ 1) (sym c.in_ok-dead.ensures) c.self.invariant.few in
+    let kept_uncut : (arc_value k.dead).cuts ≡ [] = ap (λ (h : Held). h.cuts) c.in_ok-dead.ensures ∙ c.self.invariant.uncut in
     record {
-      accounted = taken_accounted bs ks _ k live _ c.self.invariant.accounted own map_is written pushed bare kept_few;
-      dead = taken_dead bs ks _ k live _ c.self.invariant.accounted own map_is written pushed bare kept_few;
-      few = fresh_few _ (ap (λ (h : Held). h.cuts) c.in_ok-fresh.ensures.ok ∙ c.new.ensures.cuts);
+      accounted = taken_accounted bs ks _ k live _ c.self.invariant.accounted own map_is written pushed bare kept_uncut;
+      dead = taken_dead bs ks _ k live _ c.self.invariant.accounted own map_is written pushed bare kept_uncut;
+      uncut = ap (λ (h : Held). h.cuts) c.in_ok-fresh.ensures.ok ∙ c.new.ensures.cuts;
       counted = subst (λ l. IsCounted (map_below (option_map arc_value c.self.inside.origin)) l live c.self.inside.counts) (sym (ap snaps_in pushed ∙ snaps_more ks k))
           (taken_counted (map_below (option_map arc_value c.self.inside.origin)) (snaps_in ks) k.snapshot live c.self.inside.counts map_is c.self.invariant.counted);
     }

@@ -1,4 +1,6 @@
-use Rattle.std.proofs.Common.{◌∙◌}
+use Rattle.std.proofs.Common.{ap, ◌∙◌}
+use Rattle.std.specs.Prelude.{count_by}
+use Rattle.zalloc.specs.States.{is_free, is_allocated, is_waiting}
 use Rattle.pool.specs.Pools.{state_in}
 use Rattle.pool.proofs.Commits.{few}
 use Rattle.pool.proofs.Limited.{state_with, count_with}
@@ -16,11 +18,12 @@ returns-clause-metered c = record {
 }
 
 pub answer-requires-clause-few : goal.answer-requires-clause-few
-answer-requires-clause-few c = few (state_in c.args.self.now c.args.world.now) c.args.self.now.allocator c.requires.held.sound
+answer-requires-clause-few c = few (state_in c.args.self.now c.args.world.now) c.args.self.now.numbers.present c.requires.held.sound
 
 pub returns-clause-step : goal.returns-clause-step
 returns-clause-step c =
     let s = state_in c.args.self.now c.args.world.now in
     c.answer.ensures.step s
-    (state_with s c.args.self.now.allocator c.requires.held.sound c.space-space.result c.space-space.ensures.size (c.space-space.ensures.freeing ∙ c.len.ensures) c.space-space.ensures.waiting)
-    (count_with s c.args.self.now.allocator c.requires.held.sound c.counts.result c.counts.ensures.allocated c.counts.ensures.free c.counts.ensures.waiting)
+    (state_with s c.args.self.now.numbers.present c.requires.held.sound c.space-space.result c.space-space.ensures.size (c.space-space.ensures.freeing ∙ c.len.ensures) c.space-space.ensures.waiting)
+    (count_with s c.args.self.now.numbers.present c.requires.held.sound c.counts.result (c.counts.ensures.allocated ∙ ap (count_by is_allocated) c.present.ensures) (c.counts.ensures.free ∙ ap (count_by is_free) c.present.ensures)
+    (c.counts.ensures.waiting ∙ ap (count_by is_waiting) c.present.ensures))

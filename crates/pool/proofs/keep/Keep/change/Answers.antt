@@ -10,54 +10,54 @@ use Rattle.pool.proofs.keep.Keep.change.Goals as goal
 
 pub returns-in_err-name-clause-performed : goal.returns-in_err-name-clause-performed
 returns-in_err-name-clause-performed c q asks =
-    exits (state_in c.args.self.now c.args.world.now) c.args.self.now.allocator _ q c.from_residual.result c.in_err-name.field-0.0 c.from_residual.ensures.1
-    (no_live (state_in c.args.self.now c.args.world.now) c.args.self.now.allocator c.requires.held.sound q c.args.target.now c.args.update asks c.in_err-name.field-0.0 c.in_err-name.ensures.err)
+    exits (state_in c.args.self.now c.args.world.now) c.args.self.now.numbers.present _ q c.from_residual.result c.in_err-name.field-0.0 c.from_residual.ensures.1
+    (no_live (state_in c.args.self.now c.args.world.now) c.args.self.now.numbers.present c.requires.held.sound q c.args.target.now c.args.update asks c.in_err-name.field-0.0 c.in_err-name.ensures.err)
 
 pub returns-in-Err-clause-performed : goal.returns-in-Err-clause-performed
 returns-in-Err-clause-performed c q asks =
     c.outside_the_limits.ensures q (asks_here q c.args.target.now c.args.update c.in_ok-name.name.now (Err c.in-Err.refusal) c.in_ok-name.ensures.ok c.in-Err.is asks)
 
 pub ask_change-requires-clause-state : goal.ask_change-requires-clause-state
-ask_change-requires-clause-state c = ((state_in c.args.self.now c.args.world.now), (state_with (state_in c.args.self.now c.args.world.now) c.args.self.now.allocator c.requires.held.sound c.space.result c.space.ensures.size (c.space.ensures.freeing ∙ c.len.ensures) c.space.ensures.waiting), c.group-synced.ensures)
+ask_change-requires-clause-state c = ((state_in c.args.self.now c.args.world.now), (state_with (state_in c.args.self.now c.args.world.now) c.args.self.now.numbers.present c.requires.held.sound c.space.result c.space.ensures.size (c.space.ensures.freeing ∙ c.len.ensures) c.space.ensures.waiting), c.group-synced.ensures)
 
 pub returns-in_err-outlook-clause-performed : goal.returns-in_err-outlook-clause-performed
 returns-in_err-outlook-clause-performed c q asks =
-    exits (state_in c.args.self.now c.args.world.now) c.args.self.now.allocator _ q c.from_residual-in_err-outlook.result c.in_err-outlook.field-0.0 c.from_residual-in_err-outlook.ensures.1
-    (not_asked (state_in c.args.self.now c.args.world.now) c.args.self.now.allocator c.requires.held.sound q c.in_ok-name.name.now c.in-Ok.update (asks_here q c.args.target.now c.args.update c.in_ok-name.name.now (Ok c.in-Ok.update) c.in_ok-name.ensures.ok c.in-Ok.is asks) c.in_err-outlook.field-0.0
-    (c.in_err-outlook.ensures.err (state_in c.args.self.now c.args.world.now) (state_with (state_in c.args.self.now c.args.world.now) c.args.self.now.allocator c.requires.held.sound c.space.result c.space.ensures.size (c.space.ensures.freeing ∙ c.len.ensures) c.space.ensures.waiting) c.group-synced.ensures))
+    exits (state_in c.args.self.now c.args.world.now) c.args.self.now.numbers.present _ q c.from_residual-in_err-outlook.result c.in_err-outlook.field-0.0 c.from_residual-in_err-outlook.ensures.1
+    (not_asked (state_in c.args.self.now c.args.world.now) c.args.self.now.numbers.present c.requires.held.sound q c.in_ok-name.name.now c.in-Ok.update (asks_here q c.args.target.now c.args.update c.in_ok-name.name.now (Ok c.in-Ok.update) c.in_ok-name.ensures.ok c.in-Ok.is asks) c.in_err-outlook.field-0.0
+    (c.in_err-outlook.ensures.err (state_in c.args.self.now c.args.world.now) (state_with (state_in c.args.self.now c.args.world.now) c.args.self.now.numbers.present c.requires.held.sound c.space.result c.space.ensures.size (c.space.ensures.freeing ∙ c.len.ensures) c.space.ensures.waiting) c.group-synced.ensures))
 
 pub apply_live-requires : goal.apply_live-requires
-apply_live-requires c = allowed (state_in c.args.self.now c.args.world.now) c.args.self.now.allocator c.requires.held.sound c.group-synced.result.0 c.group-synced.ensures c.from_ref.result.now (search rules)
+apply_live-requires c = rw c.present.ensures (allowed (state_in c.args.self.now c.args.world.now) c.args.self.now.numbers.present c.requires.held.sound c.group-synced.result.0 c.group-synced.ensures c.from_ref.result.now (search rules))
 
 pub returns-in_err-done-clause-performed : goal.returns-in_err-done-clause-performed
 returns-in_err-done-clause-performed c q asks =
-    let e = c.in_err-done.ensures in
-    exits (state_in c.args.self.now c.args.world.now) c.args.self.now.allocator _ q c.from_residual-in_err-done.result c.in_err-done.field-0.0 c.from_residual-in_err-done.ensures.1
-    (refused_now (state_in c.args.self.now c.args.world.now) c.args.self.now.allocator c.requires.held.sound c.group-synced.result.0 c.group-synced.ensures c.in_ok-name.name.now c.apply_live.new.self c.in-Ok.update c.from_ref.result.now c.from_ref.ensures.value (c.in_ok-outlook.ensures.ok (state_in c.args.self.now c.args.world.now) (state_with (state_in c.args.self.now c.args.world.now) c.args.self.now.allocator c.requires.held.sound c.space.result c.space.ensures.size (c.space.ensures.freeing ∙ c.len.ensures) c.space.ensures.waiting) c.group-synced.ensures) c.in_err-done.field-0.0
+    let e = rw c.present.ensures at c.in_err-done.ensures in
+    exits (state_in c.args.self.now c.args.world.now) c.args.self.now.numbers.present _ q c.from_residual-in_err-done.result c.in_err-done.field-0.0 c.from_residual-in_err-done.ensures.1
+    (refused_now (state_in c.args.self.now c.args.world.now) c.args.self.now.numbers.present c.requires.held.sound c.group-synced.result.0 c.group-synced.ensures c.in_ok-name.name.now c.apply_live.new.self c.in-Ok.update c.from_ref.result.now c.from_ref.ensures.value (c.in_ok-outlook.ensures.ok (state_in c.args.self.now c.args.world.now) (state_with (state_in c.args.self.now c.args.world.now) c.args.self.now.numbers.present c.requires.held.sound c.space.result c.space.ensures.size (c.space.ensures.freeing ∙ c.len.ensures) c.space.ensures.waiting) c.group-synced.ensures) c.in_err-done.field-0.0
     (record { ok = e.ok; room = e.room; no_dataset = e.no_dataset; no_space = e.no_space; only = e.only }) q (asks_here q c.args.target.now c.args.update c.in_ok-name.name.now (Ok c.in-Ok.update) c.in_ok-name.ensures.ok c.in-Ok.is asks))
 
 pub settle-requires-clause-before : goal.settle-requires-clause-before
 settle-requires-clause-before c =
-    let e = c.in_ok-done.ensures in
-    (datasets_of (state_in c.args.self.now c.args.world.now), settles_now (state_in c.args.self.now c.args.world.now) c.args.self.now.allocator c.requires.held.sound c.group-synced.result.0 c.group-synced.ensures c.in_ok-name.name.now c.apply_live.new.self c.in-Ok.update c.from_ref.result.now c.from_ref.ensures.value (c.in_ok-outlook.ensures.ok (state_in c.args.self.now c.args.world.now) (state_with (state_in c.args.self.now c.args.world.now) c.args.self.now.allocator c.requires.held.sound c.space.result c.space.ensures.size (c.space.ensures.freeing ∙ c.len.ensures) c.space.ensures.waiting) c.group-synced.ensures) c.in_ok-done.done (record { ok = e.ok; room = e.room; no_dataset = e.no_dataset; no_space = e.no_space; only = e.only }) c.ask_change.new.ledger (subst (IsAccounted (datasets_of (state_in c.args.self.now c.args.world.now))) (sym c.ask_change.ensures.same) c.requires.held.now) c.in_ok-outlook.outlook (c.in_ok-outlook.ensures.foretold (state_in c.args.self.now c.args.world.now) (state_with (state_in c.args.self.now c.args.world.now) c.args.self.now.allocator c.requires.held.sound c.space.result c.space.ensures.size (c.space.ensures.freeing ∙ c.len.ensures) c.space.ensures.waiting) c.group-synced.ensures))
+    let e = rw c.present.ensures at c.in_ok-done.ensures in
+    (datasets_of (state_in c.args.self.now c.args.world.now), settles_now (state_in c.args.self.now c.args.world.now) c.args.self.now.numbers.present c.requires.held.sound c.group-synced.result.0 c.group-synced.ensures c.in_ok-name.name.now c.apply_live.new.self c.in-Ok.update c.from_ref.result.now c.from_ref.ensures.value (c.in_ok-outlook.ensures.ok (state_in c.args.self.now c.args.world.now) (state_with (state_in c.args.self.now c.args.world.now) c.args.self.now.numbers.present c.requires.held.sound c.space.result c.space.ensures.size (c.space.ensures.freeing ∙ c.len.ensures) c.space.ensures.waiting) c.group-synced.ensures) c.in_ok-done.done (record { ok = e.ok; room = e.room; no_dataset = e.no_dataset; no_space = e.no_space; only = e.only }) c.ask_change.new.ledger (subst (IsAccounted (datasets_of (state_in c.args.self.now c.args.world.now))) (sym c.ask_change.ensures.same) c.requires.held.now) c.in_ok-outlook.outlook (c.in_ok-outlook.ensures.foretold (state_in c.args.self.now c.args.world.now) (state_with (state_in c.args.self.now c.args.world.now) c.args.self.now.numbers.present c.requires.held.sound c.space.result c.space.ensures.size (c.space.ensures.freeing ∙ c.len.ensures) c.space.ensures.waiting) c.group-synced.ensures))
 
 pub settle-requires-clause-unlimited : goal.settle-requires-clause-unlimited
 settle-requires-clause-unlimited c none =
-    let e = c.in_ok-done.ensures in
-    stays_now (state_in c.args.self.now c.args.world.now) c.args.self.now.allocator c.requires.held.sound c.group-synced.result.0 c.group-synced.ensures c.in_ok-name.name.now c.apply_live.new.self c.in-Ok.update c.from_ref.result.now c.from_ref.ensures.value (c.in_ok-outlook.ensures.ok (state_in c.args.self.now c.args.world.now) (state_with (state_in c.args.self.now c.args.world.now) c.args.self.now.allocator c.requires.held.sound c.space.result c.space.ensures.size (c.space.ensures.freeing ∙ c.len.ensures) c.space.ensures.waiting) c.group-synced.ensures) c.in_ok-done.done (record { ok = e.ok; room = e.room; no_dataset = e.no_dataset; no_space = e.no_space; only = e.only }) (unlimited c.args.self.now c.args.world.now c.requires.held (sym c.ask_change.ensures.same ∙ none))
+    let e = rw c.present.ensures at c.in_ok-done.ensures in
+    stays_now (state_in c.args.self.now c.args.world.now) c.args.self.now.numbers.present c.requires.held.sound c.group-synced.result.0 c.group-synced.ensures c.in_ok-name.name.now c.apply_live.new.self c.in-Ok.update c.from_ref.result.now c.from_ref.ensures.value (c.in_ok-outlook.ensures.ok (state_in c.args.self.now c.args.world.now) (state_with (state_in c.args.self.now c.args.world.now) c.args.self.now.numbers.present c.requires.held.sound c.space.result c.space.ensures.size (c.space.ensures.freeing ∙ c.len.ensures) c.space.ensures.waiting) c.group-synced.ensures) c.in_ok-done.done (record { ok = e.ok; room = e.room; no_dataset = e.no_dataset; no_space = e.no_space; only = e.only }) (unlimited c.args.self.now c.args.world.now c.requires.held (sym c.ask_change.ensures.same ∙ none))
 
 pub settle-requires-clause-few : goal.settle-requires-clause-few
 settle-requires-clause-few c =
-    let e = c.in_ok-done.ensures in
-    few (with_datasets (state_in c.args.self.now c.args.world.now) c.apply_live.new.self) _ (sound_changed (state_in c.args.self.now c.args.world.now) c.args.self.now.allocator c.requires.held.sound c.apply_live.new.self _ _ (can_now (state_in c.args.self.now c.args.world.now) c.args.self.now.allocator c.requires.held.sound c.group-synced.result.0 c.group-synced.ensures c.in_ok-name.name.now c.apply_live.new.self c.in-Ok.update c.from_ref.result.now c.from_ref.ensures.value (c.in_ok-outlook.ensures.ok (state_in c.args.self.now c.args.world.now) (state_with (state_in c.args.self.now c.args.world.now) c.args.self.now.allocator c.requires.held.sound c.space.result c.space.ensures.size (c.space.ensures.freeing ∙ c.len.ensures) c.space.ensures.waiting) c.group-synced.ensures) c.in_ok-done.done (record { ok = e.ok; room = e.room; no_dataset = e.no_dataset; no_space = e.no_space; only = e.only })))
+    let e = rw c.present.ensures at c.in_ok-done.ensures in
+    few (with_datasets (state_in c.args.self.now c.args.world.now) c.apply_live.new.self) _ (sound_changed (state_in c.args.self.now c.args.world.now) c.args.self.now.numbers.present c.requires.held.sound c.apply_live.new.self _ _ (can_now (state_in c.args.self.now c.args.world.now) c.args.self.now.numbers.present c.requires.held.sound c.group-synced.result.0 c.group-synced.ensures c.in_ok-name.name.now c.apply_live.new.self c.in-Ok.update c.from_ref.result.now c.from_ref.ensures.value (c.in_ok-outlook.ensures.ok (state_in c.args.self.now c.args.world.now) (state_with (state_in c.args.self.now c.args.world.now) c.args.self.now.numbers.present c.requires.held.sound c.space.result c.space.ensures.size (c.space.ensures.freeing ∙ c.len.ensures) c.space.ensures.waiting) c.group-synced.ensures) c.in_ok-done.done (record { ok = e.ok; room = e.room; no_dataset = e.no_dataset; no_space = e.no_space; only = e.only })))
 
 pub returns-clause-performed : goal.returns-clause-performed
 returns-clause-performed c q asks =
-    let e = c.in_ok-done.ensures in (
+    let e = rw c.present.ensures at c.in_ok-done.ensures in (
       record {
-        sound = sound_changed (state_in c.args.self.now c.args.world.now) c.args.self.now.allocator c.requires.held.sound c.apply_live.new.self _ _ (can_now (state_in c.args.self.now c.args.world.now) c.args.self.now.allocator c.requires.held.sound c.group-synced.result.0 c.group-synced.ensures c.in_ok-name.name.now c.apply_live.new.self c.in-Ok.update c.from_ref.result.now c.from_ref.ensures.value (c.in_ok-outlook.ensures.ok (state_in c.args.self.now c.args.world.now) (state_with (state_in c.args.self.now c.args.world.now) c.args.self.now.allocator c.requires.held.sound c.space.result c.space.ensures.size (c.space.ensures.freeing ∙ c.len.ensures) c.space.ensures.waiting) c.group-synced.ensures) c.in_ok-done.done (record { ok = e.ok; room = e.room; no_dataset = e.no_dataset; no_space = e.no_space; only = e.only }));
+        sound = sound_changed (state_in c.args.self.now c.args.world.now) c.args.self.now.numbers.present c.requires.held.sound c.apply_live.new.self _ _ (can_now (state_in c.args.self.now c.args.world.now) c.args.self.now.numbers.present c.requires.held.sound c.group-synced.result.0 c.group-synced.ensures c.in_ok-name.name.now c.apply_live.new.self c.in-Ok.update c.from_ref.result.now c.from_ref.ensures.value (c.in_ok-outlook.ensures.ok (state_in c.args.self.now c.args.world.now) (state_with (state_in c.args.self.now c.args.world.now) c.args.self.now.numbers.present c.requires.held.sound c.space.result c.space.ensures.size (c.space.ensures.freeing ∙ c.len.ensures) c.space.ensures.waiting) c.group-synced.ensures) c.in_ok-done.done (record { ok = e.ok; room = e.room; no_dataset = e.no_dataset; no_space = e.no_space; only = e.only }));
         kept = c.settle.ensures;
-        may = may_settle (state_in c.args.self.now c.args.world.now) c.args.self.now.allocator c.requires.held.sound c.group-synced.result.0 c.group-synced.ensures c.in_ok-name.name.now c.apply_live.new.self c.in-Ok.update c.from_ref.result.now c.from_ref.ensures.value (c.in_ok-outlook.ensures.ok (state_in c.args.self.now c.args.world.now) (state_with (state_in c.args.self.now c.args.world.now) c.args.self.now.allocator c.requires.held.sound c.space.result c.space.ensures.size (c.space.ensures.freeing ∙ c.len.ensures) c.space.ensures.waiting) c.group-synced.ensures) c.in_ok-done.done (record { ok = e.ok; room = e.room; no_dataset = e.no_dataset; no_space = e.no_space; only = e.only });
+        may = may_settle (state_in c.args.self.now c.args.world.now) c.args.self.now.numbers.present c.requires.held.sound c.group-synced.result.0 c.group-synced.ensures c.in_ok-name.name.now c.apply_live.new.self c.in-Ok.update c.from_ref.result.now c.from_ref.ensures.value (c.in_ok-outlook.ensures.ok (state_in c.args.self.now c.args.world.now) (state_with (state_in c.args.self.now c.args.world.now) c.args.self.now.numbers.present c.requires.held.sound c.space.result c.space.ensures.size (c.space.ensures.freeing ∙ c.len.ensures) c.space.ensures.waiting) c.group-synced.ensures) c.in_ok-done.done (record { ok = e.ok; room = e.room; no_dataset = e.no_dataset; no_space = e.no_space; only = e.only });
       },
-      done_now (state_in c.args.self.now c.args.world.now) c.args.self.now.allocator c.requires.held.sound c.group-synced.result.0 c.group-synced.ensures c.in_ok-name.name.now c.apply_live.new.self c.in-Ok.update c.from_ref.result.now c.from_ref.ensures.value (c.in_ok-outlook.ensures.ok (state_in c.args.self.now c.args.world.now) (state_with (state_in c.args.self.now c.args.world.now) c.args.self.now.allocator c.requires.held.sound c.space.result c.space.ensures.size (c.space.ensures.freeing ∙ c.len.ensures) c.space.ensures.waiting) c.group-synced.ensures) c.in_ok-done.done (record { ok = e.ok; room = e.room; no_dataset = e.no_dataset; no_space = e.no_space; only = e.only }) q (asks_here q c.args.target.now c.args.update c.in_ok-name.name.now (Ok c.in-Ok.update) c.in_ok-name.ensures.ok c.in-Ok.is asks),
+      done_now (state_in c.args.self.now c.args.world.now) c.args.self.now.numbers.present c.requires.held.sound c.group-synced.result.0 c.group-synced.ensures c.in_ok-name.name.now c.apply_live.new.self c.in-Ok.update c.from_ref.result.now c.from_ref.ensures.value (c.in_ok-outlook.ensures.ok (state_in c.args.self.now c.args.world.now) (state_with (state_in c.args.self.now c.args.world.now) c.args.self.now.numbers.present c.requires.held.sound c.space.result c.space.ensures.size (c.space.ensures.freeing ∙ c.len.ensures) c.space.ensures.waiting) c.group-synced.ensures) c.in_ok-done.done (record { ok = e.ok; room = e.room; no_dataset = e.no_dataset; no_space = e.no_space; only = e.only }) q (asks_here q c.args.target.now c.args.update c.in_ok-name.name.now (Ok c.in-Ok.update) c.in_ok-name.ensures.ok c.in-Ok.is asks),
     )

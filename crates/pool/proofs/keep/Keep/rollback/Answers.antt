@@ -18,7 +18,7 @@ rollback-requires c = record { apart = apart c.args.self.now c.args.world.now c.
 pub returns-in_err-rollback-clause-performed : goal.returns-in_err-rollback-clause-performed
 returns-in_err-rollback-clause-performed c =
     let s = state_in c.args.self.now c.args.world.now in
-    exits s c.args.self.now.allocator _ (Rollback c.args.target.now c.args.later) c.from_residual.result c.in_err-rollback.field-0.0 c.from_residual.ensures.1
+    exits s c.args.self.now.numbers.present _ (Rollback c.args.target.now c.args.later) c.from_residual.result c.in_err-rollback.field-0.0 c.from_residual.ensures.1
     (steps.rollback_refused_before s c.args.target.now c.args.later c.in_err-rollback.field-0.0 c.in_err-rollback.ensures.only)
 
 pub returns-in_err-rollback-clause-unchanged : goal.returns-in_err-rollback-clause-unchanged
@@ -31,12 +31,12 @@ over-requires-clause-unlimited c =
     bare c.args.self.now c.args.world.now c.requires (rolled (datasets_of s) c.args.target.now) c.rollback.new.table c.in_ok-rollback.ensures.ok (steps.rollback_unlimited s c.requires.sound.steady c.args.target.now c.args.later c.in_ok-rollback.ensures.can)
 
 pub over-requires-clause-few : goal.over-requires-clause-few
-over-requires-clause-few c = rollback_few (state_in c.args.self.now c.args.world.now) c.args.self.now.allocator c.requires.sound c.args.target.now c.args.later c.in_ok-rollback.ensures.can c.rollback.new.table c.in_ok-rollback.ensures.ok c.rollback.new.freeing c.in_ok-rollback.ensures.lost
+over-requires-clause-few c = rollback_few (state_in c.args.self.now c.args.world.now) c.args.self.now.numbers.present c.requires.sound c.args.target.now c.args.later c.in_ok-rollback.ensures.can c.rollback.new.table c.in_ok-rollback.ensures.ok c.rollback.new.freeing c.in_ok-rollback.ensures.lost
 
 pub returns-in-Some-clause-performed : goal.returns-in-Some-clause-performed
 returns-in-Some-clause-performed c =
     let s = state_in c.args.self.now c.args.world.now in
-    rollback_over s c.args.self.now.allocator c.requires.sound c.args.target.now c.args.later c.in_ok-rollback.ensures.can c.rollback.new.table c.in_ok-rollback.ensures.ok c.rollback.new.freeing c.in_ok-rollback.ensures.lost c.in-Some.refusal
+    rollback_over s c.args.self.now.numbers.present c.requires.sound c.args.target.now c.args.later c.in_ok-rollback.ensures.can c.rollback.new.table c.in_ok-rollback.ensures.ok c.rollback.new.freeing c.in_ok-rollback.ensures.lost c.in-Some.refusal
     (subst (IsOver s c.rollback.new.table (set.len c.rollback.new.freeing)) c.in-Some.is (c.over.ensures.over s c.requires.sound refl (unlimited c.args.self.now c.args.world.now c.requires)))
 
 pub returns-in-Some-clause-unchanged : goal.returns-in-Some-clause-unchanged
@@ -46,7 +46,7 @@ pub returns-in-None-clause-performed : goal.returns-in-None-clause-performed
 returns-in-None-clause-performed c =
     let s = state_in c.args.self.now c.args.world.now in
     let fits = subst (IsOver s c.rollback.new.table (set.len c.rollback.new.freeing)) c.in-None.is (c.over.ensures.over s c.requires.sound refl (unlimited c.args.self.now c.args.world.now c.requires)) in
-    subst (λ w. IsPerformed s c.args.self.now.allocator w (Rollback c.args.target.now c.args.later) (Ok Nothing)) (sym c.over.ensures.same)
+    subst (λ w. IsPerformed s c.args.self.now.numbers.present w (Rollback c.args.target.now c.args.later) (Ok Nothing)) (sym c.over.ensures.same)
     (lost_placed c.args.self.now c.args.world.now c.requires c.rollback.new.table c.rollback.new.table refl c.rollback.new.freeing c.in_ok-rollback.ensures.lost
-    (rollback_can s c.args.self.now.allocator c.requires.sound c.args.target.now c.args.later c.in_ok-rollback.ensures.can c.rollback.new.table c.in_ok-rollback.ensures.ok c.rollback.new.freeing c.in_ok-rollback.ensures.lost fits) c.over.new.world.ledger c.over.ensures.ledger
-    (Rollback c.args.target.now c.args.later) (rollback_done s c.args.self.now.allocator c.requires.sound c.args.target.now c.args.later c.in_ok-rollback.ensures.can c.rollback.new.table c.in_ok-rollback.ensures.ok c.rollback.new.freeing c.in_ok-rollback.ensures.lost fits))
+    (rollback_can s c.args.self.now.numbers.present c.requires.sound c.args.target.now c.args.later c.in_ok-rollback.ensures.can c.rollback.new.table c.in_ok-rollback.ensures.ok c.rollback.new.freeing c.in_ok-rollback.ensures.lost fits) c.over.new.world.ledger c.over.ensures.ledger
+    (Rollback c.args.target.now c.args.later) (rollback_done s c.args.self.now.numbers.present c.requires.sound c.args.target.now c.args.later c.in_ok-rollback.ensures.can c.rollback.new.table c.in_ok-rollback.ensures.ok c.rollback.new.freeing c.in_ok-rollback.ensures.lost fits))

@@ -1,4 +1,4 @@
-use Rattle.std.proofs.Common.{sym, subst}
+use Rattle.std.proofs.Common.{sym, subst, ◌∙◌}
 use Rattle.views.specs.Viewing.{Viewing}
 use Rattle.pool.specs.Pools.{AreBelow}
 use Rattle.pool.proofs.Numbered.{closed_below}

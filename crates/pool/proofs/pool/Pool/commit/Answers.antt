@@ -20,11 +20,13 @@ invariant_of-self c =
     let can = subst (λ (x : Shown). CanDo x.state x.numbers (Open c.in-Open.snapshot)) same
     (subst (λ plan. CanDo c.ready.inside.from.value.state c.ready.inside.from.value.numbers plan) c.in-Open.is c.ready.invariant) in
     record {
-      sound = subst (λ (v : Viewing). IsSound (record s { views = v.opened; next_view = v.next }) c.self.inside.keep.allocator) (sym c.open.ensures)
-          (sound_viewing s c.self.inside.keep.allocator c.self.invariant.sound (snap_id c.in-Open.snapshot) can.steady);
+      sound = subst (λ (v : Viewing). IsSound (record s { views = v.opened; next_view = v.next }) c.self.inside.keep.numbers.present) (sym c.open.ensures)
+          (sound_viewing s c.self.inside.keep.numbers.present c.self.invariant.sound (snap_id c.in-Open.snapshot) can.steady);
       now = c.self.invariant.now;
       last = c.self.invariant.last;
       views = subst (λ (v : Viewing). AreBelow v.opened v.next) (sym c.open.ensures) (opened_below c.self.inside.keep.views.opened c.self.inside.keep.views.next c.self.invariant.views (snap_id c.in-Open.snapshot));
+      synced = c.self.invariant.synced;
+      swept = c.self.invariant.swept;
     }
 
 pub invariant_of-self-in-Put : goal.invariant_of-self-in-Put
@@ -34,9 +36,11 @@ invariant_of-self-in-Put c =
     let can = subst (λ (x : Shown). CanDo x.state x.numbers (Put c.in-Put.to c.in-Put.effect)) same
     (subst (λ plan. CanDo c.ready.inside.from.value.state c.ready.inside.from.value.numbers plan) c.in-Put.is c.ready.invariant) in
     record {
-      sound = subst (λ (x : State). IsSound x c.settle.new.self.allocator) (sym (c.settle.ensures.state c.in-Put.to))
+      sound = subst (λ (x : State). IsSound x c.settle.new.self.numbers.present) (sym (c.settle.ensures.state c.in-Put.to))
           (subst (λ (ns : List BlockState). IsSound (effected (with_now s (world_in c.in-Put.to)) c.in-Put.effect) ns) (sym c.settle.ensures.numbers) can.sound);
       now = can.kept;
       last = c.settle.ensures.kept c.self.invariant.last;
       views = c.settle.ensures.below c.self.invariant.views;
+      synced = c.settle.ensures.synced;
+      swept = c.settle.ensures.swept c.self.invariant.swept;
     }

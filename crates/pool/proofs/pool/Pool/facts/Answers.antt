@@ -8,7 +8,7 @@ use Rattle.pool.proofs.pool.Pool.facts.Goals as goal
 pub returns : goal.returns
 returns c =
     let s = state_in c.self.inside.keep c.self.inside.present in
-    let numbers = c.self.inside.keep.allocator in
+    let numbers = c.self.inside.keep.numbers.present in
     let sound = c.self.invariant.sound in
     rw (← c.self.view_is) (record {
       numbered = state_numbered s sound.steady.good;
@@ -19,7 +19,7 @@ returns c =
       viewing = record {
         numbers = c.self.invariant.views;
         there = sound.steady.good.views;
-        once = once s.size s.now sound.steady.good.now;
-        closed = closed s.size s.now sound.steady.good.now;
+        now = record { once = once s.size s.now sound.steady.good.now; closed = closed s.size s.now sound.steady.good.now };
+        last = record { once = once s.size s.last sound.steady.good.last; closed = closed s.size s.last sound.steady.good.last };
       };
     })

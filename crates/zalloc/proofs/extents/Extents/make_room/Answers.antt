@@ -1,5 +1,4 @@
-use Rattle.std.proofs.Common.{◌/◌}
 use Rattle.zalloc.proofs.extents.Extents.make_room.Goals as goal
 
 pub loop-self-smaller : goal.loop-self-smaller
-loop-self-smaller c = c.split.ensures.narrower (c.args.number / 64) c.place-at-in-loop-self.result c.loop-self.invariant.cover c.place-at-in-loop-self.ensures.cover
+loop-self-smaller c = c.split.ensures.narrower c.args.window c.place-at-in-loop-self.result c.loop-self.invariant.cover c.place-at-in-loop-self.ensures.cover

@@ -10,8 +10,8 @@ returns-clause-kept c =
     let e = c.args.self.now in
     let x : c.index_mut.result.now ≡ slot_at e.slots.items c.args.at = c.index_mut.ensures.value ∙ get_or_default e.slots.items c.args.at c.index_mut.result.now no_slot c.requires.made in
     record {
-      laid = subst (λ (z : Slot). IsLaid e.numbers (set e.slots.items c.args.at (with_word z c.args.word)) e.covers e.homes.items) (sym x)
-          (word_laid e.numbers e.slots.items e.covers e.homes.items c.requires.kept.laid c.args.at c.requires.made c.args.word (inl c.requires.single));
+      laid = subst (λ (z : Slot). IsLaid e.numbers (set e.slots.items c.args.at (with_word z c.args.word)) e.covers e.homes) (sym x)
+          (word_laid e.numbers e.slots.items e.covers e.homes c.requires.kept.laid c.args.at c.requires.made c.args.word (inl c.requires.single));
       room = c.requires.kept.room;
     }
 
@@ -21,12 +21,12 @@ returns-clause-rewritten c =
     let x : c.index_mut.result.now ≡ slot_at e.slots.items c.args.at = c.index_mut.ensures.value ∙ get_or_default e.slots.items c.args.at c.index_mut.result.now no_slot c.requires.made in
     record {
       numbers = refl;
-      here = λ k h p. ap (λ (z : Slot). held_by (set e.slots.items c.args.at (with_word z c.args.word)) e.covers k) x ∙ word_here e.numbers e.slots.items e.covers e.homes.items c.requires.kept.laid c.args.at c.requires.made c.args.word k p;
-      there = λ k h p. ap (λ (z : Slot). held_by (set e.slots.items c.args.at (with_word z c.args.word)) e.covers k) x ∙ word_there e.numbers e.slots.items e.covers e.homes.items c.requires.kept.laid c.args.at c.requires.made c.args.word k p;
+      here = λ k h p. ap (λ (z : Slot). held_by (set e.slots.items c.args.at (with_word z c.args.word)) e.covers k) x ∙ word_here e.numbers e.slots.items e.covers e.homes c.requires.kept.laid c.args.at c.requires.made c.args.word k p;
+      there = λ k h p. ap (λ (z : Slot). held_by (set e.slots.items c.args.at (with_word z c.args.word)) e.covers k) x ∙ word_there e.numbers e.slots.items e.covers e.homes c.requires.kept.laid c.args.at c.requires.made c.args.word k p;
     }
 
 pub returns-clause-cover : goal.returns-clause-cover
 returns-clause-cover c = λ w h.
     let e = c.args.self.now in
     let x : c.index_mut.result.now ≡ slot_at e.slots.items c.args.at = c.index_mut.ensures.value ∙ get_or_default e.slots.items c.args.at c.index_mut.result.now no_slot c.requires.made in
-    subst (λ (z : Slot). IsCover (set e.slots.items c.args.at (with_word z c.args.word)) c.args.at w) (sym x) (word_cover e.numbers e.slots.items e.covers e.homes.items c.requires.kept.laid c.args.at c.requires.made c.args.word c.args.at w h)
+    subst (λ (z : Slot). IsCover (set e.slots.items c.args.at (with_word z c.args.word)) c.args.at w) (sym x) (word_cover e.numbers e.slots.items e.covers e.homes c.requires.kept.laid c.args.at c.requires.made c.args.word c.args.at w h)

@@ -1,0 +1,325 @@
+//! What a batch of changes does to a tree, before any of it is made.
+ghost use Rattle.std.specs.Prelude.{◌≡◌, suc, ◌+◌, ◌-◌, ◌*◌, ◌^◌, ◌<◌, ◌≤◌, ◌++◌, IfOk, OnOk, OnErr, IfSome, Option, Some, None, true, slice_index_or, length, is_some, cond, if◌then◌else◌};
+ghost use Rattle.base.specs.Counting.{counted};
+ghost use Rattle.base.specs.declared.refusal.Refusal.{Refusal};
+ghost use Rattle.node.specs.Kid.{IsSoundKid, places_of};
+ghost use Rattle.node.specs.Node.{inner_part, leaf_part, part_of_node};
+ghost use Rattle.batch.specs.Said.{said, AreInOrder, IsWay};
+ghost use Rattle.batch.specs.Touch.{any_kid, later_first, touched, stays, claims, released, dropped, claim_of, let_go, own_block, young_one};
+
+use crate::few::Few;
+use crate::update::{Update, Word, is_idle, split_at_leaf, way_of, word_of};
+use base::meter::Meter;
+use base::number::{Dead, Group, Key};
+use base::refusal::Refusal;
+use node::{Inner, Leaf, Level, span};
+
+/// A key that is made, with the block that stays in its place, if one does.
+#[derive(Clone, Copy, Default, PartialEq, Eq, Debug)]
+pub struct Claim {
+    pub key: Key,
+    pub kept: Option<Dead>,
+}
+
+/// What a batch does to a part: whether it is touched, and whether it is present afterwards.
+#[derive(Clone, Copy, PartialEq, Eq, Debug)]
+pub struct Fate {
+    pub touched: bool,
+    pub stays: bool,
+}
+
+/// The keys that are made and the blocks that are let go, from the last key to the first.
+#[derive(Drop)]
+pub struct Findings {
+    pub claims: Few<Claim>,
+    pub released: Few<Dead>,
+}
+
+/// The block, if it was born from a group on.
+fn if_young(own: Option<Dead>, young: Group) -> Option<Dead>
+    ensures { result ≡ young_one young.0 own }
+{
+    match own {
+        Some(dead) => {
+            if dead.birth.0 >= young.0 {
+                Some(dead)
+            } else {
+                None
+            }
+        }
+        None => None,
+    }
+}
+
+/// Adds what becomes of a key and of its own block.
+fn close(
+    own: Option<Dead>,
+    key: Key,
+    fate: Fate,
+    young: Group,
+    findings: &mut Findings,
+) -> Result<(), Refusal>
+    ensures claims { OnOk result (findings.new.claims.items ≡ findings.old.claims.items ++ claim_of fate.touched fate.stays key young.0 own) }
+    ensures released { OnOk result (findings.new.released.items ≡ findings.old.released.items ++ let_go fate.touched fate.stays young.0 own) }
+    ensures err { OnErr result (result ≡ Err Refusal.NoMemory) }
+{
+    if !fate.touched {
+        return Ok(());
+    }
+    let kept = if_young(own, young);
+    if fate.stays {
+        findings.claims.push(Claim { key, kept })?;
+        if kept.is_some() {
+            return Ok(());
+        }
+    }
+    if let Some(dead) = own {
+        findings.released.push(dead)?;
+    }
+    Ok(())
+}
+
+/// The block of a part that may be absent. A node that is there is counted.
+#[tactic(auto, unfolding(base::specs::Counting::counted, base::specs::Counting::most))]
+fn block_of<C: Level>(old: Option<&C>, meter: &mut Meter) -> Option<Dead>
+    ensures block { result ≡ own_block (part_of_node C.part old.entry) }
+    ensures metered { meter.new ≡ counted meter.old (if is_some old.entry then 1 else 0) }
+    ensures never_lower { meter.old ≤ meter.new }
+{
+    let _reached = meter.count();
+    match old {
+        Some(node) => {
+            meter.add_one();
+            Some(node.block())
+        }
+        None => None,
+    }
+}
+
+/// What stands at a place of a part that may be absent.
+fn kid_at<C: Level>(old: Option<&Inner<C>>, place: usize) -> Option<&C>
+    requires { place < 16 }
+    ensures { part_of_node C.part result ≡ slice_index_or (places_of (part_of_node (inner_part C.part) old.entry)) place None }
+{
+    match old {
+        Some(node) => node.kid(place),
+        None => None,
+    }
+}
+
+/// How many places a part has, also one that is absent.
+fn place_count<C: Level>(old: Option<&Inner<C>>) -> u32
+    ensures sixteen { result ≡ 16 }
+    ensures all { length (places_of (part_of_node (inner_part C.part) old.entry)) ≡ 16 }
+{
+    match old {
+        Some(node) => node.place_count(),
+        None => 16,
+    }
+}
+
+/// A level whose parts can be surveyed.
+pub trait Survey: Level {
+    /// Adds to the findings what a batch does to the part with an index among those of its level. The meter rises by at least one for
+    /// each block whose key is touched.
+    fn survey(
+        old: Option<&Self>,
+        level: u8,
+        index: u32,
+        updates: &[Update],
+        young: Group,
+        findings: &mut Findings,
+        meter: &mut Meter,
+    ) -> Result<Fate, Refusal>
+        requires level { level ≡ Self.height }
+        requires within { (index + 1) * 16 ^ level ≤ 1048576 }
+        requires low { level ≤ 5 }
+        requires order { AreInOrder updates.now }
+        requires sound { IsSoundKid Self.height (part_of_node Self.part old) }
+        ensures touched { IfOk result (λ f. f.touched ≡ touched (said updates.now) Self.height index (part_of_node Self.part old.entry)) }
+        ensures stays { IfOk result (λ f. f.stays ≡ stays (said updates.now) Self.height index (part_of_node Self.part old.entry)) }
+        ensures claims { OnOk result (findings.new.claims.items ≡ findings.old.claims.items ++ claims (said updates.now) young.0 Self.height index (part_of_node Self.part old.entry)) }
+        ensures released { OnOk result (findings.new.released.items ≡ findings.old.released.items ++ released (said updates.now) young.0 Self.height index (part_of_node Self.part old.entry)) }
+        ensures metered { OnOk result (counted meter.old (length (dropped (said updates.now) young.0 Self.height index (part_of_node Self.part old.entry))) ≤ meter.new) }
+        ensures never_lower { meter.old ≤ meter.new }
+        ensures err { OnErr result (result ≡ Err Refusal.NoMemory) };
+}
+
+/// What becomes of a leaf.
+fn leaf_fate(old: Option<&Leaf>, index: u32, updates: &[Update]) -> Fate
+    requires { AreInOrder updates.now }
+    ensures touched { result.touched ≡ touched (said updates.now) 0 index (part_of_node leaf_part old.entry) }
+    ensures stays { result.stays ≡ stays (said updates.now) 0 index (part_of_node leaf_part old.entry) }
+{
+    let present = old.is_some();
+    match word_of(updates, index) {
+        Word::Silent => Fate {
+            touched: false,
+            stays: present,
+        },
+        Word::Hole => Fate {
+            touched: present,
+            stays: false,
+        },
+        Word::Full(_) => Fate {
+            touched: true,
+            stays: true,
+        },
+    }
+}
+
+/// What becomes of a key, by what becomes of those below it.
+fn fate_above(below: Fate, present: bool) -> Fate
+    ensures { result ≡ record { touched = below.touched; stays = cond below.touched below.stays present } }
+{
+    if below.touched {
+        below
+    } else {
+        Fate {
+            touched: false,
+            stays: present,
+        }
+    }
+}
+
+impl Survey for Leaf {
+    fn survey(
+        old: Option<&Leaf>,
+        level: u8,
+        index: u32,
+        updates: &[Update],
+        young: Group,
+        findings: &mut Findings,
+        meter: &mut Meter,
+    ) -> Result<Fate, Refusal> {
+        let present = old.is_some();
+        if is_idle(updates, present) {
+            return Ok(Fate {
+                touched: false,
+                stays: present,
+            });
+        }
+        let own = block_of(old, meter);
+        let fate = leaf_fate(old, index, updates);
+        close(own, Key { level, index }, fate, young, findings)?;
+        Ok(fate)
+    }
+}
+
+/// Adds to the findings what a batch does to the places of a part, from the last to the first. The places have a level, and the
+/// indices from one on.
+fn survey_kids<C: Survey>(
+    old: Option<&Inner<C>>,
+    level: u8,
+    first: u32,
+    updates: &[Update],
+    young: Group,
+    findings: &mut Findings,
+    meter: &mut Meter,
+) -> Result<Fate, Refusal>
+    requires level { level ≡ C.height }
+    requires within { (first + 16) * 16 ^ level ≤ 1048576 }
+    requires low { level ≤ 5 }
+    requires order { AreInOrder updates.now }
+    requires sound { IsSoundKid (suc C.height) (part_of_node (inner_part C.part) old) }
+    ensures touched { IfOk result (λ f. f.touched ≡ any_kid (touched (said updates.now) C.height) first (places_of (part_of_node (inner_part C.part) old.entry))) }
+    ensures stays { IfOk result (λ f. f.stays ≡ any_kid (stays (said updates.now) C.height) first (places_of (part_of_node (inner_part C.part) old.entry))) }
+    ensures claims { OnOk result (findings.new.claims.items ≡ findings.old.claims.items ++ later_first (claims (said updates.now) young.0 C.height) first (places_of (part_of_node (inner_part C.part) old.entry))) }
+    ensures released { OnOk result (findings.new.released.items ≡ findings.old.released.items ++ later_first (released (said updates.now) young.0 C.height) first (places_of (part_of_node (inner_part C.part) old.entry))) }
+    ensures metered { OnOk result (counted meter.old (length (later_first (dropped (said updates.now) young.0 C.height) first (places_of (part_of_node (inner_part C.part) old.entry)))) ≤ meter.new) }
+    ensures never_lower { meter.old ≤ meter.new }
+    ensures err { OnErr result (result ≡ Err Refusal.NoMemory) }
+{
+    let mut touched = false;
+    let mut stays = false;
+    let mut halves = (updates, updates);
+    let span = span(u32::from(level));
+    for back in 0..place_count(old) {
+        let place = 15 - back;
+        let index = first + place;
+        halves = split_at_leaf(halves.1, index * span);
+        let kid = kid_at(old, place as usize);
+        let fate = C::survey(kid, level, index, halves.0, young, findings, meter)?;
+        touched |= fate.touched;
+        stays |= fate.stays;
+    }
+    Ok(Fate { touched, stays })
+}
+
+/// The place on the way to the one leaf that the updates write.
+fn written_way(updates: &[Update], level: u8, index: u32) -> Option<u32>
+    requires deep { 0 < level }
+    requires low { level ≤ 5 }
+    ensures { IfSome result (λ place. IsWay (said updates.now) (level - 1) index place true) }
+{
+    match way_of(updates, level, index) {
+        Some(way) => { if way.writes { Some(way.place) } else { None } }
+        None => None,
+    }
+}
+
+/// Adds to the findings what a batch does below a part. Where the batch is one write, only the place on its way is looked at.
+fn survey_below<C: Survey>(
+    old: Option<&Inner<C>>,
+    level: u8,
+    index: u32,
+    updates: &[Update],
+    young: Group,
+    findings: &mut Findings,
+    meter: &mut Meter,
+) -> Result<Fate, Refusal>
+    requires level { level ≡ suc C.height }
+    requires within { (index + 1) * 16 ^ level ≤ 1048576 }
+    requires low { level ≤ 5 }
+    requires order { AreInOrder updates.now }
+    requires sound { IsSoundKid (suc C.height) (part_of_node (inner_part C.part) old) }
+    ensures touched { IfOk result (λ f. f.touched ≡ any_kid (touched (said updates.now) C.height) (16 * index) (places_of (part_of_node (inner_part C.part) old.entry))) }
+    ensures stays { IfOk result (λ f. f.stays ≡ any_kid (stays (said updates.now) C.height) (16 * index) (places_of (part_of_node (inner_part C.part) old.entry))) }
+    ensures claims { OnOk result (findings.new.claims.items ≡ findings.old.claims.items ++ later_first (claims (said updates.now) young.0 C.height) (16 * index) (places_of (part_of_node (inner_part C.part) old.entry))) }
+    ensures released { OnOk result (findings.new.released.items ≡ findings.old.released.items ++ later_first (released (said updates.now) young.0 C.height) (16 * index) (places_of (part_of_node (inner_part C.part) old.entry))) }
+    ensures metered { OnOk result (counted meter.old (length (later_first (dropped (said updates.now) young.0 C.height) (16 * index) (places_of (part_of_node (inner_part C.part) old.entry)))) ≤ meter.new) }
+    ensures never_lower { meter.old ≤ meter.new }
+    ensures err { OnErr result (result ≡ Err Refusal.NoMemory) }
+{
+    let first = 16 * index;
+    match written_way(updates, level, index) {
+        Some(place) => {
+            let kid = kid_at(old, place as usize);
+            C::survey(
+                kid,
+                level - 1,
+                first + place,
+                updates,
+                young,
+                findings,
+                meter,
+            )
+        }
+        None => survey_kids(old, level - 1, first, updates, young, findings, meter),
+    }
+}
+
+impl<C: Survey> Survey for Inner<C> {
+    fn survey(
+        old: Option<&Inner<C>>,
+        level: u8,
+        index: u32,
+        updates: &[Update],
+        young: Group,
+        findings: &mut Findings,
+        meter: &mut Meter,
+    ) -> Result<Fate, Refusal> {
+        let present = old.is_some();
+        if is_idle(updates, present) {
+            return Ok(Fate {
+                touched: false,
+                stays: present,
+            });
+        }
+        let own = block_of(old, meter);
+        let below = survey_below(old, level, index, updates, young, findings, meter)?;
+        let fate = fate_above(below, present);
+        close(own, Key { level, index }, fate, young, findings)?;
+        Ok(fate)
+    }
+}

@@ -1,0 +1,7 @@
+use Rattle.std.proofs.Common.{}
+use Rattle.image.specs.ImageBlocks.{made_bytes}
+use Rattle.image.proofs.image.Image.write_leaf.Goals as goal
+
+pub returns-in-Some : goal.returns-in-Some
+unfolding made_bytes
+returns-in-Some c = rw (c.in-Some.is) c.write.ensures

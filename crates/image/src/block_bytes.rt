@@ -1,0 +1,92 @@
+//! Bytes of blocks.
+ghost use Rattle.std.specs.Prelude.{◌≡◌, ◌<◌, ◌≤◌, ◌+◌, ◌*◌, ◌-◌, length, map, vec_capacity};
+ghost use Rattle.image.specs.ImageBlocks.{pointer_bytes, pointers_bytes, made_bytes, maybe_block, IsOfTree};
+ghost use Rattle.image.specs.BlockWrites.{bytes_put};
+ghost use Rattle.image.specs.Image.{padded};
+
+use base::number::BlockNo;
+use byteorder::{BigEndian, ByteOrder};
+use tree::{Block, Root};
+
+/// Fills bytes up with zeros to a size, within the room that they have. It takes no memory.
+pub(crate) fn fill(bytes: &mut Vec<u8>, size: usize)
+    requires { size ≤ vec_capacity bytes.old }
+    ensures items { bytes.new.items ≡ padded size bytes.old.items }
+    ensures long { size ≤ length bytes.new.items }
+    ensures capacity { vec_capacity bytes.old ≤ vec_capacity bytes.new }
+{
+    if bytes.len() < size {
+        let _filled = bytes.resize(size, 0);
+    }
+}
+
+/// Writes a pointer to a block of a level, or to none.
+pub(crate) fn write_pointer(out: &mut [u8], level: u8, root: Option<Root>)
+    requires { length out.old ≡ 32 }
+    ensures { out.new ≡ pointer_bytes level (maybe_block root) }
+{
+    let numbers = match root {
+        Some(root) => [
+            u64::from(root.block.0) + 1,
+            root.birth.0,
+            u64::from(level),
+            0,
+        ],
+        None => [0; 4],
+    };
+    BigEndian::write_u64_into(&numbers, out);
+}
+
+/// Writes the pointers of a block to blocks of a level.
+fn write_pointers(out: &mut [u8], level: u8, roots: &[Option<Root>; 16])
+    requires { length out.old ≡ 512 }
+    ensures { out.new ≡ pointers_bytes level (map maybe_block roots.now) }
+{
+    for place in 0..16 {
+        write_pointer(&mut out[32 * place..32 * place + 32], level, roots[place]);
+    }
+}
+
+/// Writes the bytes of a block.
+#[tactic(auto, unfolding(tree::specs::Bytes::made_bytes))]
+pub(crate) fn write_block(out: &mut [u8], block: &Block<'_>)
+    requires room { length out.old ≡ 512 }
+    requires of_tree { IsOfTree block.now }
+    ensures { out.new ≡ made_bytes block.now }
+{
+    match block {
+        Block::Contents(bytes) => out.copy_from_slice(bytes.as_slice()),
+        Block::Pointers { level, roots } => write_pointers(out, *level - 1, roots),
+    }
+}
+
+/// Writes a block at its number, into the blocks that were written, with zeros for those between. It takes no memory.
+pub(crate) fn put_block(written: &mut Vec<u8>, b: BlockNo, block: &Block<'_>)
+    requires room { 512 * b.0 + 512 ≤ vec_capacity written.old }
+    requires of_tree { IsOfTree block.now }
+    ensures put { written.new.items ≡ bytes_put (padded (512 * b.0 + 512) written.old.items) (512 * b.0) (made_bytes block.now) }
+    ensures capacity { vec_capacity written.old ≤ vec_capacity written.new }
+{
+    let at = 512 * b.0 as usize;
+    fill(written, at + 512);
+    write_block(&mut written[at..at + 512], block);
+}
+
+/// Writes one of the sixteen pointers of a block, in the same way.
+pub(crate) fn put_pointer(
+    written: &mut Vec<u8>,
+    b: BlockNo,
+    place: u32,
+    level: u8,
+    root: Option<Root>,
+)
+    requires room { 512 * b.0 + 512 ≤ vec_capacity written.old }
+    requires place { place < 16 }
+    ensures put { written.new.items ≡ bytes_put (padded (512 * b.0 + 512) written.old.items) (512 * b.0 + 32 * place) (pointer_bytes level (maybe_block root)) }
+    ensures capacity { vec_capacity written.old ≤ vec_capacity written.new }
+{
+    let at = 512 * b.0 as usize;
+    fill(written, at + 512);
+    let from = at + 32 * place as usize;
+    write_pointer(&mut written[from..from + 32], level, root);
+}

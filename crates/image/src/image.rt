@@ -1,0 +1,190 @@
+//! The image of a pool.
+ghost use Rattle.std.specs.Prelude.{◌≡◌, ◌≤◌, ◌<◌, ◌+◌, ◌*◌, ◌/◌, IfOk, IfErr, OnOk, Some, None, length, map, replicate, slice_get};
+ghost use Rattle.std.specs.Option.{option_map};
+ghost use Rattle.std.specs.FinMap.{entries};
+ghost use Rattle.base.specs.Counting.{counted};
+ghost use Rattle.base.specs.declared.refusal.Refusal.{Refusal};
+ghost use Rattle.tree.specs.ChangeParts.{made_pair};
+ghost use Rattle.zalloc.specs.declared.BlockState.TheVariants.{Free};
+ghost use Rattle.image.specs.ImageBlocks.{block_at, pointer_bytes, made_bytes, maybe_block, IsOfTree};
+ghost use Rattle.image.specs.ImageWalk.{walk};
+ghost use Rattle.image.specs.BlockWrites.{bytes_put, images_put, writes_of};
+ghost use Rattle.image.specs.Image.{IsOpen, CanWrite, IsImageSize, IsBadOrNoMemory, IsTooManyOrNoMemory, padded};
+
+use crate::block_bytes::{put_block, put_pointer};
+use crate::walk::{Leaves, gather};
+use base::meter::Meter;
+use base::number::BlockNo;
+use base::refusal::Refusal;
+use std::alloc::Global;
+use std::marker::Model;
+use std::mem;
+use tree::{Block, NewBlock, Root, Tree};
+use zalloc::{Allocator, MOST_BLOCKS};
+
+/// How many bytes a block has (profile).
+const BLOCK_SIZE: usize = 512;
+
+/// The blocks of a pool as bytes, beside the states of the numbers that it keeps: a number that is Allocated there is never written
+/// (profile). Contracts see the bytes of all blocks, these states, and how often they were put in.
+///
+/// Room for 512 bytes a number is reserved by `new`, and the system gives its pages when they are first used: the bytes end behind the
+/// greatest number that was written, and all beyond are zeros. Beside `new` and `from_bytes` no function takes memory but `read_tree`,
+/// for its answer.
+pub struct Image {
+    pub(crate) written: Vec<u8>,
+    pub(crate) blocks: u32,
+    kept: Allocator,
+    keeps: u64,
+}
+
+// By hand, so that it is proved once: a derived one is laid out anew in each crate that drops the type.
+impl Drop for Image {
+    fn drop(self) {
+        let Image {
+            written,
+            blocks: _,
+            kept,
+            keeps: _,
+        } = self;
+        drop(written);
+        drop(kept);
+    }
+}
+
+impl Model for Image {
+    ghost use Rattle.std.specs.Prelude.{◌*◌};
+    ghost use Rattle.image.specs.Image.{ShownImage, IsLaid, padded};
+
+    ghost Value = { ShownImage };
+
+    ghost view = { λ i. record { bytes = padded (512 * i.blocks) i.written.items; kept = i.kept; keeps = i.keeps } };
+
+    ghost invariant = { λ i. IsLaid i.written i.blocks i.kept };
+}
+
+impl Image {
+    /// An image of `n` blocks, at most `MOST_BLOCKS`, all zero, that keeps no number. NoMemory where the room was refused. It takes time
+    /// by a 64th of `n`.
+    pub fn new(alloc: Global, n: u32) -> Result<Image, Refusal>
+        requires { n ≤ MOST_BLOCKS }
+        ensures ok { IfOk result (λ i. i ≡ record { bytes = replicate (512 * n) 0; kept = replicate n Free; keeps = 0 }) }
+        ensures no_memory { IfErr result (λ r. r ≡ Refusal.NoMemory) }
+    {
+        let written = Vec::with_capacity(alloc, BLOCK_SIZE * n as usize)?;
+        let kept = Allocator::new(alloc, n)?;
+        Ok(Image {
+            written,
+            blocks: n,
+            kept,
+            keeps: 0,
+        })
+    }
+
+    /// An image of these bytes that keeps no number. TooMany exactly where they aren't 512 for each of 1 to 4,194,304 blocks, NoMemory
+    /// where there is none for the states.
+    pub fn from_bytes(bytes: Vec<u8>) -> Result<Image, Refusal>
+        ensures ok { IfOk result (λ i. i ≡ record { bytes = bytes.items; kept = replicate (length bytes.items / 512) Free; keeps = 0 }) }
+        ensures size { OnOk result (IsImageSize (length bytes.items)) }
+        ensures too_many { result ≡ Err Refusal.TooMany → ¬ IsImageSize (length bytes.items) }
+        ensures only { IfErr result IsTooManyOrNoMemory }
+    {
+        let blocks = bytes.len() / BLOCK_SIZE;
+        if bytes.len() % BLOCK_SIZE != 0 || blocks == 0 || blocks > MOST_BLOCKS as usize {
+            return Err(Refusal::TooMany);
+        }
+        let kept = Allocator::new(*bytes.allocator(), blocks as u32)?;
+        Ok(Image {
+            written: bytes,
+            blocks: blocks as u32,
+            kept,
+            keeps: 0,
+        })
+    }
+
+    /// Writes a block at its number, which the kept states don't have Allocated. It takes no memory.
+    pub fn write(&mut self, b: BlockNo, block: &Block<'_>)
+        requires open { IsOpen self.old.kept b.0 }
+        requires of_tree { IsOfTree block.now }
+        ensures { self.new ≡ record self.old { bytes = bytes_put self.old.bytes (512 * b.0) (made_bytes block.now) } }
+    {
+        put_block(&mut self.written, b, block);
+    }
+
+    /// Writes the blocks that a tree has at these keys, each at its number. It takes no memory. For each it costs the nodes from the root
+    /// down, which the meter counts.
+    pub fn write_made(&mut self, tree: &Tree, made: &[NewBlock], meter: &mut Meter)
+        requires { CanWrite tree.now self.old.kept made.now }
+        ensures { self.new ≡ record self.old { bytes = images_put self.old.bytes (writes_of tree.now (map made_pair made.now)) } }
+    {
+        for new in made {
+            if let Some(block) = tree.block(new.key, meter) {
+                self.write(new.block, &block);
+            }
+        }
+    }
+
+    /// Changes one of the sixteen pointers of an indirect block, to a block of this level or to none. The kept states don't have the
+    /// number Allocated. It takes no memory.
+    pub(crate) fn point(&mut self, b: BlockNo, place: u32, level: u8, root: Option<Root>)
+        requires open { IsOpen self.old.kept b.0 }
+        requires place { place < 16 }
+        ensures { self.new ≡ record self.old { bytes = bytes_put self.old.bytes (512 * b.0 + 32 * place) (pointer_bytes level (maybe_block root)) } }
+    {
+        put_pointer(&mut self.written, b, place, level, root);
+    }
+
+    /// Puts in the states that it keeps from now on, and gives back those before. It takes no memory.
+    #[tactic(auto, unfolding(base::specs::Counting::counted, base::specs::Counting::most))]
+    pub fn keep(&mut self, states: Allocator) -> Allocator
+        requires { length states ≡ length self.old.kept }
+        ensures before { result ≡ self.old.kept }
+        ensures after { self.new ≡ record self.old { kept = states; keeps = counted self.old.keeps 1 } }
+    {
+        self.keeps = self.keeps.saturating_add(1);
+        mem::replace(&mut self.kept, states)
+    }
+
+    /// How often `keep` was called. The count stops at the greatest u64.
+    pub fn keeps(&self) -> u64
+        ensures { result ≡ self.now.keeps }
+    {
+        self.keeps
+    }
+
+    /// The states that it keeps.
+    pub fn kept(&self) -> &Allocator
+        ensures { result.now ≡ self.now.kept }
+    {
+        &self.kept
+    }
+
+    /// The bytes of the blocks by their numbers, up to the greatest that was written: those of all blocks beyond are zeros.
+    pub fn bytes(&self) -> &[u8]
+        ensures written { self.now.bytes ≡ padded (512 * length self.now.kept) result.now }
+        ensures size { length self.now.bytes ≡ 512 * length self.now.kept }
+    {
+        self.written.as_slice()
+    }
+
+    /// The contents that follow from a root, as leaves in their order. BadStream exactly where a pointer on the way names no block of
+    /// the image, has a wrong level, is younger than the block that holds it or has other bytes than a pointer has; NoMemory where
+    /// there is no memory for the leaves. It costs the blocks that it reaches, and 516 bytes a leaf.
+    pub fn read_tree(&self, root: Option<Root>) -> Result<Vec<(u32, [u8; 512])>, Refusal>
+        ensures ok { IfOk result (λ v. option_map entries (walk (block_at self.now.bytes) (length self.now.kept) (maybe_block root)) ≡ Some v.items) }
+        ensures bad { result ≡ Err Refusal.BadStream → walk (block_at self.now.bytes) (length self.now.kept) (maybe_block root) ≡ None }
+        ensures only { IfErr result IsBadOrNoMemory }
+    {
+        let mut out: Leaves = Vec::new(*self.written.allocator());
+        let Some(top) = root else {
+            return Ok(out);
+        };
+        if top.block.0 >= self.blocks {
+            return Err(Refusal::BadStream);
+        }
+        match gather(&self.written, self.blocks, 5, 0, top, &mut out) {
+            Ok(()) => Ok(out),
+            Err(refusal) => Err(refusal),
+        }
+    }
+}

@@ -1,0 +1,16 @@
+//! Laws of images, as the contract of a function without a body.
+ghost use Rattle.image.specs.ImageLaws.{WalksToContents, WalksAtEachMoment, HoldsTheRewrite, ChangesTellTheirWrites, HoldsThePath, WritesOfPathsAreOpen, ChangesKeepTheirSources};
+
+/// Where an image holds a map's blocks, the walk from its root gives its contents; so it does at every moment of writes to numbers that
+/// are not kept, if its own are; and once the new blocks of a rewrite are written, the image holds the rewritten map. The new blocks
+/// that a change of a tree tells are those. Where one path changed, the writes of `write_path` are
+/// enough: they are allowed writes, and where a change of a tree chose the numbers, no block is overwritten before it is copied.
+pub fn image_laws()
+    ensures contents { WalksToContents }
+    ensures moments { WalksAtEachMoment }
+    ensures rewrite { HoldsTheRewrite }
+    ensures writes { ChangesTellTheirWrites }
+    ensures path { HoldsThePath }
+    ensures path_open { WritesOfPathsAreOpen }
+    ensures sources { ChangesKeepTheirSources }
+{}

@@ -1,0 +1,23 @@
+//! The image of a pool: the blocks of its trees as bytes.
+//!
+//! An image is 512 bytes for each number of the pool, all zero at first. A block of level 0 holds its contents; a block above holds
+//! sixteen pointers of 32 bytes (profile, after the block pointers of the On-Disk Specification, chapter 2):
+//!
+//! | Bytes of a pointer | Meaning |
+//! |---|---|
+//! | 0 to 7 | number plus 1, big-endian; 0 where there is no block |
+//! | 8 to 15 | birth group, big-endian |
+//! | 16 to 23 | level of the block pointed to, big-endian |
+//! | 24 to 31 | zero |
+//!
+//! A pointer to no block is 32 zero bytes. A freed block's bytes stay until its number is written again.
+#![tactic(auto)]
+
+mod block_bytes;
+mod image;
+mod laws;
+mod path;
+mod walk;
+
+pub use image::Image;
+pub use laws::image_laws;

@@ -1,0 +1,126 @@
+//! What is found by following pointers.
+ghost use Rattle.std.specs.Prelude.{◌≡◌, ◌<◌, ◌≤◌, ◌+◌, ◌*◌, ◌%◌, ◌^◌, ◌++◌, ◌∷◌, [], length, Some, None, OnOk, IfOk, IfErr, IfSome, MatchResult};
+ghost use Rattle.std.specs.Option.{option_map};
+ghost use Rattle.base.specs.declared.refusal.Refusal.{Refusal};
+ghost use Rattle.image.specs.ImageBlocks.{root_block, maybe_block};
+ghost use Rattle.image.specs.ImageWalk.{number_in, pointer_in, leaves_of};
+ghost use Rattle.image.specs.Image.{IsBadOrNoMemory, blocks_in};
+
+use base::number::{BlockNo, Group};
+use base::refusal::Refusal;
+use byteorder::{BigEndian, ByteOrder};
+use tree::Root;
+
+/// The leaves of a dataset in their order, each with its bytes.
+pub(crate) type Leaves = Vec<(u32, [u8; 512])>;
+
+/// The bytes of a block, of whose image of `count` blocks these were written: zeros where it wasn't.
+pub(crate) fn block_of(written: &[u8], count: u32, block: BlockNo) -> [u8; 512]
+    requires whole { length written.now % 512 ≡ 0 }
+    requires within { length written.now ≤ 512 * count }
+    requires there { block.0 < count }
+    ensures { result ≡ blocks_in count written.now block.0 }
+{
+    let at = 512 * block.0 as usize;
+    let mut bytes = [0; 512];
+    if at < written.len() {
+        bytes.copy_from_slice(&written[at..at + 512]);
+    }
+    bytes
+}
+
+/// The number in the eight bytes from a place on, the highest first.
+fn number_at(block: &[u8], at: usize) -> u64
+    requires { at + 8 ≤ length block.now }
+    ensures { result ≡ number_in block.now at }
+{
+    BigEndian::read_u64(&block[at..])
+}
+
+/// What the pointer at a place of a block born in `birth` says, in an image of `count` blocks, where blocks of this level are pointed
+/// to. BadStream where it breaks the rules.
+#[tactic(auto, unfolding(crate::specs::ImageWalk::pointer_in))]
+fn pointer_at(
+    block: &[u8],
+    place: usize,
+    count: u32,
+    level: u8,
+    birth: Group,
+) -> Result<Option<Root>, Refusal>
+    requires block { length block.now ≡ 512 }
+    requires place { place < 16 }
+    ensures within { IfOk result (λ p. IfSome p (λ r. r.block.0 < count)) }
+    ensures pointer { MatchResult result (λ p. pointer_in count level birth.0 block.now place ≡ Some (maybe_block p)) (λ e. (e ≡ Refusal.BadStream) × (pointer_in count level birth.0 block.now place ≡ None)) }
+{
+    let at = 32 * place;
+    let number = number_at(block, at);
+    let born = number_at(block, at + 8);
+    let below = number_at(block, at + 16);
+    let rest = number_at(block, at + 24);
+    if number == 0 {
+        if born == 0 && below == 0 && rest == 0 {
+            return Ok(None);
+        }
+        return Err(Refusal::BadStream);
+    }
+    if number <= u64::from(count) && born <= birth.0 && below == u64::from(level) && rest == 0 {
+        return Ok(Some(Root {
+            block: BlockNo((number - 1) as u32),
+            birth: Group(born),
+        }));
+    }
+    Err(Refusal::BadStream)
+}
+
+/// Adds a leaf.
+fn push_leaf(out: &mut Leaves, index: u32, leaf: [u8; 512]) -> Result<(), Refusal>
+    ensures ok { OnOk result (out.new.items ≡ out.old.items ++ (index, leaf) ∷ []) }
+    ensures err { IfErr result (λ e. e ≡ Refusal.NoMemory) }
+{
+    out.push((index, leaf))?;
+    Ok(())
+}
+
+/// Adds the leaves at and below a block of a level, at an index of that level, in an image of `count` blocks of which these bytes were
+/// written. BadStream where a pointer on the way breaks the rules, and then it is open what was added.
+pub(crate) fn gather(
+    written: &[u8],
+    count: u32,
+    level: u8,
+    index: u32,
+    top: Root,
+    out: &mut Leaves,
+) -> Result<(), Refusal>
+    requires whole { length written.now % 512 ≡ 0 }
+    requires size { length written.now ≤ 512 * count }
+    requires there { top.block.0 < count }
+    requires low { level ≤ 5 }
+    requires within { (index + 1) * 16 ^ level ≤ 1048576 }
+    ensures ok { OnOk result (option_map (λ more. out.old.items ++ more) (leaves_of (blocks_in count written.now) count level index (root_block top)) ≡ Some out.new.items) }
+    ensures bad { result ≡ Err Refusal.BadStream → leaves_of (blocks_in count written.now) count level index (root_block top) ≡ None }
+    ensures only { IfErr result IsBadOrNoMemory }
+{
+    let block = block_of(written, count, top.block);
+    if level == 0 {
+        return push_leaf(out, index, block);
+    }
+    for place in 0..16u32 {
+        let pointer = match pointer_at(&block, place as usize, count, level - 1, top.birth) {
+            Ok(pointer) => pointer,
+            Err(refusal) => return Err(refusal),
+        };
+        if let Some(below) = pointer {
+            if let Err(refusal) = gather(
+                written,
+                count,
+                level - 1,
+                16 * index + place,
+                below,
+                out,
+            ) {
+                return Err(refusal);
+            }
+        }
+    }
+    Ok(())
+}

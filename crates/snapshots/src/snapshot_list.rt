@@ -1,0 +1,240 @@
+//! The snapshots of one file system.
+ghost use Rattle.std.specs.Prelude.{◌≡◌, ◌-◌, ◌+◌, ◌<◌, ◌++◌, ◌∷◌, [], ℕ, Some, List, length, remove, IfOk, IfErr, IfSome, IsSome, OnOk, OnErr, slice_get, slice_set};
+ghost use Rattle.std.specs.Option.{option_copied, option_map};
+ghost use Rattle.std.specs.Arc.{arc_value};
+ghost use Rattle.std.specs.List.{find};
+ghost use Rattle.base.specs.declared.refusal.Refusal.{Refusal};
+ghost use Rattle.base.specs.Names.{same_name};
+ghost use Rattle.snapshots.specs.declared.kept.Kept.{Kept};
+ghost use Rattle.snapshots.specs.Index.{IsIndex, AreNamesOnce};
+
+use crate::by_name::ByName;
+use crate::kept::Kept;
+use base::name::Component;
+use base::refusal::Refusal;
+use shared_list::SharedList;
+use std::alloc::Global;
+use std::marker::Model;
+use std::sync::Arc;
+
+/// The snapshots of one file system in order of their creation groups, found by name too. Contracts see the list of them. Copies share
+/// them.
+///
+/// They are found by name in an index over them. Where memory for the index is refused, a snapshot is put in all the same, and from then
+/// on there is no index: they are then found by a walk.
+pub struct SnapshotList {
+    pub(crate) kept: SharedList<Kept>,
+    pub(crate) by_name: Option<ByName>,
+}
+
+// By hand, so that it is proved once: a derived one is laid out anew in each crate that drops the type.
+impl Drop for SnapshotList {
+    fn drop(self) {
+        let SnapshotList { kept, by_name } = self;
+        drop(kept);
+        drop(by_name);
+    }
+}
+
+impl Model for SnapshotList {
+    ghost use Rattle.std.specs.Prelude.{List};
+    ghost use Rattle.std.specs.Coded.{coded_list};
+    ghost use Rattle.snapshots.specs.declared.kept.Kept.{Kept};
+    ghost use Rattle.snapshots.specs.contracts.kept.Kept.{the_row};
+    ghost use Rattle.snapshots.specs.Index.{IsIndex};
+
+    ghost Value = { List Kept };
+
+    ghost coded = { coded_list the_row.coded };
+
+    ghost view = { λ l. l.kept };
+
+    ghost invariant = { λ l. IsIndex l.by_name l.kept };
+}
+
+impl SnapshotList {
+    /// None. It takes no memory, and keeps the allocator.
+    pub fn new(alloc: Global) -> SnapshotList
+        ensures { result ≡ [] }
+    {
+        SnapshotList {
+            kept: SharedList::new(alloc),
+            by_name: Some(ByName::new(alloc)),
+        }
+    }
+
+    /// The same snapshots, by one more owner of each chunk of them: it costs a 32nd of their number, or less. NoMemory where there is
+    /// none for that.
+    pub fn copy(&self) -> Result<SnapshotList, Refusal>
+        ensures ok { IfOk result (λ l. l ≡ self.now) }
+        ensures err { IfErr result (λ e. e ≡ Refusal.NoMemory) }
+    {
+        let kept = self.kept.copy()?;
+        let by_name = copy_of_index(&self.by_name)?;
+        Ok(SnapshotList { kept, by_name })
+    }
+
+    /// All of them, in order. Constant time.
+    pub fn list(&self) -> &SharedList<Kept>
+        ensures { result.now ≡ self.now }
+    {
+        &self.kept
+    }
+
+    /// The newest, or None where there is none. Constant time.
+    pub fn last(&self) -> Option<&Kept>
+        ensures { option_copied result ≡ slice_get self.now (length self.now - 1) }
+    {
+        self.kept.last()
+    }
+
+    /// The first of that name, or None where there is none. It costs the logarithm of their number, or, where there is no index, their
+    /// number.
+    pub fn get(&self, name: &[u8]) -> Option<&Kept>
+        ensures { option_copied result ≡ find (λ k. same_name k.snapshot.name name.now) self.now }
+    {
+        match &self.by_name {
+            Some(index) => index.get(name),
+            None => walk(&self.kept, name),
+        }
+    }
+
+    /// Puts one behind the others. It costs the logarithm of their number, and at most a chunk of the list and one of the index, which
+    /// are changed in place where no copy shares them. NoMemory where there is none for it; then all are as they were.
+    pub fn push(&mut self, alloc: Global, kept: Kept) -> Result<(), Refusal>
+        ensures ok { OnOk result (self.new ≡ self.old ++ kept ∷ []) }
+        ensures err { OnErr result (self.new ≡ self.old) }
+        ensures only { IfErr result (λ e. e ≡ Refusal.NoMemory) }
+    {
+        let kept = Arc::new(alloc, kept)?;
+        self.kept.push_shared(Arc::try_clone(&kept)?)?;
+        index(&mut self.by_name, kept);
+        Ok(())
+    }
+
+    /// Takes out the snapshot at that place, counted from 0, where each name is one snapshot's. It costs the number of chunks, which is
+    /// a 32nd of that of the snapshots or less, the length of its name, and at most three chunks of the list and of the index. NoMemory
+    /// where there is none for it; then all are as they were.
+    pub fn remove(&mut self, place: usize) -> Result<(), Refusal>
+        requires there { place < length self.old }
+        requires once { AreNamesOnce self.old }
+        ensures ok { OnOk result (self.new ≡ remove self.old place) }
+        ensures err { OnErr result (self.new ≡ self.old) }
+        ensures only { IfErr result (λ e. e ≡ Refusal.NoMemory) }
+    {
+        let name = name_at(&self.kept, place)?;
+        self.kept.remove(place)?;
+        forget(&mut self.by_name, name.as_bytes());
+        Ok(())
+    }
+
+    /// Puts this one in place of the one at that place, counted from 0, which has its name, where each name is one snapshot's. It costs the
+    /// logarithm of their number, a walk over the chunks, and at most a chunk of the list and one of the index, which are changed in place
+    /// where no copy shares them. NoMemory where there is none for it; then all are as they were.
+    pub fn set(&mut self, alloc: Global, place: usize, kept: Kept) -> Result<(), Refusal>
+        requires same { option_map (λ k. k.snapshot.name) (slice_get self.old place) ≡ Some kept.snapshot.name }
+        requires once { AreNamesOnce self.old }
+        ensures ok { OnOk result (self.new ≡ slice_set self.old place kept) }
+        ensures err { OnErr result (self.new ≡ self.old) }
+        ensures only { IfErr result (λ e. e ≡ Refusal.NoMemory) }
+    {
+        let kept = Arc::new(alloc, kept)?;
+        self.kept.set_shared(place, Arc::try_clone(&kept)?)?;
+        replace(&mut self.by_name, kept);
+        Ok(())
+    }
+
+    /// Takes out the snapshot at that place, counted from 0, where each name is one snapshot's, and puts this one in place of the one
+    /// after it, which has its name. It costs the number of chunks, which is a 32nd of that of the snapshots or less, and at most three
+    /// chunks of the list and of the index. NoMemory where there is none for it; then all are as they were.
+    pub fn splice(&mut self, alloc: Global, place: usize, next: Kept) -> Result<(), Refusal>
+        requires next { option_map (λ k. k.snapshot.name) (slice_get self.old (place + 1)) ≡ Some next.snapshot.name }
+        requires once { AreNamesOnce self.old }
+        ensures ok { OnOk result (self.new ≡ slice_set (remove self.old place) place next) }
+        ensures err { OnErr result (self.new ≡ self.old) }
+        ensures only { IfErr result (λ e. e ≡ Refusal.NoMemory) }
+    {
+        let name = name_at(&self.kept, place)?;
+        let next = Arc::new(alloc, next)?;
+        let mut kept = self.kept.copy()?;
+        kept.remove(place)?;
+        kept.set_shared(place, Arc::try_clone(&next)?)?;
+        forget(&mut self.by_name, name.as_bytes());
+        replace(&mut self.by_name, next);
+        self.kept = kept;
+        Ok(())
+    }
+}
+
+// The name of the snapshot at that place, which is there. It costs a walk over the chunks before it, and the length of the name.
+fn name_at(kept: &SharedList<Kept>, place: usize) -> Result<Component, Refusal>
+    requires { place < length kept.now }
+    ensures ok { IfOk result (λ n. option_map (λ k. k.snapshot.name) (slice_get kept.now place) ≡ Some n) }
+    ensures err { IfErr result (λ e. e ≡ Refusal.NoMemory) }
+{
+    let Some(kept) = kept.get(place) else {
+        unreachable!()
+    };
+    Ok(kept.snapshot.name().clone()?)
+}
+
+// An equal index, by one more owner of each of its chunks.
+pub(crate) fn copy_of_index(by_name: &Option<ByName>) -> Result<Option<ByName>, Refusal>
+    ensures ok { IfOk result (λ b. b ≡ by_name.now) }
+    ensures err { IfErr result (λ e. e ≡ Refusal.NoMemory) }
+{
+    match by_name {
+        Some(index) => Ok(Some(index.copy()?)),
+        None => Ok(None),
+    }
+}
+
+// The first of these that has this name. It costs their number.
+fn walk<'a>(kept: &'a SharedList<Kept>, name: &[u8]) -> Option<&'a Kept>
+    ensures { option_copied result ≡ find (λ k. same_name k.snapshot.name name.now) kept.now }
+{
+    kept.iter()
+        .find(|kept| kept.snapshot.name().as_bytes() == name)
+}
+
+// Puts a snapshot that comes behind the others into their index. Where one of its name is there that stays; where memory is refused
+// there is no index any more.
+fn index(by_name: &mut Option<ByName>, kept: Arc<Kept>)
+    ensures { (ks : List Kept) → IsIndex by_name.old ks → IsIndex by_name.new (ks ++ arc_value kept ∷ []) }
+{
+    let Some(index) = by_name else {
+        return;
+    };
+    if index.get(kept.snapshot.name().as_bytes()).is_some() {
+        return;
+    }
+    if index.insert(kept).is_err() {
+        *by_name = None;
+    }
+}
+
+// Takes the snapshot of this name, which is there, out of the index. Where memory is refused there is no index any more.
+pub(crate) fn forget(by_name: &mut Option<ByName>, name: &[u8])
+    requires { IfSome by_name.old (λ index. IsSome (find (λ k. same_name k.snapshot.name name.now) index)) }
+    ensures { (ks : List Kept) (place : ℕ) → option_map (λ k. k.snapshot.name) (slice_get ks place) ≡ Some name.now → AreNamesOnce ks → IsIndex by_name.old ks → IsIndex by_name.new (remove ks place) }
+{
+    let Some(index) = by_name else {
+        return;
+    };
+    if index.remove(name).is_err() {
+        *by_name = None;
+    }
+}
+
+// Puts a snapshot into the index in place of the one of its name, which is there. Where memory is refused there is no index any more.
+fn replace(by_name: &mut Option<ByName>, kept: Arc<Kept>)
+    requires { IfSome by_name.old (λ index. IsSome (find (λ k. same_name k.snapshot.name (arc_value kept).snapshot.name) index)) }
+    ensures { (ks : List Kept) (place : ℕ) → option_map (λ k. k.snapshot.name) (slice_get ks place) ≡ Some (arc_value kept).snapshot.name → AreNamesOnce ks → IsIndex by_name.old ks → IsIndex by_name.new (slice_set ks place (arc_value kept)) }
+{
+    let Some(index) = by_name else {
+        return;
+    };
+    if index.set(kept).is_err() {
+        *by_name = None;
+    }
+}

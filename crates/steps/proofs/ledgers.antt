@@ -1,0 +1,4 @@
+pub mod Kept
+pub mod Labels
+pub mod Losses
+pub mod More

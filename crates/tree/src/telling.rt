@@ -1,0 +1,155 @@
+//! The blocks of a tree, as they are written.
+ghost use Rattle.std.specs.Prelude.{◌≡◌, ℕ, ◌<◌, ◌≤◌, ◌-◌, ◌/◌, ◌^◌, IfSome, Some, None, length, map, slice_index_or};
+ghost use Rattle.std.specs.FinMap.{get};
+ghost use Rattle.std.specs.Option.{option_map};
+ghost use Rattle.base.specs.Counting.{counted};
+ghost use Rattle.base.specs.Map.{block_of};
+ghost use Rattle.node.specs.Kid.{places};
+ghost use Rattle.node.specs.Node.{inner_part};
+ghost use Rattle.node.specs.Shape.{steps_below, cell_below};
+ghost use Rattle.tree.specs.Bytes.{made_bytes, maybe_block, bytes_of, root_of, AreBirthsRising, IsOfTree};
+ghost use Rattle.tree.specs.Reading.{key_over, present_on_path};
+ghost use Rattle.tree.specs.Telling.{part_block, part_bytes, part_below};
+
+use crate::block::{Block, Root};
+use crate::tree::Tree;
+use base::meter::Meter;
+use base::number::{Dead, Key};
+use node::{Inner, Leaf, Level, span, step};
+
+/// The root of a tree whose topmost block this is.
+fn root_at(dead: Dead) -> Root
+    ensures { result ≡ record { block = dead.block; birth = dead.birth } }
+{
+    Root {
+        block: dead.block,
+        birth: dead.birth,
+    }
+}
+
+/// Where the blocks directly below a node are.
+fn roots_below<C: Level>(node: &Inner<C>) -> [Option<Root>; 16]
+    ensures told { map maybe_block result ≡ map (option_map part_block) (places (inner_part C.part node.now).below) }
+    ensures sixteen { length result ≡ 16 }
+{
+    let mut roots = [None; 16];
+    for place in 0..node.place_count() {
+        if let Some(kid) = node.kid(place as usize) {
+            roots[place as usize] = Some(root_at(kid.block()));
+        }
+    }
+    roots
+}
+
+/// A level whose nodes tell their blocks.
+trait Tell: Level {
+    /// The block so many levels below a node of a level, at the index `at` of the keys that the node covers there.
+    fn tell(&self, level: u8, depth: u32, at: u32, meter: &mut Meter) -> Option<Block<'_>>
+        requires level { level ≡ Self.height }
+        requires low { level ≤ 5 }
+        requires shallow { depth ≤ level }
+        requires covered { at < 16 ^ depth }
+        ensures told { option_map made_bytes result ≡ option_map (part_bytes (level - depth)) (part_below depth (Self.part self.now) at) }
+        ensures of_tree { IfSome result IsOfTree }
+        ensures metered { meter.new ≡ counted meter.old (steps_below depth (Self.part self.now) at) };
+
+    /// Puts where the blocks are on the way to a leaf, each at its level, from a node of a level down, with the index of the leaf among
+    /// those that the node covers. The places of these levels are empty before.
+    fn trace(&self, level: u8, at: u32, path: &mut [Option<Root>; 6], meter: &mut Meter)
+        requires level { level ≡ Self.height }
+        requires low { level ≤ 5 }
+        requires covered { at < 16 ^ level }
+        requires empty { (l : ℕ) → l ≤ level → slice_index_or path.old l None ≡ None }
+        ensures traced { (l : ℕ) → l ≤ level → maybe_block (slice_index_or path.new l None) ≡ option_map block_of (cell_below (level - l) (Self.part self.now) (at / 16 ^ l)) }
+        ensures above { (l : ℕ) → level < l → slice_index_or path.new l None ≡ slice_index_or path.old l None }
+        ensures metered { meter.new ≡ counted meter.old (steps_below level (Self.part self.now) at) };
+}
+
+impl Tell for Leaf {
+    #[tactic(auto, unfolding(crate::specs::Bytes::made_bytes, crate::specs::Telling::part_bytes))]
+    fn tell(&self, _level: u8, _depth: u32, _at: u32, meter: &mut Meter) -> Option<Block<'_>> {
+        meter.add_one();
+        Some(Block::Contents(&self.bytes))
+    }
+
+    fn trace(&self, level: u8, _at: u32, path: &mut [Option<Root>; 6], meter: &mut Meter) {
+        meter.add_one();
+        path[level as usize] = Some(root_at(self.block()));
+    }
+}
+
+impl<C: Tell> Tell for Inner<C> {
+    fn tell(&self, level: u8, depth: u32, at: u32, meter: &mut Meter) -> Option<Block<'_>> {
+        meter.add_one();
+        if depth == 0 {
+            return Some(Block::Pointers {
+                level,
+                roots: roots_below(self),
+            });
+        }
+        let (place, rest) = step(depth, at);
+        match &self.kids[place] {
+            Some(kid) => kid.tell(level - 1, depth - 1, rest, meter),
+            None => None,
+        }
+    }
+
+    fn trace(&self, level: u8, at: u32, path: &mut [Option<Root>; 6], meter: &mut Meter) {
+        meter.add_one();
+        path[level as usize] = Some(root_at(self.block()));
+        let (place, rest) = step(u32::from(level), at);
+        match &self.kids[place] {
+            Some(kid) => kid.trace(level - 1, rest, path, meter),
+            None => {}
+        }
+    }
+}
+
+impl Tree {
+    /// Where the root is, or None where the tree has no block. Constant time.
+    pub fn root(&self) -> Option<Root>
+        ensures root { maybe_block result ≡ root_of self.now }
+        ensures rising { AreBirthsRising self.now }
+    {
+        match &self.root {
+            Some(root) => Some(root_at(root.block())),
+            None => None,
+        }
+    }
+
+    /// The block at a key as it is written, or None where there is none. It costs a step for each level from the root down.
+    pub fn block(&self, key: Key, meter: &mut Meter) -> Option<Block<'_>>
+        ensures told { option_map made_bytes result ≡ option_map (bytes_of self.now key) (get self.now key) }
+        ensures of_tree { IfSome result IsOfTree }
+        ensures metered { meter.new ≡ counted meter.old (present_on_path self.now key) }
+    {
+        let _reached = meter.count();
+        let Some(root) = &self.root else {
+            return None;
+        };
+        if key.level > 5 {
+            return None;
+        }
+        let depth = u32::from(5 - key.level);
+        if key.index < span(depth) {
+            root.tell(5, depth, key.index, meter)
+        } else {
+            None
+        }
+    }
+
+    /// Where the blocks are on the path to a leaf, each at its level, from the leaf at 0 to the root at 5. It costs a step for each
+    /// level from the root down.
+    pub fn path(&self, leaf: u32, meter: &mut Meter) -> [Option<Root>; 6]
+        requires { leaf < 1048576 }
+        ensures path { (l : ℕ) → l ≤ 5 → maybe_block (slice_index_or result l None) ≡ option_map block_of (get self.now (key_over leaf l)) }
+        ensures metered { meter.new ≡ counted meter.old (present_on_path self.now (key_over leaf 0)) }
+    {
+        let _reached = meter.count();
+        let mut path = [None; 6];
+        if let Some(root) = &self.root {
+            root.trace(5, leaf, &mut path, meter);
+        }
+        path
+    }
+}
