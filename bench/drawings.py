@@ -13,7 +13,7 @@ FONT = 'font-family="sans-serif" font-size="13"'
 KINDS = {"plain": "#ffffff", "live": "#dceefb", "snapshot": "#fdf3d1", "shared": "#e4f3df", "gone": "#f6d9d5", "quiet": "#f2f2f2"}
 LAYERS = {
     "ground": "#eeeae4", "blocks and trees": "#dceefb", "what it means": "#f2f2f2", "datasets": "#e4f3df", "requests": "#fdf3d1",
-    "pool": "#f6d9d5", "session": "#e9e0f5", "program": "#dff3f1", "tests": "#f2f2f2",
+    "pool": "#f6d9d5", "session": "#e9e0f5", "program": "#dff3f1", "hosts": "#f3e6dc", "tests": "#f2f2f2",
 }
 
 
@@ -239,7 +239,7 @@ DESTROY = [
     (3, "removals", "refusal_of: Busy, HasClones .."),
     (4, "datasets", "find, file_systems, clones_of"),
     (4, "views", "is_viewed"),
-    (3, "removals", "Edit::of: copies of table and freeing"),
+    (3, "removals", "WorkingCopy::of: copies of table and freeing"),
     (3, "removals", "empty_family: snapshot by snapshot"),
     (4, "datasets", "Table::remove_snapshot"),
     (5, "file_system", "FileSystem::splice"),
@@ -251,7 +251,7 @@ DESTROY = [
     (3, "removals", "remove_family: row by row"),
     (4, "datasets", "Table::lost_with, remove"),
     (3, "removals", "sweep: deferred origins"),
-    (3, "removals", "Edit::put: both in force"),
+    (3, "removals", "WorkingCopy::put: both in force"),
     (2, "steps", "renew, by Ledger::fill of limits"),
     (0, "pool", "Keep::settle: Effect::Nothing"),
     (0, "pool", "later, Slice: Keep::slice"),
@@ -268,9 +268,9 @@ RECEIVE = [
     (2, "steps", "intake_of"),
     (3, "stream", "read_stream, or BadStream"),
     (3, "receives", "begin: receive_refusal, start"),
-    (4, "removals", "Edit::of: copies of table and freeing"),
+    (4, "removals", "WorkingCopy::of: copies of table and freeing"),
     (4, "datasets", "whole: Table::create"),
-    (4, "removals", "with -F: Edit::lose_live"),
+    (4, "removals", "with -F: WorkingCopy::lose_live"),
     (5, "datasets", "Table::rollback: the newest's map"),
     (5, "destroyer", "Freeing::add_tree"),
     (4, "removals", "with -F: remove_newer_bookmarks"),

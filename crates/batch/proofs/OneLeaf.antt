@@ -13,6 +13,7 @@ use Rattle.batch.specs.declared.update.Update.TheVariants.{Write, Punch}
 use Rattle.base.specs.Key.{covers}
 use Rattle.node.specs.Entries.{key_at}
 use Rattle.node.specs.Kid.{IsKid, places, places_of}
+use Rattle.batch.specs.Others.{HasOther}
 use Rattle.batch.specs.Said.{Said, silent, hole, full, said, said_by, first_said, IsOneLeaf, IsWay}
 use Rattle.node.specs.Shape.{Part, Forest, forest_of}
 use Rattle.batch.specs.Touch.{any_kid, later_first, touched, stays, leaf_touched, leaf_stays, claims, released, dropped}
@@ -95,6 +96,12 @@ none_any : (f : ℕ → Option Part → Bool) (l g j : ℕ) (os : List (Option P
 none_any f l g j [] a h = refl
 none_any f l g j (o ∷ os) a h = rw (h j o (omega arith) a.0) (none_any f l g (j + 1) os a.1 (λ k q b w. h k q (omega arith) w))
 
+nowhere : (f : ℕ → Option Part → Bool) (j : ℕ) (os : List (Option Part)) → ((q : ℕ) → q < length os → f (j + q) (get_or os q None) ≡ false) → any_kid f j os ≡ false
+nowhere f j [] h = refl
+nowhere f j (o ∷ os) h =
+    let z : j ≡ j + 0 = omega arith in
+    rw (ap (λ n. f n o) z ∙ h 0 (omega arith)) (nowhere f (j + 1) os (λ q w. let d : j + 1 + q ≡ j + suc q = omega arith in ap (λ n. f n (get_or os q None)) d ∙ h (suc q) (omega arith)))
+
 or_none : (b c : Bool) → c ≡ false → (b || c) ≡ b
 or_none true c e = refl
 or_none false c e = e
@@ -111,6 +118,17 @@ one_any f l g j (suc i) (o ∷ os) b a h =
 
 any_at : (f : ℕ → Option Part → Bool) (j i : ℕ) (os : List (Option Part)) → i < length os → f (j + i) (get_or os i None) ≡ true → any_kid f j os ≡ true
 any_at f j i os h e = elim (any_kid f j os) as (λ b. any_kid f j os ≡ b → b ≡ true) [ true ↦ λ t. refl | false ↦ λ t. absurd (true≢false (sym e ∙ any_false f j i os h t)) ] refl
+
+any_alone : (f : ℕ → Option Part → Bool) (j i : ℕ) (os : List (Option Part)) → i < length os → ((q : ℕ) → ¬ (q ≡ i) → q < length os → f (j + q) (get_or os q None) ≡ false) → any_kid f j os ≡ f (j + i) (get_or os i None)
+any_alone f j i [] b h = absurd (omega arith)
+any_alone f j zero (o ∷ os) b h =
+    let e : j ≡ j + 0 = omega arith in
+    or_none (f j o) (any_kid f (j + 1) os) (nowhere f (j + 1) os (λ q n. let d : j + 1 + q ≡ j + suc q = omega arith in ap (λ n. f n (get_or os q None)) d ∙ h (suc q) (λ x. omega arith) (omega arith))) ∙ ap (λ n. f n o) e
+any_alone f j (suc i) (o ∷ os) b h =
+    let e : j + 1 + i ≡ j + suc i = omega arith in
+    let z : j ≡ j + 0 = omega arith in
+    ap (λ c. c || any_kid f (j + 1) os) (ap (λ n. f n o) z ∙ h 0 (λ x. omega arith) (omega arith))
+    ∙ any_alone f (j + 1) i os (omega arith) (λ q n w. let d : j + 1 + q ≡ j + suc q = omega arith in ap (λ n. f n (get_or os q None)) d ∙ h (suc q) (λ x. n (omega arith)) (omega arith)) ∙ ap (λ n. f n (get_or os i None)) e
 
 pub places_of_forest : {A : Type 0} (f : A → Part) (xs : List (Option A)) → places (forest_of f xs) ≡ map (option_map f) xs
 places_of_forest f [] = refl
@@ -192,14 +210,26 @@ module _ (s : ℕ → Said) (l g j p : ℕ) (writes : Bool) (way : IsWay s l j p
   pub kid_touched : touched s (suc l) j o ≡ true → touched s l (16 * j + p) (get_or os p None) ≡ true
   kid_touched t = sym touched_below ∙ sym (touched_down s l j o) ∙ t
 
-  -- and stays where another place has a part
+  below : {A : Type 0} (f : ℕ → Option Part → List A) → ((q : ℕ) (x : Option Part) → touched s l q x ≡ false → f q x ≡ []) → later_first f (16 * j) os ≡ f (16 * j + p) (get_or os p None)
+  below f h = later_one f l g (16 * j) p os within kids.1 (λ q x n w. h q x (idle q x n w))
+
+  -- and stays where that one does or another place has a part, and nowhere else
+  beside_way : (q : ℕ) → ¬ (q ≡ p) → q < length os → stays s l (16 * j + q) (get_or os q None) ≡ is_some (get_or os q None)
+  beside_way q n h = untouched_stays s l (16 * j + q) (get_or os q None) (idle (16 * j + q) (get_or os q None) (λ e. n (omega arith)) (AreKids-at l g os q kids.1))
+
+  pub stays_by_way : stays s l (16 * j + p) (get_or os p None) ≡ true → any_kid (stays s l) (16 * j) os ≡ true
+  stays_by_way e = any_at (stays s l) (16 * j) p os within e
+
+  pub stays_by_other : HasOther p os → any_kid (stays s l) (16 * j) os ≡ true
+  stays_by_other other = any_at (stays s l) (16 * j) other.at os other.within (beside_way other.at other.other other.within ∙ other.there)
+
   pub stays_beside : (q : ℕ) → touched s (suc l) j o ≡ true → ¬ (q ≡ p) → q < length os → is_some (get_or os q None) ≡ true → stays s (suc l) j o ≡ true
   stays_beside q t n h there =
       stays_down s l j o ∙ ap (λ b. cond b (any_kid (stays s l) (16 * j) os) (is_some o)) t
-      ∙ any_at (stays s l) (16 * j) q os h (untouched_stays s l (16 * j + q) (get_or os q None) (idle (16 * j + q) (get_or os q None) (λ e. n (omega arith)) (AreKids-at l g os q kids.1)) ∙ there)
+      ∙ stays_by_other (record { at = q; other = n; within = h; there = there })
 
-  below : {A : Type 0} (f : ℕ → Option Part → List A) → ((q : ℕ) (x : Option Part) → touched s l q x ≡ false → f q x ≡ []) → later_first f (16 * j) os ≡ f (16 * j + p) (get_or os p None)
-  below f h = later_one f l g (16 * j) p os within kids.1 (λ q x n w. h q x (idle q x n w))
+  pub stays_alone : ((q : ℕ) → ¬ (q ≡ p) → get_or os q None ≡ None) → any_kid (stays s l) (16 * j) os ≡ stays s l (16 * j + p) (get_or os p None)
+  stays_alone none = any_alone (stays s l) (16 * j) p os within (λ q n h. beside_way q n h ∙ ap is_some (none q n))
 
   pub claims_below : (y : ℕ) → later_first (claims s y l) (16 * j) os ≡ claims s y l (16 * j + p) (get_or os p None)
   claims_below y = below (claims s y l) (λ q x e. untouched_claims s y l q x e)
@@ -237,12 +267,6 @@ module _ (s : ℕ → Said) (l g j p : ℕ) (writes : Bool) (way : IsWay s l j p
 module _ (s : ℕ → Said) (l g j p : ℕ) (way : IsWay s l j p true) (o : Option Part) (k : IsKid (suc l) g o) where
   pub stays_written : stays s (suc l) j o ≡ true
   stays_written = on_stays s way.leaf way.one (suc l) g j o (own s l g j p true way o k) k
-
-  pub stays_below : any_kid (stays s l) (16 * j) (places_of o) ≡ stays s l (16 * j + p) (get_or (places_of o) p None)
-  stays_below =
-      let kids = kids_of l g o k in
-      let t = on_stays s way.leaf way.one l g (16 * j + p) (get_or (places_of o) p None) way.at (AreKids-at l g (places_of o) p kids.1) in
-      any_at (stays s l) (16 * j) p (places_of o) (within s l g j p true way o k) t ∙ sym t
 
 -- a node of which one place is changed
 pub node_renewed : {A : Type 0} (s : ℕ → Said) (l g j p : ℕ) (writes : Bool) (way : IsWay s l j p writes) (b n : ℕ) (number : Key → ℕ) (f : A → Part) (o : Part) (kids : List (Option A)) (new d : Option A) → IsKid (suc l) g (Some o) → touched s (suc l) j (Some o) ≡ true → stays s (suc l) j (Some o) ≡ true

@@ -1,5 +1,6 @@
 pub mod Updates
 pub mod Said
+pub mod Others
 pub mod Word
 pub mod Touch
 pub mod Build

@@ -1,10 +1,11 @@
 //! What a batch of changes does to a tree, before any of it is made.
-ghost use Rattle.std.specs.Prelude.{◌≡◌, suc, ◌+◌, ◌-◌, ◌*◌, ◌^◌, ◌<◌, ◌≤◌, ◌++◌, IfOk, OnOk, OnErr, IfSome, Option, Some, None, true, slice_index_or, length, is_some, cond, if◌then◌else◌};
+ghost use Rattle.std.specs.Prelude.{◌≡◌, ℕ, suc, ◌+◌, ◌-◌, ◌*◌, ◌^◌, ◌<◌, ◌≤◌, ◌++◌, ◌⊎◌, IfOk, OnOk, OnErr, IsTrue, Option, Some, None, false, slice_index_or, length, is_some, cond, if◌then◌else◌};
 ghost use Rattle.base.specs.Counting.{counted};
 ghost use Rattle.base.specs.declared.refusal.Refusal.{Refusal};
 ghost use Rattle.node.specs.Kid.{IsSoundKid, places_of};
 ghost use Rattle.node.specs.Node.{inner_part, leaf_part, part_of_node};
-ghost use Rattle.batch.specs.Said.{said, AreInOrder, IsWay};
+ghost use Rattle.batch.specs.Others.{HasOther};
+ghost use Rattle.batch.specs.Said.{said, AreInOrder};
 ghost use Rattle.batch.specs.Touch.{any_kid, later_first, touched, stays, claims, released, dropped, claim_of, let_go, own_block, young_one};
 
 use crate::few::Few;
@@ -246,19 +247,25 @@ fn survey_kids<C: Survey>(
     Ok(Fate { touched, stays })
 }
 
-/// The place on the way to the one leaf that the updates write.
-fn written_way(updates: &[Update], level: u8, index: u32) -> Option<u32>
-    requires deep { 0 < level }
-    requires low { level ≤ 5 }
-    ensures { IfSome result (λ place. IsWay (said updates.now) (level - 1) index place true) }
+/// Whether a part stays of which one place alone is on the way of a batch, by whether what is on the way does.
+fn stays_beside<C: Level>(stays: bool, old: Option<&Inner<C>>, place: u32) -> bool
+    ensures stays { IsTrue result → IsTrue stays ⊎ HasOther place (places_of (part_of_node (inner_part C.part) old.entry)) }
+    ensures goes { result ≡ false → stays ≡ false }
+    ensures alone { result ≡ false → (q : ℕ) → ¬ (q ≡ place) → slice_index_or (places_of (part_of_node (inner_part C.part) old.entry)) q None ≡ None }
 {
-    match way_of(updates, level, index) {
-        Some(way) => { if way.writes { Some(way.place) } else { None } }
-        None => None,
+    if stays {
+        return true;
     }
+    for at in 0..place_count(old) {
+        if at != place && kid_at(old, at as usize).is_some() {
+            return true;
+        }
+    }
+    false
 }
 
-/// Adds to the findings what a batch does below a part. Where the batch is one write, only the place on its way is looked at.
+/// Adds to the findings what a batch does below a part. Where the batch writes or punches one leaf, what stands beside the way to it isn't
+/// surveyed.
 fn survey_below<C: Survey>(
     old: Option<&Inner<C>>,
     level: u8,
@@ -282,21 +289,24 @@ fn survey_below<C: Survey>(
     ensures err { OnErr result (result ≡ Err Refusal.NoMemory) }
 {
     let first = 16 * index;
-    match written_way(updates, level, index) {
-        Some(place) => {
-            let kid = kid_at(old, place as usize);
-            C::survey(
-                kid,
-                level - 1,
-                first + place,
-                updates,
-                young,
-                findings,
-                meter,
-            )
-        }
-        None => survey_kids(old, level - 1, first, updates, young, findings, meter),
-    }
+    let Some(way) = way_of(updates, level, index) else {
+        return survey_kids(old, level - 1, first, updates, young, findings, meter);
+    };
+    let kid = kid_at(old, way.place as usize);
+    let fate = C::survey(
+        kid,
+        level - 1,
+        first + way.place,
+        updates,
+        young,
+        findings,
+        meter,
+    )?;
+    let stays = stays_beside(fate.stays, old, way.place);
+    Ok(Fate {
+        touched: fate.touched,
+        stays,
+    })
 }
 
 impl<C: Survey> Survey for Inner<C> {

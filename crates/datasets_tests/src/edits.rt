@@ -9,7 +9,7 @@ use base::name::SnapName;
 use base::refusal::Refusal;
 use datasets::Table;
 use destroyer::Freeing;
-use removals::Edit;
+use removals::WorkingCopy;
 use std::alloc::Global;
 use toll::Toll;
 
@@ -21,11 +21,11 @@ fn with_one(alloc: Global) -> Result<Table, Refusal> {
 }
 
 /// An edit of a table with nothing to be freed.
-fn edit_of(alloc: Global, table: &Table) -> Result<Edit, Refusal>
+fn edit_of(alloc: Global, table: &Table) -> Result<WorkingCopy, Refusal>
     ensures { IfOk result (λ e. e.freeing ≡ set.empty) }
 {
     let freeing = Freeing::new(alloc);
-    Edit::of(table, &freeing)
+    WorkingCopy::of(table, &freeing)
 }
 
 /// How many snapshots are left, and how many blocks are to be freed, once the snapshot of this name has gone.

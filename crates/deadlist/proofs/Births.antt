@@ -1,5 +1,6 @@
 -- Births against a cut: in one segment, and in all segments beyond it.
 use Rattle.std.proofs.Common.{◌≡◌, ℕ, ◌+◌, ◌≤◌, ◌<◌, ◌⊎◌, inl, inr, Bool, true, false, cond, leb, ltb, List, [], ◌∷◌, ◌++◌, filter, arith, refl, ap}
+use Rattle.std.specs.Prelude.{min, max}
 use Rattle.std.proofs.lemmas.Bool.{lt-ltb, le-ltb, lt-leb, le-leb, cases_lt}
 use Rattle.std.proofs.lemmas.Bool.Decides.{leb_tells}
 use Rattle.std.proofs.lemmas.List.{append_assoc}
@@ -44,6 +45,15 @@ born_from_weaker from low (d ∷ ds) h le = (omega (arith, h.0), born_from_weake
 pub born_by_weaker : (to high : ℕ) (p : List Dead) → AreBornBy to p → to ≤ high → AreBornBy high p
 born_by_weaker to high [] h le = tt
 born_by_weaker to high (d ∷ ds) h le = (omega (arith, h.0), born_by_weaker to high ds h.1 le)
+
+-- two bounds at once
+pub born_from_both : (a b low : ℕ) (p : List Dead) → AreBornFrom a p → AreBornFrom b p → low ≤ max a b → AreBornFrom low p
+born_from_both a b low [] h k le = tt
+born_from_both a b low (d ∷ ds) h k le = (omega (arith, h.0, k.0), born_from_both a b low ds h.1 k.1 le)
+
+pub born_by_both : (a b high : ℕ) (p : List Dead) → AreBornBy a p → AreBornBy b p → min a b ≤ high → AreBornBy high p
+born_by_both a b high [] h k le = tt
+born_by_both a b high (d ∷ ds) h k le = (omega (arith, h.0, k.0), born_by_both a b high ds h.1 k.1 le)
 
 pub born_from_append : (from : ℕ) (p q : List Dead) → AreBornFrom from p → AreBornFrom from q → AreBornFrom from (p ++ q)
 born_from_append from [] q h k = k

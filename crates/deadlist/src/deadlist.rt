@@ -24,11 +24,14 @@ use std::marker::Model;
 ///
 /// The entries of the last segment stand in order of birth, in runs of which each is more than twice as long as the next one; so any
 /// group divides it in about the square of the logarithm of its entries. New entries wait behind the segments, 64 at most once a `reserve`
-/// has sorted in more, or an `append`. A copy shares the runs, so that it costs the segments and the entries that wait.
+/// has sorted in more, or an `append`. A copy shares the runs, so that it costs the segments and the entries that wait. No entry was born
+/// before `low`, and none after `high`: a group that has all on one side reaches none.
 pub struct Deadlist {
     parts: Parts,
-    fresh: Vec<Dead>,
     count: u64,
+    low: u64,
+    high: u64,
+    fresh: Vec<Dead>,
     alloc: Global,
 }
 
@@ -37,8 +40,10 @@ impl Drop for Deadlist {
     fn drop(self) {
         let Deadlist {
             parts,
-            fresh,
             count: _,
+            low: _,
+            high: _,
+            fresh,
             alloc: _,
         } = self;
         drop(parts);
@@ -50,7 +55,7 @@ impl Model for Deadlist {
     ghost use Rattle.std.specs.Prelude.{◌≡◌, ◌++◌, ◌-◌, ◌^◌, min, length};
     ghost use Rattle.std.specs.Vec.{vec_len, vec_capacity};
     ghost use Rattle.deadlist.specs.Held.{Held};
-    ghost use Rattle.deadlist.specs.Segments.{IsCut, entries_of, cuts_of};
+    ghost use Rattle.deadlist.specs.Segments.{IsCut, AreBornFrom, AreBornBy, entries_of, cuts_of};
 
     ghost Value = { Held };
 
@@ -60,7 +65,9 @@ impl Model for Deadlist {
       room = min (vec_capacity d.fresh - vec_len d.fresh) (2 ^ 64 - 1 - d.count);
     } };
 
-    ghost invariant = { λ d. IsCut d.parts × (d.count ≡ length (entries_of d.parts ++ d.fresh.items)) };
+    ghost invariant = { λ d. IsCut d.parts × (d.count ≡ length (entries_of d.parts ++ d.fresh.items))
+        × AreBornFrom d.low (entries_of d.parts ++ d.fresh.items)
+        × AreBornBy d.high (entries_of d.parts ++ d.fresh.items) };
 }
 
 impl Deadlist {
@@ -71,14 +78,16 @@ impl Deadlist {
     {
         Deadlist {
             parts: Parts::new(alloc),
-            fresh: Vec::new(alloc),
             count: 0,
+            low: u64::MAX,
+            high: 0,
+            fresh: Vec::new(alloc),
             alloc,
         }
     }
 
-    /// An equal list. It costs the segments, and not their entries; the meter counts them all, also at an error. NoMemory where memory
-    /// is refused.
+    /// An equal list. It costs the segments with their runs, which it shares, and the entries that wait; the meter counts all segments,
+    /// also at an error. NoMemory where memory is refused.
     pub fn copy(&self, meter: &mut SegMeter) -> Result<Deadlist, Refusal>
         ensures entries { IfOk result (λ d. d.entries ≡ self.now.entries) }
         ensures cuts { IfOk result (λ d. d.cuts ≡ self.now.cuts) }
@@ -90,15 +99,17 @@ impl Deadlist {
         let fresh = Vec::from_slice(self.alloc, self.fresh.as_slice())?;
         Ok(Deadlist {
             parts,
-            fresh,
             count: self.count,
+            low: self.low,
+            high: self.high,
+            fresh,
             alloc: self.alloc,
         })
     }
 
     /// Makes room for that many pushes, until another call that changes the list. Once 64 entries were put in, or as many as the list
-    /// has segments, it also sorts these in, each by a binary search over the cuts, and the meter counts all segments.
-    /// NoMemory where memory is refused, and then nothing is changed.
+    /// has segments, it also sorts these in, each by a binary search over the cuts, and where runs become one it costs their entries; the
+    /// meter then counts all segments. NoMemory where memory is refused, and then nothing is changed.
     pub fn reserve(&mut self, n: usize, meter: &mut SegMeter) -> Result<(), Refusal>
         ensures entries { IsPermutation self.old.entries self.new.entries }
         ensures cuts { self.new.cuts ≡ self.old.cuts }
@@ -147,6 +158,8 @@ impl Deadlist {
     {
         self.fresh.push_reserved(dead);
         self.count += 1;
+        self.low = self.low.min(dead.birth.0);
+        self.high = self.high.max(dead.birth.0);
     }
 
     /// Puts in those of these entries that were born by the cut, in their order, for which a `reserve` made room. It takes no memory, and
@@ -163,8 +176,9 @@ impl Deadlist {
         }
     }
 
-    /// Adds the other's entries and cuts: whole segments where the cuts agree, and its new entries by a binary search each. The meter
-    /// counts the segments of both. NoMemory where memory is refused, and then the other is handed back, and both are unchanged.
+    /// Adds the other's entries and cuts: whole segments where the cuts agree, else their entries by a binary search each. It costs the
+    /// segments of both with their runs, and the entries that wait, which are sorted in where they are 64; and where runs become one, these.
+    /// The meter counts the segments of both. NoMemory where memory is refused, and then the other is handed back, and both are unchanged.
     pub fn append(
         &mut self,
         other: Deadlist,
@@ -225,14 +239,17 @@ impl Deadlist {
         fresh.extend_from_slice(other.fresh.as_slice())?;
         Ok(Deadlist {
             parts,
-            fresh,
             count,
+            low: self.low.min(other.low),
+            high: self.high.max(other.high),
+            fresh,
             alloc: self.alloc,
         })
     }
 
-    /// Takes out the entries born after the cut, and keeps the others; each list has the cuts on its side. The meter counts the
-    /// segments that end after the cut. NoMemory where memory is refused, and then nothing is changed.
+    /// Takes out the entries born after the cut, and keeps the others; each list has the cuts on its side. It costs the segments that end
+    /// after the cut, which the meter counts, a search in each run of the segment that the cut divides, and the entries that wait, and now
+    /// and then a copy of the fewer of a run's two parts. NoMemory where memory is refused, and then nothing is changed.
     pub fn take_after(&mut self, cut: Group, meter: &mut SegMeter) -> Result<Deadlist, Refusal>
         ensures kept { OnOk result (self.new.entries ≡ filter (is_upto cut.0) self.old.entries) }
         ensures kept_cuts { OnOk result (self.new.cuts ≡ filter (λ c. nat_le c cut.0) self.old.cuts) }
@@ -244,38 +261,71 @@ impl Deadlist {
         ensures meter { meter.new ≡ counted meter.old (reached_after cut.0 self.old.cuts) }
     {
         let count = self.space_after(cut, meter);
-        let (low, high) = dealt(self.alloc, self.fresh.as_slice(), cut.0)?;
+        let (kept, taken) = dealt(self.alloc, self.fresh.as_slice(), cut.0)?;
         let parts = self.parts.take_after(self.alloc, cut.0)?;
-        self.fresh = low;
+        let (low, high) = (self.low.max(cut.0.saturating_add(1)), self.high);
+        self.fresh = kept;
         self.count -= count;
+        self.high = high.min(cut.0);
         Ok(Deadlist {
             parts,
-            fresh: high,
             count,
+            low,
+            high,
+            fresh: taken,
             alloc: self.alloc,
         })
     }
 
-    /// How many entries were born after the cut, in blocks: from the segments' sizes and the entries not yet sorted in, and where the
-    /// cut doesn't stand also from the entries of the segment that it divides. The meter counts the segments that end after the cut.
+    /// How many entries were born after the cut, in blocks: from the segments' sizes, and where the cut doesn't stand also from the
+    /// segment that it divides. It costs the segments that end after the cut, which the meter counts, and where some entries were born
+    /// by the cut and some after it, a search in each run of that segment and the entries that wait.
     pub fn space_after(&self, cut: Group, meter: &mut SegMeter) -> u64
         ensures space { result ≡ length (filter (is_after cut.0) self.now.entries) }
         ensures meter { meter.new ≡ counted meter.old (reached_after cut.0 self.now.cuts) }
     {
-        let _count = self.count;
-        self.parts.sum_after(cut.0, meter) + count_in(self.fresh.as_slice(), cut.0)
+        reach(meter, self.parts.reached_after(cut.0));
+        self.count_after(cut.0)
     }
 
-    /// How many entries were born by the cut, in blocks: from the segments' sizes and the entries not yet sorted in, and where the cut
-    /// doesn't stand also from the entries of the segment that it divides. The meter counts the segments that end by the cut, and that
-    /// one.
+    // How many entries were born after the cut.
+    fn count_after(&self, cut: u64) -> u64
+        ensures { result ≡ length (filter (is_after cut) self.now.entries) }
+    {
+        let count = self.count;
+        if self.high <= cut {
+            return 0;
+        }
+        if cut < self.low {
+            return count;
+        }
+        self.parts.sum_after(cut) + count_in(self.fresh.as_slice(), cut)
+    }
+
+    /// How many entries were born by the cut, in blocks: from the segments' sizes, and where the cut doesn't stand also from the segment
+    /// that it divides. It costs the segments that end by the cut and that one, which the meter counts, and where some entries were born
+    /// by the cut and some after it, a search in each run of that segment and the entries that wait.
     pub fn space_upto(&self, cut: Group, meter: &mut SegMeter) -> u64
         ensures space { result ≡ length (filter (is_upto cut.0) self.now.entries) }
         ensures meter { meter.new ≡ counted meter.old (reached_upto cut.0 self.now.cuts) }
     {
-        let _count = self.count;
+        reach(meter, self.parts.reached_upto(cut.0));
+        self.count_upto(cut.0)
+    }
+
+    // How many entries were born by the cut.
+    fn count_upto(&self, cut: u64) -> u64
+        ensures { result ≡ length (filter (is_upto cut) self.now.entries) }
+    {
+        let count = self.count;
+        if self.high <= cut {
+            return count;
+        }
+        if cut < self.low {
+            return 0;
+        }
         let fresh = self.fresh.as_slice();
-        self.parts.sum_upto(cut.0, meter) + (fresh.len() as u64 - count_in(fresh, cut.0))
+        self.parts.sum_upto(cut) + (fresh.len() as u64 - count_in(fresh, cut))
     }
 
     /// The entries, segment by segment, and then those that no `reserve` has sorted in yet. The meter counts all segments at once,
@@ -288,8 +338,8 @@ impl Deadlist {
         Iter::new(&self.parts, self.fresh.as_slice())
     }
 
-    /// The entries of `iter` without that many of the first. It costs a step for each segment and each full chunk that it passes. The
-    /// meter counts all segments at once.
+    /// The entries of `iter` without that many of the first. It costs a step for each segment and each run that it passes. The meter
+    /// counts all segments at once.
     pub fn iter_from(&self, first: u64, meter: &mut SegMeter) -> Iter<'_>
         ensures entries { left result ≡ drop first self.now.entries }
         ensures meter { meter.new ≡ counted meter.old (length self.now.cuts + 1) }
@@ -322,8 +372,9 @@ impl Deadlist {
         Some(segment.upper)
     }
 
-    /// Sets a cut, where it doesn't stand; the meter then counts the segment that it divides, whose entries are gone through. NoMemory
-    /// where memory is refused, and then nothing is changed. Where the cut stands it takes no memory.
+    /// Sets a cut, where it doesn't stand; the meter then counts the segment that it divides. It costs a search in each run of that segment
+    /// and its entries that wait, and moves the segments behind it. NoMemory where memory is refused, and then nothing is changed. Where
+    /// the cut stands it takes no memory.
     pub fn cut(&mut self, group: Group, meter: &mut SegMeter) -> Result<(), Refusal>
         ensures entries { IsPermutation self.old.entries self.new.entries }
         ensures cuts { OnOk result (self.new.cuts ≡ with_cut group.0 self.old.cuts) }
@@ -343,8 +394,9 @@ impl Deadlist {
         Ok(())
     }
 
-    /// Removes a cut, where it stands; the meter then counts the two segments that become one. NoMemory where memory is refused, and
-    /// then nothing is changed. Where the cut doesn't stand it takes no memory.
+    /// Removes a cut, where it stands; the meter then counts the two segments that become one. It costs the entries of the second, and
+    /// moves the segments behind it. NoMemory where memory is refused, and then nothing is changed. Where the cut doesn't stand it takes no
+    /// memory.
     pub fn join(&mut self, group: Group, meter: &mut SegMeter) -> Result<(), Refusal>
         ensures entries { self.new.entries ≡ self.old.entries }
         ensures cuts { OnOk result (self.new.cuts ≡ without_cut group.0 self.old.cuts) }

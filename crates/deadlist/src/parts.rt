@@ -19,8 +19,8 @@ pub struct Segment {
 /// Segments whose cuts rise, and the last one, which is open upwards.
 #[derive(Drop)]
 pub struct Parts {
-    pub closed: Vec<Segment>,
     pub last: Pile,
+    pub closed: Vec<Segment>,
 }
 
 impl Parts {

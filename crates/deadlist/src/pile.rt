@@ -327,8 +327,9 @@ pub fn dealt(
         (λ p. (p.0.items ≡ filter (is_upto cut) entries.now)
         × (p.1.items ≡ filter (is_after cut) entries.now)) }
 {
-    let mut low = Vec::new(alloc);
-    let mut high = Vec::new(alloc);
+    let after = count_in(entries, cut) as usize;
+    let mut low = Vec::with_capacity(alloc, entries.len() - after)?;
+    let mut high = Vec::with_capacity(alloc, after)?;
     for dead in entries {
         if dead.birth.0 <= cut {
             low.push(*dead)?;

@@ -187,13 +187,18 @@ module _ (n : ℕ) (image : ℕ → List ℕ) (old new : Map) (leaf : ℕ) (befo
   -- a key that isn't on the path
   off_path : (k : Key) (c : Cell) → covers k leaf ≡ false → get new k ≡ Some c → blocks_put image ws c.number ≡ bytes_of new k c
   off_path k c off there =
-      let was : get old k ≡ Some c = sym (change.rest k off) ∙ there in
+      let here = is_there (get new k) c there in
+      let was : get old k ≡ Some c = sym (change.rest k off (new_tree.parents k here)) ∙ there in
       unwritten image ws c.number (λ w i same.
       let l = by_level k c w there i same in
       true≢false (sym (eq-eqb _ _ (ap (λ (j : Key). leaf / 16 ^ j.level) l.2 ∙ sym (ap (λ (j : Key). j.index) l.2))) ∙ off))
       ∙ holds k c was
-      ∙ same_bytes old new k c (λ high i small. change.rest (child_key k i) (child_off k i high small off))
+      ∙ same_bytes old new k c (λ high i small. change.rest (child_key k i) (child_off k i high small off)
+      (λ deep. subst (λ q. IsSome (get new q)) (sym (above_child k i high small)) here))
     where
+      above_child : (k : Key) (i : ℕ) → 0 < k.level → i < 16 → parent (child_key k i) ≡ k
+      above_child k i high small = same_key (parent (child_key k i)) k (omega (arith, high)) (omega (arith, small))
+
       child_off : (k : Key) (i : ℕ) → 0 < k.level → i < 16 → covers k leaf ≡ false → covers (child_key k i) leaf ≡ false
       child_off k i high small off = false_from_ne_true (covers (child_key k i) leaf) (λ e.
           let at : leaf / 16 ^ (k.level - 1) ≡ 16 * k.index + i = eqb-true _ _ e in
@@ -228,11 +233,15 @@ module _ (n : ℕ) (image : ℕ → List ℕ) (old new : Map) (leaf : ℕ) (befo
     here : option_map block_of (get new (child_key key place)) ≡ after l
     here = ap (λ k. option_map block_of (get new k)) on ∙ sym (change.after_is l (omega (arith, low)))
 
-    others : (j : ℕ) → j < 16 → (j ≡ place → ⊥) → get new (child_key key j) ≡ get old (child_key key j)
-    others j within ne = change.rest (child_key key j) (off j within ne)
+    above : (j : ℕ) → j < 16 → parent (child_key key j) ≡ key
+    above j within = same_key (parent (child_key key j)) key (let e : suc l - 1 + 1 ≡ suc l = omega arith in e) (omega (arith, within))
 
-    pointers : set (pointers_of old key) place (after l) ≡ pointers_of new key
-    pointers = pointers_set old new key place (after l) small here others
+    module _ (stays : IsSome (get new key)) where
+      others : (j : ℕ) → j < 16 → (j ≡ place → ⊥) → get new (child_key key j) ≡ get old (child_key key j)
+      others j within ne = change.rest (child_key key j) (off j within ne) (λ deep. subst (λ q. IsSome (get new q)) (sym (above j within)) stays)
+
+      pointers : set (pointers_of old key) place (after l) ≡ pointers_of new key
+      pointers = pointers_set old new key place (after l) small here others
 
     -- the bytes of a block of the path
     inner : (m : Map) (c : Cell) → pointers_bytes l (pointers_of m key) ≡ bytes_of m key c
@@ -243,10 +252,10 @@ module _ (n : ℕ) (image : ℕ → List ℕ) (old new : Map) (leaf : ℕ) (befo
         ap (λ d. pointers_bytes d (pointers_of m (key_over leaf (suc l)))) (sym level)
         ∙ ap (λ b. cond b c.bytes (pointers_bytes (suc l - 1) (pointers_of m (key_over leaf (suc l))))) (sym above)
 
-    patched : (x : Cell) → get old key ≡ Some x → bytes_put (image x.number) (32 * place) (pointer_bytes l (after l)) ≡ pointers_bytes l (pointers_of new key)
-    patched x was =
+    patched : IsSome (get new key) → (x : Cell) → get old key ≡ Some x → bytes_put (image x.number) (32 * place) (pointer_bytes l (after l)) ≡ pointers_bytes l (pointers_of new key)
+    patched stays x was =
         ap (λ bs. bytes_put bs (32 * place) (pointer_bytes l (after l))) (holds key x was ∙ sym (inner old x))
-        ∙ pointer_put l place (pointers_of old key) (after l) (omega (arith, small, sixteen old key)) ∙ ap (pointers_bytes l) pointers
+        ∙ pointer_put l place (pointers_of old key) (after l) (omega (arith, small, sixteen old key)) ∙ ap (pointers_bytes l) (pointers stays)
 
     there_was : get_or (pointers_of old key) place None ≡ before l
     unfolding pointers_of
@@ -261,12 +270,14 @@ module _ (n : ℕ) (image : ℕ → List ℕ) (old new : Map) (leaf : ℕ) (befo
     absent : (i : ℕ) → i < 16 → get old key ≡ None → get old (child_key key i) ≡ None
     absent i within e =
         none_without (get old (child_key key i)) (λ h.
-        let up : parent (child_key key i) ≡ key = same_key (parent (child_key key i)) key (let e : suc l - 1 + 1 ≡ suc l = omega arith in e) (omega (arith, within)) in
-        not_some (get old (parent (child_key key i))) (ap (get old) up ∙ e) (old_tree.parents (child_key key i) h (omega (arith, low))))
+        not_some (get old (parent (child_key key i))) (ap (get old) (above i within) ∙ e) (old_tree.parents (child_key key i) h (omega (arith, low))))
 
     on_inner : (c : Cell) → get new key ≡ Some c → blocks_put image ws c.number ≡ bytes_of new key c
     on_inner c there = by (get old key) refl
       where
+        stays : IsSome (get new key)
+        stays = is_there (get new key) c there
+
         was : (o : Option Cell) → get old key ≡ o → before (suc l) ≡ option_map block_of o
         was o e = change.before_is (suc l) low ∙ ap (option_map block_of) e
 
@@ -280,7 +291,7 @@ module _ (n : ℕ) (image : ℕ → List ℕ) (old new : Map) (leaf : ℕ) (befo
         by None e =
             let none : pointers_of old key ≡ replicate 16 None = no_children old key (λ i within. absent i within e) in
             written (suc l) c (pointers_bytes l (set (replicate 16 None) place (after l))) low (subst (λ xs. IsIn xs (c.number, pointers_bytes l (set (replicate 16 None) place (after l)))) (sym (these None e)) (inl refl))
-            ∙ ap (λ ps. pointers_bytes l (set ps place (after l))) (sym none) ∙ ap (pointers_bytes l) pointers ∙ inner new c
+            ∙ ap (λ ps. pointers_bytes l (set ps place (after l))) (sym none) ∙ ap (pointers_bytes l) (pointers stays) ∙ inner new c
         by (Some x) e = stay ((x.number == c.number) && is_same_block (before l) (after l)) refl
           where
             stay : (t : Bool) → ((x.number == c.number) && is_same_block (before l) (after l)) ≡ t → blocks_put image ws c.number ≡ bytes_of new key c
@@ -293,11 +304,11 @@ module _ (n : ℕ) (image : ℕ → List ℕ) (old new : Map) (leaf : ℕ) (befo
                 let m = by_level key c w there i same in
                 absurd (subst (λ xs. IsIn xs w) (ap f (sym (ap (λ (k : Key). k.level) m.2)) ∙ none) m.3))
                 ∙ ap image (sym number) ∙ holds key x e ∙ sym (inner old x)
-                ∙ ap (pointers_bytes l) (sym (pointers_same child) ∙ pointers) ∙ inner new c
+                ∙ ap (pointers_bytes l) (sym (pointers_same child) ∙ pointers stays) ∙ inner new c
             stay false t =
                 let one : f (suc l) ≡ (c.number, bytes_put (image x.number) (32 * place) (pointer_bytes l (after l))) ∷ [] = these (Some x) e ∙ ap (λ b. cond b [] ((c.number, bytes_put (image x.number) (32 * place) (pointer_bytes l (after l))) ∷ [])) t in
                 written (suc l) c (bytes_put (image x.number) (32 * place) (pointer_bytes l (after l))) low (subst (λ xs. IsIn xs (c.number, bytes_put (image x.number) (32 * place) (pointer_bytes l (after l)))) (sym one) (inl refl))
-                ∙ patched x e ∙ inner new c
+                ∙ patched stays x e ∙ inner new c
 
   on_leaf : (c : Cell) → get new (key_over leaf 0) ≡ Some c → blocks_put image ws c.number ≡ bytes_of new (key_over leaf 0) c
   unfolding bytes_of

@@ -2,6 +2,7 @@
 use Rattle.std.specs.Prelude.{◌≡◌, ◌==◌, ◌+◌, ◌*◌, ℕ, Bool, true, false, List, [], ◌∷◌, ◌++◌, Some, cond, length, map, take, drop, unwrap_or}
 use Rattle.std.specs.Option.{option_map}
 use Rattle.std.specs.FinMap.{get}
+use Rattle.base.specs.declared.number.BlockNo.{BlockNo}
 use Rattle.base.specs.declared.number.Key.{Key}
 use Rattle.base.specs.Map.{Map, Cell}
 use Rattle.base.specs.Surveys.{IsIn, AreDifferent}
@@ -24,6 +25,10 @@ blocks_put image (w ∷ ws) = blocks_put (block_put image w.0 w.1) ws
 abbrev pub images_put : List ℕ → List (ℕ × List ℕ) → List ℕ
 images_put image [] = image
 images_put image (w ∷ ws) = images_put (bytes_put image (512 * w.0) w.1) ws
+
+-- the write of a block with its number (profile)
+abbrev pub written_pair : BlockNo × List ℕ → ℕ × List ℕ
+written_pair b = (b.0.0, b.1)
 
 -- no number that is written is one of a set's (profile)
 abbrev pub AreOutside : (ℕ → Type 0) → List (ℕ × List ℕ) → Type 0

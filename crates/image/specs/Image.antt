@@ -1,15 +1,13 @@
 -- What contracts see of an image.
-use Rattle.std.specs.Prelude.{◌≡◌, ◌≢◌, ◌<◌, ◌≤◌, ◌-◌, ◌*◌, ◌%◌, ◌⊎◌, ℕ, List, [], ◌∷◌, ◌++◌, Some, IsSome, length, replicate, slice_get, vec_capacity}
+use Rattle.std.specs.Prelude.{◌≡◌, ◌≢◌, ◌<◌, ◌≤◌, ◌-◌, ◌*◌, ◌%◌, ◌⊎◌, ℕ, List, [], ◌∷◌, ◌++◌, Some, length, replicate, slice_get, vec_capacity}
 use Rattle.std.specs.List.{All}
 use Rattle.std.specs.declared.vec.Vec.{Vec}
 use Rattle.std.specs.declared.alloc.Global.{Global}
 use Rattle.zalloc.specs.declared.TheConstants.{MOST_BLOCKS}
 use Rattle.zalloc.specs.declared.BlockState.{BlockState}
 use Rattle.zalloc.specs.declared.BlockState.TheVariants.{Allocated}
-use Rattle.std.specs.FinMap.{get}
-use Rattle.base.specs.Map.{Map}
 use Rattle.image.specs.ImageBlocks.{block_at}
-use Rattle.batch.specs.declared.numbers.NewBlock.{NewBlock}
+use Rattle.base.specs.declared.number.BlockNo.{BlockNo}
 use Rattle.base.specs.declared.refusal.Refusal.{Refusal}
 use Rattle.base.specs.declared.refusal.Refusal.TheVariants.{BadStream, TooMany, NoMemory}
 
@@ -60,10 +58,6 @@ abbrev pub AreOpen : List BlockState → List (ℕ × List ℕ) → Type 0
 AreOpen kept [] = Unit {0}
 AreOpen kept (w ∷ ws) = (IsOpen kept w.0 × (length w.1 ≡ 512)) × AreOpen kept ws
 
--- a new block stands at a key where this map has one, and its number may be written (profile)
-abbrev pub IsNewBlock : Map → List BlockState → NewBlock → Type 0
-IsNewBlock m kept b = IsSome (get m b.key) × IsOpen kept b.block.0
-
--- (profile)
-abbrev pub CanWrite : Map → List BlockState → List NewBlock → Type 0
-CanWrite m kept = All (IsNewBlock m kept)
+-- each of these blocks has a number that may be written (profile)
+abbrev pub AreAllOpen : List BlockState → List (BlockNo × List ℕ) → Type 0
+AreAllOpen kept = All (λ b. IsOpen kept b.0.0)

@@ -1,10 +1,10 @@
 -- The writes of a change of one path of a tree: a block that moves is copied from its old number, and of sixteen pointers one is written anew.
-use Rattle.std.specs.Prelude.{◌≡◌, ◌==◌, ◌&&◌, ◌*◌, ◌/◌, ◌%◌, ◌^◌, ◌<◌, ◌≤◌, ℕ, zero, suc, Bool, true, false, List, [], ◌∷◌, Option, None, Some, IfSome, cond, length, replicate, set, slice_index_or}
+use Rattle.std.specs.Prelude.{◌≡◌, ◌==◌, ◌&&◌, ◌*◌, ◌/◌, ◌%◌, ◌^◌, ◌<◌, ◌≤◌, ℕ, zero, suc, Bool, true, false, List, [], ◌∷◌, Option, None, Some, IfSome, IsSome, cond, length, replicate, set, slice_index_or}
 use Rattle.std.specs.List.{flat_map, range_with_len}
 use Rattle.std.specs.Option.{option_map}
 use Rattle.std.specs.FinMap.{get}
 use Rattle.base.specs.declared.number.Key.{Key}
-use Rattle.base.specs.Key.{covers}
+use Rattle.base.specs.Key.{covers, parent}
 use Rattle.base.specs.Map.{Map, Block, block_of}
 use Rattle.tree.specs.Reading.{key_over}
 use Rattle.tree.specs.declared.block.Root.{Root}
@@ -44,12 +44,12 @@ level_writes image leaf before after bytes (suc l) = inner_writes image l ((leaf
 abbrev pub path_writes : (ℕ → List ℕ) → ℕ → (ℕ → Option Block) → (ℕ → Option Block) → List ℕ → ℕ → List (ℕ × List ℕ)
 path_writes image leaf before after bytes levels = flat_map (level_writes image leaf before after bytes) (range_with_len 0 levels)
 
--- one map becomes another by a change of the path to a leaf, whose blocks were and are there (On-Disk Specification, chapter 3)
+-- one map becomes another by a change of the path to a leaf, whose blocks were and are there: each key off the path has what it had, unless the block above it is gone (On-Disk Specification, chapter 3)
 pub record IsPathChange (old new : Map) (leaf : ℕ) (before after : ℕ → Option Block) (bytes : List ℕ) : Type 0 where
   pub before_is : (l : ℕ) → l ≤ 5 → before l ≡ option_map block_of (get old (key_over leaf l))
   pub after_is : (l : ℕ) → l ≤ 5 → after l ≡ option_map block_of (get new (key_over leaf l))
   pub contents : IfSome (get new (key_over leaf 0)) (λ c. c.bytes ≡ bytes)
-  pub rest : (k : Key) → covers k leaf ≡ false → get new k ≡ get old k
+  pub rest : (k : Key) → covers k leaf ≡ false → (k.level < 5 → IsSome (get new (parent k))) → get new k ≡ get old k
 
 -- where a block was that moves or stays no other one of the path is written (profile)
 abbrev pub AreSourcesApart : (ℕ → Option Block) → (ℕ → Option Block) → Type 0

@@ -8,14 +8,20 @@ use base::number::BlockNo;
 use byteorder::{BigEndian, ByteOrder};
 use tree::{Block, Root};
 
-/// Fills bytes up with zeros to a size, within the room that they have. It takes no memory.
+/// The zeros of one block.
+const ZEROS: [u8; 512] = [0; 512];
+
+/// Fills bytes up with zeros to a size, within the room that they have. It takes no memory. One block more, as numbers are taken in turn,
+/// is a copy of as many zeros.
 pub(crate) fn fill(bytes: &mut Vec<u8>, size: usize)
     requires { size ≤ vec_capacity bytes.old }
     ensures items { bytes.new.items ≡ padded size bytes.old.items }
     ensures long { size ≤ length bytes.new.items }
     ensures capacity { vec_capacity bytes.old ≤ vec_capacity bytes.new }
 {
-    if bytes.len() < size {
+    if size == bytes.len() + ZEROS.len() {
+        let _longer = bytes.extend_from_slice(&ZEROS);
+    } else if bytes.len() < size {
         let _filled = bytes.resize(size, 0);
     }
 }

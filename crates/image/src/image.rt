@@ -4,23 +4,22 @@ ghost use Rattle.std.specs.Option.{option_map};
 ghost use Rattle.std.specs.FinMap.{entries};
 ghost use Rattle.base.specs.Counting.{counted};
 ghost use Rattle.base.specs.declared.refusal.Refusal.{Refusal};
-ghost use Rattle.tree.specs.ChangeParts.{made_pair};
+ghost use Rattle.zalloc.specs.States.{after_group};
 ghost use Rattle.zalloc.specs.declared.BlockState.TheVariants.{Free};
 ghost use Rattle.image.specs.ImageBlocks.{block_at, pointer_bytes, made_bytes, maybe_block, IsOfTree};
 ghost use Rattle.image.specs.ImageWalk.{walk};
-ghost use Rattle.image.specs.BlockWrites.{bytes_put, images_put, writes_of};
-ghost use Rattle.image.specs.Image.{IsOpen, CanWrite, IsImageSize, IsBadOrNoMemory, IsTooManyOrNoMemory, padded};
+ghost use Rattle.image.specs.BlockWrites.{bytes_put, images_put, written_pair};
+ghost use Rattle.image.specs.Image.{IsOpen, AreAllOpen, IsImageSize, IsBadOrNoMemory, IsTooManyOrNoMemory, padded};
 
 use crate::block_bytes::{put_block, put_pointer};
 use crate::walk::{Leaves, gather};
-use base::meter::Meter;
 use base::number::BlockNo;
 use base::refusal::Refusal;
 use std::alloc::Global;
 use std::marker::Model;
 use std::mem;
-use tree::{Block, NewBlock, Root, Tree};
-use zalloc::{Allocator, MOST_BLOCKS};
+use tree::{Block, Root};
+use zalloc::{Allocator, MOST_BLOCKS, Numbers};
 
 /// How many bytes a block has (profile).
 const BLOCK_SIZE: usize = 512;
@@ -111,17 +110,22 @@ impl Image {
         put_block(&mut self.written, b, block);
     }
 
-    /// Writes the blocks that a tree has at these keys, each at its number. It takes no memory. For each it costs the nodes from the root
-    /// down, which the meter counts.
-    pub fn write_made(&mut self, tree: &Tree, made: &[NewBlock], meter: &mut Meter)
-        requires { CanWrite tree.now self.old.kept made.now }
-        ensures { self.new ≡ record self.old { bytes = images_put self.old.bytes (writes_of tree.now (map made_pair made.now)) } }
+    /// Writes blocks one after the other, each at its number, which the kept states don't have Allocated. It takes no memory.
+    pub fn write_all(&mut self, blocks: &[(BlockNo, [u8; 512])])
+        requires { AreAllOpen self.old.kept blocks.now }
+        ensures { self.new ≡ record self.old { bytes = images_put self.old.bytes (map written_pair blocks.now) } }
     {
-        for new in made {
-            if let Some(block) = tree.block(new.key, meter) {
-                self.write(new.block, &block);
-            }
+        for block in blocks {
+            self.write_contents(block.0, &block.1);
         }
+    }
+
+    /// Writes a block that has these bytes.
+    pub(crate) fn write_contents(&mut self, b: BlockNo, bytes: &[u8; 512])
+        requires { IsOpen self.old.kept b.0 }
+        ensures { self.new ≡ record self.old { bytes = bytes_put self.old.bytes (512 * b.0) bytes.now } }
+    {
+        self.write(b, &Block::Contents(bytes));
     }
 
     /// Changes one of the sixteen pointers of an indirect block, to a block of this level or to none. The kept states don't have the
@@ -135,17 +139,35 @@ impl Image {
     }
 
     /// Puts in the states that it keeps from now on, and gives back those before. It takes no memory.
-    #[tactic(auto, unfolding(base::specs::Counting::counted, base::specs::Counting::most))]
     pub fn keep(&mut self, states: Allocator) -> Allocator
         requires { length states ≡ length self.old.kept }
         ensures before { result ≡ self.old.kept }
         ensures after { self.new ≡ record self.old { kept = states; keeps = counted self.old.keeps 1 } }
     {
-        self.keeps = self.keeps.saturating_add(1);
+        self.count_keep();
         mem::replace(&mut self.kept, states)
     }
 
-    /// How often `keep` was called. The count stops at the greatest u64.
+    /// Ends the group of numbers whose synced states it keeps, and keeps those that they have then: what a sync does. It takes no memory,
+    /// and costs what `Numbers::end_group` does.
+    pub fn keep_synced(&mut self, numbers: &mut Numbers)
+        requires { self.old.kept ≡ numbers.old.synced }
+        ensures present { numbers.new.present ≡ map after_group numbers.old.present }
+        ensures synced { numbers.new.synced ≡ map after_group numbers.old.present }
+        ensures after { self.new ≡ record self.old { kept = map after_group numbers.old.present; keeps = counted self.old.keeps 1 } }
+    {
+        numbers.end_group(&mut self.kept);
+        self.count_keep();
+    }
+
+    #[tactic(auto, unfolding(base::specs::Counting::counted, base::specs::Counting::most))]
+    fn count_keep(&mut self)
+        ensures { self.new ≡ record self.old { keeps = counted self.old.keeps 1 } }
+    {
+        self.keeps = self.keeps.saturating_add(1);
+    }
+
+    /// How often the states that it keeps were put in. The count stops at the greatest u64.
     pub fn keeps(&self) -> u64
         ensures { result ≡ self.now.keeps }
     {

@@ -16,8 +16,10 @@
 mod block_bytes;
 mod image;
 mod laws;
+mod new_blocks;
 mod path;
 mod walk;
 
 pub use image::Image;
 pub use laws::image_laws;
+pub use new_blocks::blocks_of;

@@ -54,7 +54,7 @@ impl Image {
         ensures { self.new ≡ record self.old { bytes = images_put self.old.bytes (leaf_writes (maybe_block new) bytes.now) } }
     {
         match new {
-            Some(new) => self.write(new.block, &Block::Contents(bytes)),
+            Some(new) => self.write_contents(new.block, bytes),
             None => {}
         }
     }

@@ -1,15 +1,15 @@
 //! Trees as they are written into images.
 ghost use Rattle.std.specs.Prelude.{IsTrue, OnOk};
-ghost use Rattle.image.specs.Image.{IsNewBlock, CanWrite};
+ghost use Rattle.image.specs.Image.{IsOpen, AreAllOpen};
 ghost use Rattle.tree.specs.Asking.{AllowsChange};
 
 use crate::paths::{fresh, is_walked, leaf_of};
 use base::number::{BlockNo, Group, Key};
 use base::refusal::Refusal;
-use image::Image;
+use image::{Image, blocks_of};
 use std::alloc::Global;
 use std::process::Abort;
-use tree::{Block, Changed, NewBlock, Tree, Update};
+use tree::{Block, Changed, Tree, Update};
 use tree_tests::ready::{is_batch, is_ready, meter};
 use zalloc::{Allocator, BlockState};
 
@@ -52,23 +52,22 @@ fn occupy(allocator: &mut Allocator, number: BlockNo) {
     }
 }
 
-/// Whether a new block stands in a tree, and its number isn't kept.
-fn is_new(tree: &Tree, image: &Image, new: NewBlock) -> bool
-    ensures { IsTrue result → IsNewBlock tree.now image.now.kept new }
+/// Whether a number may be written.
+fn is_open(image: &Image, number: BlockNo) -> bool
+    ensures { IsTrue result → IsOpen image.now.kept number.0 }
 {
-    let there = tree.read(new.key, &mut meter()).is_some();
-    match image.kept().state(new.block) {
-        Some(BlockState::Free) => there,
+    match image.kept().state(number) {
+        Some(BlockState::Free) => true,
         _ => false,
     }
 }
 
-/// Whether all of them do.
-fn can_write(tree: &Tree, image: &Image, made: &[NewBlock]) -> bool
-    ensures { IsTrue result → CanWrite tree.now image.now.kept made.now }
+/// Whether the number of each of these blocks may be.
+fn are_open(image: &Image, blocks: &[(BlockNo, [u8; 512])]) -> bool
+    ensures { IsTrue result → AreAllOpen image.now.kept blocks.now }
 {
-    for new in made {
-        if !is_new(tree, image, *new) {
+    for block in blocks {
+        if !is_open(image, block.0) {
             return false;
         }
     }
@@ -89,8 +88,9 @@ fn step(
     for number in done.taken.as_slice() {
         occupy(allocator, *number);
     }
-    assert!(rt; can_write(tree, image, &done.made));
-    image.write_made(tree, &done.made, &mut meter());
+    let blocks = blocks_of(alloc, tree, &done.made, &mut meter())?;
+    assert!(rt; blocks.len() == done.made.len() && are_open(image, blocks.as_slice()));
+    image.write_all(blocks.as_slice());
     Ok(())
 }
 

@@ -83,6 +83,7 @@ struct Pair {
     numbers: Numbers,
     present: Plain,
     synced: Plain,
+    kept: Allocator,
 }
 
 impl Pair {
@@ -93,6 +94,7 @@ impl Pair {
             numbers: Numbers::new(alloc, n).expect(rt, "room for the numbers"),
             present: Plain::new(alloc, n as usize).expect(rt, "room for the states"),
             synced: Plain::new(alloc, n as usize).expect(rt, "room for the states"),
+            kept: Allocator::new(alloc, n).expect(rt, "room for the numbers"),
         }
     }
 
@@ -116,8 +118,13 @@ impl Pair {
         }
     }
 
+    /// Ends a group, which a copy of the synced states follows.
     fn end_group(&mut self) {
-        self.numbers.end_group();
+        let Ok(mut kept) = self.numbers.synced().copy() else {
+            return;
+        };
+        self.numbers.end_group(&mut kept);
+        self.kept = kept;
         self.present.end_group();
         self.synced.copy_from(&self.present);
     }
@@ -137,6 +144,7 @@ impl Pair {
     fn has_same_states(&self, n: u32) -> bool {
         self.present.is_that_of(self.numbers.present(), n)
             && self.synced.is_that_of(self.numbers.synced(), n)
+            && self.synced.is_that_of(&self.kept, n)
     }
 }
 

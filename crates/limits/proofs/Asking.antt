@@ -25,11 +25,11 @@ use Rattle.limits.specs.Lines.{used_in, charge_in, is_in_quota, is_in_refquota}
 use Rattle.limits.specs.declared.pool_space.Space.{Space}
 use Rattle.limits.specs.Ledgers.{ledger_of, IsSpaceOf}
 use Rattle.limits.specs.Places.{IsParentAt}
-use Rattle.limits.specs.Changes.{IsChanged, IsModest, IsNear, IsNext, IsTop, IsOnWay, IsWithinQuotas, IsOverQuota, amended}
+use Rattle.limits.specs.Changes.{IsChanged, IsModest, IsNext, IsTop, IsOnWay, IsWithinQuotas, IsOverQuota, amended}
 use Rattle.limits.proofs.Order.{entry_at, one_place, root_first, not_empty}
 use Rattle.limits.proofs.LimitRow.{quotas_are, refquotas_are}
 use Rattle.limits.proofs.Changes.{root_above, away_at, same_account, new_charge}
-use Rattle.limits.proofs.Ways.{ledger_long, little, way_starts, way_near, way_counted, way_on, way_rest, way_ends, step_down}
+use Rattle.limits.proofs.Ways.{ledger_long, little, way_starts, way_counted, way_on, way_rest, way_ends, step_down}
 
 -- ---- tests of all lines
 
@@ -68,9 +68,6 @@ module _ (old : World) (good : IsHierarchy old.file_systems) (lines : List Line)
   module _ (place : ℕ) (line : Line) (way : IsOnWay old name here referenced place line) where
     pub line_little : used_in line ≤ 2 ^ 54
     line_little = let l = little old good modest place line way.within in let n = way.near.used in omega (arith, l, n)
-
-    pub is_near : IsNear (get_or lines place line) line
-    is_near = way_near old good modest name here referenced lines place line way (kept place)
 
     pub are_counted : (p : ℕ) → IsParentAt (keys old.file_systems) place p → charge_in (get_or lines place line) ≤ (get_or lines p line).children
     are_counted = way_counted old good modest name here referenced lines place line way (kept place)

@@ -1,5 +1,5 @@
 -- Where one file system's account changes, its line and those above it change, up to the first level that is charged the same.
-use Rattle.std.proofs.Common.{◌≡◌, ℕ, zero, suc, ◌+◌, ◌-◌, ◌≤◌, ◌<◌, List, [], ◌∷◌, length, get_or, Some, None, is_some, refl, sym, ap, subst, ◌∙◌, inl, inr, ◌⊎◌, ⊎_elim, arith}
+use Rattle.std.proofs.Common.{◌≡◌, ℕ, zero, suc, ◌+◌, ◌-◌, ◌≤◌, ◌<◌, List, [], ◌∷◌, length, get_or, Option, Some, None, is_some, refl, sym, ap, subst, ◌∙◌, inl, inr, ◌⊎◌, ⊎_elim, arith}
 use Rattle.std.specs.Prelude.{IsSome, max}
 use Rattle.std.specs.Option.{option_and_then}
 use Rattle.std.specs.FinMap.{get, entries, keys}
@@ -11,7 +11,7 @@ use Rattle.model.specs.Sums.{used_of, used_here, used_by_children, referenced_of
 use Rattle.world.proofs.lists.Maps.{no_value, same_value}
 use Rattle.world.proofs.lineage.Put.{parent_there}
 use Rattle.accounts.specs.Levels.{slashes, above, IsUnder, charge_of}
-use Rattle.accounts.proofs.Names.{level_up, above_is}
+use Rattle.accounts.proofs.Names.{level_up, above_is, under_child}
 use Rattle.accounts.proofs.Levels.{reserved_is, used-split}
 use Rattle.accounts.proofs.Depth.{used_away, own_children, children_walk, change_stops}
 use Rattle.limits.specs.declared.line.Line.{Line}
@@ -24,11 +24,11 @@ use Rattle.limits.proofs.Order.{no_entry, keys_long, key_is, entry_at}
 -- ---- names above names
 
 -- one level above a parent
-above_parent : (k : ℕ) (c parent : List ℕ) → parent_of c ≡ Some parent → above (suc k) c ≡ above k parent
+pub above_parent : (k : ℕ) (c parent : List ℕ) → parent_of c ≡ Some parent → above (suc k) c ≡ above k parent
 above_parent zero c parent e = e
 above_parent (suc k) c parent e = ap (option_and_then parent_of) (above_parent k c parent e)
 
-above_none : (k : ℕ) (c : List ℕ) → parent_of c ≡ None → above (suc k) c ≡ None
+pub above_none : (k : ℕ) (c : List ℕ) → parent_of c ≡ None → above (suc k) c ≡ None
 above_none zero c e = e
 above_none (suc k) c e = ap (option_and_then parent_of) (above_none k c e)
 
@@ -43,6 +43,15 @@ under_above name c parent e u = (suc u.0, above_parent u.0 c parent e ∙ u.1)
 pub under_alone : (name c : List ℕ) → parent_of c ≡ None → IsUnder name c → name ≡ c
 under_alone name c e (zero, h) = sym (same_value c name h)
 under_alone name c e (suc k, h) = absurd (no_value name (sym (above_none k c e) ∙ h))
+
+-- what is above something above a name is above that name
+pub under_trans : (k : ℕ) (x c name : List ℕ) → above k c ≡ Some x → IsUnder c name → IsUnder x name
+under_trans zero x c name e u = subst (λ n. IsUnder n name) (same_value c x e) u
+under_trans (suc k) x c name e u = at (λ q h. under_trans k q c name h u) (above k c) refl e
+  where
+    at : ((q : List ℕ) → above k c ≡ Some q → IsUnder q name) → (o : Option (List ℕ)) → above k c ≡ o → option_and_then parent_of o ≡ Some x → IsUnder x name
+    at ih None h f = absurd (no_value x f)
+    at ih (Some q) h f = under_child x q name f (ih q h)
 
 -- all are under the root
 module _ (w : World) (good : IsHierarchy w.file_systems) where

@@ -15,5 +15,9 @@ pub mod Ahead
 pub mod Kept
 pub mod SameKeys
 pub mod SameLines
-pub mod Added
+pub mod Differing
+pub mod Renamed
+pub mod Settled
+pub mod Reading
+pub mod Leaving
 pub mod Recounted

@@ -1,8 +1,7 @@
 -- A binary search among the rows of a table finds the place of a name.
 use Rattle.std.proofs.Common.{◌≡◌, ℕ, ◌<◌, T, List, [], ◌∷◌, Option, Some, None, true, is_some, length, get_or, map, refl, sym, ap, subst, ◌∙◌, arith}
-use Rattle.std.specs.Prelude.{Result, Ok, Err, IfOk, IfErr, IfSome, IfNone, IsTrue}
+use Rattle.std.specs.Prelude.{Result, Ok, Err, IfOk, IfErr, OnErr, IfSome, IfNone, IsTrue}
 use Rattle.std.specs.Option.{option_map}
-use Rattle.std.specs.Result.{result_ok}
 use Rattle.std.specs.Arc.{arc_value}
 use Rattle.std.specs.declared.sync.Arc.{Arc}
 use Rattle.std.specs.declared.alloc.Global.{Global}
@@ -31,6 +30,11 @@ back : (m : FileSystems) (es : List Entry) → map entry_of (map (row_in m) es) 
 back m [] = refl
 back m (e ∷ es) = ap (λ l. e ∷ l) (back m es)
 
+-- where a name would stand, it isn't there
+pub not_there : (m : FileSystems) (name : List ℕ) (r : Result ℕ ℕ) → IfErr r (IsGapFor (entries m) name) → OnErr r (get m name ≡ None)
+not_there m name (Ok i) gap = tt
+not_there m name (Err i) gap = get-entries m name ∙ find_gap nat_list_cmp_total (entries m) name i gap.below gap.above
+
 module _ (m : FileSystems) (rows : List (Arc Row Global)) (all : map arc_value rows ≡ map (row_in m) (entries m)) where
   pub entries_are : map entry_in rows ≡ entries m
   entries_are = shared rows ∙ ap (map entry_of) all ∙ back m (entries m)
@@ -39,19 +43,14 @@ module _ (m : FileSystems) (rows : List (Arc Row Global)) (all : map arc_value r
   in_order = true_from _ (subst (λ es. T (is_sorted name_cmp es)) (sym entries_are) (entries_sorted m))
 
   pub placed : (name : List ℕ) (r : Result ℕ ℕ) → IsSearchInRange r (length rows) → IsBinarySearchResult (λ (a : Arc Row Global). name_cmp (entry_in a).0 name) rows r
-      → (o : Option ℕ) → o ≡ result_ok r → IfSome o (IsAt (entries m) name) × IfNone o (get m name ≡ None)
-  placed name r range by_name o is = subst (λ x. IfSome x (IsAt (entries m) name) × IfNone x (get m name ≡ None)) (sym is) (at r (searched entry_in rows in_order name r range by_name))
-    where
-      at : (r : Result ℕ ℕ) → IfOk r (IsAt (map entry_in rows) name) × IfErr r (IsGapFor (map entry_in rows) name)
-          → IfSome (result_ok r) (IsAt (entries m) name) × IfNone (result_ok r) (get m name ≡ None)
-      at (Ok i) h = (subst (λ es. IsAt es name i) entries_are h.0, tt)
-      at (Err i) h = (
-        tt,
-        (let g = subst (λ es. IsGapFor es name i) entries_are h.1 in get-entries m name ∙ find_gap nat_list_cmp_total (entries m) name i g.below g.above),
-      )
+      → IfOk r (IsAt (entries m) name) × IfErr r (IsGapFor (entries m) name)
+  placed name r range by_name = subst (λ es. IfOk r (IsAt es name) × IfErr r (IsGapFor es name)) entries_are (searched entry_in rows in_order name r range by_name)
 
   rows_long : length rows ≡ length (entries m)
   rows_long = sym (length-map rows entry_in) ∙ ap length entries_are
+
+  pub rows_count : length rows ≡ length (keys m)
+  rows_count = rows_long ∙ sym (keys_long m)
 
   pub row_within : (i : ℕ) → i < len m → i < length rows
   row_within i lt = let l = rows_long in let e = len-entries m in omega (arith, l, e, lt)

@@ -1,5 +1,5 @@
 -- Datasets that differ from earlier ones in the account of one file system, or in none.
-use Rattle.std.proofs.Common.{◌≡◌, ℕ, ◌+◌, ◌-◌, true, false, List, [], ◌∷◌, Option, Some, None, map, is_some, refl, sym, ap, subst, ◌∙◌, ⊎_elim, true≢false, arith}
+use Rattle.std.proofs.Common.{◌≡◌, ℕ, ◌+◌, ◌-◌, true, false, List, [], ◌∷◌, Option, Some, None, map, is_some, refl, sym, ap, subst, ◌∙◌, ⊎_elim, true≢false}
 use Rattle.std.specs.Prelude.{unwrap_or}
 use Rattle.std.specs.Option.{option_map_or}
 use Rattle.std.specs.FinMap.{get}
@@ -11,17 +11,16 @@ use Rattle.model.specs.World.{FileSystem, Snap, Limits, Live, map_of, map_of_sna
 use Rattle.model.specs.Sums.{size_without, referenced_of}
 use Rattle.world.specs.Tables.{Datasets, world_of}
 use Rattle.world.specs.Worlds.{AreFileSystems}
-use Rattle.world.specs.Shapes.{name_order}
-use Rattle.world.proofs.lists.Maps.{no_value, same_value, key_cases}
+use Rattle.world.proofs.lists.Maps.{no_value, same_value}
 use Rattle.accounts.specs.Levels.{IsSameHere, AreSameBut}
 use Rattle.accounts.specs.Limits.{AreShrunk}
 use Rattle.accounts.proofs.Levels.{reserved_is, no_reservation, nothing_here}
-use Rattle.accounts.proofs.Shrinks.{origin_kept, no_more}
+use Rattle.accounts.proofs.Shrinks.{origin_kept}
 use Rattle.datasets.specs.Dead.{newest_blocks}
 use Rattle.datasets.specs.Clones.{below_in, row_in}
 use Rattle.datasets.proofs.Above.{below_is_map}
 use Rattle.limits.specs.declared.account.Account.{Account}
-use Rattle.limits.specs.Changes.{IsRecounted, IsAdded}
+use Rattle.limits.specs.Changes.{IsRecounted}
 use Rattle.limits.specs.Ledgers.{account_in, ledger_of}
 use Rattle.limits.specs.Rows.{account_at}
 use Rattle.limits.proofs.Rows.{account_is}
@@ -35,12 +34,18 @@ pub record IsAlike (f g : FileSystem) : Type 0 where
   pub origin : g.origin ≡ f.origin
   pub limits : g.limits ≡ f.limits
 
--- The same file systems with the same blocks but at these names; of those at these names, the same limits where both have one
+-- The same file systems with the same blocks but at these names; the origins of the others have the maps that they had
 pub record AreAlikeBut (old new : Datasets) (ms : List (List ℕ)) : Type 0 where
   pub there : (q : List ℕ) → ¬ (IsIn ms q) → is_some (get new.file_systems q) ≡ is_some (get old.file_systems q)
-  pub shrunk : AreShrunk (world_of old) (world_of new)
-  pub limits : (q : List ℕ) (f g : FileSystem) → get old.file_systems q ≡ Some f → get new.file_systems q ≡ Some g → g.limits ≡ f.limits
   pub others : (q : List ℕ) (f g : FileSystem) → ¬ (IsIn ms q) → get old.file_systems q ≡ Some f → get new.file_systems q ≡ Some g → IsAlike f g
+  pub origins : AreFileSystems old.file_systems old.group → AreFileSystems new.file_systems new.group → (q : List ℕ) (g : FileSystem) → ¬ (IsIn ms q) → get new.file_systems q ≡ Some g
+      → map_of_snap (world_of new) g.origin ≡ map_of_snap (world_of old) g.origin
+
+-- where file systems may have lost snapshots, origins have the maps that they had
+pub kept_origins : (old new : Datasets) (ms : List (List ℕ)) → AreShrunk (world_of old) (world_of new)
+    → AreFileSystems old.file_systems old.group → AreFileSystems new.file_systems new.group → (q : List ℕ) (g : FileSystem) → ¬ (IsIn ms q) → get new.file_systems q ≡ Some g
+    → map_of_snap (world_of new) g.origin ≡ map_of_snap (world_of old) g.origin
+kept_origins old new ms shrunk good good' q g out = origin_kept (world_of old) (world_of new) good good' shrunk q g
 
 pub alike_itself : (f : FileSystem) → IsAlike f f
 alike_itself f = record { live = refl; maps = refl; origin = refl; limits = refl }
@@ -49,9 +54,8 @@ alike_itself f = record { live = refl; maps = refl; origin = refl; limits = refl
 pub alike_less : (old new : Datasets) (ms : List (List ℕ)) → AreAlikeBut old new [] → AreAlikeBut old new ms
 alike_less old new ms but = record {
   there = λ q out. but.there q (λ k. k);
-  shrunk = but.shrunk;
-  limits = but.limits;
   others = λ q f g out at at'. but.others q f g (λ k. k) at at';
+  origins = λ good good' q g out. but.origins good good' q g (λ k. k);
 }
 
 -- it is so where each is an earlier one, and each earlier one is there
@@ -69,9 +73,8 @@ module _ (old new : Datasets) (ms : List (List ℕ)) (shrunk : AreShrunk (world_
   pub alike_from : AreAlikeBut old new ms
   alike_from = record {
     there = λ q out. same_there q;
-    shrunk = shrunk;
-    limits = λ q f g at at'. let k = each q g at' in k.2 ∙ ap (λ (x : FileSystem). x.limits) (same_value k.0 f (sym k.1 ∙ at));
     others = λ q f g out at at'. let k = each q g at' in subst (λ (x : FileSystem). IsAlike x g) (same_value k.0 f (sym k.1 ∙ at)) (k.3 out);
+    origins = kept_origins old new ms shrunk;
   }
 
 none_from : {A : Type 0} (x : Option A) → is_some x ≡ false → x ≡ None
@@ -88,11 +91,14 @@ newest_by s (t ∷ ts) = newest_by (blocks t.map) ts
 
 module _ (old new : Datasets) (good : AreFileSystems old.file_systems old.group) (good' : AreFileSystems new.file_systems new.group) (ms : List (List ℕ))
     (but : AreAlikeBut old new ms) where
-  module _ (q : List ℕ) (f g : FileSystem) (at : get old.file_systems q ≡ Some f) (at' : get new.file_systems q ≡ Some g) (a : IsAlike f g) where
+  module _ (q : List ℕ) (f g : FileSystem) (out : ¬ (IsIn ms q)) (at : get old.file_systems q ≡ Some f) (at' : get new.file_systems q ≡ Some g) where
+    abbrev a : IsAlike f g
+    a = but.others q f g out at at'
+
     below_alike : below_in new.file_systems g.origin ≡ below_in old.file_systems f.origin
     below_alike =
         sym (below_is_map (world_of new) g.origin)
-        ∙ origin_kept (world_of old) (world_of new) good good' but.shrunk q g at'
+        ∙ but.origins good good' q g out at'
         ∙ ap (map_of_snap (world_of old)) a.origin
         ∙ below_is_map (world_of old) f.origin
 
@@ -128,8 +134,8 @@ module _ (old new : Datasets) (good : AreFileSystems old.file_systems old.group)
           }
       by_both (Some f) e None e' = let gone = none_from (get old.file_systems q) (sym (but.there q out) ∙ ap is_some e') in absurd (no_value f (sym gone ∙ e))
       by_both (Some f) e (Some g) e' = record {
-        here = ap (λ (a : Account). a.here) (account_alike q f g e e' (but.others q f g out e e'));
-        reserved = reserved_is (world_of new) q g e' ∙ ap (λ (l : Limits). unwrap_or l.reservation 0) (but.limits q f g e e') ∙ sym (reserved_is (world_of old) q f e);
+        here = ap (λ (a : Account). a.here) (account_alike q f g out e e');
+        reserved = reserved_is (world_of new) q g e' ∙ ap (λ (l : Limits). unwrap_or l.reservation 0) (but.others q f g out e e').limits ∙ sym (reserved_is (world_of old) q f e);
       }
 
   -- what its live map has too
@@ -142,51 +148,21 @@ module _ (old new : Datasets) (good : AreFileSystems old.file_systems old.group)
           let gone = none_from (get new.file_systems q) (but.there q out ∙ ap is_some e) in
           ap (λ (x : Option FileSystem). len (blocks (option_map_or (λ (s : FileSystem). s.live) x finmap.empty))) (gone ∙ sym e)
       by_both (Some f) e None e' = let gone = none_from (get old.file_systems q) (sym (but.there q out) ∙ ap is_some e') in absurd (no_value f (sym gone ∙ e))
-      by_both (Some f) e (Some g) e' = ap (λ (a : Account). a.referenced) (account_alike q f g e e' (but.others q f g out e e'))
+      by_both (Some f) e (Some g) e' = ap (λ (a : Account). a.referenced) (account_alike q f g out e e')
 
--- but for the account of one
+-- but at one name
 pub recounted : (old new : Datasets) → AreFileSystems old.file_systems old.group → AreFileSystems new.file_systems new.group → (name : List ℕ) → AreAlikeBut old new (name ∷ [])
-    → is_some (get new.file_systems name) ≡ is_some (get old.file_systems name) → IsRecounted (world_of old) (world_of new) name
-recounted old new good good' name but here = record {
+    → IsRecounted (world_of old) (world_of new) name
+recounted old new good good' name but = record {
   hierarchy = good'.hierarchy;
-  names = same_keys old.file_systems new.file_systems (λ q. ⊎_elim
-      (λ (is : q ≡ name). ap (λ n. is_some (get new.file_systems n)) is ∙ here ∙ ap (λ n. is_some (get old.file_systems n)) (sym is))
-      (λ (ne : ¬ (q ≡ name)). but.there q (λ i. ⊎_elim ne (λ k. k) i))
-      (key_cases name_order q name));
-  limits = but.limits;
+  names = λ q ne. but.there q (λ i. ⊎_elim ne (λ k. k) i);
+  limits = λ q f g ne at at'. (but.others q f g (λ i. ⊎_elim ne (λ k. k) i) at at').limits;
   others = here_alike old new good good' (name ∷ []) but;
-  others_referenced = λ q ne. referenced_alike old new good good' (name ∷ []) but q (λ i. ⊎_elim ne (λ k. k) i);
-  is_here = refl;
-  is_referenced = refl;
+  referenced = λ q ne. referenced_alike old new good good' (name ∷ []) but q (λ i. ⊎_elim ne (λ k. k) i);
 }
 
 -- or for none: then the ledger is as it was
 pub ledger_stays : (old new : Datasets) → AreFileSystems old.file_systems old.group → AreFileSystems new.file_systems new.group → AreAlikeBut old new []
     → ledger_of (world_of new) ≡ ledger_of (world_of old)
 ledger_stays old new good good' but = same_ledger (world_of old) (world_of new) good.hierarchy good'.hierarchy (same_keys old.file_systems new.file_systems (λ q. but.there q (λ k. k)))
-    but.limits (here_alike old new good good' [] but) (λ q f at. referenced_alike old new good good' [] but q (λ k. k))
-
--- and with one more, which has nothing of its own
-pub added : (old new : Datasets) → AreFileSystems old.file_systems old.group → AreFileSystems new.file_systems new.group → (name : List ℕ) → AreAlikeBut old new (name ∷ [])
-    → get old.file_systems name ≡ None → is_some (get new.file_systems name) ≡ true → IsAdded (world_of old) (world_of new) name
-added old new good good' name but gone there = record {
-  hierarchy = good'.hierarchy;
-  gone = gone;
-  there = there;
-  names = λ q ne. but.there q (λ i. ⊎_elim ne (λ k. k) i);
-  limits = but.limits;
-  here = λ q out. ⊎_elim
-      (λ (is : q ≡ name). subst (IsSameHere (world_of old) (world_of new)) (sym is) own)
-      (λ (ne : ¬ (q ≡ name)). here_alike old new good good' (name ∷ []) but q (λ i. ⊎_elim ne (λ k. k) i))
-      (key_cases name_order q name);
-  referenced = λ q ne. referenced_alike old new good good' (name ∷ []) but q (λ i. ⊎_elim ne (λ k. k) i);
-}
-  where
-    own : IsSameHere (world_of old) (world_of new) name
-    own =
-        let more = no_more (world_of old) (world_of new) good good' but.shrunk name in
-        let h = nothing_here (world_of old) good.hierarchy name gone in
-        let r = no_reservation (world_of old) good.hierarchy name gone in
-        let a = more.here in
-        let b = more.reserved in
-        record { here = omega (arith, h, a); reserved = omega (arith, r, b) }
+    (λ q f g at at'. (but.others q f g (λ k. k) at at').limits) (here_alike old new good good' [] but) (λ q f at. referenced_alike old new good good' [] but q (λ k. k))

@@ -1,5 +1,5 @@
 -- Lines of file systems under the same names, one by one.
-use Rattle.std.proofs.Common.{◌≡◌, ℕ, ◌<◌, List, [], length, get_or, map, Some, None, sym, ap, subst, ◌∙◌, ⊎_elim, arith}
+use Rattle.std.proofs.Common.{◌≡◌, ℕ, ◌<◌, List, [], length, get_or, map, Some, None, is_some, sym, ap, subst, ◌∙◌, ⊎_elim, arith}
 use Rattle.std.specs.FinMap.{get, entries, keys}
 use Rattle.std.proofs.lemmas.List.{length-map, get_or-map, same_lists}
 use Rattle.model.specs.World.{World, FileSystem, Live}
@@ -11,10 +11,10 @@ use Rattle.accounts.specs.Levels.{IsSameHere, AreSameBut}
 use Rattle.accounts.proofs.Levels.{no_reservation, nothing_here}
 use Rattle.accounts.proofs.Depth.{children_change}
 use Rattle.limits.specs.declared.line.Line.{Line}
-use Rattle.limits.specs.Changes.{IsChanged}
+use Rattle.limits.specs.Changes.{IsRecounted}
 use Rattle.limits.specs.Ledgers.{line_in, ledger_of}
 use Rattle.limits.proofs.Order.{no_entry, keys_long, key_is, entry_at}
-use Rattle.limits.proofs.SameKeys.{absent}
+use Rattle.limits.proofs.SameKeys.{same_keys}
 
 -- the line at a place
 line_of : (w : World) (m : FileSystems) (i : ℕ) → i < length (keys m) → (d : Line) → get_or (map (line_in w) (entries m)) i d ≡ line_in w (get_or (keys m) i [], (get_or (entries m) i no_entry).1)
@@ -60,10 +60,18 @@ module _ (old new : World) (good : IsHierarchy old.file_systems) (good' : IsHier
   unfolding ledger_of
   same_ledger = same_lines new old new.file_systems old.file_systems names line_alike
 
--- where the account of one file system alone may differ, and that isn't there
-pub none_changed : (old new : World) → IsHierarchy old.file_systems → (name : List ℕ) (here referenced : ℕ) → IsChanged old new name here referenced → get new.file_systems name ≡ None
+-- where they differ at one name at most, at which neither has a file system
+pub none_changed : (old new : World) → IsHierarchy old.file_systems → (name : List ℕ) → IsRecounted old new name → get old.file_systems name ≡ None → get new.file_systems name ≡ None
     → ledger_of new ≡ ledger_of old
-none_changed old new good name here referenced ch gone = same_ledger old new good ch.hierarchy ch.names ch.limits
+none_changed old new good name ch was gone = same_ledger old new good ch.hierarchy
+    (same_keys old.file_systems new.file_systems (λ q. ⊎_elim
+    (λ (is : q ≡ name). ap is_some (ap (get new.file_systems) is ∙ gone) ∙ sym (ap is_some (ap (get old.file_systems) is ∙ was)))
+    (λ (ne : ¬ (q ≡ name)). ch.names q ne)
+    (key_cases name_order q name)))
+    (λ q f g at at'. ⊎_elim
+    (λ (is : q ≡ name). absurd (no_value g (sym gone ∙ ap (get new.file_systems) (sym is) ∙ at')))
+    (λ (ne : ¬ (q ≡ name)). ch.limits q f g ne at at')
+    (key_cases name_order q name))
     (λ q out. ⊎_elim
     (λ (is : q ≡ name). subst (IsSameHere old new) (sym is) (record {
       here = nothing_here new ch.hierarchy name gone ∙ sym (nothing_here old good name was);
@@ -73,8 +81,5 @@ none_changed old new good name here referenced ch gone = same_ledger old new goo
     (key_cases name_order q name))
     (λ q f at. ⊎_elim
     (λ (is : q ≡ name). absurd (no_value f (sym gone ∙ ap (get new.file_systems) (sym is) ∙ at)))
-    (λ (ne : ¬ (q ≡ name)). ch.others_referenced q ne)
+    (λ (ne : ¬ (q ≡ name)). ch.referenced q ne)
     (key_cases name_order q name))
-  where
-    was : get old.file_systems name ≡ None
-    was = absent new.file_systems old.file_systems (sym ch.names) name gone

@@ -1,144 +1,194 @@
--- Each line on the way up is written, and then the lines are those of the world with the changed account.
-use Rattle.std.proofs.Common.{◌≡◌, ℕ, ◌≤◌, ◌<◌, ◌^◌, ◌≢◌, List, [], length, get_or, set, sym, ap, subst, ◌∙◌, inl, inr, ◌⊎◌, ⊎_elim, arith}
+-- Each line on the way up is written, and then the lines are those of each world that they were behind.
+use Rattle.std.proofs.Common.{◌≡◌, ℕ, zero, suc, ◌+◌, ◌-◌, ◌≤◌, ◌<◌, ◌^◌, ◌≢◌, List, [], length, get_or, set, Option, Some, None, is_some, refl, sym, ap, subst, ◌∙◌, inl, inr, ◌⊎◌, ⊎_elim, arith}
 use Rattle.std.specs.List.{All}
-use Rattle.std.specs.FinMap.{keys}
+use Rattle.std.specs.FinMap.{get, keys}
 use Rattle.std.proofs.lemmas.Bool.{cases_eq}
 use Rattle.std.proofs.lemmas.List.{length-set, get_or-set_same, get_or-set_other, get_or_default, same_lists}
 use Rattle.std.proofs.lemmas.List.Elements.{All-set}
+use Rattle.base.specs.Names.{parent_of}
+use Rattle.base.specs.Surveys.{IsIn}
 use Rattle.model.specs.World.{World}
-use Rattle.model.specs.Hierarchy.{IsHierarchy}
-use Rattle.accounts.specs.Levels.{slashes, IsUnder}
-use Rattle.accounts.proofs.Names.{level_up, above_is, under_or_not}
+use Rattle.model.specs.Hierarchy.{FileSystems, IsHierarchy}
+use Rattle.accounts.specs.Levels.{slashes, above, IsUnder}
+use Rattle.accounts.proofs.Names.{level_up, above_is, under_itself, under_child, in_keys, parent_in}
+use Rattle.world.proofs.lists.Maps.{no_value, same_value}
 use Rattle.limits.specs.declared.line.Line.{Line}
 use Rattle.limits.specs.Lines.{used_in, charge_in}
 use Rattle.limits.specs.Ledgers.{ledger_of}
 use Rattle.limits.specs.Places.{IsParentAt}
-use Rattle.limits.specs.Changes.{IsChanged, IsModest, IsNear, IsNext, IsTop, IsLedgerOf, IsOnWay, amended}
-use Rattle.limits.proofs.Order.{one_place}
-use Rattle.limits.proofs.Changes.{under_above, away_at}
-use Rattle.limits.proofs.Ways.{ledger_long, little, modest_recharged, way_near, way_counted, way_on, way_rest, way_ends, step_down}
-use Rattle.limits.proofs.Asking.{as_long, all_little, begins}
+use Rattle.limits.specs.Changes.{IsModest, IsNext, IsTop, CanWalkUp, IsBehind, recharged}
+use Rattle.limits.proofs.Order.{one_place, child_later, entry_at, place_in}
+use Rattle.limits.proofs.Changes.{above_parent, above_none, under_parent, under_above, under_alone}
+use Rattle.limits.proofs.Ways.{ledger_long, counted_at, modest_recharged}
 
--- Where the walk up stands at a line that is to be written: it is on the way, those from there up are as they were, and all others are those
--- of each world with the change
-pub record IsSettling (old : World) (name : List ℕ) (here referenced : ℕ) (lines : List Line) (place : ℕ) (line : Line) : Type 0 where
-  pub way : IsOnWay old name here referenced place line
-  pub long : length lines ≡ length (keys old.file_systems)
-  pub kept : (j : ℕ) (d : Line) → j < length (keys old.file_systems) → IsUnder (get_or (keys old.file_systems) j []) (get_or (keys old.file_systems) place [])
-      → get_or lines j d ≡ get_or (ledger_of old) j d
-  pub settled : (new : World) → IsChanged old new name here referenced → (j : ℕ) (d : Line) → j < length (keys old.file_systems)
-      → IsUnder (get_or (keys old.file_systems) j []) (get_or (keys old.file_systems) place []) ⊎ (get_or lines j d ≡ get_or (ledger_of new) j d)
-
-module _ (names : List (List ℕ)) (first : List Line) (all_modest : All IsModest first) (old : World) (of : IsLedgerOf old names first)
-    (name : List ℕ) (here referenced : ℕ) where
+module _ (m : FileSystems) (lines : List Line) (place : ℕ) (line : Line) where
   abbrev key : ℕ → List ℕ
-  key i = get_or (keys old.file_systems) i []
+  key i = get_or (keys m) i []
 
-  good : IsHierarchy old.file_systems
-  good = of.hierarchy
+  -- ---- what is asked of a step
 
-  modest : All IsModest (ledger_of old)
-  modest = subst (All IsModest) of.own all_modest
+  module _ (can : CanWalkUp (keys m) lines place line) where
+    here : place < length (keys m)
+    here = let w = can.within in let l = can.long in omega (arith, w, l)
 
-  pub first_long : length first ≡ length names
-  first_long = as_long old good first of.own all_modest name here referenced ∙ ap length of.named
+    pub walk_used : used_in line ≤ 2 ^ 54
+    walk_used = let u = can.used in let l = can.low place line can.within (under_itself (key place)) in omega (arith, u, l)
 
-  pub first_little : All (λ l. used_in l ≤ 2 ^ 54) first
-  first_little = all_little old good first of.own all_modest name here referenced
+    pub walk_counted : (p : ℕ) → IsParentAt (keys m) place p → charge_in (get_or lines place line) ≤ (get_or lines p line).children
+    walk_counted p parent = can.counted place p line can.within (under_itself (key place)) parent
 
-  -- it begins at its own line, where those off the way are settled
-  pub walk_starts : here < 2 ^ 42 → (i : ℕ) → i < length names → get_or names i [] ≡ name → (l line : Line) → l ≡ get_or first i l → line ≡ amended l here referenced
-      → IsSettling old name here referenced first i line
-  walk_starts small i within named l line at own = record {
-    way = begins old good first of.own all_modest name here referenced small i l line (let n = ap length of.named in omega (arith, n, within)) is at own;
-    long = first_long ∙ sym (ap length of.named);
-    kept = λ j d lt u. ap (λ ls. get_or ls j d) of.own;
-    settled = λ new ch j d lt. ⊎_elim inl
-        (λ out. inr (ap (λ ls. get_or ls j d) of.own ∙ sym (away_at old new good name here referenced ch j lt d (λ u. out (subst (IsUnder (key j)) (sym is) u)))))
-        (under_or_not (key j) (key i));
-  }
-    where
-      is : key i ≡ name
-      is = ap (λ ns. get_or ns i []) of.named ∙ named
-
-  module _ (lines : List Line) (place : ℕ) (line : Line) (s : IsSettling old name here referenced lines place line) where
-    pub walk_long : length lines ≡ length names
-    walk_long = s.long ∙ ap length of.named
-
-    pub walk_within : place < length lines
-    walk_within = let w = s.way.within in let l = s.long in omega (arith, w, l)
-
-    -- what is asked of a step
-    pub walk_near : IsNear (get_or lines place line) line
-    walk_near = way_near old good modest name here referenced lines place line s.way s.kept
-
-    pub walk_counted : (p : ℕ) → IsParentAt names place p → charge_in (get_or lines place line) ≤ (get_or lines p line).children
-    walk_counted p parent = way_counted old good modest name here referenced lines place line s.way s.kept p (subst (λ ns. IsParentAt ns place p) (sym of.named) parent)
-
-    -- the line that is written uses little
     pub walk_little : All (λ l. used_in l ≤ 2 ^ 54) lines → All (λ l. used_in l ≤ 2 ^ 54) (set lines place line)
-    walk_little h = All-set (λ l. used_in l ≤ 2 ^ 54) lines place line
-        (let l = little old good modest place line s.way.within in let n = s.way.near.used in omega (arith, l, n)) h
+    walk_little h = All-set (λ l. used_in l ≤ 2 ^ 54) lines place line walk_used h
 
-    -- and is the world's
-    written : (new : World) → IsChanged old new name here referenced → (j : ℕ) (d : Line) → j ≡ place → get_or (set lines place line) j d ≡ get_or (ledger_of new) j d
-    written new ch j d e =
-        ap (λ i. get_or (set lines place line) i d) e
-        ∙ get_or-set_same lines place line d walk_within
-        ∙ s.way.is new ch
-        ∙ get_or_default (ledger_of new) place line d
-        (let l = ledger_long new ch.hierarchy in let n = ap length ch.names in let w = s.way.within in omega (arith, l, n, w))
-        ∙ ap (λ i. get_or (ledger_of new) i d) (sym e)
-
-    -- settled lines stay settled
-    stays : (new : World) → IsChanged old new name here referenced → (j : ℕ) (d : Line) → get_or lines j d ≡ get_or (ledger_of new) j d
-        → get_or (set lines place line) j d ≡ get_or (ledger_of new) j d
-    stays new ch j d h = ⊎_elim (written new ch j d) (λ ne. get_or-set_other lines place j line d ne ∙ h) (cases_eq j place)
-
-    module _ (p : ℕ) (above : Line) (on : IsNext names lines place line (p, above)) where
-      next : IsNext (keys old.file_systems) lines place line (p, above)
-      next = subst (λ ns. IsNext ns lines place line (p, above)) (sym of.named) on
+    module _ (p : ℕ) (up : Line) (on : IsNext (keys m) lines place line (p, up)) where
+      p_within : p < length lines
+      p_within = let w = on.parent.within in let l = can.long in omega (arith, w, l)
 
       pub walk_down : p < place
-      walk_down = step_down old good modest name here referenced lines place line s.way s.kept p above next
+      walk_down = child_later m place p here on.parent.within on.parent.named
 
-      -- those above are as they were
-      kept_on : (j : ℕ) (d : Line) → j < length (keys old.file_systems) → IsUnder (key j) (key p) → get_or (set lines place line) j d ≡ get_or (ledger_of old) j d
-      kept_on j d lt u = get_or-set_other lines place j line d apart ∙ s.kept j d lt (under_above (key j) (key place) (key p) next.parent.named u)
-        where
-          apart : j ≢ place
-          apart e =
-              let a = above_is u.0 (key p) (key j) u.1 in
-              let b = level_up (key place) (key p) next.parent.named in
-              let l = ap (λ i. slashes (key i)) e in
-              absurd (omega (arith, a, b, l))
+      -- those above the parent aren't written
+      apart : (j : ℕ) → IsUnder (key j) (key p) → j ≢ place
+      apart j u e =
+          let a = above_is u.0 (key p) (key j) u.1 in
+          let b = level_up (key place) (key p) on.parent.named in
+          let l = ap (λ i. slashes (key i)) e in
+          absurd (omega (arith, a, b, l))
 
-      -- the walk goes on at the parent
-      pub walk_on : IsSettling old name here referenced (set lines place line) p above
-      walk_on = record {
-        way = way_on old good modest name here referenced lines place line s.way s.kept p above next;
-        long = length-set lines place line ∙ s.long;
-        kept = kept_on;
-        settled = λ new ch j d lt. way_rest old good modest name here referenced lines place line s.way s.kept p above next _ _ j (s.settled new ch j d lt)
-            (λ e. written new ch j d (one_place old.file_systems j place lt s.way.within e)) (stays new ch j d);
+      above_place : (j : ℕ) → IsUnder (key j) (key p) → IsUnder (key j) (key place)
+      above_place j u = under_above (key j) (key place) (key p) on.parent.named u
+
+      stays : (j : ℕ) (d : Line) → IsUnder (key j) (key p) → get_or (set lines place line) j d ≡ get_or lines j d
+      stays j d u = get_or-set_other lines place j line d (apart j u)
+
+      parent_under : (j q : ℕ) → IsUnder (key j) (key p) → IsParentAt (keys m) j q → IsUnder (key q) (key p)
+      parent_under j q u parent = under_child (key q) (key j) (key p) parent.named u
+
+      -- and can go on at the parent
+      pub can_go_on : All IsModest lines → CanWalkUp (keys m) (set lines place line) p up
+      can_go_on modest = record {
+        long = length-set lines place line ∙ can.long;
+        within = let w = p_within in let l = length-set lines place line in omega (arith, w, l);
+        modest = subst IsModest (sym on.is) (modest_recharged (get_or lines p up) (charge_in (get_or lines place line)) (charge_in line) (modest p up p_within));
+        used =
+            let e = ap used_in on.is in
+            let s = ap used_in (stays p up (under_itself (key p))) in
+            let c = counted in
+            let h = can.charged in
+            omega (arith, e, s, c, h);
+        charged =
+            let e = ap charge_in on.is in
+            let s = ap charge_in (stays p up (under_itself (key p))) in
+            let c = counted in
+            let h = can.charged in
+            omega (arith, e, s, c, h);
+        low = λ j d lt u. let e = ap used_in (stays j d u) in let l = can.low j d (fewer j lt) (above_place j u) in omega (arith, e, l);
+        counted = λ j q d lt u parent.
+            let e = ap charge_in (stays j d u) in
+            let f = ap (λ (l : Line). l.children) (stays q d (parent_under j q u parent)) in
+            let c = can.counted j q d (fewer j lt) (above_place j u) parent in
+            omega (arith, e, f, c);
       }
+        where
+          fewer : (j : ℕ) → j < length (set lines place line) → j < length lines
+          fewer j lt = let l = length-set lines place line in omega (arith, l, lt)
 
-      pub walk_modest : All IsModest lines → IsModest above
-      walk_modest h = subst IsModest (sym on.is) (modest_recharged (get_or lines p above) (charge_in (get_or lines place line)) (charge_in line)
-          (h p above (let w = on.parent.within in let l = walk_long in omega (arith, w, l))))
+          counted : charge_in (get_or lines place line) ≤ (get_or lines p up).children
+          counted =
+              let c = walk_counted p on.parent in
+              let e = ap (λ (l : Line). l.children) (get_or_default lines p line up p_within) in
+              omega (arith, c, e)
+
+  -- ---- the worlds that the lines are behind
+
+  module _ (can : CanWalkUp (keys m) lines place line) (w : World) (s : IsBehind w (keys m) lines place line) where
+    world_long : length (ledger_of w) ≡ length (keys m)
+    world_long = ledger_long w s.hierarchy ∙ ap length s.named
+
+    inside : (j : ℕ) → j < length (keys m) → j < length (ledger_of w)
+    inside j lt = let l = world_long in omega (arith, l, lt)
+
+    -- the line that is written is the world's
+    written : (j : ℕ) (d : Line) → j ≡ place → get_or (set lines place line) j d ≡ get_or (ledger_of w) j d
+    written j d e =
+        ap (λ i. get_or (set lines place line) i d) e
+        ∙ get_or-set_same lines place line d can.within
+        ∙ s.is
+        ∙ get_or_default (ledger_of w) place line d (inside place (here can))
+        ∙ ap (λ i. get_or (ledger_of w) i d) (sym e)
+
+    kept : (j : ℕ) (d : Line) → get_or lines j d ≡ get_or (ledger_of w) j d → get_or (set lines place line) j d ≡ get_or (ledger_of w) j d
+    kept j d h = ⊎_elim (written j d) (λ ne. get_or-set_other lines place j line d ne ∙ h) (cases_eq j place)
+
+    -- what a child is charged in the world is among what its parent's children use there
+    counted_in : (j p : ℕ) (d : Line) → j < length (keys m) → IsParentAt (keys m) j p → charge_in (get_or (ledger_of w) j d) ≤ (get_or (ledger_of w) p d).children
+    counted_in j p d lt parent = counted_at w s.hierarchy j p d d (let e = ap length s.named in omega (arith, e, lt)) (subst (λ ns. IsParentAt ns j p) (sym s.named) parent)
+
+    -- where a line is charged as in the world, the one above is the world's
+    caught_up : (j p : ℕ) (d : Line) → j < length (keys m) → IsUnder (key j) (key place) → IsParentAt (keys m) j p
+        → charge_in (get_or lines j d) ≡ charge_in (get_or (ledger_of w) j d) → get_or lines p d ≡ get_or (ledger_of w) p d
+    caught_up j p d lt u parent same =
+        s.above j p d lt u parent
+        ∙ (λ i. record {
+          account = (get_or (ledger_of w) p d).account;
+          children = (let c = counted_in j p d lt parent in
+              let e : (get_or (ledger_of w) p d).children - charge_in (get_or (ledger_of w) j d) + charge_in (get_or lines j d) ≡ (get_or (ledger_of w) p d).children = omega (arith, c, same) in e) i;
+        })
+
+    module _ (p : ℕ) (up : Line) (on : IsNext (keys m) lines place line (p, up)) where
+      -- the walk goes on at the parent
+      pub walk_on : IsBehind w (keys m) (set lines place line) p up
+      walk_on = record {
+        hierarchy = s.hierarchy;
+        named = s.named;
+        is =
+            on.is ∙ (λ i. recharged (s.above place p up (here can) (under_itself (key place)) on.parent i) (charge_in (get_or_default lines place line up can.within i)) (charge_in line))
+            ∙ (λ i. record { account = (get_or (ledger_of w) p up).account; children = back i });
+        settled = λ j d lt. ⊎_elim
+            (λ u. ⊎_elim (λ e. inr (written j d (one_place m j place lt (here can) e))) inl (under_parent (key j) (key place) (key p) on.parent.named u))
+            (λ e. inr (kept j d e))
+            (s.settled j d lt);
+        above = λ j q d lt u parent.
+            stays can p up on q d (parent_under can p up on j q u parent)
+            ∙ s.above j q d lt (above_place can p up on j u) parent
+            ∙ ap (λ l. recharged (get_or (ledger_of w) q d) (charge_in (get_or (ledger_of w) j d)) (charge_in l)) (sym (stays can p up on j d u));
+      }
+        where
+          back : (get_or (ledger_of w) p up).children - charge_in (get_or (ledger_of w) place up) + charge_in (get_or lines place up) - charge_in (get_or lines place up) + charge_in line
+              ≡ (get_or (ledger_of w) p up).children
+          back =
+              let c = counted_in place p up (here can) on.parent in
+              let e = ap charge_in (s.is ∙ get_or_default (ledger_of w) place line up (inside place (here can))) in
+              omega (arith, c, e)
 
     -- where it ends, all lines are the world's
-    pub walk_ends : IsTop names lines place line → (new : World) → IsChanged old new name here referenced → set lines place line ≡ ledger_of new
-    walk_ends end new ch = same_lists (set lines place line) (ledger_of new)
-        (length-set lines place line ∙ s.long ∙ sym (ap length ch.names) ∙ sym (ledger_long new ch.hierarchy))
-        (λ j d lt. let l = length-set lines place line in let k = s.long in each j d (omega (arith, l, lt, k)))
+    pub walk_ends : IsTop (keys m) lines place line → set lines place line ≡ ledger_of w
+    walk_ends top = same_lists (set lines place line) (ledger_of w)
+        (length-set lines place line ∙ can.long ∙ sym world_long)
+        (λ j d lt. let l = length-set lines place line in let k = can.long in each j d (omega (arith, l, lt, k)))
       where
-        top : IsTop (keys old.file_systems) lines place line
-        top = subst (λ ns. IsTop ns lines place line) (sym of.named) end
+        -- from a line that is charged as in the world up
+        go : (k c j : ℕ) (d : Line) → c < length (keys m) → j < length (keys m) → IsUnder (key c) (key place) → get_or (set lines place line) c d ≡ get_or (ledger_of w) c d
+            → charge_in (get_or lines c d) ≡ charge_in (get_or (ledger_of w) c d) → above k (key c) ≡ Some (key j) → get_or (set lines place line) j d ≡ get_or (ledger_of w) j d
+        go zero c j d lc lj u h same e = subst (λ i. get_or (set lines place line) i d ≡ get_or (ledger_of w) i d) (one_place m c j lc lj (same_value (key c) (key j) e)) h
+        go (suc k) c j d lc lj u h same e = by_parent (λ p lp up hp sp ep. go k p j d lp lj up hp sp ep) (parent_of (key c)) refl
+          where
+            by_parent : ((p : ℕ) → p < length (keys m) → IsUnder (key p) (key place) → get_or (set lines place line) p d ≡ get_or (ledger_of w) p d
+                → charge_in (get_or lines p d) ≡ charge_in (get_or (ledger_of w) p d) → above k (key p) ≡ Some (key j) → get_or (set lines place line) j d ≡ get_or (ledger_of w) j d)
+                → (x : Option (List ℕ)) → parent_of (key c) ≡ x → get_or (set lines place line) j d ≡ get_or (ledger_of w) j d
+            by_parent rest None none = absurd (no_value (key j) (sym (above_none k (key c) none) ∙ e))
+            by_parent rest (Some q) is =
+                let i = parent_in w.file_systems s.hierarchy (key c) q (subst (λ ns. IsIn ns (key c)) (sym s.named) (in_keys m (key c) (ap is_some (entry_at m c lc)))) is in
+                let at = place_in (keys m) q (subst (λ ns. IsIn ns q) s.named i) in
+                let parent : IsParentAt (keys m) c at.0 = record { within = at.1; named = is ∙ ap Some (sym at.2) } in
+                let caught = caught_up c at.0 d lc u parent same in
+                rest at.0 at.1 (under_child (key at.0) (key c) (key place) parent.named u) (kept at.0 d caught) (ap charge_in caught)
+                (sym (above_parent k (key c) (key at.0) parent.named) ∙ e)
 
-        each : (j : ℕ) (d : Line) → j < length (keys old.file_systems) → get_or (set lines place line) j d ≡ get_or (ledger_of new) j d
-        each j d lt = ⊎_elim
-            (λ u. ⊎_elim (written new ch j d) (λ e. stays new ch j d (s.kept j d lt u ∙ sym e))
-            (way_ends old good modest name here referenced lines place line s.way s.kept top new ch j d lt u))
-            (stays new ch j d)
-            (s.settled new ch j d lt)
+        by_top : (j : ℕ) (d : Line) → j < length (keys m) → IsUnder (key j) (key place) → IsTop (keys m) lines place line → get_or (set lines place line) j d ≡ get_or (ledger_of w) j d
+        by_top j d lt u (inl e) = go u.0 place j d (here can) lt (under_itself (key place)) (written place d refl)
+            (ap charge_in (get_or_default lines place d line can.within) ∙ sym e ∙ ap charge_in (s.is ∙ get_or_default (ledger_of w) place line d (inside place (here can)))) u.1
+        by_top j d lt u (inr none) = written j d (one_place m j place lt (here can) (under_alone (key j) (key place) none u))
+
+        each : (j : ℕ) (d : Line) → j < length (keys m) → get_or (set lines place line) j d ≡ get_or (ledger_of w) j d
+        each j d lt = ⊎_elim (λ u. by_top j d lt u top) (kept j d) (s.settled j d lt)

@@ -108,9 +108,6 @@ module _ (old : World) (good : IsHierarchy old.file_systems) (modest : All IsMod
     parent_kept p parent d = kept p d parent.within (under_child (key p) (key place) (key place) parent.named (under_itself (key place)))
 
     -- what is asked of a step
-    pub way_near : IsNear (get_or lines place line) line
-    way_near = subst (λ l. IsNear l line) (sym (here_kept line)) way.near
-
     pub way_counted : (p : ℕ) → IsParentAt (keys old.file_systems) place p → charge_in (get_or lines place line) ≤ (get_or lines p line).children
     way_counted p parent =
         let c = counted_at old good place p line line way.within parent in
@@ -183,13 +180,11 @@ module _ (names : List (List ℕ)) (lines : List Line) (long : length lines ≡ 
 
   module _ (after : ℕ) (now : after ≡ charge_in line) where
     -- so the sum can be told
-    pub step_fits : All (λ l. used_in l ≤ 2 ^ 54) lines → IsNear (get_or lines place line) line → after ≤ used_in line + 2 ^ 40 → above.children - before + after < 2 ^ 60
-    step_fits little near most =
-        let a = little place line within in
+    pub step_fits : All (λ l. used_in l ≤ 2 ^ 54) lines → used_in line ≤ 2 ^ 54 → after ≤ used_in line + 2 ^ 40 → above.children - before + after < 2 ^ 60
+    step_fits little small most =
         let b = little p above parent_in in
         let c = ap used_in (above_is_at above) in
-        let n = near.used in
-        omega (arith, a, b, c, n, most)
+        omega (arith, b, c, small, most)
 
     -- and the parent's line is the next
     pub step_next : IsNext names lines place line (p, record { account = above.account; children = above.children - before + after })

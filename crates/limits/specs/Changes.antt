@@ -1,17 +1,18 @@
 -- Worlds that differ in what one file system has and keeps of its own, and the lines of a ledger that differ with it.
-use Rattle.std.specs.Prelude.{◌≡◌, ◌⊎◌, ℕ, ◌+◌, ◌-◌, ◌<◌, ◌≤◌, ◌^◌, List, [], ◌∷◌, Some, None, IsSome, is_some, true, false, length, slice_index_or}
+use Rattle.std.specs.Prelude.{◌≡◌, ◌⊎◌, ℕ, ◌+◌, ◌-◌, ◌<◌, ◌≤◌, ◌^◌, List, [], ◌∷◌, Some, None, IsSome, is_some, true, false, length, map, slice_index_or}
+use Rattle.std.specs.Option.{option_map_or}
 use Rattle.std.specs.FinMap.{get, keys}
 use Rattle.base.specs.declared.refusal.Refusal.{Refusal}
 use Rattle.base.specs.declared.refusal.Refusal.TheVariants.{Quota, RefQuota}
 use Rattle.base.specs.Names.{root_name, parent_of}
-use Rattle.model.specs.World.{World, FileSystem, Live}
+use Rattle.model.specs.World.{World, FileSystem, Live, no_limits}
 use Rattle.model.specs.Hierarchy.{IsHierarchy}
 use Rattle.model.specs.Sums.{used_here, referenced_of}
 use Rattle.model.specs.Fits.{quotas_hold, refquotas_hold}
 use Rattle.accounts.specs.Levels.{IsUnder, AreSameBut, charge_of}
 use Rattle.limits.specs.declared.line.Line.{Line}
 use Rattle.limits.specs.Lines.{used_in, reserved_in, charge_in}
-use Rattle.limits.specs.Ledgers.{ledger_of}
+use Rattle.limits.specs.Ledgers.{line_in, ledger_of}
 use Rattle.limits.specs.Places.{IsParentAt}
 
 -- A world with the file systems and limits of an earlier one, in which a single file system has and keeps so much of its own and refers to
@@ -25,20 +26,26 @@ pub record IsChanged (old new : World) (name : List ℕ) (here referenced : ℕ)
   pub is_here : used_here new name ≡ here
   pub is_referenced : referenced_of new (Live name) ≡ referenced
 
--- an earlier world in which a single file system has, keeps and refers to what it does now (zfsprops(7): used, referenced)
-abbrev pub IsRecounted : World → World → List ℕ → Type 0
-IsRecounted old new name = IsChanged old new name (used_here new name) (referenced_of new (Live name))
-
--- A world with one file system more than another, which has and keeps nothing of its own; each other has, keeps and refers to the same in both
--- (zfs-create(8), zfs-clone(8))
-pub record IsAdded (old new : World) (name : List ℕ) : Type 0 where
+-- Worlds that differ at one name alone: the file system of that name has, keeps, refers to or may use another amount, or one of them has none
+-- (zfs-create(8), zfs-destroy(8), zfsprops(7): used, referenced)
+pub record IsRecounted (old new : World) (name : List ℕ) : Type 0 where
   pub hierarchy : IsHierarchy new.file_systems
-  pub gone : get old.file_systems name ≡ None
-  pub there : IsSome (get new.file_systems name)
   pub names : (other : List ℕ) → ¬ (other ≡ name) → is_some (get new.file_systems other) ≡ is_some (get old.file_systems other)
-  pub limits : (other : List ℕ) (f g : FileSystem) → get old.file_systems other ≡ Some f → get new.file_systems other ≡ Some g → g.limits ≡ f.limits
-  pub here : AreSameBut old new []
+  pub limits : (other : List ℕ) (f g : FileSystem) → ¬ (other ≡ name) → get old.file_systems other ≡ Some f → get new.file_systems other ≡ Some g → g.limits ≡ f.limits
+  pub others : AreSameBut old new (name ∷ [])
   pub referenced : (other : List ℕ) → ¬ (other ≡ name) → referenced_of new (Live other) ≡ referenced_of old (Live other)
+
+-- the line of a file system that has, keeps and may keep nothing, nor have its children (profile)
+abbrev pub bare_line : Line
+bare_line = record { account = record { here = 0; referenced = 0; limits = no_limits }; children = 0 }
+
+-- the line that a world has under a name, where it has a file system there (profile)
+abbrev pub line_under : World → List ℕ → Line
+line_under w name = option_map_or (λ f. line_in w (name, f)) (get w.file_systems name) bare_line
+
+-- those under these names (profile)
+abbrev pub lines_under : World → List (List ℕ) → List Line
+lines_under w names = map (line_under w) names
 
 -- a line whose file system has and keeps so much of its own and refers to so much (zfsprops(7): used, referenced)
 abbrev pub amended : Line → ℕ → ℕ → Line
@@ -68,6 +75,28 @@ pub record IsNext (names : List (List ℕ)) (lines : List Line) (place : ℕ) (l
 abbrev pub IsTop : List (List ℕ) → List Line → ℕ → Line → Type 0
 IsTop names lines place line =
     (charge_in line ≡ charge_in (slice_index_or lines place line)) ⊎ (parent_of (slice_index_or names place []) ≡ None)
+
+-- A line can be written at a place, and what is charged can then be brought up to date above it: what a line on the way up is charged is among
+-- what the children of the one above use, and all is so little that sums can be told (profile)
+pub record CanWalkUp (names : List (List ℕ)) (lines : List Line) (place : ℕ) (line : Line) : Type 0 where
+  pub long : length lines ≡ length names
+  pub within : place < length lines
+  pub modest : IsModest line
+  pub used : used_in line ≤ used_in (slice_index_or lines place line) + 2 ^ 43
+  pub charged : charge_in line ≤ charge_in (slice_index_or lines place line) + 2 ^ 43
+  pub low : (j : ℕ) (d : Line) → j < length lines → IsUnder (slice_index_or names j []) (slice_index_or names place []) → used_in (slice_index_or lines j d) ≤ 2 ^ 53
+  pub counted : (j p : ℕ) (d : Line) → j < length lines → IsUnder (slice_index_or names j []) (slice_index_or names place []) → IsParentAt names j p
+      → charge_in (slice_index_or lines j d) ≤ (slice_index_or lines p d).children
+
+-- With this line at a place the lines are the ledger of a world, but that above it what children use has that line's charge from before
+-- (zfsprops(7): usedbychildren)
+pub record IsBehind (w : World) (names : List (List ℕ)) (lines : List Line) (place : ℕ) (line : Line) : Type 0 where
+  pub hierarchy : IsHierarchy w.file_systems
+  pub named : keys w.file_systems ≡ names
+  pub is : line ≡ slice_index_or (ledger_of w) place line
+  pub settled : (j : ℕ) (d : Line) → j < length names → IsUnder (slice_index_or names j []) (slice_index_or names place []) ⊎ (slice_index_or lines j d ≡ slice_index_or (ledger_of w) j d)
+  pub above : (j p : ℕ) (d : Line) → j < length names → IsUnder (slice_index_or names j []) (slice_index_or names place []) → IsParentAt names j p
+      → slice_index_or lines p d ≡ recharged (slice_index_or (ledger_of w) p d) (charge_in (slice_index_or (ledger_of w) j d)) (charge_in (slice_index_or lines j d))
 
 -- lines are the ledger of a world whose file systems have these names (zfs(8))
 pub record IsLedgerOf (w : World) (names : List (List ℕ)) (lines : List Line) : Type 0 where

@@ -2,22 +2,21 @@
 //! the first level that is charged what it was.
 ghost use Rattle.std.specs.Prelude.{◌≡◌, ◌<◌, ◌≤◌, ◌^◌, ℕ, Some, IsSome, IfSome, IfNone, IfOk, IfErr, length, slice_index_or};
 ghost use Rattle.std.specs.FinMap.{get, keys, len};
-ghost use Rattle.std.specs.FinSet as set;
 ghost use Rattle.std.specs.List.{All};
 ghost use Rattle.base.specs.declared.refusal.Refusal.{Refusal};
 ghost use Rattle.model.specs.Hierarchy.{IsHierarchy};
 ghost use Rattle.model.specs.Rule.{first_of};
 ghost use Rattle.model.specs.State.{State};
-ghost use Rattle.model.specs.World.{World, union_of};
+ghost use Rattle.model.specs.World.{World};
 ghost use Rattle.model.specs.requests.Change.{limit_row};
 ghost use Rattle.world.specs.Tables.{world_of};
 ghost use Rattle.accounts.specs.Limits.{AreQuotasMet};
 ghost use Rattle.limits.specs.Lines.{used_in, charge_in, IsSmall};
 ghost use Rattle.limits.specs.Ledgers.{ledger_of, IsSpaceOf};
 ghost use Rattle.limits.specs.Places.{IsParentAt};
-ghost use Rattle.limits.specs.Changes.{IsChanged, IsModest, IsNear, IsNext, IsTop, IsWithinQuotas, IsOverQuota, IsLedgerOf, IsRecounted, amended};
+ghost use Rattle.limits.specs.Changes.{IsChanged, IsModest, IsNext, IsTop, IsWithinQuotas, IsOverQuota, IsLedgerOf, CanWalkUp, IsBehind, amended};
 
-use crate::account::{Account, account_of};
+use crate::account::Account;
 use crate::ledger::Ledger;
 use crate::line::Line;
 use crate::near::Near;
@@ -64,21 +63,6 @@ impl Ledger {
     {
         settle_lines(table, &mut self.lines, &self.near, name, here, referenced);
     }
-
-    /// The account of the file system of this name is read anew from its row, where it is there: where this is the ledger of an earlier world
-    /// with the names of the table, from which the table's differs in that account alone, it becomes the table's. It takes no memory. It costs
-    /// for each level of the name at most the logarithm of the number of file systems, and the length of the name.
-    pub fn recount(&mut self, table: &Table, name: &DsName)
-        requires own { (old : World) × IsLedgerOf old (keys table.now.file_systems) self.old × IsRecounted old (world_of table.now) name.now }
-        requires few { set.len (union_of (world_of table.now)) < 2 ^ 32 }
-        ensures { self.new ≡ ledger_of (world_of table.now) }
-    {
-        table.facts();
-        if let Some(file_system) = self.find(table, name) {
-            let account = account_of(file_system);
-            self.settle(table, name, account.here, account.referenced);
-        }
-    }
 }
 
 // The line of a file system that has and keeps so much of its own and refers to so much. Constant time.
@@ -107,7 +91,7 @@ fn next_change(
     requires long { length lines.now ≡ len table.now.file_systems }
     requires within { place < length lines.now }
     requires little { All (λ l. used_in l ≤ 2 ^ 54) lines.now }
-    requires near { IsNear (slice_index_or lines.now place line.now) line.now }
+    requires small { used_in line.now ≤ 2 ^ 54 }
     requires counted { (parent : ℕ) → IsParentAt (keys table.now.file_systems) place parent → charge_in (slice_index_or lines.now place line.now) ≤ (slice_index_or lines.now parent line.now).children }
     ensures some { IfSome result (IsNext (keys table.now.file_systems) lines.now place line.now) }
     ensures none { IfNone result (IsTop (keys table.now.file_systems) lines.now place line.now) }
@@ -202,8 +186,23 @@ fn settle_lines(
     let Some(start) = place_near(table, name.as_bytes(), near.last) else {
         unreachable!()
     };
-    let mut place = start;
-    let mut line = amended(&lines[start], here, referenced);
+    let line = amended(&lines[start], here, referenced);
+    settle_from(table, lines, near, start, line);
+}
+
+// The line at a place becomes this one, and of those above it the `children` become what they are with it: the lines of the table's ledger but
+// for that become that ledger. It costs for each level of the name at most the logarithm of the number of file systems, and the length of the
+// name.
+pub(crate) fn settle_from(table: &Table, lines: &mut [Line], near: &Near, place: usize, line: Line)
+    requires can { CanWalkUp (keys table.now.file_systems) lines.old place line }
+    requires modest { All IsModest lines.old }
+    requires little { All (λ l. used_in l ≤ 2 ^ 54) lines.old }
+    ensures own { (new : World) → IsBehind new (keys table.now.file_systems) lines.old place line → lines.new ≡ ledger_of new }
+    ensures modest { All IsModest lines.new }
+    ensures little { All (λ l. used_in l ≤ 2 ^ 54) lines.new }
+{
+    let mut place = place;
+    let mut line = line;
     loop {
         let next = next_change(table, lines, near, place, &line);
         lines[place] = line;

@@ -5,7 +5,6 @@
 #![tactic(auto)]
 
 mod account;
-mod adding;
 mod change;
 mod charging;
 mod ledger;
@@ -15,6 +14,7 @@ pub mod outlook;
 mod parent;
 mod place;
 mod pool_space;
+mod recount;
 
 pub use crate::account::{Account, account_of, used_by_refreservation};
 pub use crate::ledger::Ledger;

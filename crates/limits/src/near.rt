@@ -73,6 +73,19 @@ impl Near {
         self.last = place;
     }
 
+    /// The file system at that place is gone: what stood behind it stands one place before. It costs the number of places.
+    pub fn close(&mut self, place: usize) {
+        for near in self.parents.iter_mut() {
+            if *near > place {
+                *near -= 1;
+            }
+        }
+        if place < self.parents.len() {
+            self.parents[place..].rotate_left(1);
+        }
+        self.last = 0;
+    }
+
     // Where this name stands among those before a place and above it, or else any place. It costs the levels between.
     fn up_to(&self, file_systems: &[Arc<FileSystem>], name: &[u8], place: usize) -> usize {
         let mut at = place.saturating_sub(1);

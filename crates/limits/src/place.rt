@@ -1,34 +1,33 @@
 //! Where file systems stand in a table.
-ghost use Rattle.std.specs.Prelude.{◌≡◌, ◌<◌, [], None, IfSome, IfNone, slice_index_or};
+ghost use Rattle.std.specs.Prelude.{◌≡◌, ◌<◌, [], None, IfSome, IfNone, IfOk, IfErr, OnErr, slice_index_or};
 ghost use Rattle.std.specs.FinMap.{get, entries, keys, len};
 ghost use Rattle.base.specs.Names.{parent_of as parent_name};
-ghost use Rattle.datasets.specs.Places.{IsAt};
+ghost use Rattle.datasets.specs.Places.{IsAt, IsGapFor};
 ghost use Rattle.limits.specs.Places.{IsParentAt};
 
 use crate::parent::parent_of;
 use datasets::Table;
 
-/// Where the file system of this name stands, in byte order of the names, or none where it isn't there. It costs the logarithm of their
-/// number.
-pub fn place_of(table: &Table, name: &[u8]) -> Option<usize>
-    ensures some { IfSome result (IsAt (entries table.now.file_systems) name.now) }
-    ensures none { IfNone result (get table.now.file_systems name.now ≡ None) }
+/// Where the file system of this name stands, in byte order of the names, or else where it would. It costs the logarithm of their number.
+pub fn place_of(table: &Table, name: &[u8]) -> Result<usize, usize>
+    ensures ok { IfOk result (IsAt (entries table.now.file_systems) name.now) }
+    ensures gap { IfErr result (IsGapFor (entries table.now.file_systems) name.now) }
+    ensures none { OnErr result (get table.now.file_systems name.now ≡ None) }
 {
     table
         .file_systems()
         .binary_search_by(|file_system| file_system.compare(name))
-        .ok()
 }
 
-/// The same, but it looks at this place first, whatever stands there: where that is it, it costs the length of the name, and else what
-/// `place_of` does.
+/// Where the file system of this name stands, or none where it isn't there. It looks at this place first, whatever stands there: where that is
+/// it, it costs the length of the name, and else what `place_of` does.
 pub fn place_near(table: &Table, name: &[u8], near: usize) -> Option<usize>
     ensures some { IfSome result (IsAt (entries table.now.file_systems) name.now) }
     ensures none { IfNone result (get table.now.file_systems name.now ≡ None) }
 {
     match table.file_systems().get(near) {
         Some(file_system) if file_system.name().as_bytes() == name => Some(near),
-        _ => place_of(table, name),
+        _ => place_of(table, name).ok(),
     }
 }
 

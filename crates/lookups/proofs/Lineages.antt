@@ -1,5 +1,5 @@
 -- The walk down a lineage, a file system at a time.
-use Rattle.std.proofs.Common.{◌≡◌, ℕ, ◌+◌, ◌<◌, ◌≤◌, ◌^◌, ◌||◌, true, false, List, [], ◌∷◌, ◌++◌, Option, Some, None, map, refl, sym, ap, subst, ◌∙◌, true≢false, inl, inr, ⊎_elim, append_assoc, append-nil, length, ◌*◌, arith}
+use Rattle.std.proofs.Common.{◌≡◌, ℕ, ◌+◌, ◌<◌, ◌≤◌, ◌^◌, ◌||◌, true, false, List, [], ◌∷◌, ◌++◌, Option, Some, None, map, refl, sym, ap, subst, ◌∙◌, true≢false, inl, inr, ⊎_elim, append_assoc, append-nil, length, arith}
 use Rattle.std.specs.Prelude.{min, nat_lt, IfNone, ◌-◌}
 use Rattle.std.specs.List.{list_any, sum_by}
 use Rattle.std.specs.Option.{option_map, option_map_or}
@@ -48,8 +48,8 @@ abbrev pub top : ℕ
 top = 2 ^ 64 - 1
 
 -- A walk down from a dataset in search of a snapshot stands at the one that comes next after the older snapshots of this file system: what is
--- older than that is what is left to search, and the dead lists of those that were passed have so many entries, and two segments at most
--- that were reached
+-- older than that is what is left to search, and the dead lists of those that were passed have so many entries, and one segment at most
+-- that was reached
 pub record IsAt (t : Datasets) (from : Dataset) (id : SnapId) (r : Row) (until : Option ℕ) (gone reached : ℕ) : Type 0 where
   pub row : r ≡ row_in t.file_systems (r.name, r.system)
   pub at : get t.file_systems r.name ≡ Some r.system
@@ -61,7 +61,7 @@ pub record IsAt (t : Datasets) (from : Dataset) (id : SnapId) (r : Row) (until :
   pub sum : ℕ
   pub gone_is : gone ≡ min top sum
   pub passed : ℕ
-  pub few : reached ≤ 2 * passed
+  pub few : reached ≤ passed
   pub joins :
       (ids : List SnapId) → IsPath (world_of t) id ids (next_in r.name newer)
       → (all : List SnapId) × IsPath (world_of t) id all from × (dead_by (world_of t) id.group (on_path all from) ≡ dead_by (world_of t) id.group (on_path ids (next_in r.name newer)) + sum)
@@ -120,7 +120,7 @@ module _ (t : Datasets) (sound : IsTable t) (from : Dataset) (id : SnapId) (owne
   -- where the walk has come, and what the stretch before it counts
   found_at : (mid : List Snap) (o : SnapId) (rest : ℕ) → o ≡ id → (past : List Snap) → r.system.snaps ≡ past ++ (mid ++ now.newer) → newest_or_origin r.system past ≡ Some o
       → rest ≡ min top (dead_by (world_of t) id.group (with_next r.name mid now.newer)) → (total : ℕ) → total ≡ min (gone + rest) top
-      → (all : ℕ) → all ≤ reached + 2 * length (with_next r.name mid now.newer) → IsFound t from id total all
+      → (all : ℕ) → all ≤ reached + length (with_next r.name mid now.newer) → IsFound t from id total all
   found_at mid o rest is past snaps_are newest rest_is total total_is all few =
       let p = subst (λ i. IsPath (world_of t) i (map id_of mid) (next_in r.name now.newer)) is (path_in (world_of t) sound.systems r.name r.system now.at past mid now.newer snaps_are o newest) in
       let j = now.joins (map id_of mid) p in
@@ -186,7 +186,7 @@ module _ (t : Datasets) (sound : IsTable t) (from : Dataset) (id : SnapId) (owne
       list_count = ap (λ x. length (dead_between None until x)) now.row ∙ gone_many t sound r.name r.system now.at None until [] now.older now.newer now.snaps_are whole
 
       -- the origin is it
-      pub found_below : o ≡ id → (total : ℕ) → total ≡ min (gone + rest) top → (all : ℕ) → all ≤ reached + 2 * length (dead_between None until r) → IsFound t from id total all
+      pub found_below : o ≡ id → (total : ℕ) → total ≡ min (gone + rest) top → (all : ℕ) → all ≤ reached + length (dead_between None until r) → IsFound t from id total all
       found_below is total total_is all few =
           found_at now.older o rest is [] now.snaps_are origin rest_counts total total_is all (let n = list_count in omega (arith, few, n))
 
@@ -201,7 +201,7 @@ module _ (t : Datasets) (sound : IsTable t) (from : Dataset) (id : SnapId) (owne
 
       -- the walk goes on from the origin, which is newer
       pub goes_on : id.group < o.group → (next : Row) (u : Snap) → IsPlace t next (Some u) → id_of u ≡ o → (total : ℕ) → total ≡ min (gone + rest) top
-          → (all : ℕ) → all ≤ reached + 2 * length (dead_between None until r) → IsAt t from id next (Some o.group) total all
+          → (all : ℕ) → all ≤ reached + length (dead_between None until r) → IsAt t from id next (Some o.group) total all
       goes_on high next u place is total total_is all few =
           let parts = split_at next.system.snaps u place.snap in
           let g = now.gone_is in
@@ -318,7 +318,7 @@ module _ (t : Datasets) (sound : IsTable t) (from : Dataset) (id : SnapId) (owne
           lt-ltb id.group x.group (omega (arith, l, e)))
 
       pub found_here : (rest : ℕ) → rest ≡ min top (sum_by (λ (g : Gone). len (upto id.group g.blocks)) (dead_between (Some id.group) until r))
-          → (total : ℕ) → total ≡ min (gone + rest) top → (all : ℕ) → all ≤ reached + 2 * length (dead_between (Some id.group) until r) → IsFound t from id total all
+          → (total : ℕ) → total ≡ min (gone + rest) top → (all : ℕ) → all ≤ reached + length (dead_between (Some id.group) until r) → IsFound t from id total all
       found_here rest rest_is total total_is all few =
           found_at parts.1 (id_of home.snap) rest home.is past parted (newest_last r.system parts.0 home.snap)
           (rest_is ∙ ap (min top) (ap (λ x. sum_by (λ (g : Gone). len (upto id.group g.blocks)) (dead_between (Some id.group) until x)) now.row

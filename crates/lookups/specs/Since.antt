@@ -1,5 +1,5 @@
 -- A dataset and a snapshot of its lineage.
-use Rattle.std.specs.Prelude.{◌≡◌, ◌≤◌, ℕ, Bool, not, false, ◌||◌, List, [], ◌∷◌, Option, None, Some, is_some, length, min, ◌-◌, ◌*◌, ◌^◌}
+use Rattle.std.specs.Prelude.{◌≡◌, ◌≤◌, ℕ, Bool, not, false, ◌||◌, List, [], ◌∷◌, Option, None, Some, is_some, length, min, ◌-◌, ◌^◌}
 use Rattle.std.specs.List.{list_any}
 use Rattle.std.specs.Option.{option_map, option_map_or, option_and_then}
 use Rattle.std.specs.FinMap.{get}
@@ -50,12 +50,12 @@ pub record IsDeadSince (t : Datasets) (d : Dataset) (id : SnapId) (gone : ℕ) :
   pub path : IsPath (world_of t) id ids d
   pub counted : gone ≡ min (2 ^ 64 - 1) (dead_by (world_of t) id.group (on_path ids d))
 
--- The snapshot is of the dataset's lineage; and no more segments were reached than two for each dead list of the datasets after it up to
+-- The snapshot is of the dataset's lineage; and no more segments were reached than one for each dead list of the datasets after it up to
 -- this one (On-Disk Specification, chapter 4: ds_deadlist_obj; segments are profile)
 pub record HasReached (t : Datasets) (d : Dataset) (id : SnapId) (reached : ℕ) : Type 0 where
   pub ids : List SnapId
   pub path : IsPath (world_of t) id ids d
-  pub few : reached ≤ 2 * length (on_path ids d)
+  pub few : reached ≤ length (on_path ids d)
 
 -- the same of the dataset and the snapshot of these names (zfsprops(7): written@snapshot; segments are profile)
 pub record HasReachedNamed (t : Datasets) (target : Target) (since : Member) (reached : ℕ) : Type 0 where

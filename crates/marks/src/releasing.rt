@@ -18,7 +18,7 @@ use base::name::{Member, Tag, Target};
 use base::refusal::Refusal;
 use datasets::Table;
 use destroyer::Freeing;
-use removals::Edit;
+use removals::WorkingCopy;
 use snapshots::holds::Holds;
 use std::alloc::Global;
 use std::sync::Arc;
@@ -30,7 +30,7 @@ use views::Views;
 /// the tag; NoMemory, where there is none for it, may come before this last one. At `Err` the table and what it has to free are as they
 /// were. It costs the logarithms of the numbers of file systems and of snapshots, a walk over the chunks of the snapshots of one, and the
 /// bytes of the snapshot's tags, which are at most 256; where the snapshot's destroy is deferred also the number of open views; and where
-/// it goes what `Edit::of` and `Edit::remove_snapshot` do.
+/// it goes what `WorkingCopy::of` and `WorkingCopy::remove_snapshot` do.
 pub fn release(
     alloc: Global,
     table: &mut Table,
@@ -90,7 +90,7 @@ fn is_due_with(table: &Table, views: &Views, target: &Target, tags: &Holds) -> b
 }
 
 // Lets the snapshot of this name go, which is there and has no clone: what no dataset has then is to be freed. NoMemory where there is none
-// for it, and then the table and what it has to free are as they were. It costs what `Edit::of` and `Edit::remove_snapshot` do.
+// for it, and then the table and what it has to free are as they were. It costs what `WorkingCopy::of` and `WorkingCopy::remove_snapshot` do.
 fn lose(
     alloc: Global,
     table: &mut Table,
@@ -107,7 +107,7 @@ fn lose(
     ensures kept { OnErr result (freeing.new ≡ freeing.old) }
     ensures err { IfErr result (λ e. e ≡ Refusal.NoMemory) }
 {
-    let mut edit = Edit::of(table, freeing)?;
+    let mut edit = WorkingCopy::of(table, freeing)?;
     edit.remove_snapshot(alloc, name, segments)?;
     edit.put(table, freeing);
     Ok(())

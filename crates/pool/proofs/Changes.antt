@@ -10,7 +10,9 @@ use Rattle.base.specs.declared.refusal.Refusal.{Refusal}
 use Rattle.base.specs.declared.refusal.Refusal.TheVariants.{NoDataset, NoSpace, NoMemory, BadKey}
 use Rattle.zalloc.specs.declared.BlockState.{BlockState}
 use Rattle.batch.specs.declared.update.Update.{Update}
-use Rattle.batch.specs.Updates.{IsBatch}
+use Rattle.batch.specs.Updates.{IsBatch, first_of}
+use Rattle.image.specs.PathWrites.{block_on}
+use Rattle.tree.specs.declared.block.Root.{Root}
 use Rattle.tree.specs.Updates.{changes_of}
 use Rattle.tree.specs.Change.{HasRoom, LacksRoom}
 use Rattle.tree.specs.declared.change.Changed.{Changed}
@@ -32,11 +34,15 @@ use Rattle.steps.proofs.requests.Changing.{change_no_memory, change_no_dataset, 
 use Rattle.steps.proofs.questions.Names.{found, absent, is_snapshot}
 use Rattle.steps.proofs.numbers.Putting.{release_them, take_them}
 use Rattle.steps.proofs.asked.Settled.{can_settle}
-use Rattle.steps.proofs.requests.Writing.{allows, written_can, written_can_within, written_unlimited, written_done, written_done_within, write_refused, write_refused_within, write_refused_by_limit}
+use Rattle.steps.proofs.requests.Writing.{IsThere, there_or, allows, written_can, written_can_within, written_unlimited, written_done, written_done_within, write_refused, write_refused_within, write_refused_by_limit}
 use Rattle.pool.specs.Asked.{Asks}
 use Rattle.pool.specs.Effects.{MaySettle}
+use Rattle.pool.specs.Images.{LeadsTo}
+use Rattle.pool.specs.Imaging.{IsPathOf, IsWrittenAs}
 use Rattle.pool.specs.Pools.{IsSound}
 use Rattle.pool.specs.declared.effect.Effect.TheVariants.{Blocks}
+use Rattle.pool.specs.declared.imaging.Writes.{Writes}
+use Rattle.pool.proofs.OneUpdate.{update_may, update_leads}
 
 -- no update
 abbrev update_error : Refusal → Result Update Refusal
@@ -160,8 +166,22 @@ module _ (s : State) (numbers : List BlockState) (sound : IsSound s numbers) whe
           → Foretells s name (changes_of (u ∷ [])) outlook → CanSettle (datasets_of s) new name lines outlook
       settles_now = can_settle s sound.steady numbers sound.states name (changes_of (u ∷ [])) new done (here (Ok done) applied).ok can_now.steady there
 
-      pub may_settle : MaySettle s.last s.size numbers (Blocks done)
-      may_settle = (release_them s sound.steady numbers sound.states new _ _ can_now, take_them s sound.steady numbers sound.states new _ _ can_now)
+      -- the file system that has changed
+      system : IsThere s name
+      system = ⊎_elim (λ here. here) (λ none. absurd (there none)) (there_or s name)
+
+      -- what that leaves to be written
+      module _ (batch : IsBatch (u ∷ [])) (path : List (Option Root)) (was : IsPathOf (live_of s.now.file_systems name) (first_of u) (block_on path)) (writes : Writes)
+          (written : IsWrittenAs (live_of new.file_systems name) u path writes) where
+        pub may_settle : MaySettle s.last s.size numbers (Blocks done writes)
+        may_settle = (
+          release_them s sound.steady numbers sound.states new _ _ can_now,
+          take_them s sound.steady numbers sound.states new _ _ can_now,
+          update_may s numbers sound name system.system system.is u batch new done (here (Ok done) applied).ok can_now.steady path was writes written,
+        )
+
+        pub leads_now : LeadsTo s (with_datasets s new) writes
+        leads_now = update_leads s numbers sound name system.system system.is u batch new done (here (Ok done) applied).ok can_now.steady path was writes written
 
       pub done_now : (q : Request) → Asks q (OfFileSystem name) (Ok u) → Step s q Done (with_datasets s new)
       done_now q asks =

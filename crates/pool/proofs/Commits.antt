@@ -11,10 +11,11 @@ use Rattle.model.specs.World.{SnapId, union_of, reach_of}
 use Rattle.world.specs.Tables.{Datasets, world_of}
 use Rattle.steps.specs.Settles.{releases}
 use Rattle.steps.specs.Steady.{IsSteady}
-use Rattle.steps.specs.Edits.{datasets_of, with_datasets, put, lose, with_freeing, synced, viewing, closed, gone_back, CanPut, CanLose, CanFree, CanChange, CanSync}
+use Rattle.steps.specs.Edits.{datasets_of, with_datasets, put, lose, with_freeing, synced, viewing, closed, CanPut, CanLose, CanFree, CanChange, CanSync}
 use Rattle.steps.specs.Received.{put_freeing, CanReceive}
 use Rattle.steps.proofs.quotas.Balanced as balanced
 use Rattle.steps.proofs.numbers.Known.{states_of, of_states, are_known}
+use Rattle.steps.proofs.requests.Abandoning.{gone_back}
 use Rattle.steps.proofs.requests.Losing.{lose_states}
 use Rattle.steps.proofs.questions.Properties.{are_balanced}
 use Rattle.steps.proofs.numbers.Putting.{put_states, kept_states}

@@ -1,7 +1,13 @@
 -- What a receive makes of a world.
-use Rattle.std.proofs.Common.{◌≡◌, ◌<◌, ◌^◌, ℕ, List, Bool, Option, None, Ok, false, subst}
+use Rattle.std.proofs.Common.{◌≡◌, ◌<◌, ◌^◌, ℕ, List, Bool, Option, None, Ok, false, map, subst}
 use Rattle.std.specs.FinSet as set
+use Rattle.std.specs.declared.alloc.Global.{Global}
+use Rattle.std.specs.declared.vec.Vec.{Vec}
 use Rattle.base.specs.declared.name.member.Member.{Member}
+use Rattle.base.specs.declared.number.BlockNo.{BlockNo}
+use Rattle.datasets.specs.Rows.{live_of}
+use Rattle.image.specs.BlockWrites.{writes_of, written_pair}
+use Rattle.tree.specs.ChangeParts.{made_pair}
 use Rattle.zalloc.specs.declared.BlockState.{BlockState}
 use Rattle.model.specs.Numbers.{HasStates}
 use Rattle.model.specs.State.{State}
@@ -12,6 +18,7 @@ use Rattle.accounts.specs.Limits.{IsUnlimited}
 use Rattle.steps.specs.Edits.{datasets_of}
 use Rattle.steps.specs.Handed.{IsAccounted, Line}
 use Rattle.steps.specs.Intakes.{IsPresent, IsIntakeOf}
+use Rattle.steps.specs.Limiting.{CanRecount}
 use Rattle.steps.specs.Received.{put_freeing}
 use Rattle.steps.specs.declared.intake.Intake.{Intake}
 use Rattle.steps.specs.declared.intake.Present.{Present}
@@ -21,6 +28,10 @@ use Rattle.pool.specs.declared.keep.Keep.{Keep}
 use Rattle.pool.specs.declared.worlds.World.{World}
 use Rattle.pool.specs.Effects.{IsPerformed, numbers_after}
 use Rattle.pool.specs.Pools.{state_in, IsSound, IsHeld}
+use Rattle.pool.specs.Imaging.{ArePresent}
+use Rattle.pool.specs.declared.imaging.Writes.{Writes}
+use Rattle.pool.specs.declared.imaging.Writes.TheVariants.{Idle, Each}
+use Rattle.pool.proofs.NewBlocks.{present as present_blocks, each_may, each_leads}
 use Rattle.pool.proofs.Commits.{few, sound_received}
 use Rattle.pool.proofs.Performed.{unlimited}
 
@@ -41,25 +52,36 @@ module _ (k : Keep) (w : World) (held : IsHeld k w) (m : Member) (bytes : List �
   abbrev s : State
   s = state_in k w
 
-  sound : IsSound (put_freeing s i.to i.freeing) (numbers_after s.last s.size k.numbers.present (Blocks i.done))
-  sound = sound_received s k.numbers.present held.sound i.to i.freeing _ _ is.can
+  sound : (writes : Writes) → IsSound (put_freeing s i.to i.freeing) (numbers_after s.last s.size k.numbers.present (Blocks i.done writes))
+  sound writes = sound_received s k.numbers.present held.sound i.to i.freeing _ _ is.can
 
   pub intake_few : set.len (union_of (world_of i.to)) < 2 ^ 32
-  intake_few = few (put_freeing s i.to i.freeing) (numbers_after s.last s.size k.numbers.present (Blocks i.done)) sound
+  intake_few = few (put_freeing s i.to i.freeing) (numbers_after s.last s.size k.numbers.present (Blocks i.done Idle)) (sound Idle)
 
   pub intake_bare : w.ledger ≡ None → IsUnlimited i.to.file_systems
   intake_bare none = is.unlimited (unlimited k w held none)
 
+  -- the live tree has a block at each key that the receive tells
+  pub intake_present : ArePresent (live_of i.to.file_systems m.file_system) i.done.made.items
+  intake_present = present_blocks s held.sound.steady.good m force is.sent i is.made is.can.steady.good
+
+  -- the ledger that is kept can be brought up to date
+  pub intake_counted : CanRecount (datasets_of s) i.to m.file_system w.ledger
+  intake_counted = record { kept = held.now; hierarchy = held.sound.steady.good.now.systems.hierarchy; differs = is.one }
+
   pub intake_performed : (ledger : Option (List Line)) → IsAccounted i.to ledger
-      → IsPerformed s k.numbers.present (record { table = i.to; freeing = i.freeing; ledger = ledger }) (Receive m bytes force) (Ok (Blocks i.done))
-  intake_performed ledger kept = (
+      → (blocks : Vec (BlockNo × List ℕ) Global) → map written_pair blocks.items ≡ writes_of (live_of i.to.file_systems m.file_system) (map made_pair i.done.made.items)
+      → IsPerformed s k.numbers.present (record { table = i.to; freeing = i.freeing; ledger = ledger }) (Receive m bytes force) (Ok (Blocks i.done (Each blocks)))
+  intake_performed ledger kept blocks told = (
     record {
-      sound = sound;
+      sound = sound (Each blocks);
       kept = kept;
       may = (
         receive_release s held.sound.steady k.numbers.present held.sound.states i.to i.freeing _ _ is.can,
         receive_take s held.sound.steady k.numbers.present held.sound.states i.to i.freeing _ _ is.can,
+        each_may s held.sound.steady.good m force is.sent i is.made is.can.steady.good blocks told,
       );
+      leads = each_leads s held.sound.steady.good m force is.sent i is.made is.can.steady.good blocks told;
     },
     is.step,
   )

@@ -11,3 +11,10 @@ pub mod Slicing
 pub mod Sights
 pub mod Intakes
 pub mod Synced
+pub mod Kept
+pub mod OneUpdate
+pub mod NewBlocks
+pub mod Imaged
+pub mod LiveTrees
+pub mod Done
+pub mod AllRoots

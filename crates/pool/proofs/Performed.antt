@@ -86,7 +86,7 @@ module _ (k : Keep) (w : World) (held : IsHeld k w) where
       pub placed_with : (ledger : Option (List Line)) → IsAccounted to ledger → (q : Request) → Step s q Done (put s x guids) → (next : ℕ) → next ≡ s.next_guid + guids
           → IsPerformed s k.numbers.present (record w { table = to; ledger = ledger }) q (Ok (Guids next))
       placed_with ledger kept q step next e = (
-        record { sound = subst (λ n. IsSound (record (with_datasets s to) { next_guid = n }) k.numbers.present) (sym e) sound; kept = kept; may = tt },
+        record { sound = subst (λ n. IsSound (record (with_datasets s to) { next_guid = n }) k.numbers.present) (sym e) sound; kept = kept; may = tt; leads = tt },
         subst (λ n. Step s q Done (record (with_datasets s to) { next_guid = n })) (sym e) (subst (λ t. Step s q Done (put s t guids)) (sym is) step),
       )
 
@@ -100,7 +100,7 @@ module _ (k : Keep) (w : World) (held : IsHeld k w) where
       pub placed : (ledger : Option (List Line)) → IsAccounted to ledger → (q : Request) → Step s q Done (put s x 0)
           → IsPerformed s k.numbers.present (record w { table = to; ledger = ledger }) q (Ok Nothing)
       placed ledger kept q step = (
-        record { sound = subst (λ y. IsSound y k.numbers.present) (put_none s to) (sound 0 fits_none can); kept = kept; may = tt },
+        record { sound = subst (λ y. IsSound y k.numbers.present) (put_none s to) (sound 0 fits_none can); kept = kept; may = tt; leads = tt },
         subst (Step s q Done) (put_none s to) (subst (λ t. Step s q Done (put s t 0)) (sym is) step),
       )
 
@@ -123,6 +123,7 @@ module _ (k : Keep) (w : World) (held : IsHeld k w) where
         sound = subst (λ (y : BlockSet). IsSound (with_now s (record (world_of to) { freeing = y })) k.numbers.present) (sym freed) lost_sound;
         kept = kept;
         may = tt;
+        leads = tt;
       },
       subst (λ (y : BlockSet). Step s q Done (with_now s (record (world_of to) { freeing = y }))) (sym freed) (subst (λ t. Step s q Done (lose s t)) (sym is) step),
     )

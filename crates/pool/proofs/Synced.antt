@@ -19,6 +19,7 @@ use Rattle.model.specs.declared.request.Request.TheVariants.{Sync, Abandon, Clos
 use Rattle.model.specs.declared.reply.Reply.TheVariants.{Done, Group}
 use Rattle.model.specs.declared.snapshot_id.SnapshotId.{SnapshotId}
 use Rattle.zalloc.specs.States.{after_group}
+use Rattle.zalloc.specs.declared.BlockState.{BlockState}
 use Rattle.world.specs.Sets.{Has, AreDisjoint}
 use Rattle.world.specs.Tables.{Datasets, world_of, lost_between}
 use Rattle.world.proofs.changes.Kept.{union-fields}
@@ -26,13 +27,13 @@ use Rattle.accounts.specs.Limits.{IsUnlimited}
 use Rattle.removals.specs.Edits.{HasLost}
 use Rattle.removals.specs.Named.{has_clone}
 use Rattle.removals.specs.Requests.{swept, IsSweptBy, IsSweptBut}
-use Rattle.steps.specs.Edits.{datasets_of, lose, synced, closed, gone_back, CanLose, CanSync}
+use Rattle.steps.specs.Edits.{datasets_of, lose, synced, closed, CanLose, CanSync}
 use Rattle.steps.specs.Handed.{IsAccounted, Line}
 use Rattle.steps.proofs.numbers.Freeing.{joined_losses}
 use Rattle.steps.proofs.asked.Asked.{nothing_kept}
 use Rattle.steps.proofs.numbers.Known.{states_of, known_are}
 use Rattle.steps.proofs.requests.Syncing.{sync_done}
-use Rattle.steps.proofs.requests.Abandoning.{back_can, back_unlimited, abandon_done}
+use Rattle.steps.proofs.requests.Abandoning.{gone_back, back_can, back_unlimited, abandon_done}
 use Rattle.pool.specs.declared.effect.Effect.TheVariants.{Synced, Abandoned, Closed}
 use Rattle.pool.specs.declared.keep.Keep.{Keep}
 use Rattle.pool.specs.declared.worlds.World.{World}
@@ -108,6 +109,7 @@ module _ (k : Keep) (w : World) (held : IsHeld k w) where
           swept = subst (λ (t : Datasets). IsSweptBut t (map snap_id viewed.items)) (sym next) (swept_but w.table k.views.opened (map snap_id viewed.items) shows (clean k w held));
           states = left_numbers;
         };
+        leads = tt;
       },
       subst (λ g. Step s Sync (Group g) (effected (with_now s (world_in (record w { table = now }))) (Synced (record copy { table = last }) viewed))) (sym (ap (λ (t : Datasets). t.group) next))
           (subst (Step s Sync (Group (s.now.group + 1))) is (sync_done s held.sound.steady last can)),
@@ -154,6 +156,7 @@ module _ (k : Keep) (w : World) (held : IsHeld k w) where
           sound = subst (λ (y : BlockSet). IsSound (with_now s (record (world_of to) { freeing = y })) (synced_numbers s.size s.last)) (sym freed_back) back_sound;
           kept = kept;
           may = tt;
+          leads = tt;
         },
         subst (λ (y : BlockSet). Step s Abandon Done (with_now s (record (world_of to) { freeing = y }))) (sym freed_back)
             (subst (λ t. Step s Abandon Done (lose (gone_back s) t)) gone_is (abandon_done s held.sound.steady none)),
@@ -178,6 +181,7 @@ module _ (k : Keep) (w : World) (held : IsHeld k w) where
         sound = subst (λ (y : BlockSet). IsSound (closed (with_now s (record (world_of to) { freeing = y })) number) k.numbers.present) (sym freed) (sound_swept s k.numbers.present held.sound number to gone);
         kept = kept;
         may = tt;
+        leads = tt;
       },
       subst (λ (y : BlockSet). Step s (CloseView number) Done (closed (with_now s (record (world_of to) { freeing = y })) number)) (sym freed)
           (close_done s k.numbers.present held.sound number to to_is x found there),

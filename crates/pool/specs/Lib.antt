@@ -1,7 +1,11 @@
 pub mod Shown
+pub mod Numbers
+pub mod Imaging
+pub mod Images
 pub mod Pools
 pub mod Kinds
 pub mod Reached
 pub mod Effects
 pub mod Plans
 pub mod Asked
+pub mod Roots

@@ -1,18 +1,18 @@
 -- What a pool keeps between two steps.
 use Rattle.std.specs.Prelude.{◌≡◌, ◌+◌, ◌≤◌, ◌<◌, ◌^◌, ℕ, Some, List, map}
-use Rattle.std.specs.List.{range_with_len}
 use Rattle.std.specs.FinMap.{get}
 use Rattle.zalloc.specs.declared.BlockState.{BlockState}
 use Rattle.model.specs.State.{State, Views}
 use Rattle.model.specs.Targets.{guid_limit}
 use Rattle.model.specs.Numbers.{HasStates}
 use Rattle.model.specs.Ids.{snap_id}
-use Rattle.model.specs.World.{World as OneWorld, SnapId, reach_of}
+use Rattle.model.specs.World.{World as OneWorld, SnapId}
 use Rattle.world.specs.Tables.{world_of}
 use Rattle.removals.specs.Requests.{IsSweptBut}
 use Rattle.steps.specs.Handed.{IsAccounted}
-use Rattle.steps.specs.Settles.{state_at}
 use Rattle.steps.specs.Steady.{IsSteady}
+use Rattle.pool.specs.Images.{IsImageOf}
+pub use Rattle.pool.specs.Numbers.{synced_numbers}
 use Rattle.pool.specs.Shown.{Shown, shown}
 use Rattle.pool.specs.declared.worlds.World.{World}
 use Rattle.pool.specs.declared.keep.Keep.{Keep}
@@ -36,7 +36,7 @@ state_in k w = record {
 
 -- what contracts see of a pool of these (profile)
 abbrev pub shown_in : Keep → World → Meters → Shown
-shown_in k w m = shown (state_in k w) k.numbers.present m.blocks m.segments
+shown_in k w m = shown (state_in k w) k.numbers.present k.image m.blocks m.segments
 
 -- the facts of the worlds hold, each number has the state that the worlds give it, the counter of guids is no further than past its last
 -- number, and blocks can be counted (profile)
@@ -54,12 +54,9 @@ IsKept w = IsAccounted w.table w.ledger
 abbrev pub AreBelow : Views → ℕ → Type 0
 AreBelow views next = (v : ℕ) (id : SnapId) → get views v ≡ Some id → v < next
 
--- the states of so many numbers where this is the present world and the last synced one (profile)
-abbrev pub synced_numbers : ℕ → OneWorld → List BlockState
-synced_numbers size w = map (state_at (reach_of w) (reach_of w)) (range_with_len 0 size)
-
 -- the pool is sound with this present world, both worlds have their ledgers, no open view has a number that is still to be given, the states
--- of the last sync are those that its world gives, and no snapshot of that waited for a sweep but for a view (profile)
+-- of the last sync are those that its world gives, no snapshot of that waited for a sweep but for a view, and the image is that of both
+-- worlds (profile)
 pub record IsHeld (k : Keep) (w : World) : Type 0 where
   pub sound : IsSound (state_in k w) k.numbers.present
   pub now : IsKept w
@@ -67,3 +64,4 @@ pub record IsHeld (k : Keep) (w : World) : Type 0 where
   pub views : AreBelow k.views.opened k.views.next
   pub synced : k.numbers.synced ≡ synced_numbers k.size (world_in k.last)
   pub swept : IsSweptBut k.last.table (map snap_id k.viewed.items)
+  pub image : IsImageOf (state_in k w) k.image

@@ -7,9 +7,10 @@ ghost use Rattle.model.specs.declared.reply.Reply.{Reply};
 ghost use Rattle.model.specs.Step.{Step};
 ghost use Rattle.pool.specs.Asked.{Asks};
 ghost use Rattle.pool.specs.Pools.{state_in, IsHeld};
-ghost use Rattle.pool.specs.Effects.{IsPerformed};
+ghost use Rattle.pool.specs.Effects.{IsPerformed, WritesBlocks};
 
 use crate::effect::Effect;
+use crate::imaging::{first_leaf, path_in, writes_after};
 use crate::keep::{Keep, Meters};
 use crate::worlds::World;
 use base::name::{DsName, Target};
@@ -20,8 +21,9 @@ use steps::{ask_change, live_name, settle};
 use tree::Update;
 
 impl Keep {
-    /// Puts this update of the live tree of a file system in force, once the limits hold with it. What it drops is released, and its numbers
-    /// taken, when the effect is settled. At `Err` the world is as it was. It costs the path to the leaf, or the object's nodes.
+    /// Puts this update of the live tree of a file system in force, once the limits hold with it. What it drops is released, its numbers are
+    /// taken, and its blocks written, when the effect is settled. At `Err` the world is as it was. It costs the path to the leaf, or the
+    /// object's nodes.
     pub(crate) fn change(
         &self,
         alloc: Global,
@@ -33,6 +35,7 @@ impl Keep {
         requires held { IsHeld self.now world.old }
         requires batch { IfOk update (λ u. IsBatch (u ∷ [])) }
         ensures performed { (q : Request) → Asks q target.now update.entry → IsPerformed (state_in self.now world.old) self.now.numbers.present world.new q result }
+        ensures blocks { IfOk result WritesBlocks }
         ensures unchanged { OnErr result (world.new ≡ world.old) }
     {
         let name = live_name(&world.table, target)?;
@@ -51,6 +54,8 @@ impl Keep {
             &update,
             &mut meters.blocks,
         )?;
+        let leaf = first_leaf(&update);
+        let before = path_in(&world.table, name, leaf, &mut meters.blocks);
         let done = world.table.apply_live(
             name,
             alloc,
@@ -61,7 +66,8 @@ impl Keep {
             &mut meters.segments,
         )?;
         settle(&mut world.ledger, &world.table, name, outlook);
-        Ok(Effect::Blocks { done })
+        let writes = writes_after(&world.table, name, &update, before, &mut meters.blocks);
+        Ok(Effect::Blocks { done, writes })
     }
 
     // Why nothing is changed where no update is asked for, since numbers are outside their limits: that there is no such file system comes

@@ -12,7 +12,7 @@ use base::name::{DsName, Target};
 use base::refusal::Refusal;
 use snap::clones::{clone_snapshot, promote};
 use std::alloc::Global;
-use steps::add_line;
+use steps::recount;
 
 impl Keep {
     /// Adds a file system of this name. At `Err` the world is as it was. It costs what `Table::create` does.
@@ -25,7 +25,7 @@ impl Keep {
             return Err(refusal);
         }
         world.table.create(name)?;
-        add_line(&mut world.ledger, &world.table, name);
+        recount(&mut world.ledger, &world.table, name);
         Ok(Effect::Nothing)
     }
 
@@ -41,7 +41,7 @@ impl Keep {
         ensures unchanged { OnErr result (world.new ≡ world.old) }
     {
         clone_snapshot(&mut world.table, target, name)?;
-        add_line(&mut world.ledger, &world.table, name);
+        recount(&mut world.ledger, &world.table, name);
         Ok(Effect::Nothing)
     }
 

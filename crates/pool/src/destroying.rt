@@ -1,11 +1,12 @@
 //! Destroys and rollbacks.
-ghost use Rattle.std.specs.Prelude.{◌≡◌, ◌<◌, ◌^◌, false, None, OnErr};
+ghost use Rattle.std.specs.Prelude.{◌≡◌, ◌<◌, ◌^◌, ℕ, List, true, false, None, OnErr};
 ghost use Rattle.std.specs.FinSet as set;
 ghost use Rattle.base.specs.declared.name.member.Member.{Member};
 ghost use Rattle.base.specs.declared.name.target.Target.{Target};
 ghost use Rattle.model.specs.World.{union_of};
 ghost use Rattle.world.specs.Tables.{Datasets, world_of};
 ghost use Rattle.accounts.specs.Limits.{IsUnlimited};
+ghost use Rattle.removals.specs.Families.{has_deferred_origin};
 ghost use Rattle.steps.specs.Handed.{IsAccounted};
 ghost use Rattle.steps.specs.Limiting.{CanRecount};
 ghost use Rattle.model.specs.declared.request.Request.{Request};
@@ -38,6 +39,7 @@ impl Keep {
         ensures performed { IsPerformed (state_in self.now world.old) self.now.numbers.present world.new (Request.Destroy target.now recursive defer) result }
         ensures unchanged { OnErr result (world.new ≡ world.old) }
     {
+        let alone = is_alone(&world.table, target, recursive);
         destroy(
             alloc,
             &mut world.table,
@@ -49,7 +51,7 @@ impl Keep {
             segments,
         )?;
         world.table.facts();
-        follow_destroy(&mut world.ledger, &world.table, target, recursive);
+        follow_destroy(&mut world.ledger, &world.table, target, alone);
         Ok(Effect::Nothing)
     }
 
@@ -83,20 +85,39 @@ impl Keep {
     }
 }
 
-// The ledger becomes that of these datasets, to which a destroy of that target has led: of one snapshot its file system alone has another
-// account, and of a bookmark none has. It takes no memory. For one snapshot it costs what `recount` does, for a bookmark nothing, and else what
-// `renew` does.
-fn follow_destroy(ledger: &mut Option<Ledger>, table: &Table, target: &Target, recursive: bool)
-    requires snapshot { (m : Member) → target.now ≡ Target.Snapshot m → recursive ≡ false → (old : Datasets) × CanRecount old table.now m.file_system ledger.old }
+// Whether a destroy of the target changes no other file system than the one that it names, nor any other with that: it takes no family, and
+// what it names is no clone, with which a deferred origin might go. It costs the logarithm of the number of file systems.
+fn is_alone(table: &Table, target: &Target, recursive: bool) -> bool
+    ensures one { result ≡ true → recursive ≡ false }
+    ensures origin { result ≡ true → (name : List ℕ) → target.now ≡ Target.FileSystem name → has_deferred_origin table.now name ≡ false }
+{
+    if recursive {
+        return false;
+    }
+    let Target::FileSystem(name) = target else {
+        return true;
+    };
+    match table.find(name) {
+        Some(file_system) => file_system.origin().is_none(),
+        None => true,
+    }
+}
+
+// The ledger becomes that of these datasets, to which a destroy of that target has led, which changed one file system alone or others too. It
+// takes no memory. For one file system it costs what `recount` does, for a bookmark nothing, and else what `renew` does.
+fn follow_destroy(ledger: &mut Option<Ledger>, table: &Table, target: &Target, alone: bool)
+    requires system { (name : List ℕ) → target.now ≡ Target.FileSystem name → alone ≡ true → (old : Datasets) × CanRecount old table.now name ledger.old }
+    requires snapshot { (m : Member) → target.now ≡ Target.Snapshot m → alone ≡ true → (old : Datasets) × CanRecount old table.now m.file_system ledger.old }
     requires bookmark { (m : Member) → target.now ≡ Target.Bookmark m → IsAccounted table.now ledger.old }
     requires unlimited { ledger.old ≡ None → IsUnlimited table.now.file_systems }
     requires few { set.len (union_of (world_of table.now)) < 2 ^ 32 }
     ensures { IsAccounted table.now ledger.new }
 {
     match target {
-        Target::Snapshot(name) if !recursive => {
+        Target::Snapshot(name) if alone => {
             recount(ledger, table, &name.member().file_system);
         }
+        Target::FileSystem(name) if alone => recount(ledger, table, name),
         Target::Bookmark(_) => {}
         _ => renew(ledger, table),
     }

@@ -2,6 +2,7 @@
 ghost use Rattle.std.specs.Prelude.{◌≡◌};
 ghost use Rattle.pool.specs.Effects.{reply_of};
 
+use crate::imaging::Writes;
 use crate::worlds::World;
 use base::number::Dead;
 use model::reply::Reply;
@@ -17,15 +18,17 @@ pub(crate) enum Effect {
     Guids {
         next: u64,
     },
-    /// A live map has changed: blocks are released, and numbers taken.
+    /// A live map has changed: blocks are released, numbers taken, and blocks written into the image.
     Blocks {
         done: Changed,
+        writes: Writes,
     },
     /// Blocks were taken out of what is to be freed, and are released.
     Taken {
         taken: Vec<Dead>,
     },
-    /// The world is synced: this is the last synced one now, the open views show these snapshots, and what waits is free.
+    /// The world is synced: this is the last synced one now, the open views show these snapshots, what waits is free, and the image keeps the
+    /// states that the numbers have then.
     Synced {
         last: World,
         viewed: Vec<SnapshotId>,

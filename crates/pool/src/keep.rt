@@ -6,12 +6,14 @@ ghost use Rattle.removals.specs.Requests.{IsSweptBut};
 ghost use Rattle.steps.specs.Settles.{AllAllocated, releases};
 ghost use Rattle.tree.specs.Taking.{takes, AllFree};
 ghost use Rattle.pool.specs.Pools.{state_in, world_in, synced_numbers, AreBelow, IsKept};
-ghost use Rattle.pool.specs.Effects.{effected, numbers_after, MaySettle};
+ghost use Rattle.pool.specs.Effects.{effected, numbers_after, image_after, MaySettle};
 
 use crate::effect::Effect;
+use crate::imaging::write_down;
 use crate::worlds::World;
 use base::meter::{Meter, SegMeter};
 use base::number::{BlockNo, Dead, Group};
+use image::Image;
 use model::snapshot_id::SnapshotId;
 use views::Views;
 use zalloc::Numbers;
@@ -28,6 +30,8 @@ pub(crate) struct Keep {
     pub(crate) size: u32,
     pub(crate) id: u32,
     pub(crate) numbers: Numbers,
+    /// The blocks of both worlds as bytes.
+    pub(crate) image: Image,
 }
 
 // By hand, so that it is proved once: a derived one is laid out anew in each crate that drops the type.
@@ -41,11 +45,13 @@ impl Drop for Keep {
             size: _,
             id: _,
             numbers,
+            image,
         } = self;
         drop(last);
         drop(viewed);
         drop(views);
         drop(numbers);
+        drop(image);
     }
 }
 
@@ -65,15 +71,17 @@ impl Drop for Meters {
 }
 
 impl Keep {
-    /// Does what a request has left to be done once its world is in place; nothing else changes the states of numbers. It takes no memory. It
-    /// costs the blocks that are released and the numbers that are taken; a sync costs what waits, and what only the world before it reached;
-    /// it and an abandon cost the numbers that have changed since the last sync.
+    /// Does what a request has left to be done once its world is in place; nothing else changes the states of numbers, or the image. It takes
+    /// no memory. It costs the blocks that are released and written, and the numbers that are taken; a sync costs what waits, and what only the
+    /// world before it reached; it and an abandon cost the numbers that have changed since the last sync.
     pub(crate) fn settle(&mut self, effect: Effect)
         requires may { MaySettle (world_in self.old.last) self.old.size self.old.numbers.present effect }
         requires synced { self.old.numbers.synced ≡ synced_numbers self.old.size (world_in self.old.last) }
+        requires image { self.old.image.kept ≡ synced_numbers self.old.size (world_in self.old.last) }
         ensures state { (w : World) → state_in self.new w ≡ effected (state_in self.old w) effect }
         ensures numbers { self.new.numbers.present ≡ numbers_after (world_in self.old.last) self.old.size self.old.numbers.present effect }
         ensures synced { self.new.numbers.synced ≡ synced_numbers self.new.size (world_in self.new.last) }
+        ensures image { self.new.image ≡ image_after self.old.size self.old.image effect }
         ensures swept { IsSweptBut self.old.last.table (map snap_id self.old.viewed.items) → IsSweptBut self.new.last.table (map snap_id self.new.viewed.items) }
         ensures kept { IsKept self.old.last → IsKept self.new.last }
         ensures below { AreBelow self.old.views.opened self.old.views.next → AreBelow self.new.views.opened self.new.views.next }
@@ -81,9 +89,10 @@ impl Keep {
         match effect {
             Effect::Nothing => {}
             Effect::Guids { next } => self.next_guid = next,
-            Effect::Blocks { done } => {
+            Effect::Blocks { done, writes } => {
                 release_all(&mut self.numbers, &done.released, self.last.table.group());
                 take_all(&mut self.numbers, &done.taken);
+                write_down(&mut self.image, &writes);
             }
             Effect::Taken { taken } => {
                 release_all(&mut self.numbers, &taken, self.last.table.group());
@@ -91,7 +100,7 @@ impl Keep {
             Effect::Synced { last, viewed } => {
                 self.last = last;
                 self.viewed = viewed;
-                self.numbers.end_group();
+                self.image.keep_synced(&mut self.numbers);
             }
             Effect::Abandoned => self.numbers.restore(),
             Effect::Closed { number } => self.views.close(number),

@@ -3,6 +3,9 @@
 //! A pool keeps the present world and the one that the last sync left, and the state of each block number. It has file systems
 //! with their snapshots, clones and bookmarks, and with quotas and reservations.
 //!
+//! Beside the worlds it keeps an image: each block of theirs as 512 bytes at its number. At each moment, also within a step, each dataset of
+//! the world that the last sync left can be walked in it from its root.
+//!
 //! Each request that changes a world has one function, which changes it in place and tells an effect: what is left to be done to all that
 //! stands beside the world. `apply` lends it the present world, `prepare` a copy, and both settle the effect in the same way.
 #![tactic(auto)]
@@ -11,6 +14,7 @@ mod changing;
 mod cloning;
 mod destroying;
 mod effect;
+mod imaging;
 mod keep;
 mod kind;
 mod limiting;
@@ -18,10 +22,12 @@ mod marking;
 mod performing;
 mod pool;
 mod receiving;
+mod rooting;
 mod snapping;
 mod syncing;
 mod viewing;
 mod worlds;
 
 pub use pool::{Pool, Ready};
+pub use rooting::DatasetRoot;
 pub use zalloc::MOST_BLOCKS;

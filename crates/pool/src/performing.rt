@@ -1,8 +1,9 @@
 //! The change of a world that a request asks for.
-ghost use Rattle.std.specs.Prelude.{◌≡◌, ◌≢◌, ◌⊎◌, None, OnErr, false};
+ghost use Rattle.std.specs.Prelude.{◌≡◌, ◌≢◌, ◌⊎◌, None, IfOk, OnErr, true, false};
+ghost use Rattle.images.specs.Stored.{changes_maps};
 ghost use Rattle.pool.specs.Pools.{state_in, IsHeld};
 ghost use Rattle.pool.specs.Kinds.{kind_of};
-ghost use Rattle.pool.specs.Effects.{IsPerformed};
+ghost use Rattle.pool.specs.Effects.{IsPerformed, WritesBlocks};
 ghost use Rattle.pool.specs.Reached.{changes_blocks, reaches_lists};
 ghost use Rattle.pool.specs.declared.kind.Kind.{Kind};
 
@@ -28,6 +29,7 @@ impl Keep {
         requires no_question { kind_of request.now ≢ Kind.Question }
         requires no_view { kind_of request.now ≢ Kind.View }
         ensures performed { IsPerformed (state_in self.now world.old) self.now.numbers.present world.new request.now result }
+        ensures blocks { changes_maps request.now ≡ true → IfOk result WritesBlocks }
         ensures nodes { changes_blocks request.now ≡ false → meters.new.blocks ≡ meters.old.blocks }
         ensures segments { reaches_lists request.now ≡ false → meters.new.segments ≡ meters.old.segments }
         ensures unchanged { OnErr result ((kind_of request.now ≡ Kind.Change) ⊎ (world.old.ledger ≡ None) → world.new ≡ world.old) }

@@ -1,5 +1,5 @@
 //! The pool and its steps.
-ghost use Rattle.std.specs.Prelude.{◌≡◌, ◌≢◌, ◌<◌, ◌≤◌, ◌⊎◌, ◌↔◌, None, Err, IfOk, IfErr};
+ghost use Rattle.std.specs.Prelude.{◌≡◌, ◌≢◌, ◌<◌, ◌≤◌, ◌⊎◌, ◌↔◌, ℕ, List, None, Err, IfOk, IfErr, map, take, if◌then◌else◌};
 ghost use Rattle.base.specs.declared.refusal.Refusal.{Refusal};
 ghost use Rattle.model.specs.State.{fresh_state};
 ghost use Rattle.model.specs.Step.{Step};
@@ -11,16 +11,24 @@ ghost use Rattle.world.specs.Worlds.{IsPoolState};
 ghost use Rattle.accounts.specs.Limits.{AreQuotasMet};
 ghost use Rattle.pool.specs.Kinds.{kind_of};
 ghost use Rattle.pool.specs.Reached.{IsMetered};
-ghost use Rattle.pool.specs.Plans.{state_after_plan, CanDo};
+ghost use Rattle.image.specs.BlockWrites.{images_put};
+ghost use Rattle.image.specs.Image.{AreOpen};
+ghost use Rattle.image.specs.ImageBlocks.{block_at};
+ghost use Rattle.images.specs.Stored.{AllWalk};
+ghost use Rattle.pool.specs.Images.{IsWalked, AreWrites, HasMoments, keeps_after};
+ghost use Rattle.pool.specs.Plans.{state_after_plan, keeps_after_plan, CanDo};
 ghost use Rattle.pool.specs.Pools.{state_in, shown_in, IsHeld};
+ghost use Rattle.pool.specs.Roots.{shown_root, roots_in};
 ghost use Rattle.pool.specs.declared.kind.Kind.{Kind};
 
 use crate::effect::Effect;
 use crate::keep::{Keep, Meters};
 use crate::kind::{Kind, kind_of};
+use crate::rooting::{DatasetRoot, roots_of};
 use crate::worlds::World;
 use base::meter::{Meter, SegMeter};
 use base::refusal::Refusal;
+use image::Image;
 use model::reply::Reply;
 use model::request::Request;
 use model::snapshot_id::SnapshotId;
@@ -31,7 +39,7 @@ use toll::Toll;
 use views::Views;
 use zalloc::{MOST_BLOCKS, Numbers};
 
-/// A pool of blocks with its file systems and snapshots. Contracts see its state, and the state of each block number.
+/// A pool of blocks with its file systems and snapshots. Contracts see its state, the state of each block number, and its image.
 pub struct Pool {
     present: World,
     keep: Keep,
@@ -82,23 +90,25 @@ pub struct Ready {
 
 impl Model for Ready {
     ghost use Rattle.pool.specs.Shown.{Leap, leap_code};
-    ghost use Rattle.pool.specs.Plans.{state_after_plan, CanDo};
+    ghost use Rattle.pool.specs.Plans.{state_after_plan, keeps_after_plan, CanDo};
 
     ghost Value = { Leap };
 
     ghost coded = { leap_code };
 
-    ghost view = { λ r. record { from = r.from.value; to = state_after_plan r.from.value.state r.plan } };
+    ghost view = { λ r. record { from = r.from.value; to = state_after_plan r.from.value.state r.plan; keeps = keeps_after_plan r.from.value.image.keeps r.plan } };
 
     ghost invariant = { λ r. CanDo r.from.value.state r.from.value.numbers r.plan };
 }
 
 impl Pool {
     /// A pool with this id and this many blocks, all free: the root file system alone, empty, in group 1. BadName for id 0, else
-    /// TooMany for no block or more than `MOST_BLOCKS`, else NoMemory where there is no memory for the blocks' states.
+    /// TooMany for no block or more than `MOST_BLOCKS`, else NoMemory where there is no room for the blocks and their states.
     pub fn create(alloc: Global, id: u32, blocks: u32) -> Result<Pool, Refusal>
         ensures ok { IfOk result (λ p. p.state ≡ fresh_state id blocks) }
         ensures meters { IfOk result (λ p. (p.nodes ≡ 0) × (p.segments ≡ 0)) }
+        ensures walked { IfOk result (λ p. IsWalked p.state p.image) }
+        ensures keeps { IfOk result (λ p. p.image.keeps ≡ 0) }
         ensures bad_name { (result ≡ Err Refusal.BadName) ↔ (id ≡ 0) }
         ensures too_many { (result ≡ Err Refusal.TooMany) ↔ ((0 < id) × ((blocks < 1) ⊎ (MOST_BLOCKS < blocks))) }
         ensures only { IfErr result (λ e. (e ≡ Refusal.BadName) ⊎ ((e ≡ Refusal.TooMany) ⊎ (e ≡ Refusal.NoMemory))) }
@@ -109,16 +119,21 @@ impl Pool {
         if blocks < 1 || blocks > MOST_BLOCKS {
             return Err(Refusal::TooMany);
         }
-        Pool::fresh(alloc, id, blocks)
+        let pool = Pool::fresh(alloc, id, blocks)?;
+        pool.facts();
+        Ok(pool)
     }
 
     fn fresh(alloc: Global, id: u32, blocks: u32) -> Result<Pool, Refusal>
         requires { blocks ≤ MOST_BLOCKS }
         ensures ok { IfOk result (λ p. p.state ≡ fresh_state id blocks) }
         ensures meters { IfOk result (λ p. (p.nodes ≡ 0) × (p.segments ≡ 0)) }
+        ensures keeps { IfOk result (λ p. p.image.keeps ≡ 0) }
         ensures only { IfErr result (λ e. e ≡ Refusal.NoMemory) }
     {
         let numbers = Numbers::new(alloc, blocks)?;
+        let image = Image::new(alloc, blocks)?;
+        let _nothing = image.bytes();
         let present = World::new(alloc)?;
         let last = present.copy()?;
         let views = Views::new(alloc)?;
@@ -130,6 +145,7 @@ impl Pool {
             size: blocks,
             id,
             numbers,
+            image,
         };
         let meters = Meters {
             blocks: Meter::new(Toll::new()),
@@ -148,7 +164,9 @@ impl Pool {
     pub fn prepare(&mut self, alloc: Global, request: &Request) -> (Reply, Ready)
         ensures same { self.new.state ≡ self.old.state }
         ensures same_numbers { self.new.numbers ≡ self.old.numbers }
+        ensures same_image { self.new.image ≡ self.old.image }
         ensures from { result.1.from ≡ self.new }
+        ensures keeps { result.1.keeps ≡ keeps_after request.now result.0 self.old.image.keeps }
         ensures metered { IsMetered self.old request.now result.0 self.new }
         ensures step { Step self.old.state request.now result.0 result.1.to }
         ensures numbered { IsNumbered self.old.state }
@@ -157,6 +175,7 @@ impl Pool {
         ensures kept { IsPoolState self.old.state }
         ensures quotas { AreQuotasMet self.old.state.now }
         ensures viewing { IsViewing self.old.state }
+        ensures walked { IsWalked self.old.state self.old.image }
     {
         self.facts();
         let (reply, plan) = self.planned(alloc, request);
@@ -167,8 +186,10 @@ impl Pool {
     fn planned(&mut self, alloc: Global, request: &Request) -> (Reply, Plan)
         ensures same { self.new.state ≡ self.old.state }
         ensures same_numbers { self.new.numbers ≡ self.old.numbers }
+        ensures same_image { self.new.image ≡ self.old.image }
         ensures metered { IsMetered self.old request.now result.0 self.new }
         ensures can { CanDo self.old.state self.old.numbers result.1 }
+        ensures keeps { keeps_after_plan self.old.image.keeps result.1 ≡ keeps_after request.now result.0 self.old.image.keeps }
         ensures step { Step self.old.state request.now result.0 (state_after_plan self.old.state result.1) }
     {
         match kind_of(request) {
@@ -188,6 +209,7 @@ impl Pool {
     fn viewed(&self, alloc: Global, request: &Request) -> (Reply, Plan)
         requires { kind_of request.now ≡ Kind.View }
         ensures can { CanDo self.now.state self.now.numbers result.1 }
+        ensures keeps { keeps_after_plan self.now.image.keeps result.1 ≡ keeps_after request.now result.0 self.now.image.keeps }
         ensures step { Step self.now.state request.now result.0 (state_after_plan self.now.state result.1) }
     {
         let Request::OpenView { target } = request else {
@@ -208,8 +230,10 @@ impl Pool {
         requires no_view { kind_of request.now ≢ Kind.View }
         ensures same { self.new.state ≡ self.old.state }
         ensures same_numbers { self.new.numbers ≡ self.old.numbers }
+        ensures same_image { self.new.image ≡ self.old.image }
         ensures metered { IsMetered self.old request.now result.0 self.new }
         ensures can { CanDo self.old.state self.old.numbers result.1 }
+        ensures keeps { keeps_after_plan self.old.image.keeps result.1 ≡ keeps_after request.now result.0 self.old.image.keeps }
         ensures step { Step self.old.state request.now result.0 (state_after_plan self.old.state result.1) }
     {
         let mut to = match self.present.copy() {
@@ -223,11 +247,13 @@ impl Pool {
         }
     }
 
-    /// Does what was just prepared. It takes no memory. It costs the blocks that it releases and takes; a sync costs what waits, and what only
-    /// the world before it reached; it and an abandon cost the numbers that have changed since the last sync.
+    /// Does what was just prepared. It takes no memory. It costs the blocks that it releases, takes and writes; a sync costs what waits, and what
+    /// only the world before it reached; it and an abandon cost the numbers that have changed since the last sync.
     pub fn commit(&mut self, ready: Ready)
         requires { ready.from ≡ self.old }
         ensures to { self.new.state ≡ ready.to }
+        ensures writes { AreWrites self.old.image self.new.image }
+        ensures keeps { self.new.image.keeps ≡ ready.keeps }
         ensures nodes { self.new.nodes ≡ self.old.nodes }
         ensures segments { self.new.segments ≡ self.old.segments }
     {
@@ -258,7 +284,11 @@ impl Pool {
         ensures kept { IsPoolState self.new.state }
         ensures quotas { AreQuotasMet self.new.state.now }
         ensures viewing { IsViewing self.new.state }
+        ensures walked { IsWalked self.new.state self.new.image }
+        ensures moments { HasMoments self.old.state self.old.image self.new.image }
+        ensures keeps { self.new.image.keeps ≡ keeps_after request.now result self.old.image.keeps }
     {
+        self.facts();
         let reply = self.answer(alloc, request);
         self.facts();
         reply
@@ -272,14 +302,18 @@ impl Pool {
         ensures kept { IsPoolState self.now.state }
         ensures quotas { AreQuotasMet self.now.state.now }
         ensures viewing { IsViewing self.now.state }
+        ensures walked { IsWalked self.now.state self.now.image }
+        ensures moments { (writes : List (ℕ × List ℕ)) → AreOpen self.now.image.kept writes → (i : ℕ) → AllWalk (block_at (images_put self.now.image.bytes (take i writes))) self.now.state.size self.now.state.last }
     {
-        let _ = &self.keep;
+        let _group = self.present.table.group();
     }
 
     // One step: in place, but for what must not be seen half done.
     fn answer(&mut self, alloc: Global, request: &Request) -> Reply
         ensures step { Step self.old.state request.now result self.new.state }
         ensures metered { IsMetered self.old request.now result self.new }
+        ensures writes { AreWrites self.old.image self.new.image }
+        ensures keeps { self.new.image.keeps ≡ keeps_after request.now result self.old.image.keeps }
     {
         match kind_of(request) {
             Kind::Question => self
@@ -312,6 +346,8 @@ impl Pool {
     fn prepared(&mut self, alloc: Global, request: &Request) -> Reply
         ensures step { Step self.old.state request.now result self.new.state }
         ensures metered { IsMetered self.old request.now result self.new }
+        ensures writes { AreWrites self.old.image self.new.image }
+        ensures keeps { self.new.image.keeps ≡ keeps_after request.now result self.old.image.keeps }
     {
         let (reply, ready) = self.prepare(alloc, request);
         self.commit(ready);
@@ -326,6 +362,28 @@ impl Pool {
         ensures { result ≡ (self.now.nodes, self.now.segments) }
     {
         (self.meters.blocks.count(), self.meters.segments.count())
+    }
+
+    /// The blocks of the pool as bytes, each at its number: those of the present datasets, and of those that the last sync left. Constant time.
+    pub fn image(&self) -> &Image
+        ensures image { result.now ≡ self.now.image }
+        ensures walked { IsWalked self.now.state result.now }
+    {
+        self.facts();
+        &self.keep.image
+    }
+
+    /// The roots of the present datasets, or of those that the last sync left, in the order of a list, without bookmarks: for each file system,
+    /// in byte order of the names, that of its live tree and then those of its snapshots, the oldest first. `Image::read_tree` walks from one
+    /// to the dataset's contents. NoMemory where there is none for them. It costs the names.
+    pub fn roots(&self, alloc: Global, last: bool) -> Result<Vec<DatasetRoot>, Refusal>
+        ensures ok { IfOk result (λ roots. map shown_root roots.items ≡ roots_in (if last then self.now.state.last else self.now.state.now).file_systems) }
+        ensures err { IfErr result (λ e. e ≡ Refusal.NoMemory) }
+    {
+        if last {
+            return roots_of(alloc, &self.keep.last.table);
+        }
+        roots_of(alloc, &self.present.table)
     }
 
     /// One step for each request, in their order, and the replies. NoMemory where there is none for the list of replies, and then
@@ -356,6 +414,8 @@ fn in_place(
     ensures held { IsHeld keep.new world.new }
     ensures step { Step (state_in keep.old world.old) request.now result (state_in keep.new world.new) }
     ensures metered { IsMetered (shown_in keep.old world.old meters.old) request.now result (shown_in keep.new world.new meters.new) }
+    ensures writes { AreWrites keep.old.image keep.new.image }
+    ensures keeps { keep.new.image.keeps ≡ keeps_after request.now result keep.old.image.keeps }
 {
     match keep.perform(alloc, world, request, meters) {
         Ok(effect) => {

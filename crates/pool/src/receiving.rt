@@ -1,20 +1,21 @@
 //! Receives of streams.
-ghost use Rattle.std.specs.Prelude.{◌≡◌, OnErr};
+ghost use Rattle.std.specs.Prelude.{◌≡◌, IfOk, OnErr};
 ghost use Rattle.model.specs.declared.request.Request.{Request};
 ghost use Rattle.pool.specs.Pools.{state_in, IsHeld};
-ghost use Rattle.pool.specs.Effects.{IsPerformed};
+ghost use Rattle.pool.specs.Effects.{IsPerformed, WritesBlocks};
 
 use crate::effect::Effect;
+use crate::imaging::{Writes, blocks_in};
 use crate::keep::{Keep, Meters};
 use crate::worlds::World;
 use base::name::SnapName;
 use base::refusal::Refusal;
 use base::text::Bytes;
 use std::alloc::Global;
-use steps::{Intake, Present, intake_of, renew};
+use steps::{Intake, Present, intake_of, recount};
 
 impl Keep {
-    /// Receives a stream. At `Err` the world is as it was. It costs what `steps::intake_of` does.
+    /// Receives a stream. At `Err` the world is as it was. It costs what `steps::intake_of` does, and what `blocks_in` does for the new blocks.
     pub(crate) fn receive(
         &self,
         alloc: Global,
@@ -26,6 +27,7 @@ impl Keep {
     ) -> Result<Effect, Refusal>
         requires { IsHeld self.now world.old }
         ensures performed { IsPerformed (state_in self.now world.old) self.now.numbers.present world.new (Request.Receive snapshot.now bytes.now force) result }
+        ensures blocks { IfOk result WritesBlocks }
         ensures unchanged { OnErr result (world.new ≡ world.old) }
     {
         let present = Present {
@@ -46,9 +48,12 @@ impl Keep {
             &mut meters.segments,
         )?;
         let Intake { to, freeing, done } = intake;
+        let name = &snapshot.member().file_system;
+        let blocks = blocks_in(alloc, &to, name, &done.made, &mut meters.blocks)?;
+        let writes = Writes::Each { blocks };
         world.table = to;
         world.freeing = freeing;
-        renew(&mut world.ledger, &world.table);
-        Ok(Effect::Blocks { done })
+        recount(&mut world.ledger, &world.table, name);
+        Ok(Effect::Blocks { done, writes })
     }
 }

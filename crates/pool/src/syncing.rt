@@ -10,7 +10,7 @@ use crate::worlds::{World, copy_of};
 use base::meter::SegMeter;
 use base::refusal::Refusal;
 use destroyer::Slice;
-use removals::Edit;
+use removals::WorkingCopy;
 use std::alloc::Global;
 use steps::renew;
 
@@ -36,8 +36,8 @@ impl Keep {
     }
 
     /// Puts the last synced datasets in the place of those of this world, with what was to be freed then, and lets the snapshots go that only
-    /// a view had kept. Busy where a view is open. At `Err` the world is as it was. It costs what `Edit::of` does, the number of file systems
-    /// times its logarithm where one has a limit, and for each snapshot that a view showed at the last sync what `Edit::sweep` does.
+    /// a view had kept. Busy where a view is open. At `Err` the world is as it was. It costs what `WorkingCopy::of` does, the number of file systems
+    /// times its logarithm where one has a limit, and for each snapshot that a view showed at the last sync what `WorkingCopy::sweep` does.
     pub(crate) fn abandon(
         &self,
         alloc: Global,
@@ -51,7 +51,7 @@ impl Keep {
         if self.views.len() > 0 {
             return Err(Refusal::Busy);
         }
-        let mut edit = Edit::of(&self.last.table, &self.last.freeing)?;
+        let mut edit = WorkingCopy::of(&self.last.table, &self.last.freeing)?;
         edit.sweep(alloc, &self.views, &self.viewed, segments)?;
         let ledger = copy_of(&self.last.ledger)?;
         edit.put(&mut world.table, &mut world.freeing);

@@ -1,10 +1,16 @@
 //! Views of a pool's snapshots.
-ghost use Rattle.std.specs.Prelude.{◌≡◌, IfOk, IfErr, OnErr};
+ghost use Rattle.std.specs.Prelude.{◌≡◌, ◌<◌, ◌^◌, ℕ, List, Some, None, IfOk, IfErr, OnErr};
+ghost use Rattle.std.specs.FinSet as set;
 ghost use Rattle.model.specs.declared.request.Request.{Request};
 ghost use Rattle.model.specs.declared.reply.Reply.{Reply};
 ghost use Rattle.model.specs.Ids.{snap_id};
 ghost use Rattle.model.specs.Step.{Step};
+ghost use Rattle.model.specs.World.{union_of};
+ghost use Rattle.world.specs.Tables.{Datasets, world_of};
+ghost use Rattle.accounts.specs.Limits.{IsUnlimited};
 ghost use Rattle.steps.specs.Edits.{viewing};
+ghost use Rattle.steps.specs.Handed.{IsAccounted};
+ghost use Rattle.steps.specs.Limiting.{CanRecount};
 ghost use Rattle.pool.specs.Pools.{state_in, IsHeld};
 ghost use Rattle.pool.specs.Effects.{IsPerformed};
 ghost use Rattle.pool.specs.Plans.{CanOpen};
@@ -13,14 +19,15 @@ use crate::effect::Effect;
 use crate::keep::Keep;
 use crate::worlds::World;
 use base::meter::SegMeter;
-use base::name::Target;
+use base::name::{DsName, Target};
 use base::refusal::Refusal;
+use datasets::Table;
 use model::sight::Sight;
 use model::snapshot_id::SnapshotId;
 use removals::close_view;
 use std::alloc::Global;
 use std::sync::Arc;
-use steps::{renew, snapshot_named, sources_of};
+use steps::{Ledger, recount, snapshot_named, sources_of};
 
 impl Keep {
     /// The snapshot that the next view shows, where it is opened of this name, and what it shows. NotSnapshot where the name isn't one of a
@@ -73,7 +80,7 @@ impl Keep {
         if self.views.find(number).is_none() {
             return Err(Refusal::NoView);
         }
-        close_view(
+        let gone = close_view(
             alloc,
             &mut world.table,
             &mut world.freeing,
@@ -81,7 +88,22 @@ impl Keep {
             number,
             segments,
         )?;
-        renew(&mut world.ledger, &world.table);
+        world.table.facts();
+        follow_close(&mut world.ledger, &world.table, &gone);
         Ok(Effect::Closed { number })
+    }
+}
+
+// The ledger becomes that of these datasets, to which the end of a view has led, with which a snapshot went from the file system of this name,
+// or none did. It takes no memory, and costs what `recount` does where one went.
+fn follow_close(ledger: &mut Option<Ledger>, table: &Table, gone: &Option<DsName>)
+    requires some { (name : List ℕ) → gone.now ≡ Some name → (old : Datasets) × CanRecount old table.now name ledger.old }
+    requires none { gone.now ≡ None → IsAccounted table.now ledger.old }
+    requires unlimited { ledger.old ≡ None → IsUnlimited table.now.file_systems }
+    requires few { set.len (union_of (world_of table.now)) < 2 ^ 32 }
+    ensures { IsAccounted table.now ledger.new }
+{
+    if let Some(name) = gone {
+        recount(ledger, table, name);
     }
 }

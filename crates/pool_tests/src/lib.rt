@@ -4,7 +4,11 @@
 #[cfg(test)]
 mod damaged;
 #[cfg(test)]
+mod image_walks;
+#[cfg(test)]
 mod pools;
+#[cfg(test)]
+mod scripts;
 #[cfg(test)]
 mod settings;
 #[cfg(test)]

@@ -14,7 +14,7 @@ use Rattle.world.proofs.lineage.Bridge.{in_union_of, from_union_of, no_block}
 use Rattle.world.proofs.lists.Maps.{no_value}
 use Rattle.world.proofs.lineage.Put.{put_cases, put_other}
 use Rattle.world.proofs.lists.SetCounts.{same_members}
-use Rattle.removals.specs.declared.edit.Edit.{Edit}
+use Rattle.removals.specs.declared.working_copy.WorkingCopy.{WorkingCopy}
 use Rattle.removals.specs.Edits.{HasLost}
 use Rattle.removals.proofs.Losses.{lost_none, lost_alike}
 
@@ -41,7 +41,7 @@ module _ (t : Datasets) (name : List ℕ) (absent : get t.file_systems name ≡ 
   lost_with_new freeing apart = lost_alike t t made freeing freeing (same_members o _ _ fewer more) (lost_none t freeing apart)
 
 -- nor with a copy
-pub lost_with_copy : (t : Datasets) (freeing : BlockSet) → AreDisjoint (union_of (world_of t)) freeing → (r : Result Edit Refusal)
+pub lost_with_copy : (t : Datasets) (freeing : BlockSet) → AreDisjoint (union_of (world_of t)) freeing → (r : Result WorkingCopy Refusal)
     → IfOk r (λ e. (e.to ≡ t) × (e.freeing ≡ freeing)) → IfOk r (λ e. HasLost t freeing e.to e.freeing)
 lost_with_copy t freeing apart (Ok e) is = subst (λ (p : Datasets × BlockSet). HasLost t freeing p.0 p.1) (λ i. (sym is.0 i, sym is.1 i)) (lost_none t freeing apart)
 lost_with_copy t freeing apart (Err e) is = tt

@@ -25,7 +25,7 @@ use Rattle.world.specs.Tables.{Datasets, world_of}
 use Rattle.world.proofs.lists.Finding.{or_none, found_none, name_itself}
 use Rattle.world.proofs.lists.Maps.{some_of, no_value}
 use Rattle.world.proofs.lineage.Put.{put_here}
-use Rattle.removals.specs.declared.edit.Edit.{Edit}
+use Rattle.removals.specs.declared.working_copy.WorkingCopy.{WorkingCopy}
 use Rattle.receives.specs.Ends.{CanFinish}
 use Rattle.receives.specs.Requests.{begun, back, receive_refusal}
 
@@ -116,6 +116,6 @@ ready t m s force none = by_source (s.source == 0) none
           opens = can_close t p.2;
         }
 
-pub ready_after : (r : Result Edit Refusal) (t : Datasets) (m : Member) → IfOk r (λ e. e.to ≡ t) → CanFinish t m → IfOk r (λ e. CanFinish e.to m)
+pub ready_after : (r : Result WorkingCopy Refusal) (t : Datasets) (m : Member) → IfOk r (λ e. e.to ≡ t) → CanFinish t m → IfOk r (λ e. CanFinish e.to m)
 ready_after (Ok e) t m is can = subst (λ (u : Datasets). CanFinish u m) (sym is) can
 ready_after (Err e) t m is can = tt

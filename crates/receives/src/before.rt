@@ -17,7 +17,7 @@ use base::name::{DsName, Member, SnapName};
 use base::refusal::Refusal;
 use datasets::{Snapshot, Table};
 use destroyer::Freeing;
-use removals::{Edit, remove_newer_bookmarks};
+use removals::{WorkingCopy, remove_newer_bookmarks};
 use std::alloc::Global;
 use stream::Stream;
 
@@ -38,7 +38,7 @@ pub fn begin(
     stream: &Stream,
     force: bool,
     segments: &mut SegMeter,
-) -> Result<Edit, Refusal>
+) -> Result<WorkingCopy, Refusal>
     requires apart { AreDisjoint (union_of (world_of table.now)) freeing.now }
     ensures ok { IfOk result (λ e. e.to ≡ begun table.now name.now.file_system stream.now force) }
     ensures lost { IfOk result (λ e. HasLost table.now freeing.now e.to e.freeing) }
@@ -63,7 +63,7 @@ fn start(
     stream: &Stream,
     force: bool,
     segments: &mut SegMeter,
-) -> Result<Edit, Refusal>
+) -> Result<WorkingCopy, Refusal>
     requires apart { AreDisjoint (union_of (world_of table.now)) freeing.now }
     requires can { receive_refusal table.now name.now stream.now force ≡ None }
     ensures ok { IfOk result (λ e. e.to ≡ begun table.now name.now.file_system stream.now force) }
@@ -76,19 +76,19 @@ fn start(
     if force {
         return forced_back(alloc, table, freeing, &name.file_system, segments);
     }
-    Edit::of(table, freeing)
+    WorkingCopy::of(table, freeing)
 }
 
 // The datasets with a new file system of this name, which nothing refuses. NoMemory where there is none for it. It costs the number of file
 // systems, the length of the name and the chunks of pieces that are to be freed.
-fn with_new(table: &Table, freeing: &Freeing, name: &DsName) -> Result<Edit, Refusal>
+fn with_new(table: &Table, freeing: &Freeing, name: &DsName) -> Result<WorkingCopy, Refusal>
     requires apart { AreDisjoint (union_of (world_of table.now)) freeing.now }
     requires can { create_refusal table.now.file_systems name.now ≡ None }
     ensures ok { IfOk result (λ e. e.to ≡ with_system table.now name.now empty_file_system) }
     ensures lost { IfOk result (λ e. HasLost table.now freeing.now e.to e.freeing) }
     ensures err { IfErr result (λ e. e ≡ Refusal.NoMemory) }
 {
-    let mut edit = Edit::of(table, freeing)?;
+    let mut edit = WorkingCopy::of(table, freeing)?;
     edit.to.create(name)?;
     Ok(edit)
 }
@@ -101,16 +101,16 @@ fn forced_back(
     freeing: &Freeing,
     name: &DsName,
     segments: &mut SegMeter,
-) -> Result<Edit, Refusal>
+) -> Result<WorkingCopy, Refusal>
     requires apart { AreDisjoint (union_of (world_of table.now)) freeing.now }
     ensures ok { IfOk result (λ e. e.to ≡ back table.now name.now) }
     ensures lost { IfOk result (λ e. HasLost table.now freeing.now e.to e.freeing) }
     ensures err { IfErr result (λ e. e ≡ Refusal.NoMemory) }
 {
     let Some(newest) = newest_named(table, name) else {
-        return Edit::of(table, freeing);
+        return WorkingCopy::of(table, freeing);
     };
-    let mut edit = Edit::of(table, freeing)?;
+    let mut edit = WorkingCopy::of(table, freeing)?;
     edit.lose_live(alloc, name, segments)?;
     remove_newer_bookmarks(alloc, &mut edit.to, name, newest.group())?;
     Ok(edit)

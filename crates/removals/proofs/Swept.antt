@@ -24,7 +24,7 @@ use Rattle.world.proofs.lists.Listed.{in_map}
 use Rattle.world.proofs.removals.Sweep.{get-with_file_systems}
 use Rattle.world.proofs.removals.WithoutSnaps.{get-without, from_without, without_twice, without_none}
 use Rattle.removals.specs.Named.{has_clone, is_held, is_kept, has_clone_named}
-use Rattle.removals.specs.Families.{ArePartOf, unneeded, without_unneeded, without_each, removed_origin, without_origin, without_origins}
+use Rattle.removals.specs.Families.{ArePartOf, unneeded, without_unneeded, removed_origin, without_origin}
 use Rattle.removals.specs.Requests.{swept, destroyed, IsSweptBut, IsSweptBy}
 use Rattle.removals.proofs.Clones.{uncloned_is, is_uncloned}
 use Rattle.removals.proofs.Closed.{filter_alike, named_at}
@@ -164,6 +164,11 @@ origin_swept t once views r = by_origin (removed_origin t r)
     by_origin None = sym (none_without t (λ u. false) (λ n f u at i. refl))
     by_origin (Some id) = one_swept t once views id
 
+-- without those of one file system after another
+abbrev pub without_origins : Datasets → Views → List Entry → Datasets
+without_origins t views [] = t
+without_origins t views (r ∷ rows) = without_origins (without_origin t views r) views rows
+
 rows_swept : (rows : List Entry) (t : Datasets) → IsOneToAnId t → (views : Views) → without_origins t views rows ≡ without t (λ u. list_any (is_gone_origin t u) rows && is_due t views u)
 rows_swept [] t once views = sym (none_without t (λ u. false) (λ n f u at i. refl))
 rows_swept (r ∷ rows) t once views =
@@ -245,6 +250,11 @@ module _ (t u : Datasets) (part : ArePartOf u t) (views : Views) (clean : IsSwep
       ∙ ap (λ ss. record u { file_systems = ss }) (same_gone (world_of u) (λ s. list_any (is_gone_origin u s) (entries t.file_systems) && is_due u views s) (λ s. s.deferred && not (is_needed (world_of u) views s)) each)
 
 -- ---- those of a list
+
+-- the datasets without those of these identities that nothing needs, one after another
+abbrev pub without_each : Datasets → Views → List SnapId → Datasets
+without_each t views [] = t
+without_each t views (id ∷ ids) = without_each (without_unneeded t views id) views ids
 
 each_out : (ids : List SnapId) (t : Datasets) → IsOneToAnId t → (views : Views) → without_each t views ids ≡ without t (λ u. list_any (same_id (id_of u)) ids && is_due t views u)
 each_out [] t once views = sym (none_without t (λ u. false) (λ n f u at i. refl))

@@ -1,5 +1,5 @@
 -- File systems that go, and the snapshots that go with their clones.
-use Rattle.std.specs.Prelude.{◌≡◌, ℕ, List, [], ◌∷◌, Bool, true, false, not, ◌&&◌, Option, None, Some, is_some, if◌then◌else◌}
+use Rattle.std.specs.Prelude.{◌≡◌, ℕ, List, [], Bool, true, false, not, ◌&&◌, Option, None, Some, is_some, if◌then◌else◌}
 use Rattle.std.specs.Option.{option_map_or, option_and_then}
 use Rattle.std.specs.List.{list_any}
 use Rattle.std.specs.FinMap.{get, entries}
@@ -58,11 +58,6 @@ unneeded t views id = option_and_then (λ p. if p.1.deferred && not (is_kept t v
 abbrev pub without_unneeded : Datasets → Views → SnapId → Datasets
 without_unneeded t views id = option_map_or (λ p. without_snap t (id_of p.1)) (unneeded t views id) t
 
--- the datasets without those of these identities, one after another, and the same where there is none (zfs-destroy(8), -d)
-abbrev pub without_each : Datasets → Views → List SnapId → Datasets
-without_each t views [] = t
-without_each t views (id ∷ ids) = without_each (without_unneeded t views id) views ids
-
 -- the origin of a file system that isn't there any more (zfs-destroy(8))
 abbrev pub removed_origin : Datasets → Entry → Option SnapId
 removed_origin t r = if is_some (get t.file_systems r.0) then None else r.1.origin
@@ -70,11 +65,6 @@ removed_origin t r = if is_some (get t.file_systems r.0) then None else r.1.orig
 -- the datasets without the origin of one that isn't there, as far as nothing needs it (zfs-destroy(8), -d)
 abbrev pub without_origin : Datasets → Views → Entry → Datasets
 without_origin t views r = option_map_or (without_unneeded t views) (removed_origin t r) t
-
--- the same of one file system after another (zfs-destroy(8), -d)
-abbrev pub without_origins : Datasets → Views → List Entry → Datasets
-without_origins t views [] = t
-without_origins t views (r ∷ rows) = without_origins (without_origin t views r) views rows
 
 -- the file system of this name is a clone of a snapshot whose destroy is deferred (zfs-destroy(8), -d)
 abbrev pub has_deferred_origin : Datasets → List ℕ → Bool

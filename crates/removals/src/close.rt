@@ -1,5 +1,5 @@
 //! What the close of a view lets go.
-ghost use Rattle.std.specs.Prelude.{◌≡◌, IfErr, OnOk, OnErr};
+ghost use Rattle.std.specs.Prelude.{◌≡◌, IfOk, IfErr, OnOk, OnErr};
 ghost use Rattle.std.specs.FinMap.{remove};
 ghost use Rattle.std.specs.Option.{option_map};
 ghost use Rattle.base.specs.declared.refusal.Refusal.{Refusal};
@@ -9,8 +9,9 @@ ghost use Rattle.world.specs.Tables.{world_of};
 ghost use Rattle.removals.specs.Edits.{HasLost};
 ghost use Rattle.removals.specs.Requests.{swept, gone_with, IsSweptBy};
 
-use crate::edit::Edit;
+use crate::working_copy::WorkingCopy;
 use base::meter::SegMeter;
+use base::name::DsName;
 use base::refusal::Refusal;
 use datasets::{FileSystem, Snapshot, Table};
 use destroyer::Freeing;
@@ -40,9 +41,10 @@ fn removed_with<'a>(
 
 /// Lets the snapshot go that goes with the view of this number, once that is closed: the one that it shows, if its destroy is deferred and
 /// no tag, no other view and no clone needs it (zfs-destroy(8), -d); what no dataset has then is to be freed. Where none goes, all stays.
-/// NoMemory where there is none for it, and then the table and what it has to free are as they were. It costs the number of open views and
-/// the number of file systems times the logarithm of that of the snapshots of one; and where a snapshot goes, what `Edit::of` and
-/// `Edit::remove_snapshot` do.
+/// The answer names the file system that it went from, or none. NoMemory where there is none for it, and then the table and what it has to free
+/// are as they were. It costs the number of open views and
+/// the number of file systems times the logarithm of that of the snapshots of one; and where a snapshot goes, what `WorkingCopy::of` and
+/// `WorkingCopy::remove_snapshot` do.
 pub fn close_view(
     alloc: Global,
     table: &mut Table,
@@ -50,9 +52,10 @@ pub fn close_view(
     views: &Views,
     number: u64,
     segments: &mut SegMeter,
-) -> Result<(), Refusal>
+) -> Result<Option<DsName>, Refusal>
     requires apart { AreDisjoint (union_of (world_of table.old)) freeing.old }
     requires swept { IsSweptBy table.old views.now.opened }
+    ensures name { IfOk result (λ name. name ≡ option_map (λ p. p.0) (gone_with table.old views.now.opened number)) }
     ensures ok { OnOk result (table.new ≡ swept table.old (remove views.now.opened number)) }
     ensures lost { OnOk result (HasLost table.old freeing.old table.new freeing.new) }
     ensures unchanged { OnErr result (table.new ≡ table.old) }
@@ -61,10 +64,11 @@ pub fn close_view(
 {
     table.facts();
     let Some((file_system, snapshot)) = removed_with(table, views, number) else {
-        return Ok(());
+        return Ok(None);
     };
-    let mut edit = Edit::of(table, freeing)?;
+    let owner = file_system.name().clone()?;
+    let mut edit = WorkingCopy::of(table, freeing)?;
     edit.remove_named(alloc, file_system.name(), snapshot.name(), segments)?;
     edit.put(table, freeing);
-    Ok(())
+    Ok(Some(owner))
 }

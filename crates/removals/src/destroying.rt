@@ -11,10 +11,10 @@ ghost use Rattle.removals.specs.Families.{has_deferred_origin, AreClonesInside};
 ghost use Rattle.removals.specs.Requests.{destroyed, destroy_refusal, without_family, swept, IsSweptBy};
 
 use crate::bookmark::remove_bookmark;
-use crate::edit::Edit;
 use crate::family::{refusal_of, remove_file_system, remove_file_systems};
 use crate::gone::destroy_snapshots;
 use crate::sweep::sweep;
+use crate::working_copy::WorkingCopy;
 use base::meter::SegMeter;
 use base::name::{DsName, Target};
 use base::refusal::Refusal;
@@ -69,7 +69,7 @@ fn remove_and_sweep(
     ensures kept { OnErr result (freeing.new ≡ freeing.old) }
     ensures err { IfErr result (λ e. e ≡ Refusal.NoMemory) }
 {
-    let mut edit = Edit::of(table, freeing)?;
+    let mut edit = WorkingCopy::of(table, freeing)?;
     remove_file_systems(&mut edit, alloc, table, name, recursive, segments)?;
     sweep(&mut edit, alloc, table, views, segments)?;
     edit.put(table, freeing);
@@ -120,7 +120,7 @@ fn destroy_file_systems(
 /// A file system without `recursive` goes in place, unless its origin's destroy is deferred. That costs the number of file systems, and for
 /// a clone also that number times the logarithm of the number of snapshots of one. A bookmark goes in place too, which costs the logarithm
 /// of the number of file systems and the number of the file system's bookmarks. Everything else goes from an edit: it costs the number n of
-/// file systems times its logarithm, the chunks of pieces that are to be freed, for each snapshot that goes what `Edit::remove_snapshot` does
+/// file systems times its logarithm, the chunks of pieces that are to be freed, for each snapshot that goes what `WorkingCopy::remove_snapshot` does
 /// and the number of open views, for each clone that goes n times the logarithm of the number of snapshots of one, and with `recursive` for
 /// each snapshot of the family the logarithm of the number of clones and the number of its own.
 pub fn destroy(

@@ -14,7 +14,7 @@ ghost use Rattle.removals.specs.Edits.{HasLost};
 ghost use Rattle.removals.specs.Families.{emptied, AreClonesInside};
 ghost use Rattle.removals.specs.Named.{has_clone_named, newer_members};
 
-use crate::edit::Edit;
+use crate::working_copy::WorkingCopy;
 use base::meter::SegMeter;
 use base::name::DsName;
 use base::number::Group;
@@ -70,7 +70,7 @@ fn rows_in_order<'a>(
 
 // Empties this file system, which has no snapshot: what it has itself is to be freed, and it is no clone any more. NoMemory where there
 // is none for it, and then the edit is of no use. It costs the logarithm of the number of file systems.
-fn vacate(edit: &mut Edit, alloc: Global, name: &DsName) -> Result<(), Refusal>
+fn vacate(edit: &mut WorkingCopy, alloc: Global, name: &DsName) -> Result<(), Refusal>
     requires apart { AreDisjoint (union_of (world_of edit.old.to)) edit.old.freeing }
     requires there { IsSome (get edit.old.to.file_systems name.now) }
     requires bare { snaps_at edit.old.to.file_systems name.now ≡ [] }
@@ -85,9 +85,9 @@ fn vacate(edit: &mut Edit, alloc: Global, name: &DsName) -> Result<(), Refusal>
 }
 
 // Empties this file system, which is as it was or empty already, with its snapshots, none of which has a clone. NoMemory where there is
-// none for it, and then the edit is of no use. It costs what `Edit::remove_newer` does.
+// none for it, and then the edit is of no use. It costs what `WorkingCopy::remove_newer` does.
 fn empty_one(
-    edit: &mut Edit,
+    edit: &mut WorkingCopy,
     alloc: Global,
     file_system: &FileSystem,
     segments: &mut SegMeter,
@@ -107,9 +107,9 @@ fn empty_one(
 /// Empties the file systems of this family: what they and their snapshots have alone is to be freed. Each clone of such a snapshot is of
 /// the family, and is emptied before it: the group of its origin is later than that of the file system that has the snapshot. NoMemory
 /// where there is none for it, and then the edit is of no use. It costs the number of file systems, for n of the family n times its
-/// logarithm, and for each what `Edit::remove_newer` does.
+/// logarithm, and for each what `WorkingCopy::remove_newer` does.
 pub(crate) fn empty_family(
-    edit: &mut Edit,
+    edit: &mut WorkingCopy,
     alloc: Global,
     table: &Table,
     name: &DsName,

@@ -11,9 +11,9 @@ ghost use Rattle.removals.specs.Families.{family_refusal, AreClonesInside, IsBar
 ghost use Rattle.removals.specs.Requests.{destroy_refusal, without_family};
 
 use crate::cloned::family_has_clone_outside;
-use crate::edit::Edit;
 use crate::emptied::empty_family;
 use crate::held::any_of_family_held;
+use crate::working_copy::WorkingCopy;
 use base::meter::SegMeter;
 use base::name::DsName;
 use base::refusal::Refusal;
@@ -48,7 +48,7 @@ pub(crate) fn remove_file_system(
 // Takes out the file systems of the family of this name, which isn't the root's, children before their parents: they are as the table has
 // them, without a snapshot. NoMemory where there is none for it, and then the edit is of no use. It costs the number of file systems, and
 // for each of the family once more.
-fn remove_family(edit: &mut Edit, table: &Table, name: &DsName) -> Result<(), Refusal>
+fn remove_family(edit: &mut WorkingCopy, table: &Table, name: &DsName) -> Result<(), Refusal>
     requires apart { AreDisjoint (union_of (world_of edit.old.to)) edit.old.freeing }
     requires same { edit.old.to ≡ table.now }
     requires bare { IsBareFamily table.now name.now }
@@ -72,7 +72,7 @@ fn remove_family(edit: &mut Edit, table: &Table, name: &DsName) -> Result<(), Re
 // Takes out the file systems of the family of this name with their snapshots, of whose clones each is of the family. NoMemory where there
 // is none for it, and then the edit is of no use. It costs what `empty_family` and `remove_family` do.
 fn empty_and_remove(
-    edit: &mut Edit,
+    edit: &mut WorkingCopy,
     alloc: Global,
     table: &Table,
     name: &DsName,
@@ -96,7 +96,7 @@ fn empty_and_remove(
 /// each is of the family; it isn't the root. NoMemory where there is none for it, and then the edit is of no use. It costs the number of
 /// file systems, and with `recursive` what `empty_family` and `remove_family` do.
 pub(crate) fn remove_file_systems(
-    edit: &mut Edit,
+    edit: &mut WorkingCopy,
     alloc: Global,
     table: &Table,
     name: &DsName,

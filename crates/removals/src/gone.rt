@@ -11,8 +11,8 @@ ghost use Rattle.removals.specs.Named.{is_named_held, has_clone_named};
 ghost use Rattle.removals.specs.Requests.{destroyed, destroy_refusal};
 
 use crate::cloned::any_has_clone;
-use crate::edit::Edit;
 use crate::held::any_named_held;
+use crate::working_copy::WorkingCopy;
 use base::meter::SegMeter;
 use base::name::SnapName;
 use base::refusal::Refusal;
@@ -42,7 +42,7 @@ fn any_cloned(table: &Table, all: &[Named], defer: bool) -> bool
 /// are to be freed. Refused are NoDataset where there is none of them; else, where not `defer`, Busy where a tag or one of these views
 /// keeps one of them, else HasClones where one of them has a clone; NoMemory, where there is none for it, may come before these
 /// (zfs-destroy(8)). At `Err` the table and what it has to free are as they were. It costs the number of file systems, the chunks of pieces
-/// that are to be freed, and for each name what `Edit::remove_snapshot` does and the number of open views.
+/// that are to be freed, and for each name what `WorkingCopy::remove_snapshot` does and the number of open views.
 pub(crate) fn destroy_snapshots(
     alloc: Global,
     table: &mut Table,
@@ -73,7 +73,7 @@ pub(crate) fn destroy_snapshots(
     if any_cloned(table, &all, defer) {
         return Err(Refusal::HasClones);
     }
-    let mut edit = Edit::of(table, freeing)?;
+    let mut edit = WorkingCopy::of(table, freeing)?;
     edit.lose_unneeded(alloc, table, views, &all, segments)?;
     edit.defer_all(alloc, &all)?;
     // They are lent by the table.

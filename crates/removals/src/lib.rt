@@ -10,16 +10,16 @@ mod bookmark;
 mod cloned;
 mod close;
 mod destroying;
-mod edit;
 mod emptied;
 mod family;
 mod gone;
 mod held;
 mod rolling;
 mod sweep;
+mod working_copy;
 
 pub use bookmark::remove_newer_bookmarks;
 pub use close::close_view;
 pub use destroying::destroy;
-pub use edit::Edit;
 pub use rolling::rollback;
+pub use working_copy::WorkingCopy;

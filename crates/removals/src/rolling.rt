@@ -19,8 +19,8 @@ ghost use Rattle.removals.specs.Requests.{rolled, rollback_refusal, refusal_at};
 
 use crate::bookmark::remove_newer_bookmarks;
 use crate::cloned::any_later_has_clone;
-use crate::edit::Edit;
 use crate::held::any_later_held;
+use crate::working_copy::WorkingCopy;
 use base::meter::SegMeter;
 use base::name::{Component, Member, Target};
 use base::number::Group;
@@ -67,7 +67,7 @@ pub fn rollback(
     if let Some(refusal) = refusal_of(table, file_system, group, views, later) {
         return Err(refusal);
     }
-    let mut edit = Edit::of(table, freeing)?;
+    let mut edit = WorkingCopy::of(table, freeing)?;
     roll_back(&mut edit, alloc, file_system, component, group, segments)?;
     edit.put(table, freeing);
     Ok(())
@@ -115,7 +115,7 @@ fn refusal_of(
 // Puts this file system back at its snapshot of this name, which is of this group; no newer one has a clone. NoMemory where there is none
 // for it, and then the edit is of no use. It costs what `rollback` does.
 fn roll_back(
-    edit: &mut Edit,
+    edit: &mut WorkingCopy,
     alloc: Global,
     file_system: &FileSystem,
     component: &Component,

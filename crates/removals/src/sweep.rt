@@ -11,7 +11,7 @@ ghost use Rattle.removals.specs.Edits.{HasLost};
 ghost use Rattle.removals.specs.Families.{ArePartOf, unneeded, removed_origin, without_origin, without_unneeded};
 ghost use Rattle.removals.specs.Requests.{swept, IsSweptBut, IsSweptBy};
 
-use crate::edit::{Edit, member};
+use crate::working_copy::{WorkingCopy, member};
 use base::meter::SegMeter;
 use base::refusal::Refusal;
 use datasets::{FileSystem, Snapshot, Table};
@@ -40,9 +40,9 @@ fn unneeded<'a>(
 }
 
 // Lets the snapshot of this identity go, where its destroy is deferred and nothing needs it. NoMemory where there is none for it, and
-// then the edit is of no use. It costs what `unneeded` does and, where it goes, what `Edit::remove_snapshot` does.
+// then the edit is of no use. It costs what `unneeded` does and, where it goes, what `WorkingCopy::remove_snapshot` does.
 fn lose_unneeded(
-    edit: &mut Edit,
+    edit: &mut WorkingCopy,
     alloc: Global,
     views: &Views,
     id: SnapshotId,
@@ -74,7 +74,7 @@ fn removed_origin(table: &Table, file_system: &FileSystem) -> Option<SnapshotId>
 // Lets the origin of this file system go, where the file system is gone, the origin's destroy is deferred and nothing needs it. NoMemory
 // where there is none for it, and then the edit is of no use. It costs what `lose_unneeded` does.
 fn remove_unneeded_origin(
-    edit: &mut Edit,
+    edit: &mut WorkingCopy,
     alloc: Global,
     views: &Views,
     file_system: &FileSystem,
@@ -91,10 +91,10 @@ fn remove_unneeded_origin(
     }
 }
 
-impl Edit {
+impl WorkingCopy {
     /// Lets those of these snapshots go whose destroy is deferred and that no tag, no open view and no clone needs, where no other snapshot
     /// waits for that (zfs-destroy(8), -d). NoMemory where there is none for it, and then the edit is of no use. It costs for each of them
-    /// what `unneeded` does and, where it goes, what `Edit::remove_snapshot` does.
+    /// what `unneeded` does and, where it goes, what `WorkingCopy::remove_snapshot` does.
     pub fn sweep(
         &mut self,
         alloc: Global,
@@ -118,9 +118,9 @@ impl Edit {
 
 /// Lets the snapshots go whose destroy is deferred and that nothing needs any more, once file systems of this table are gone
 /// (zfs-destroy(8), -d). NoMemory where there is none for it, and then the edit is of no use. It costs the number of file systems times
-/// its logarithm, for each clone that is gone what `unneeded` does, and for each snapshot that goes what `Edit::remove_snapshot` does.
+/// its logarithm, for each clone that is gone what `unneeded` does, and for each snapshot that goes what `WorkingCopy::remove_snapshot` does.
 pub(crate) fn sweep(
-    edit: &mut Edit,
+    edit: &mut WorkingCopy,
     alloc: Global,
     table: &Table,
     views: &Views,

@@ -15,10 +15,10 @@ use Rattle.script.specs.Served.{IsServed, IsUnserved}
 use Rattle.script.specs.Text.{line_of}
 use Rattle.script.specs.declared.run.ScriptFault.{ScriptFault}
 use Rattle.script.specs.declared.run.ScriptFault.TheVariants.{NoMemory}
-use Rattle.script.specs.Lines.{lines, kept_of, line_limit, GivesLine, GivesNone, HasMore}
+use Rattle.script.specs.Lines.{lines, kept_of, line_limit, GivesLine, GivesNone, HasMore, HasNoFeed}
 use Rattle.script.specs.Meaning.{Meaning, Silent, Faulty, meaning, request_of}
 use Rattle.script.specs.Run.{Relation, is_refusal, output_of, Answers, IsUnanswered, Stops, IsRun, HasRun, HasBegun, IsFaultOf, HasFailed}
-use Rattle.script.proofs.LinesLemmas.{lines-nil}
+use Rattle.script.proofs.LinesLemmas.{lines-nil, lines-last}
 
 -- what a line that is too long asks for
 head_meaning : List ℕ → Meaning
@@ -312,3 +312,29 @@ found-none false told told' kept e h = h
 -- a fault by the counts that were read
 pub fault-of_counts : (before after a b : ℕ) (fault : ScriptFault) → a ≡ before → b ≡ after → IsFaultOf (HasRisen a b) fault → IsFaultOf (HasRisen before after) fault
 fault-of_counts before after a b fault e e' kind = subst (λ (p : ℕ × ℕ). IsFaultOf (HasRisen p.0 p.1) fault) (ap (λ n. (n, b)) e ∙ ap (λ n. (before, n)) e') kind
+
+and_false : (b : Bool) → (b && false) ≡ false
+and_false true = refl
+and_false false = refl
+
+-- a line that was served by itself is a script of this line alone
+run-alone : {C : Type 0} (asks : Relation C) (line out : List ℕ) (s t : C) (b : Bool) → HasNoFeed line → IsServed asks (meaning line) (Some []) (Some out) s t b
+    → IsRun asks false (lines line) s out t b
+unfolding meaning
+run-alone asks [] out s t b none served =
+    let silent : (served.reply ≡ None) × (t ≡ s) = served.answered in
+    subst (λ ls. IsRun asks false ls s out t b) (sym lines-nil) (record {
+      nothing = served.written ∙ ap output_of silent.0;
+      same = silent.1;
+      none_refused = served.kind ∙ ap is_refusal silent.0;
+    })
+run-alone asks (x ∷ xs) out s t b none served =
+    let run = run-one asks false (x ∷ xs) s t served.reply served.answered (and_false (is_refusal served.reply)) in
+    subst (λ ls. IsRun asks false ls s out t b) (sym (lines-last (x ∷ xs) none (λ e. absurd (omega (arith, ap length e)))))
+    (subst (λ (p : List ℕ × Bool). IsRun asks false ((x ∷ xs) ∷ []) s p.0 t p.1)
+    (ap (λ l. (l, is_refusal served.reply || false)) (append-nil (output_of served.reply) ∙ sym served.written) ∙ ap (λ c. (out, c)) (or_false (is_refusal served.reply) ∙ sym served.kind)) run)
+
+pub runs-alone : {C : Type 0} (asks : Relation C) (line old out : List ℕ) (s t : C) (r : Result Bool LineFault) → old ≡ [] → HasNoFeed line
+    → IfOk r (λ b. IsServed asks (meaning line) (Some old) (Some out) s t b) → IfOk r (λ b. IsRun asks false (lines line) s out t b)
+runs-alone asks line old out s t (Ok b) e none served = run-alone asks line out s t b none (subst (λ l. IsServed asks (meaning line) (Some l) (Some out) s t b) e served)
+runs-alone asks line old out s t (Err fault) e none served = tt

@@ -1,8 +1,9 @@
 //! Runs of scripts.
-ghost use Rattle.std.specs.Prelude.{◌≡◌, ◌&&◌, ◌||◌, ◌⊎◌, Option, Some, Err, IsTrue, IfOk, IfErr, OnOk};
+ghost use Rattle.std.specs.Prelude.{◌≡◌, ◌&&◌, ◌||◌, ◌⊎◌, [], false, Option, Some, Err, IsTrue, IfOk, IfErr, OnOk};
 ghost use Rattle.base.specs.Failing.{HasRisen};
 ghost use Rattle.base.specs.declared.refusal.Refusal.{Refusal};
-ghost use Rattle.script.specs.Run.{HasRun, HasFailed, IsFaultOf, is_refusal};
+ghost use Rattle.script.specs.Lines.{lines, HasNoFeed};
+ghost use Rattle.script.specs.Run.{HasRun, HasFailed, IsFaultOf, IsRun, is_refusal};
 ghost use Rattle.script.specs.Served.{IsServed, IsUnserved};
 ghost use Rattle.script.specs.Meaning.{Asks, meaning, request_of};
 ghost use Rattle.script.specs.Text.{line_of};
@@ -55,12 +56,42 @@ impl ScriptFault {
 }
 
 /// What kept a line's reply from being written.
-#[derive(Clone, Copy)]
-pub(crate) enum LineFault {
+#[derive(Clone, Copy, PartialEq, Eq, Debug, Error)]
+pub enum LineFault {
     /// Memory was refused to the line, or to its reply.
+    #[error("no memory")]
     NoMemory,
     /// The writer failed at the reply.
+    #[error("the reply was not written")]
     Unwritten,
+}
+
+/// Room for a reply's line that is no list of names, no text and no stream: a block's digits, and the line feed.
+const REPLY_ROOM: usize = 1_025;
+
+/// Asks a line of a caller, as a script of this line alone would: without its line feed, which makes it a bad line. The reply's line stands
+/// in `reply` then, with its line feed, in the place of what stood there; it is empty for a comment and for an empty line, which ask nothing.
+/// Says whether the line was refused. The cost is linear in the line and its reply, beside the caller's; a `reply` that is used again is
+/// not allocated again.
+///
+/// NoMemory where memory was refused to the line or to what it asks: `reply` is empty then, and the caller is as it was, or had no
+/// reply. Room for all but names, texts and streams is made before anything is asked. So Unwritten comes only where there is no memory for
+/// the text of one of these, which the caller has answered.
+pub fn answer_line<C: Caller>(
+    alloc: Global,
+    caller: &mut C,
+    line: &[u8],
+    reply: &mut Vec<u8>,
+) -> Result<bool, LineFault>
+    ensures ok { IfOk result (λ refused. IsServed C.asks (meaning line.now) (Some []) (Some reply.new.items) caller.old caller.new refused) }
+    ensures script { HasNoFeed line.now → IfOk result (λ refused. IsRun C.asks false (lines line.now) caller.old reply.new.items caller.new refused) }
+    ensures err { IfErr result (λ fault. IsUnserved C.asks (meaning line.now) (Some []) (Some reply.new.items) caller.old caller.new fault) }
+{
+    reply.clear();
+    if reply.reserve(REPLY_ROOM).is_err() {
+        return Err(LineFault::NoMemory);
+    }
+    serve_line(alloc, caller, line, reply)
 }
 
 /// Asks the requests of a script's lines of a caller, in order, and writes their reply lines. Says whether a line was refused;

@@ -1,3 +1,4 @@
+pub mod Grown
 pub mod Kept
 pub mod Labels
 pub mod Losses

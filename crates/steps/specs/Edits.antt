@@ -73,10 +73,6 @@ pub record CanSync (s : State) (t : Datasets) : Type 0 where
   pub is : t ≡ record (datasets_of s) { group = s.now.group + 1 }
   pub next : has_no_next_group s.now ≡ false
 
--- the state that goes back to its last synced world, before what nothing needs there is swept (zpool-checkpoint(8))
-abbrev pub gone_back : State → State
-gone_back s = with_now s s.last
-
 -- the state where one more view is open, of the snapshot of this identity (profile)
 abbrev pub viewing : State → SnapId → State
 viewing s id = record s { views = insert s.views s.next_view id; next_view = s.next_view + 1 }

@@ -1,23 +1,31 @@
 -- What a receive makes of a pool, by what the pool keeps.
-use Rattle.std.specs.Prelude.{◌≡◌, ◌⊎◌, ℕ, Bool, false, List, None, Some, map}
+use Rattle.std.specs.Prelude.{◌≡◌, ◌⊎◌, ◌+◌, ℕ, Bool, false, List, [], ◌∷◌, None, Some, map}
 use Rattle.base.specs.declared.refusal.Refusal.{Refusal}
 use Rattle.base.specs.declared.refusal.Refusal.TheVariants.{BadStream, NoMemory}
 use Rattle.base.specs.Surveys.{dead_block}
 use Rattle.base.specs.declared.name.member.Member.{Member}
 use Rattle.batch.specs.Updates.{changes_of, IsBatch}
 use Rattle.batch.specs.declared.update.Update.{Update}
+use Rattle.datasets.specs.Snapshots.{with_snap_at}
+use Rattle.datasets.specs.Writes.{HasWritten}
 use Rattle.stream.specs.Records.{changes_of as changes_of_records}
 use Rattle.stream.specs.Spelling.{Sending, IsNoStream}
 use Rattle.model.specs.declared.request.Request.TheVariants.{Receive}
 use Rattle.model.specs.declared.reply.Reply.TheVariants.{Done}
+use Rattle.model.specs.Edits.{with_now}
 use Rattle.model.specs.Numbers.{HasStates}
 use Rattle.model.specs.Rule.{first_of}
 use Rattle.model.specs.State.{State}
 use Rattle.model.specs.Step.{Step}
 use Rattle.model.specs.requests.Change.{limit_row}
-use Rattle.model.specs.requests.Receive.{stream_row}
+use Rattle.model.specs.requests.Receive.{before_receive, stream_row}
+use Rattle.world.specs.Tables.{Datasets, world_of}
+use Rattle.world.specs.Takings.{AreTakable}
+use Rattle.world.specs.Worlds.{IsPoolState}
+use Rattle.zalloc.specs.declared.BlockState.{BlockState}
 use Rattle.accounts.specs.Limits.{IsUnlimited}
-use Rattle.removals.specs.declared.edit.Edit.{Edit}
+use Rattle.limits.specs.Changes.{IsRecounted}
+use Rattle.removals.specs.declared.working_copy.WorkingCopy.{WorkingCopy}
 use Rattle.removals.specs.Edits.{HasLost}
 use Rattle.receives.specs.Ends.{CanFinish}
 use Rattle.receives.specs.Requests.{begun}
@@ -43,7 +51,7 @@ pub record IsPresent (s : State) (p : Present) : Type 0 where
 
 -- in such a state, a receive of what was sent, which no row but that of the limits refuses, has begun with these datasets, and its records are
 -- these updates (zfs-receive(8))
-pub record IsUnderWay (s : State) (p : Present) (m : Member) (sent : Sending) (force : Bool) (edit : Edit) (us : List Update) : Type 0 where
+pub record IsUnderWay (s : State) (p : Present) (m : Member) (sent : Sending) (force : Bool) (edit : WorkingCopy) (us : List Update) : Type 0 where
   pub present : IsPresent s p
   pub none : first_of (stream_row s.now m sent force) ≡ None
   pub to : edit.to ≡ begun p.table.now m.file_system sent force
@@ -52,8 +60,21 @@ pub record IsUnderWay (s : State) (p : Present) (m : Member) (sent : Sending) (f
   pub batch : IsBatch us
   pub changes : changes_of us ≡ changes_of_records sent.records
 
--- the pool can put this in the place of what it keeps, and then the receive is done (zfs-receive(8))
+-- what a receive of what was sent makes: its records are in force in the live map that it begins with, and that is kept as the snapshot
+-- (zfs-receive(8))
+pub record IsMadeOf (s : State) (m : Member) (force : Bool) (sent : Sending) (i : Intake) : Type 0 where
+  pub begun : IsPoolState (with_now s (before_receive s.now m.file_system sent force))
+  pub there : AreTakable (before_receive s.now m.file_system sent force).file_systems (m ∷ [])
+  pub written : Datasets
+  pub states : List BlockState
+  pub change : HasWritten (datasets_of (with_now s (before_receive s.now m.file_system sent force))) written m.file_system (changes_of_records sent.records) s.last.group states i.done
+  pub kept : i.to ≡ with_snap_at (record written { group = written.group + 1 }) m.file_system m.component sent.target written.group
+
+-- the pool can put this in the place of what it keeps, from which it differs at one name alone, and then the receive is done (zfs-receive(8))
 pub record IsIntakeOf (s : State) (m : Member) (bytes : List ℕ) (force : Bool) (i : Intake) : Type 0 where
+  pub sent : Sending
+  pub made : IsMadeOf s m force sent i
+  pub one : IsRecounted (world_of (datasets_of s)) (world_of i.to) m.file_system
   pub can : CanReceive s i.to i.freeing (map dead_block i.done.released.items) (map (λ n. n.0) i.done.taken.items)
   pub unlimited : StaysUnlimited s i.to
   pub step : Step s (Receive m bytes force) Done (put_freeing s i.to i.freeing)

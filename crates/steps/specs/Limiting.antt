@@ -15,7 +15,7 @@ use Rattle.accounts.specs.Limits.{IsUnlimited}
 use Rattle.steps.specs.Asked.{asked_by_change}
 use Rattle.steps.specs.Edits.{datasets_of}
 use Rattle.steps.specs.Steady.{IsSteady}
-use Rattle.limits.specs.Changes.{IsChanged, IsRecounted, IsAdded}
+use Rattle.limits.specs.Changes.{IsChanged, IsRecounted}
 use Rattle.limits.specs.Ledgers.{IsSpaceOf}
 use Rattle.limits.specs.declared.line.Line.{Line}
 use Rattle.limits.specs.declared.pool_space.Space.{Space}
@@ -64,14 +64,9 @@ pub record CanSettle (old new : Datasets) (name : List ℕ) (lines : Option (Lis
   pub there : IsSome (get new.file_systems name)
   pub differs : (o : Outlook) → outlook ≡ Some o → (o.here < 2 ^ 42) × IsChanged (world_of old) (world_of new) name o.here o.referenced
 
--- a ledger that is kept is that of earlier datasets, from which these differ in the account of one file system alone (profile)
+-- a ledger that is kept is that of earlier datasets, from which these differ at one name alone: its file system has changed, or it is new or
+-- gone (profile)
 pub record CanRecount (old new : Datasets) (name : List ℕ) (lines : Option (List Line)) : Type 0 where
   pub kept : IsAccounted old lines
   pub hierarchy : IsHierarchy old.file_systems
   pub differs : IsRecounted (world_of old) (world_of new) name
-
--- a ledger that is kept is that of earlier datasets, beside which there is one file system that has nothing of its own (profile)
-pub record HasOneMore (old new : Datasets) (name : List ℕ) (lines : Option (List Line)) : Type 0 where
-  pub kept : IsAccounted old lines
-  pub hierarchy : IsHierarchy old.file_systems
-  pub more : IsAdded (world_of old) (world_of new) name

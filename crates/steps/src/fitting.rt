@@ -14,7 +14,7 @@ use base::name::SnapName;
 use base::refusal::Refusal;
 use limits::outlook::kept_outlook_of;
 use limits::{Ledger, Space};
-use removals::Edit;
+use removals::WorkingCopy;
 use std::alloc::Global;
 use tree::Update;
 
@@ -25,7 +25,7 @@ use tree::Update;
 pub(crate) fn ask_limits(
     alloc: Global,
     present: Present,
-    edit: &Edit,
+    edit: &WorkingCopy,
     name: &SnapName,
     updates: &[Update],
     meter: &mut Meter,

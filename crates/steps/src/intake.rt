@@ -16,7 +16,7 @@ use base::refusal::Refusal;
 use datasets::Table;
 use destroyer::Freeing;
 use receives::{begin, finish, updates_of};
-use removals::Edit;
+use removals::WorkingCopy;
 use std::alloc::Global;
 use stream::{Stream, StreamFault, read_stream};
 use tree::Changed;
@@ -76,7 +76,7 @@ pub fn intake_of(
     )?;
     let updates = updates_of(alloc, stream.records())?;
     ask_limits(alloc, present, &edit, name, updates.as_slice(), meter)?;
-    let Edit { mut to, freeing } = edit;
+    let WorkingCopy { mut to, freeing } = edit;
     let done = finish(
         alloc,
         &mut to,

@@ -13,7 +13,7 @@ ghost use Rattle.accounts.specs.Limits.{IsUnlimited};
 ghost use Rattle.datasets.specs.Clones.{row_in};
 ghost use Rattle.limits.specs.Ledgers.{IsSpaceOf, ledger_of};
 ghost use Rattle.lookups.specs.Accounted.{IsAccounted};
-ghost use Rattle.steps.specs.Limiting.{IsOver, CanSettle, CanRecount, HasOneMore};
+ghost use Rattle.steps.specs.Limiting.{IsOver, CanSettle, CanRecount};
 
 use base::name::DsName;
 use base::refusal::Refusal;
@@ -86,9 +86,8 @@ fn settle_kept(ledger: &mut Ledger, table: &Table, name: &DsName, outlook: Optio
     }
 }
 
-/// The ledger becomes that of these datasets, where one is kept, which differ from those before in what the file system of this name has or
-/// keeps and in nothing else that a ledger has. It takes no memory. It costs for each level of the name at most the logarithm of the number of
-/// file systems, up to the first level that is charged what it was.
+/// The ledger becomes that of these datasets, where one is kept, which differ from those before at this name alone: the file system of this name
+/// has changed, or it is new, or it is gone. It takes no memory. It costs what `Ledger::recount` does.
 pub fn recount(ledger: &mut Option<Ledger>, table: &Table, name: &DsName)
     requires before { (old : Datasets) × CanRecount old table.now name.now ledger.old }
     requires unlimited { ledger.old ≡ None → IsUnlimited table.now.file_systems }
@@ -97,19 +96,6 @@ pub fn recount(ledger: &mut Option<Ledger>, table: &Table, name: &DsName)
 {
     if let Some(ledger) = ledger {
         ledger.recount(table, name);
-    }
-}
-
-/// The ledger becomes that of these datasets, where one is kept, which have the file system of this name beside those before, and that has
-/// nothing of its own. It takes no memory. It costs the logarithm of the number of file systems, and a move of the lines behind its own.
-pub fn add_line(ledger: &mut Option<Ledger>, table: &Table, name: &DsName)
-    requires before { (old : Datasets) × HasOneMore old table.now name.now ledger.old }
-    requires unlimited { ledger.old ≡ None → IsUnlimited table.now.file_systems }
-    requires few { set.len (union_of (world_of table.now)) < 2 ^ 32 }
-    ensures { IsAccounted table.now ledger.new }
-{
-    if let Some(ledger) = ledger {
-        ledger.add(table, name);
     }
 }
 

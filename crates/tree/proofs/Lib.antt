@@ -6,6 +6,7 @@ pub mod Numbered
 pub mod Drafted
 pub mod Metering
 pub mod Staying
+pub mod Growing
 pub mod Committed
 pub mod Branches
 pub mod BranchKeys

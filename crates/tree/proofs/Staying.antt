@@ -8,7 +8,7 @@ use Rattle.node.proofs.Places.{length-places}
 use Rattle.batch.specs.Said.{Said, IsWay}
 use Rattle.batch.specs.Touch.{touched, stays}
 use Rattle.batch.proofs.OneLeaf.{place_at, stays_written, stays_beside}
-use Rattle.tree.specs.Others.{HasOther}
+use Rattle.batch.specs.Others.{HasOther}
 
 is_some-map : {A B : Type 0} (f : A → B) (x : Option A) → is_some (option_map f x) ≡ is_some x
 is_some-map f None = refl

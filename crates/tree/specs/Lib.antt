@@ -11,7 +11,6 @@ pub mod Same
 pub mod Branch
 pub mod BranchCode
 pub mod BranchParts
-pub mod Others
 pub mod Blocks
 pub mod Bytes
 pub mod Telling

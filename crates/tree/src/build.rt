@@ -1,18 +1,18 @@
 //! The nodes that a batch of changes makes.
-ghost use Rattle.std.specs.Prelude.{◌≡◌, suc, ◌+◌, ◌-◌, ◌*◌, ◌^◌, ◌<◌, ◌≤◌, IfOk, OnOk, OnErr, Option, Some, None, slice_index_or, length, map};
+ghost use Rattle.std.specs.Prelude.{◌≡◌, suc, ◌+◌, ◌-◌, ◌*◌, ◌^◌, ◌<◌, ◌≤◌, IfOk, OnOk, OnErr, IsTrue, Option, Some, None, is_some, false, slice_index_or, length, map};
 ghost use Rattle.base.specs.declared.refusal.Refusal.{Refusal};
 ghost use Rattle.base.specs.Counting.{counted};
 ghost use Rattle.base.specs.Surveys.{AreDifferent};
 ghost use Rattle.node.specs.Kid.{IsSoundKid, places_of};
 ghost use Rattle.node.specs.Node.{inner_part, part_of_owner, part_of_slot};
-ghost use Rattle.batch.specs.Said.{said, AreInOrder};
+ghost use Rattle.batch.specs.Said.{said, AreInOrder, IsWay};
 ghost use Rattle.batch.specs.Touch.{any_kid, later_first, touched, stays, dropped};
 ghost use Rattle.batch.specs.Build.{made_keys, parts, rebuilt, number_of, no_block, HasKeys};
 
 use base::meter::Meter;
 use base::number::{BlockNo, Group};
 use base::refusal::Refusal;
-use batch::{NewBlock, Update, Word, is_idle, split_at_leaf, word_of};
+use batch::{NewBlock, Update, Way, Word, is_idle, split_at_leaf, way_of, word_of};
 use node::{Inner, Leaf, Level, keep, owner_at, owner_count, span};
 use std::alloc::Global;
 use std::sync::Arc;
@@ -223,6 +223,65 @@ fn build_kids<C: Build>(
     })
 }
 
+/// The part that was absent and of which a batch writes one leaf: of its places one has a part, on the way to the leaf.
+fn grow<C: Build>(
+    alloc: Global,
+    old: Option<&Arc<Inner<C>>>,
+    way: Way,
+    level: u8,
+    index: u32,
+    updates: &[Update],
+    group: Group,
+    made: &[NewBlock],
+    next: usize,
+    meter: &mut Meter,
+) -> Result<Built<Inner<C>>, Refusal>
+    requires absent { is_some old ≡ false }
+    requires way { IsWay (said updates.now) (level - 1) index way.place way.writes }
+    requires writes { IsTrue way.writes }
+    requires level { level ≡ suc C.height }
+    requires within { (index + 1) * 16 ^ level ≤ 1048576 }
+    requires low { level ≤ 5 }
+    requires order { AreInOrder updates.now }
+    requires sound { IsSoundKid (suc C.height) (part_of_owner (inner_part C.part) old) }
+    requires keys { HasKeys made.now next (made_keys (said updates.now) (suc C.height) index (part_of_owner (inner_part C.part) old)) }
+    requires once { AreDifferent (map (λ b. b.key) made.now) }
+    ensures part { IfOk result (λ b. part_of_slot (inner_part C.part) b.part ≡ rebuilt (said updates.now) (number_of made.now) group.0 (suc C.height) index (part_of_owner (inner_part C.part) old.entry)) }
+    ensures touched { IfOk result (λ b. b.touched ≡ touched (said updates.now) (suc C.height) index (part_of_owner (inner_part C.part) old.entry)) }
+    ensures stays { IfOk result (λ b. b.stays ≡ stays (said updates.now) (suc C.height) index (part_of_owner (inner_part C.part) old.entry)) }
+    ensures next { IfOk result (λ b. b.next ≡ next + length (made_keys (said updates.now) (suc C.height) index (part_of_owner (inner_part C.part) old.entry))) }
+    ensures metered { OnOk result (counted meter.old (length (dropped (said updates.now) 0 (suc C.height) index (part_of_owner (inner_part C.part) old.entry))) ≤ meter.new) }
+    ensures metered_made { IfOk result (λ b. counted meter.old (b.next - next) ≤ meter.new) }
+    ensures never_lower { meter.old ≤ meter.new }
+    ensures err { OnErr result (result ≡ Err Refusal.NoMemory) }
+{
+    reach(meter);
+    let mut kids = [
+        None, None, None, None, None, None, None, None, None, None, None, None, None, None, None,
+        None,
+    ];
+    let kid = owner_at(old, way.place as usize);
+    let built = C::build(
+        alloc,
+        kid,
+        level - 1,
+        16 * index + way.place,
+        updates,
+        group,
+        made,
+        next,
+        meter,
+    )?;
+    kids[way.place as usize] = built.part;
+    let (block, after) = number_at(made, built.next);
+    Ok(Built {
+        part: Some(Arc::new(alloc, Inner::new(block, group, kids))?),
+        touched: true,
+        stays: true,
+        next: after,
+    })
+}
+
 impl<C: Build> Build for Inner<C> {
     fn build(
         alloc: Global,
@@ -243,6 +302,15 @@ impl<C: Build> Build for Inner<C> {
                 stays: present,
                 next,
             });
+        }
+        if let Some(way) = way_of(updates, level, index) {
+            if way.writes {
+                if old.is_none() {
+                    return grow(
+                        alloc, old, way, level, index, updates, group, made, next, meter,
+                    );
+                }
+            }
         }
         reach(meter);
         let below = build_kids(

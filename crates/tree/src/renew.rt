@@ -8,7 +8,7 @@ ghost use Rattle.node.specs.Node.{inner_part, part_of_slot, whole};
 ghost use Rattle.batch.specs.Said.{said, AreInOrder, IsWay};
 ghost use Rattle.batch.specs.Touch.{touched, stays, dropped};
 ghost use Rattle.batch.specs.Build.{made_keys, rebuilt, number_of, HasKeys};
-ghost use Rattle.tree.specs.Others.{HasOther};
+ghost use Rattle.batch.specs.Others.{HasOther};
 
 use crate::build::{Build, number_at, reach};
 use crate::copy::own;

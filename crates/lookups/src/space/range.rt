@@ -1,12 +1,13 @@
 //! What a range of snapshots alone has.
-ghost use Rattle.std.specs.Prelude.{◌≡◌, ◌<◌, ◌≤◌, ◌+◌, ◌*◌, ◌^◌, length, OnErr, ◌&&◌, if◌then◌else◌, Some, None, IfSome, IfOk, IfErr, OnOk, nat_lt};
+ghost use Rattle.std.specs.Prelude.{◌≡◌, ◌<◌, ◌≤◌, ◌+◌, ◌^◌, length, OnErr, if◌then◌else◌, Some, None, IfSome, IfOk, IfErr, OnOk, nat_lt};
 ghost use Rattle.std.specs.List.{find, list_any};
-ghost use Rattle.std.specs.Option.{option_map, option_or};
+ghost use Rattle.std.specs.Option.{option_map};
 ghost use Rattle.std.specs.FinSet.{len};
 ghost use Rattle.base.specs.Names.{same_name};
 ghost use Rattle.model.specs.World.{union_of};
 ghost use Rattle.model.specs.Sums.{would_free};
 ghost use Rattle.world.specs.Tables.{world_of};
+ghost use Rattle.world.specs.Worlds.{AreRising};
 ghost use Rattle.datasets.specs.Origins.{origin_group};
 ghost use Rattle.accounts.specs.Space.{newest_group};
 ghost use Rattle.lookups.specs.Ranges.{IsRange, range_ids, range_refusal, has_clone_between, group_after, older_than};
@@ -20,9 +21,9 @@ use datasets::{FileSystem, Snapshot, Table};
 /// How many blocks all datasets together would lose with these snapshots of a file system, the first, the last and those between, of which
 /// nothing is changed (zfs-destroy(8), -nv). NoDataset exactly where one of the two isn't there, else NotAncestor exactly where the first is
 /// newer than the last, else HasClones exactly where one of the range has a clone (the order is profile). It costs the logarithm of the
-/// number of file systems, the number of this one's snapshots, for each of the range the logarithm of the number of clones, and the
-/// segments of the dead lists of the range but its first and of what comes after it, each of which has two at most and is read once: what
-/// went with the first was there before the range.
+/// number of file systems, the number of this one's snapshots, for each of the range the logarithm of the number of clones, and for each
+/// dead list of the range but its first and of what comes after it, which has one segment and is read once, about the square of the
+/// logarithm of its entries: what went with the first was there before the range.
 pub fn would_free(
     table: &Table,
     name: &DsName,
@@ -35,7 +36,7 @@ pub fn would_free(
     ensures can { OnOk result (range_refusal table.now name.now first.now last.now ≡ None) }
     ensures refused { IfSome (range_refusal table.now name.now first.now last.now) (λ e. result ≡ Err e) }
     ensures only { IfErr result (λ e. range_refusal table.now name.now first.now last.now ≡ Some e) }
-    ensures meter { OnOk result (segments.new ≤ segments.old + 2 * length (range_ids table.now name.now first.now last.now)) }
+    ensures meter { OnOk result (segments.new ≤ segments.old + length (range_ids table.now name.now first.now last.now)) }
     ensures unread { OnErr result (segments.new ≡ segments.old) }
 {
     table.facts();
@@ -65,6 +66,7 @@ fn range_of<'a>(
     ensures next { IfOk result (λ p. option_map (λ g. g.0) p.3.next ≡ group_after p.2.0 p.0.now.system.snaps) }
     ensures refused { IfErr result (λ e. range_refusal table.now name.now first.now last.now ≡ Some e) }
 {
+    table.facts();
     let Some(file_system) = table.find(name) else {
         return Err(Refusal::NoDataset);
     };
@@ -99,9 +101,11 @@ fn has_clone_between(table: &Table, snapshot: &Snapshot, first: Group, last: Gro
     first.0 <= snapshot.group().0 && snapshot.group().0 <= last.0 && table.has_clone(snapshot.id())
 }
 
-// What stands around the range from one group to another. It costs the number of the file system's snapshots, and for each of the range the
-// logarithm of the number of clones.
+// What stands around the range from one group to another. It costs the number of the file system's snapshots up to the end of the range, and
+// for each of the range the logarithm of the number of clones.
 fn look_around(table: &Table, file_system: &FileSystem, first: Group, last: Group) -> Around
+    requires rising { AreRising (origin_group file_system.now.system.origin) file_system.now.system.snaps }
+    requires order { first.0 ≤ last.0 }
     ensures before { result.before.0 ≡ newest_group (origin_group file_system.now.system.origin) (older_than first.0 file_system.now.system.snaps) }
     ensures next { option_map (λ g. g.0) result.next ≡ group_after last.0 file_system.now.system.snaps }
     ensures cloned { result.is_cloned ≡ list_any (has_clone_between table.now first.0 last.0) file_system.now.system.snaps }
@@ -113,9 +117,16 @@ fn look_around(table: &Table, file_system: &FileSystem, first: Group, last: Grou
     };
     for kept in file_system.snapshots().iter() {
         let group = kept.snapshot.group();
+        if last.0 < group.0 {
+            return Around {
+                before: around.before,
+                next: Some(group),
+                is_cloned: around.is_cloned,
+            };
+        }
         around = Around {
             before: older(around.before, group, first),
-            next: newer(around.next, group, last),
+            next: None,
             is_cloned: around.is_cloned | has_clone_between(table, &kept.snapshot, first, last),
         };
     }
@@ -127,17 +138,6 @@ fn older(before: Group, group: Group, first: Group) -> Group
     ensures { result.0 ≡ (if nat_lt group.0 first.0 then group.0 else before.0) }
 {
     if group.0 < first.0 { group } else { before }
-}
-
-// The one before, where there is one, and else the group that comes next, where it is newer than the last of a range. Constant time.
-fn newer(next: Option<Group>, group: Group, last: Group) -> Option<Group>
-    ensures { result ≡ option_or next (if nat_lt last.0 group.0 then Some group else None) }
-{
-    match next {
-        Some(_) => next,
-        None if last.0 < group.0 => Some(group),
-        None => None,
-    }
 }
 
 // The creation group of its origin, and 0 where it has none. Constant time.

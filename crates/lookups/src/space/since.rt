@@ -20,8 +20,8 @@ use model::snapshot_id::SnapshotId;
 /// How many blocks a dataset has that an older snapshot of its lineage hasn't (zfsprops(7): written@snapshot). NoDataset exactly where the
 /// target isn't a dataset that is there or there is no such snapshot; else NotAncestor exactly where the snapshot isn't an older one of the
 /// dataset's lineage (the order is profile). It costs the logarithms of the numbers of file systems and of the snapshots of one; and for
-/// each file system that the lineage passes down to the snapshot's that of looking its origin up, the number of its snapshots, and the
-/// segments of the dead lists of those of the lineage, each of which has two at most and is read once.
+/// each file system that the lineage passes down to the snapshot's that of looking its origin up, the number of its snapshots, and for
+/// each dead list of those of the lineage, which has one segment and is read once, about the square of the logarithm of its entries.
 pub fn written_since(
     table: &Table,
     target: &Target,

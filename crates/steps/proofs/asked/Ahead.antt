@@ -41,7 +41,7 @@ use Rattle.limits.specs.declared.pool_space.Space.{Space}
 use Rattle.limits.proofs.Rows.{found_row}
 use Rattle.limits.specs.Outlooks.{IsAhead, IsKeptOutlookOf}
 use Rattle.limits.specs.declared.outlook.outlook.Outlook.{Outlook}
-use Rattle.removals.specs.declared.edit.Edit.{Edit}
+use Rattle.removals.specs.declared.working_copy.WorkingCopy.{WorkingCopy}
 use Rattle.steps.specs.Edits.{datasets_of}
 use Rattle.steps.specs.Received.{asked_by_receive}
 use Rattle.steps.proofs.requests.Beginning.{IsBegun, begun_world}
@@ -52,7 +52,7 @@ use Rattle.steps.specs.declared.intake.Present.{Present}
 use Rattle.steps.specs.Intakes.{IsUnderWay}
 use Rattle.steps.proofs.requests.Taking.{to_is, freeing_is, can_take}
 
-module _ (s : State) (p : Present) (m : Member) (sent : Sending) (force : Bool) (edit : Edit) (us : List Update) (way : IsUnderWay s p m sent force edit us) where
+module _ (s : State) (p : Present) (m : Member) (sent : Sending) (force : Bool) (edit : WorkingCopy) (us : List Update) (way : IsUnderWay s p m sent force edit us) where
   abbrev w : World
   w = before_receive s.now m.file_system sent force
 

@@ -6,7 +6,6 @@ use Rattle.world.specs.Shapes.{Name}
 use Rattle.world.specs.Tables.{Datasets, world_of}
 use Rattle.world.specs.Worlds.{AreFileSystems}
 use Rattle.world.proofs.lists.Maps.{same_value}
-use Rattle.accounts.proofs.Steps.{kept_same, kept_shrunk}
 use Rattle.limits.specs.declared.line.Line.{Line}
 use Rattle.limits.proofs.Recounted.{IsAlike, AreAlikeBut, alike_itself, ledger_stays, recounted}
 use Rattle.lookups.specs.Accounted.{IsAccounted}
@@ -16,9 +15,8 @@ use Rattle.steps.specs.Limiting.{CanRecount}
 pub alike_same : (t : Datasets) (ms : List Name) → AreAlikeBut t t ms
 alike_same t ms = record {
   there = λ q out. refl;
-  shrunk = kept_shrunk (world_of t) (world_of t) (kept_same (world_of t) (world_of t) refl);
-  limits = λ q f g at at'. ap (λ (x : FileSystem). x.limits) (same_value g f (sym at' ∙ at));
   others = λ q f g out at at'. subst (λ (x : FileSystem). IsAlike f x) (same_value f g (sym at ∙ at')) (alike_itself f);
+  origins = λ good good' q g out at. refl;
 }
 
 module _ (old new : Datasets) (good : AreFileSystems old.file_systems old.group) (good' : AreFileSystems new.file_systems new.group) where
@@ -28,10 +26,9 @@ module _ (old new : Datasets) (good : AreFileSystems old.file_systems old.group)
   accounted_alike but None none = λ q g at. by_old q g at (get old.file_systems q) refl
     where
       by_old : (q : Name) (g : FileSystem) → get new.file_systems q ≡ Some g → (x : Option FileSystem) → get old.file_systems q ≡ x → g.limits ≡ no_limits
-      by_old q g at (Some f) e = but.limits q f g e at ∙ none q f e
+      by_old q g at (Some f) e = (but.others q f g (λ k. k) e at).limits ∙ none q f e
       by_old q g at None e = let gone = sym (ap is_some at) ∙ but.there q (λ k. k) ∙ ap is_some e in cc
 
-  -- where that of one does, it can be counted anew
-  pub can_recount : (name : Name) → AreAlikeBut old new (name ∷ []) → is_some (get new.file_systems name) ≡ is_some (get old.file_systems name) → (lines : Option (List Line)) → IsAccounted old lines
-      → CanRecount old new name lines
-  can_recount name but here lines kept = record { kept = kept; hierarchy = good.hierarchy; differs = recounted old new good good' name but here }
+  -- where they differ at one name, it can be brought up to date
+  pub can_recount : (name : Name) → AreAlikeBut old new (name ∷ []) → (lines : Option (List Line)) → IsAccounted old lines → CanRecount old new name lines
+  can_recount name but lines kept = record { kept = kept; hierarchy = good.hierarchy; differs = recounted old new good good' name but }

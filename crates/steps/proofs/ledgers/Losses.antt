@@ -1,5 +1,5 @@
--- Where a snapshot goes, the account of its file system alone differs.
-use Rattle.std.proofs.Common.{◌≡◌, ℕ, ◌++◌, ◌∷◌, ◌&&◌, ◌||◌, Bool, true, false, not, map, List, [], Option, Some, None, is_some, refl, sym, ap, subst, ◌∙◌, inl}
+-- Where a snapshot or a file system goes, datasets differ at its file system's name alone.
+use Rattle.std.proofs.Common.{◌≡◌, ℕ, ◌++◌, ◌∷◌, ◌&&◌, ◌||◌, Bool, true, false, not, map, List, [], Option, Some, None, is_some, refl, sym, ap, subst, ◌∙◌, inl, ⊎_elim}
 use Rattle.std.specs.List.{filter}
 use Rattle.std.specs.Option.{option_map, option_map_or, option_and_then}
 use Rattle.std.specs.FinMap.{get, remove}
@@ -7,7 +7,7 @@ use Rattle.base.specs.Map.{Map}
 use Rattle.base.specs.Surveys.{IsIn}
 use Rattle.base.specs.declared.name.member.Member.{Member}
 use Rattle.base.specs.declared.name.target.Target.{Target}
-use Rattle.base.specs.declared.name.target.Target.TheVariants.{Snapshot as OfSnapshot}
+use Rattle.base.specs.declared.name.target.Target.TheVariants.{FileSystem as OfFileSystem, Snapshot as OfSnapshot}
 use Rattle.model.specs.World.{FileSystem, Snap, SnapId, id_of, same_id, snap_named}
 use Rattle.model.specs.Outcome.{is_needed}
 use Rattle.model.specs.State.{State}
@@ -15,48 +15,37 @@ use Rattle.model.specs.Edits.{with_tags, without_snaps}
 use Rattle.model.specs.requests.Destroy.{is_one_of, snaps_named, with_deferred}
 use Rattle.model.specs.requests.Release.{without_tag}
 use Rattle.model.specs.requests.Rollback.{placed}
-use Rattle.world.specs.Shapes.{Name}
-use Rattle.world.specs.Tables.{Datasets, world_of, tagged_snap, without_snap}
+use Rattle.world.specs.Shapes.{Name, name_order}
+use Rattle.world.specs.Tables.{Datasets, world_of, tagged_snap, without_snap, without_system}
 use Rattle.world.specs.Worlds.{AreFileSystems}
 use Rattle.world.proofs.changes.Views.{same_maps_mapped}
 use Rattle.world.proofs.lineage.Bridge.{from_snap_at, one_snap}
 use Rattle.world.proofs.lists.Finding.{filter_all, same_id_is}
-use Rattle.world.proofs.lists.Maps.{no_value}
+use Rattle.world.proofs.lists.Maps.{no_value, same_value, key_cases, get-remove_same, get-remove_other}
 use Rattle.world.proofs.removals.Sweep.{get-with_file_systems}
 use Rattle.world.proofs.removals.WithoutSnaps.{without_at, from_without}
 use Rattle.accounts.specs.Limits.{AreShrunk}
-use Rattle.accounts.proofs.Steps.{kept_trans, kept_without, kept_deferred, kept_shrunk}
+use Rattle.accounts.proofs.Steps.{shrunk_snaps, kept_trans, kept_without, kept_deferred, kept_shrunk}
 use Rattle.limits.specs.declared.line.Line.{Line}
-use Rattle.limits.proofs.Recounted.{IsAlike, AreAlikeBut, alike_less, same_there, alike_from}
+use Rattle.limits.proofs.Recounted.{IsAlike, AreAlikeBut, alike_itself, alike_less, alike_from, kept_origins}
 use Rattle.lookups.specs.Accounted.{IsAccounted}
 use Rattle.marks.specs.Requests.{released_in}
 use Rattle.marks.proofs.Placed.{placed_at}
 use Rattle.marks.proofs.Tagged.{tagged_stays, tagged_goes}
-use Rattle.removals.specs.Families.{unneeded}
-use Rattle.removals.specs.Requests.{swept, destroyed, gone_with, IsSweptBy}
+use Rattle.removals.specs.Families.{unneeded, has_deferred_origin}
+use Rattle.removals.specs.Requests.{swept, destroyed, without_family, gone_with, IsSweptBy}
+use Rattle.removals.proofs.Alone.{nothing_swept}
 use Rattle.removals.proofs.Closed.{none_goes, one_goes}
 use Rattle.removals.proofs.Deferring.{marked_by, in_before}
 use Rattle.removals.proofs.Needed.{named_there, unneeded_parts}
 use Rattle.removals.proofs.Swept.{none_without, none_swept}
+use Rattle.removals.proofs.SystemsGone.{one_gone}
 use Rattle.steps.specs.Limiting.{CanRecount}
 use Rattle.steps.specs.Steady.{IsSteady}
 use Rattle.steps.specs.Edits.{datasets_of}
 use Rattle.steps.proofs.requests.Releasing.{release_can}
 use Rattle.steps.proofs.ledgers.Kept.{alike_same, can_recount}
 use Rattle.steps.proofs.ledgers.Labels.{tagged_alike}
-
--- the same file systems, with the same blocks but at one name
-pub record IsAlikeButOne (old new : Datasets) (name : Name) : Type 0 where
-  pub but : AreAlikeBut old new (name ∷ [])
-  pub here : is_some (get new.file_systems name) ≡ is_some (get old.file_systems name)
-
-one_less : (old new : Datasets) (name : Name) → AreAlikeBut old new [] → IsAlikeButOne old new name
-one_less old new name but = record { but = alike_less old new (name ∷ []) but; here = but.there name (λ k. k) }
-
--- the ledger is that of the datasets afterwards once the one is counted anew
-pub one_counted : (old new : Datasets) → AreFileSystems old.file_systems old.group → AreFileSystems new.file_systems new.group → (name : Name) → IsAlikeButOne old new name
-    → (lines : Option (List Line)) → IsAccounted old lines → CanRecount old new name lines
-one_counted old new good good' name one = can_recount old new good good' name one.but one.here
 
 -- ---- snapshots of one file system go
 
@@ -100,11 +89,8 @@ module _ (t : Datasets) (name : Name) (goes : Snap → Bool)
           },
         )
 
-    pub deferred_one : IsAlikeButOne t (record t { file_systems = (with_deferred (without_snaps (world_of t) goes) some).file_systems }) name
-    deferred_one = record {
-      but = alike_from t new (name ∷ []) deferred_shrunk deferred_there deferred_each;
-      here = same_there t new (name ∷ []) deferred_shrunk deferred_there deferred_each name;
-    }
+    pub deferred_one : AreAlikeBut t (record t { file_systems = (with_deferred (without_snaps (world_of t) goes) some).file_systems }) (name ∷ [])
+    deferred_one = alike_from t new (name ∷ []) deferred_shrunk deferred_there deferred_each
 
   -- or none is
   abbrev left : Datasets
@@ -132,11 +118,8 @@ module _ (t : Datasets) (name : Name) (goes : Snap → Bool)
         },
       )
 
-  pub gone_one : IsAlikeButOne t (record t { file_systems = (without_snaps (world_of t) goes).file_systems }) name
-  gone_one = record {
-    but = alike_from t left (name ∷ []) gone_shrunk gone_there gone_each;
-    here = same_there t left (name ∷ []) gone_shrunk gone_there gone_each name;
-  }
+  pub gone_one : AreAlikeBut t (record t { file_systems = (without_snaps (world_of t) goes).file_systems }) (name ∷ [])
+  gone_one = alike_from t left (name ∷ []) gone_shrunk gone_there gone_each
 
 module _ (t : Datasets) (good : AreFileSystems t.file_systems t.group) (name : Name) (f : FileSystem) (u : Snap) (at : get t.file_systems name ≡ Some f) (among : IsIn f.snaps u) where
   elsewhere : (q : Name) (g : FileSystem) (v : Snap) → ¬ (q ≡ name) → get t.file_systems q ≡ Some g → IsIn g.snaps v → same_id (id_of v) (id_of u) ≡ false
@@ -147,8 +130,30 @@ module _ (t : Datasets) (good : AreFileSystems t.file_systems t.group) (name : N
       by_test false e = e
 
   -- a snapshot goes from its file system
-  pub without_one : IsAlikeButOne t (without_snap t (id_of u)) name
+  pub without_one : AreAlikeBut t (without_snap t (id_of u)) (name ∷ [])
   without_one = gone_one t name (λ v. same_id (id_of v) (id_of u)) (λ q g v ne at' i. elsewhere q g v ne at' i)
+
+-- ---- a file system goes
+
+module _ (t : Datasets) (name : Name) where
+  abbrev fewer : Datasets
+  fewer = without_system t name
+
+  left_same : (q : Name) (g : FileSystem) → ¬ (q ≡ name) → get fewer.file_systems q ≡ Some g → get t.file_systems q ≡ Some g
+  left_same q g ne at = sym (get-remove_other name_order t.file_systems name q ne) ∙ at
+
+  left_before : (q : Name) (g : FileSystem) → get fewer.file_systems q ≡ Some g → get t.file_systems q ≡ Some g
+  left_before q g at = ⊎_elim
+      (λ (is : q ≡ name). absurd (no_value g (sym (ap (get fewer.file_systems) is ∙ get-remove_same name_order t.file_systems name) ∙ at)))
+      (λ (ne : ¬ (q ≡ name)). left_same q g ne at)
+      (key_cases name_order q name)
+
+  pub without_alike : AreAlikeBut t (without_system t name) (name ∷ [])
+  without_alike = record {
+    there = λ q out. ap is_some (get-remove_other name_order t.file_systems name q (λ e. out (inl e)));
+    others = λ q f g out at at'. subst (λ (x : FileSystem). IsAlike f x) (same_value f g (sym at ∙ left_before q g at')) (alike_itself f);
+    origins = kept_origins t fewer (name ∷ []) (λ q f at. inl (f, left_before q f at, shrunk_snaps f f refl refl refl (λ u i. (u, i, refl, refl))));
+  }
 
 -- ---- by requests
 
@@ -170,7 +175,7 @@ module _ (s : State) (steady : IsSteady s) where
       by_mark n f u at i false d = ap (λ b. b && not (is_needed (world_of t) s.views u)) d
 
   -- a release
-  pub release_one : (tag : List ℕ) (m : Member) → IsAlikeButOne (datasets_of s) (swept (released_in (datasets_of s) tag (OfSnapshot m)) s.views) m.file_system
+  pub release_one : (tag : List ℕ) (m : Member) → AreAlikeBut (datasets_of s) (swept (released_in (datasets_of s) tag (OfSnapshot m)) s.views) (m.file_system ∷ [])
   release_one tag m = by_place (placed (world_of t) (OfSnapshot m)) refl
     where
       released_by : Option (FileSystem × Snap) → Datasets
@@ -178,25 +183,25 @@ module _ (s : State) (steady : IsSteady s) where
 
       by_due : (p : FileSystem × Snap) → get t.file_systems m.file_system ≡ Some p.0 → IsIn p.0.snaps p.1
           → (b : Bool) → (p.1.deferred && not (is_needed (world_of t) s.views (record p.1 { tags = without_tag p.1.tags tag }))) ≡ b
-          → IsAlikeButOne t (swept (tagged_snap t (id_of p.1) (without_tag p.1.tags tag)) s.views) m.file_system
-      by_due p at among true due = subst (λ (d : Datasets). IsAlikeButOne t d m.file_system)
+          → AreAlikeBut t (swept (tagged_snap t (id_of p.1) (without_tag p.1.tags tag)) s.views) (m.file_system ∷ [])
+      by_due p at among true due = subst (λ (d : Datasets). AreAlikeBut t d (m.file_system ∷ []))
           (sym (tagged_goes t good s.views clean m.file_system p.0 p.1 at among (without_tag p.1.tags tag) due))
           (without_one t good m.file_system p.0 p.1 at among)
-      by_due p at among false due = subst (λ (d : Datasets). IsAlikeButOne t d m.file_system)
+      by_due p at among false due = subst (λ (d : Datasets). AreAlikeBut t d (m.file_system ∷ []))
           (sym (tagged_stays t good s.views clean m.file_system p.0 p.1 at among (without_tag p.1.tags tag) due))
-          (one_less t (tagged_snap t (id_of p.1) (without_tag p.1.tags tag)) m.file_system (tagged_alike t (id_of p.1) (without_tag p.1.tags tag)))
+          (alike_less t (tagged_snap t (id_of p.1) (without_tag p.1.tags tag)) (m.file_system ∷ []) (tagged_alike t (id_of p.1) (without_tag p.1.tags tag)))
 
-      by_place : (x : Option (FileSystem × Snap)) → placed (world_of t) (OfSnapshot m) ≡ x → IsAlikeButOne t (swept (released_in t tag (OfSnapshot m)) s.views) m.file_system
-      by_place None e = subst (λ (d : Datasets). IsAlikeButOne t d m.file_system)
-          (sym (ap (λ x. swept (released_by x) s.views) e ∙ swept_already)) (one_less t t m.file_system (alike_same t []))
+      by_place : (x : Option (FileSystem × Snap)) → placed (world_of t) (OfSnapshot m) ≡ x → AreAlikeBut t (swept (released_in t tag (OfSnapshot m)) s.views) (m.file_system ∷ [])
+      by_place None e = subst (λ (d : Datasets). AreAlikeBut t d (m.file_system ∷ []))
+          (sym (ap (λ x. swept (released_by x) s.views) e ∙ swept_already)) (alike_same t (m.file_system ∷ []))
       by_place (Some p) e =
           let k = placed_at t m p.1 (ap (option_map (λ (q : FileSystem × Snap). q.1)) e) in
           let same = ap (λ x. swept (released_by x) s.views) k.found in
-          subst (λ (d : Datasets). IsAlikeButOne t d m.file_system) (sym same) (by_due (k.system, p.1) k.at k.among _ refl)
+          subst (λ (d : Datasets). AreAlikeBut t d (m.file_system ∷ [])) (sym same) (by_due (k.system, p.1) k.at k.among _ refl)
 
   -- a destroy of one snapshot
-  pub destroy_one : (m : Member) (defer : Bool) → IsAlikeButOne (datasets_of s) (swept (destroyed (datasets_of s) s.views (OfSnapshot m) false defer) s.views) m.file_system
-  destroy_one m defer = subst (λ (d : Datasets). IsAlikeButOne t d m.file_system) (sym (none_swept t s.views clean m false defer))
+  pub destroy_one : (m : Member) (defer : Bool) → AreAlikeBut (datasets_of s) (swept (destroyed (datasets_of s) s.views (OfSnapshot m) false defer) s.views) (m.file_system ∷ [])
+  destroy_one m defer = subst (λ (d : Datasets). AreAlikeBut t d (m.file_system ∷ [])) (sym (none_swept t s.views clean m false defer))
       (deferred_one t m.file_system goes (λ q f u ne at i. ap (λ b. b && not (needed u)) (another q f u ne at i (snap_named (world_of t) m) refl)) (λ u. is_one_of (snaps_named (world_of t) m false) u && needed u))
     where
       needed : Snap → Bool
@@ -217,15 +222,24 @@ module _ (s : State) (steady : IsSteady s) where
           ap (λ x. is_one_of (option_map_or (λ (v : Snap). id_of v ∷ []) x [] ++ []) u) e
           ∙ or_none (same_id (id_of u) (id_of v)) (elsewhere t good m.file_system k.0 v k.1 k.2 q f u ne at i)
 
+  -- a destroy of a file system that nothing goes with
+  destroy_alone : (name : Name) (defer : Bool) → has_deferred_origin (datasets_of s) name ≡ false
+      → AreAlikeBut (datasets_of s) (swept (destroyed (datasets_of s) s.views (OfFileSystem name) false defer) s.views) (name ∷ [])
+  destroy_alone name defer stays = subst (λ (d : Datasets). AreAlikeBut t d (name ∷ [])) alone
+      (without_alike t name)
+    where
+      alone : without_system t name ≡ swept (destroyed t s.views (OfFileSystem name) false defer) s.views
+      alone = sym (nothing_swept t good s.views clean name stays) ∙ ap (λ v. swept v s.views) (one_gone t name)
+
   -- the close of a view
   module _ (number : ℕ) where
     pub close_none : gone_with (datasets_of s) s.views number ≡ None → swept (datasets_of s) (remove s.views number) ≡ datasets_of s
     close_none none = none_goes t good s.views clean number none
 
-    pub close_one : (p : Name × Snap) → gone_with (datasets_of s) s.views number ≡ Some p → IsAlikeButOne (datasets_of s) (swept (datasets_of s) (remove s.views number)) p.0
-    close_one p is = subst (λ (d : Datasets). IsAlikeButOne t d p.0) (one_goes t good s.views clean number p is) (by_view (get s.views number) refl is)
+    pub close_one : (p : Name × Snap) → gone_with (datasets_of s) s.views number ≡ Some p → AreAlikeBut (datasets_of s) (swept (datasets_of s) (remove s.views number)) (p.0 ∷ [])
+    close_one p is = subst (λ (d : Datasets). AreAlikeBut t d (p.0 ∷ [])) (one_goes t good s.views clean number p is) (by_view (get s.views number) refl is)
       where
-        by_view : (x : Option SnapId) → get s.views number ≡ x → option_and_then (unneeded t (remove s.views number)) x ≡ Some p → IsAlikeButOne t (without_snap t (id_of p.1)) p.0
+        by_view : (x : Option SnapId) → get s.views number ≡ x → option_and_then (unneeded t (remove s.views number)) x ≡ Some p → AreAlikeBut t (without_snap t (id_of p.1)) (p.0 ∷ [])
         by_view None a e = absurd (no_value p e)
         by_view (Some id) a e =
             let k = unneeded_parts t (remove s.views number) id p e in
@@ -238,19 +252,35 @@ module _ (s : State) (steady : IsSteady s) where
   release_counted tag target m is to led lines kept =
       let new = led ∙ ap (λ x. swept (released_in t tag x) s.views) is in
       subst (λ (d : Datasets). CanRecount t d m.file_system lines) (sym new)
-      (one_counted t (swept (released_in t tag (OfSnapshot m)) s.views) good (release_can s tag (OfSnapshot m) steady).steady.good.now.systems m.file_system (release_one tag m) lines kept)
+      (can_recount t (swept (released_in t tag (OfSnapshot m)) s.views) good (release_can s tag (OfSnapshot m) steady).steady.good.now.systems m.file_system (release_one tag m) lines kept)
 
   pub destroy_counted : (target : Target) (recursive defer : Bool) (m : Member) → target ≡ OfSnapshot m → recursive ≡ false
       → (to : Datasets) → AreFileSystems to.file_systems to.group → to ≡ swept (destroyed (datasets_of s) s.views target recursive defer) s.views
       → (lines : Option (List Line)) → IsAccounted (datasets_of s) lines → CanRecount (datasets_of s) to m.file_system lines
   destroy_counted target recursive defer m is alone to there led lines kept =
       let new = led ∙ (λ i. swept (destroyed t s.views (is i) (alone i) defer) s.views) in
-      one_counted t to good there m.file_system (subst (λ (d : Datasets). IsAlikeButOne t d m.file_system) (sym new) (destroy_one m defer)) lines kept
+      can_recount t to good there m.file_system (subst (λ (d : Datasets). AreAlikeBut t d (m.file_system ∷ [])) (sym new) (destroy_one m defer)) lines kept
+
+  pub alone_counted : (target : Target) (recursive defer : Bool) (name : Name) → target ≡ OfFileSystem name → recursive ≡ false → has_deferred_origin (datasets_of s) name ≡ false
+      → (to : Datasets) → AreFileSystems to.file_systems to.group → to ≡ swept (destroyed (datasets_of s) s.views target recursive defer) s.views
+      → (lines : Option (List Line)) → IsAccounted (datasets_of s) lines → CanRecount (datasets_of s) to name lines
+  alone_counted target recursive defer name is alone stays to there led lines kept =
+      let new = led ∙ (λ i. swept (destroyed t s.views (is i) (alone i) defer) s.views) in
+      can_recount t to good there name (subst (λ (d : Datasets). AreAlikeBut t d (name ∷ [])) (sym new) (destroy_alone name defer stays)) lines kept
 
   module _ (number : ℕ) (to : Datasets) (there : AreFileSystems to.file_systems to.group) (led : to ≡ swept (datasets_of s) (remove s.views number)) (lines : Option (List Line))
       (kept : IsAccounted (datasets_of s) lines) where
-    pub close_kept : gone_with (datasets_of s) s.views number ≡ None → IsAccounted to lines
-    close_kept none = subst (λ (d : Datasets). IsAccounted d lines) (sym (led ∙ close_none number none)) kept
+    pub close_kept : option_map (λ (p : Name × Snap). p.0) (gone_with (datasets_of s) s.views number) ≡ None → IsAccounted to lines
+    close_kept none = subst (λ (d : Datasets). IsAccounted d lines) (sym (led ∙ close_none number (by (gone_with (datasets_of s) s.views number) refl none))) kept
+      where
+        by : (x : Option (Name × Snap)) → gone_with (datasets_of s) s.views number ≡ x → option_map (λ (p : Name × Snap). p.0) x ≡ None → gone_with (datasets_of s) s.views number ≡ None
+        by None e n = e
+        by (Some p) e n = absurd (no_value p.0 (sym n))
 
-    pub close_counted : (p : Name × Snap) → gone_with (datasets_of s) s.views number ≡ Some p → CanRecount (datasets_of s) to p.0 lines
-    close_counted p is = one_counted t to good there p.0 (subst (λ (d : Datasets). IsAlikeButOne t d p.0) (sym led) (close_one number p is)) lines kept
+    pub gone_counted : (name : Name) → option_map (λ (p : Name × Snap). p.0) (gone_with (datasets_of s) s.views number) ≡ Some name → CanRecount (datasets_of s) to name lines
+    gone_counted name is = by (gone_with (datasets_of s) s.views number) refl is
+      where
+        by : (x : Option (Name × Snap)) → gone_with (datasets_of s) s.views number ≡ x → option_map (λ (p : Name × Snap). p.0) x ≡ Some name → CanRecount (datasets_of s) to name lines
+        by None e n = absurd (no_value name n)
+        by (Some p) e n = can_recount t to good there name
+            (subst (λ (q : Name). AreAlikeBut t to (q ∷ [])) (same_value p.0 name n) (subst (λ (d : Datasets). AreAlikeBut t d (p.0 ∷ [])) (sym led) (close_one number p e))) lines kept

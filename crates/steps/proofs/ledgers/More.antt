@@ -12,19 +12,20 @@ use Rattle.model.specs.requests.Rollback.{placed}
 use Rattle.world.specs.Shapes.{Name, name_order}
 use Rattle.world.specs.Tables.{Datasets, world_of, with_system}
 use Rattle.world.specs.Worlds.{AreFileSystems}
-use Rattle.world.proofs.lineage.Put.{put_here, put_other}
+use Rattle.world.proofs.lineage.Put.{put_other}
 use Rattle.world.proofs.lists.Maps.{no_value, same_value, key_cases}
 use Rattle.world.proofs.views.ViewedRequests.{row_false}
 use Rattle.accounts.specs.Limits.{IsMade}
 use Rattle.accounts.proofs.Steps.{shrunk_made}
 use Rattle.datasets.specs.Clones.{with_clone_of}
 use Rattle.limits.specs.declared.line.Line.{Line}
-use Rattle.limits.proofs.Recounted.{IsAlike, AreAlikeBut, alike_itself, added}
+use Rattle.limits.proofs.Recounted.{IsAlike, AreAlikeBut, alike_itself, kept_origins}
 use Rattle.lookups.specs.Accounted.{IsAccounted}
 use Rattle.snap.specs.Requests.{cloned, clone_refusal}
-use Rattle.steps.specs.Limiting.{HasOneMore}
+use Rattle.steps.specs.Limiting.{CanRecount}
 use Rattle.steps.specs.Steady.{IsSteady}
 use Rattle.steps.specs.Edits.{datasets_of}
+use Rattle.steps.proofs.ledgers.Kept.{can_recount}
 use Rattle.steps.proofs.requests.Cloning.{clone_can}
 use Rattle.steps.proofs.requests.Creating.{can_add, create_can}
 
@@ -39,27 +40,19 @@ module _ (t : Datasets) (name : Name) (made : FileSystem) (gone : get t.file_sys
   pub made_but : AreAlikeBut t (with_system t name made) (name ∷ [])
   made_but = record {
     there = λ q out. ap is_some (put_other t.file_systems name made q (λ e. out (inl e)));
-    shrunk = shrunk_made (world_of t) name made gone is;
-    limits = λ q f g at at'. ⊎_elim
-        (λ (e : q ≡ name). absurd (no_value f (sym gone ∙ ap (get t.file_systems) (sym e) ∙ at)))
-        (λ (ne : ¬ (q ≡ name)). ap (λ (x : FileSystem). x.limits) (same q f g ne at at'))
-        (key_cases name_order q name);
     others = λ q f g out at at'. subst (λ (x : FileSystem). IsAlike f x) (sym (same q f g (λ e. out (inl e)) at at')) (alike_itself f);
+    origins = kept_origins t new (name ∷ []) (shrunk_made (world_of t) name made gone is);
   }
     where
       same : (q : Name) (f g : FileSystem) → ¬ (q ≡ name) → get t.file_systems q ≡ Some f → get new.file_systems q ≡ Some g → g ≡ f
       same q f g ne at at' = same_value g f (sym at' ∙ put_other t.file_systems name made q ne ∙ at)
 
   pub made_more : AreFileSystems t.file_systems t.group → AreFileSystems (with_system t name made).file_systems t.group → (lines : Option (List Line)) → IsAccounted t lines
-      → HasOneMore t (with_system t name made) name lines
-  made_more good good' lines kept = record {
-    kept = kept;
-    hierarchy = good.hierarchy;
-    more = added t new good good' name made_but gone (ap is_some (put_here t.file_systems name made));
-  }
+      → CanRecount t (with_system t name made) name lines
+  made_more good good' = can_recount t new good good' name made_but
 
 pub create_more : (s : State) → IsSteady s → (name : Name) → create_refusal s.now.file_systems name ≡ None → (lines : Option (List Line)) → IsAccounted (datasets_of s) lines
-    → HasOneMore (datasets_of s) (with_system (datasets_of s) name empty_file_system) name lines
+    → CanRecount (datasets_of s) (with_system (datasets_of s) name empty_file_system) name lines
 create_more s steady name may = made_more (datasets_of s) name empty_file_system (can_add s.now.file_systems name may).absent (record { live = refl; snaps = refl; limits = refl })
     steady.good.now.systems (create_can s steady name may).steady.good.now.systems
 
@@ -73,15 +66,15 @@ module _ (s : State) (steady : IsSteady s) (target : Target) (name : Name) (none
   found : not (is_some (placed w target)) ≡ false
   found = row_false (clone_row w target name) none (not (is_some (placed w target)), NoDataset) (inr (inl refl))
 
-  pub clone_more : (lines : Option (List Line)) → IsAccounted (datasets_of s) lines → HasOneMore (datasets_of s) (cloned (datasets_of s) target name) name lines
+  pub clone_more : (lines : Option (List Line)) → IsAccounted (datasets_of s) lines → CanRecount (datasets_of s) (cloned (datasets_of s) target name) name lines
   clone_more lines kept = by_place (placed w target) refl
     where
-      by_place : (x : Option (FileSystem × Snap)) → placed w target ≡ x → HasOneMore (datasets_of s) (cloned (datasets_of s) target name) name lines
+      by_place : (x : Option (FileSystem × Snap)) → placed w target ≡ x → CanRecount (datasets_of s) (cloned (datasets_of s) target name) name lines
       by_place None e = let k = sym found ∙ ap (λ (x : Option (FileSystem × Snap)). not (is_some x)) e in cc
       by_place (Some p) e =
           let made = record empty_file_system { live = map_of_snap w (Some (id_of p.1)); origin = Some (id_of p.1) } in
           let is = ap (λ (x : Option (FileSystem × Snap)). cloned_by x) e in
-          subst (λ (d : Datasets). HasOneMore (datasets_of s) d name lines) (sym is)
+          subst (λ (d : Datasets). CanRecount (datasets_of s) d name lines) (sym is)
           (made_more (datasets_of s) name made absent (record { live = refl; snaps = refl; limits = refl }) steady.good.now.systems
           (subst (λ (d : Datasets). AreFileSystems d.file_systems d.group) is (clone_can s steady target name none).steady.good.now.systems) lines kept)
         where

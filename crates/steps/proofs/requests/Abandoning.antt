@@ -1,39 +1,33 @@
 -- Back to the last synced world: what holds between two steps holds there, once it is swept; and the steps.
-use Rattle.std.proofs.Common.{◌≡◌, ℕ, Bool, true, false, not, ◌&&◌, cond, List, [], ◌∷◌, length, Option, Some, None, refl, sym, ap, subst, ◌∙◌, true≢false, arith}
+use Rattle.std.proofs.Common.{◌≡◌, Bool, true, false, not, ◌&&◌, cond, Option, Some, None, refl, ap}
 use Rattle.std.specs.Prelude.{nat_lt}
-use Rattle.std.proofs.lemmas.Bool.{lt-ltb}
-use Rattle.std.specs.FinMap.{get, len, entries, len-entries}
+use Rattle.std.specs.FinMap.{len}
 use Rattle.base.specs.declared.refusal.Refusal.{Refusal}
 use Rattle.base.specs.declared.refusal.Refusal.TheVariants.{Busy}
 use Rattle.model.specs.declared.request.Request.TheVariants.{Abandon}
 use Rattle.model.specs.declared.reply.Reply.TheVariants.{Done, Refused}
-use Rattle.model.specs.World.{SnapId}
-use Rattle.model.specs.State.{State, Views}
+use Rattle.model.specs.State.{State}
+use Rattle.model.specs.Edits.{with_now}
 use Rattle.model.specs.Outcome.{is_needed}
 use Rattle.model.specs.requests.Abandon.{abandon_rule}
 use Rattle.model.specs.Refusals.{refusal_of}
 use Rattle.model.specs.Step.{Step}
-use Rattle.world.specs.Shapes.{view_order}
 use Rattle.world.specs.Tables.{world_of}
-use Rattle.world.specs.Usage.{IsEntry}
 use Rattle.world.specs.Worlds.{IsPoolState}
-use Rattle.world.proofs.lists.Maps.{entry_of}
 use Rattle.world.proofs.steps.Groups.{back_pairs}
+use Rattle.world.proofs.views.ViewedRequests.{none_viewed}
+use Rattle.world.proofs.views.ViewedSteps.{viewed}
 use Rattle.accounts.specs.Limits.{HasLimits, IsUnlimited}
 use Rattle.removals.specs.Requests.{swept}
 use Rattle.steps.specs.Steady.{IsSteady}
-use Rattle.steps.specs.Edits.{datasets_of, lose, gone_back, CanLose}
+use Rattle.steps.specs.Edits.{datasets_of, lose, CanLose}
 use Rattle.steps.proofs.quotas.Unlimited.{unlimited_without}
 use Rattle.steps.proofs.numbers.Ruled.{no_choice, refused_by, swept_by}
 use Rattle.steps.proofs.requests.Sweeping.{after_is, sweep_can}
 
--- no view is open
-none_open : (views : Views) → nat_lt 0 (len views) ≡ false → (v : ℕ) (id : SnapId) → get views v ≡ Some id → ⊥
-none_open views none v id e = by_entries (entries views) (entry_of view_order views v id e) (ap (nat_lt 0) (sym (len-entries views)) ∙ none)
-  where
-    by_entries : (l : List (ℕ × SnapId)) → IsEntry l v id → nat_lt 0 (length l) ≡ false → ⊥
-    by_entries [] i n = i
-    by_entries (x ∷ xs) i n = absurd (true≢false (sym (lt-ltb 0 (length (x ∷ xs)) (omega arith)) ∙ n))
+-- the state that goes back to its last synced world, before what nothing needs there is swept
+abbrev pub gone_back : State → State
+gone_back s = with_now s s.last
 
 module _ (s : State) where
   row_is : (b : Bool) → nat_lt 0 (len s.views) ≡ b → refusal_of s abandon_rule ≡ cond {A = Option Refusal} b (Some Busy) None
@@ -41,7 +35,7 @@ module _ (s : State) where
   row_is b e = ap (λ x. cond {A = Option Refusal} x (Some Busy) None) e
 
   pub abandon_busy : nat_lt 0 (len s.views) ≡ true → Step s Abandon (Refused Busy) s
-  abandon_busy viewed = refused_by Abandon abandon_rule (None, refl, refl) s Busy (row_is true viewed)
+  abandon_busy some = refused_by Abandon abandon_rule (None, refl, refl) s Busy (row_is true some)
 
   module _ (steady : IsSteady s) (none : nat_lt 0 (len s.views) ≡ false) where
     back_good : IsPoolState (gone_back s)
@@ -49,7 +43,7 @@ module _ (s : State) where
       now = steady.good.last;
       last = steady.good.last;
       pair = back_pairs s.size s.now s.last steady.good.pair;
-      views = λ v id e. absurd (none_open s.views none v id e);
+      views = λ v id e. absurd (none_viewed s.views none id (viewed s.views v id e));
     }
 
     back_limits : HasLimits (gone_back s)

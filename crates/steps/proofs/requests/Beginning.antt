@@ -158,7 +158,7 @@ module _ (s : State) (steady : IsSteady s) where
   -- ---- by the stream
 
   module _ (m : Member) (sent : Sending) (force : Bool) (none : first_of (stream_row s.now m sent force) ≡ None) where
-    may_create : first_of (full_row s.now m) ≡ None → create_refusal s.now.file_systems m.file_system ≡ None
+    pub may_create : first_of (full_row s.now m) ≡ None → create_refusal s.now.file_systems m.file_system ≡ None
     unfolding create_refusal
     may_create = by_tests (contains_key s.now.file_systems m.file_system) (not (has_parent s.now.file_systems m.file_system)) (nat_le file_system_limit (len s.now.file_systems)) (has_no_room s.now)
       where

@@ -11,7 +11,7 @@ use Rattle.base.specs.declared.refusal.Refusal.{Refusal}
 use Rattle.base.specs.declared.refusal.Refusal.TheVariants.{BadStream, Quota, RefQuota, NoSpace, NoMemory}
 use Rattle.base.specs.Map.{Block, BlockSet}
 use Rattle.base.specs.Rewrite.{Changes, rewrite}
-use Rattle.base.specs.Surveys.{IsSurvey, dead_block}
+use Rattle.base.specs.Surveys.{IsIn, IsSurvey, dead_block}
 use Rattle.base.specs.declared.name.member.Member.{Member}
 use Rattle.stream.specs.Records.{changes_of}
 use Rattle.stream.specs.Spelling.{Sending, IsStream, IsNoStream}
@@ -30,6 +30,7 @@ use Rattle.model.specs.World.{World, FileSystem, Snap, union_of, reach_of}
 use Rattle.model.specs.State.{State, block_state}
 use Rattle.model.specs.Edits.{with_now, with_next_group, after_change}
 use Rattle.model.specs.Fits.{pool_holds}
+use Rattle.model.specs.Hierarchy.{FileSystems}
 use Rattle.model.specs.Numbers.{HasStates}
 use Rattle.model.specs.Rule.{Rule, first_of}
 use Rattle.model.specs.Refusals.{refusal_of, state_asked, fresh_number}
@@ -43,7 +44,7 @@ use Rattle.world.specs.Shapes.{Name}
 use Rattle.world.specs.Takings.{AreTakable}
 use Rattle.world.specs.Tables.{Datasets, with_system}
 use Rattle.world.specs.Worlds.{AreFileSystems, IsPoolState, IsSwept}
-use Rattle.world.proofs.lists.Finding.{in_either}
+use Rattle.world.proofs.lists.Finding.{in_left, in_either}
 use Rattle.world.proofs.lists.Maps.{same_value}
 use Rattle.world.proofs.lineage.Put.{put_here}
 use Rattle.world.proofs.steps.StateSteps.{snapshots_before, swept_stays}
@@ -60,6 +61,7 @@ use Rattle.steps.specs.Steady.{IsSteady}
 use Rattle.steps.specs.Edits.{datasets_of, with_datasets}
 use Rattle.steps.specs.Received.{asked_by_receive, put_freeing, CanReceive}
 use Rattle.steps.proofs.quotas.Bounded.{first_left, first_after}
+use Rattle.steps.proofs.ledgers.Grown.{IsGrown, grown_then, grown_put, begun_grown}
 use Rattle.steps.proofs.requests.Batching.{live_there_is, batch_apart, batch_enough, batch_room, batch_leads, batch_good, batch_swept, batch_there, batch_unlimited, batch_settles, batch_takable}
 use Rattle.steps.proofs.requests.Beginning.{IsBegun, begun_world}
 use Rattle.steps.proofs.numbers.Known.{states_of, of_states}
@@ -273,6 +275,21 @@ module _ (s : State) (steady : IsSteady s) (numbers : List BlockState) (known : 
 
     to_is : to ≡ with_system (record written { group = written.group + 1 }) name (with_snap changed m.component sent.target written.group)
     to_is = kept ∙ ap (λ x. option_map_or (λ (y : FileSystem). with_system (record written { group = written.group + 1 }) name (with_snap y m.component sent.target written.group)) x (record written { group = written.group + 1 })) changed_there
+
+    -- the file system of its name alone is another, or new, and has the snapshots that it had
+    pub received_grown : IsGrown s.now.file_systems to.file_systems m.file_system
+    received_grown = grown_then s.now.file_systems w.file_systems to.file_systems name (begun_grown s steady m sent force none)
+        (grown_then w.file_systems written.file_systems to.file_systems name
+        (subst (λ (x : FileSystems). IsGrown w.file_systems x name) (sym written_is) (grown_put w.file_systems name live_changed (λ g v at i. subst (λ (y : FileSystem). IsIn y.snaps v) (same_value g f (sym at ∙ can.0.1)) i)))
+        (subst (λ (x : Datasets). IsGrown written.file_systems x.file_systems name) (sym to_is)
+        (grown_put written.file_systems name (with_snap changed m.component sent.target written.group)
+        (λ g v at i. in_left changed.snaps _ v (subst (λ (y : FileSystem). IsIn y.snaps v) (same_value g changed (sym at ∙ changed_there)) i)))))
+      where
+        live_changed : FileSystem
+        live_changed = record f { live = rewrite f.live ch w.group leads.0 }
+
+        written_is : written.file_systems ≡ insert w.file_systems name live_changed
+        written_is = ap (λ (x : State). x.now.file_systems) leads.1 ∙ ap (λ (x : World). x.file_systems) (after_is w name f can.0.1 ch leads.0)
 
     end_is : put_freeing s to freeing ≡ with_now mid end
     end_is = (λ i. put_freeing s (to_is i) (freeing_is i)) ∙ sym (ap (with_now mid) end_taken)

@@ -28,15 +28,17 @@ use Rattle.world.specs.Sets.{Has, AreDisjoint}
 use Rattle.world.specs.Takings.{AreTakable}
 use Rattle.world.specs.Tables.{Datasets, world_of}
 use Rattle.accounts.specs.Limits.{IsUnlimited}
-use Rattle.removals.specs.declared.edit.Edit.{Edit}
+use Rattle.removals.specs.declared.working_copy.WorkingCopy.{WorkingCopy}
 use Rattle.removals.specs.Edits.{HasLost}
 use Rattle.receives.specs.Ends.{CanFinish, HasReceived}
 use Rattle.receives.specs.Requests.{begun, receive_refusal}
 use Rattle.steps.specs.Edits.{datasets_of}
 use Rattle.steps.specs.Received.{asked_by_receive}
+use Rattle.limits.proofs.Recounted.{recounted}
+use Rattle.steps.proofs.ledgers.Grown.{grown_alike}
 use Rattle.steps.proofs.requests.Batching.{batch_allows}
 use Rattle.steps.proofs.requests.Beginning.{IsBegun, begun_world, begun_datasets, begun_freeing}
-use Rattle.steps.proofs.requests.Receiving.{receive_no_memory, receive_bad_stream, receive_refused, receive_refused_by_limit, begun_states, receive_fits, receive_short, receive_not_short, receive_can, receive_unlimited, receive_done}
+use Rattle.steps.proofs.requests.Receiving.{receive_no_memory, receive_bad_stream, receive_refused, receive_refused_by_limit, begun_states, receive_fits, receive_short, receive_not_short, receive_can, receive_unlimited, received_grown, receive_done}
 use Rattle.steps.proofs.requests.Writing.{union_is}
 use Rattle.steps.specs.declared.intake.Present.{Present}
 use Rattle.steps.specs.Intakes.{IsUnread, IsPresent, IsUnderWay, BreaksLimit, IsIntakeOf}
@@ -72,7 +74,7 @@ module _ (s : State) (p : Present) (is : IsPresent s p) where
       not_begun why which = ⊎_elim (λ e. receive_refused s m bytes force sent stream why (sym row_here ∙ e)) (no_memory why) which
 
       -- a receive that is begun, with its records as updates
-      pub under_way : (edit : Edit) → receive_refusal p.table.now m sent force ≡ None → edit.to ≡ begun p.table.now m.file_system sent force
+      pub under_way : (edit : WorkingCopy) → receive_refusal p.table.now m sent force ≡ None → edit.to ≡ begun p.table.now m.file_system sent force
           → HasLost p.table.now p.freeing.now edit.to edit.freeing → CanFinish edit.to m
           → (items us : List Update) → us ≡ items → IsBatch items → (records : List Record) → records ≡ sent.records → changes_of items ≡ changes_of_records records
           → IsUnderWay s p m sent force edit us
@@ -88,7 +90,7 @@ module _ (s : State) (p : Present) (is : IsPresent s p) where
 
 -- ---- a receive that has begun
 
-module _ (s : State) (p : Present) (m : Member) (sent : Sending) (force : Bool) (edit : Edit) (us : List Update) (way : IsUnderWay s p m sent force edit us) where
+module _ (s : State) (p : Present) (m : Member) (sent : Sending) (force : Bool) (edit : WorkingCopy) (us : List Update) (way : IsUnderWay s p m sent force edit us) where
   abbrev w : World
   w = before_receive s.now m.file_system sent force
 
@@ -165,8 +167,13 @@ module _ (s : State) (p : Present) (m : Member) (sent : Sending) (force : Bool) 
       finished to done r room =
           let change = subst (λ (x : Datasets × ℕ × Changes). HasWritten x.0 r.written m.file_system x.2 x.1 p.allocator.now done) (λ i. (to_is i, sym way.present.synced i, way.changes i)) r.change in
           let none = by_limits (λ e. e) (λ bare. receive_fits s way.present.steady p.allocator.now way.present.states m sent force way.none can_take bare (has_here room)) in
+          let may = receive_can s way.present.steady p.allocator.now way.present.states m sent force way.none can_take r.written to done change r.kept edit.freeing freeing_is none in
           record {
-            can = receive_can s way.present.steady p.allocator.now way.present.states m sent force way.none can_take r.written to done change r.kept edit.freeing freeing_is none;
+            sent = sent;
+            made = record { begun = is_begun.good; there = can_take; written = r.written; states = p.allocator.now; change = change; kept = r.kept };
+            one = recounted (datasets_of s) to way.present.steady.good.now.systems may.steady.good.now.systems m.file_system
+                (grown_alike (datasets_of s) to m.file_system (received_grown s way.present.steady p.allocator.now way.present.states m sent force way.none can_take r.written to done change r.kept edit.freeing freeing_is));
+            can = may;
             unlimited = receive_unlimited s way.present.steady p.allocator.now way.present.states m sent force way.none can_take r.written to done change r.kept edit.freeing freeing_is;
             step = receive_done s way.present.steady p.allocator.now way.present.states m sent force way.none can_take r.written to done change r.kept edit.freeing freeing_is bytes stream none;
           }

@@ -17,3 +17,13 @@ returns-then-len-size-clause-items c =
 
 pub returns-else-len-size-clause-items : goal.returns-else-len-size-clause-items
 returns-else-len-size-clause-items c = sym (padded_long c.args.size c.args.bytes.now.items (omega (arith, c.if-len-size.false, c.len.ensures, c.args.bytes.now.ok.0)))
+
+pub returns-then-size-len-clause-items : goal.returns-then-size-len-clause-items
+unfolding padded
+returns-then-size-len-clause-items c =
+    let items = c.args.bytes.now.items in
+    let long : vec_len c.args.bytes.now ≡ length c.args.bytes.now.items = omega (arith, c.args.bytes.now.ok.0) in
+    let gap : c.args.size - length c.args.bytes.now.items ≡ 512 = omega (arith, long, c.if-size-len.true, c.len.ensures) in
+    c.extend_from_slice-longer.ensures.items
+    ∙ ap (λ b. if b then c.args.bytes.now.items ++ replicate 512 0 else c.args.bytes.now.items) (c.extend_from_slice-longer.ensures.succeeds (let r = c.requires in omega (arith, r, c.if-size-len.true, c.len.ensures, long)))
+    ∙ ap (λ n. c.args.bytes.now.items ++ replicate n 0) (sym gap)

@@ -2,7 +2,7 @@ use Rattle.std.proofs.Common.{sym, ◌∙◌, arith}
 use Rattle.world.specs.Tables.{world_of}
 use Rattle.limits.proofs.Order.{keys_count}
 use Rattle.limits.proofs.Starts.{start_within, start_named}
-use Rattle.limits.proofs.Asking.{as_long, all_little, line_little, is_near, are_counted, leads_on, leads_down, begins, asked_starts, asked_on, within_quotas, over_refquota, over_quota}
+use Rattle.limits.proofs.Asking.{as_long, all_little, line_little, are_counted, leads_on, leads_down, begins, asked_starts, asked_on, within_quotas, over_refquota, over_quota}
 use Rattle.limits.proofs.change.charge_after.Goals as goal
 
 pub offset_bounds-lines-start : goal.offset_bounds-lines-start
@@ -54,9 +54,9 @@ pub next_change-requires-clause-little : goal.next_change-requires-clause-little
 next_change-requires-clause-little c =
     all_little (world_of c.args.table.now) c.facts.ensures.good.hierarchy c.args.lines.now c.requires.own c.requires.modest c.args.name.now c.args.here c.args.referenced
 
-pub next_change-requires-clause-near : goal.next_change-requires-clause-near
-next_change-requires-clause-near c =
-    is_near (world_of c.args.table.now) c.facts.ensures.good.hierarchy c.args.lines.now c.requires.own c.requires.modest c.args.name.now c.args.here c.args.referenced
+pub next_change-requires-clause-small : goal.next_change-requires-clause-small
+next_change-requires-clause-small c =
+    line_little (world_of c.args.table.now) c.facts.ensures.good.hierarchy c.args.lines.now c.requires.own c.requires.modest c.args.name.now c.args.here c.args.referenced
     c.loop-own.place c.loop-own.line c.loop-own.invariant.way
 
 pub next_change-requires-clause-counted : goal.next_change-requires-clause-counted

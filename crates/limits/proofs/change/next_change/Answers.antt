@@ -28,7 +28,7 @@ pub overflow_add-result : goal.overflow_add-result
 overflow_add-result c =
     let f = step_fits (keys c.args.table.now.file_systems) c.args.lines.now (c.requires.long ∙ keys_count c.args.table.now.file_systems) c.args.place c.in_ok-parent.parent
     c.args.line.now c.index-lines-place.result c.index-lines-parent.result c.requires.within c.index-lines-place.is c.in_ok-parent.ensures.some c.index-lines-parent.is
-    c.requires.counted c.charge-before.result c.charge-before.ensures.value c.charge-after.result c.charge-after.ensures.value c.requires.little c.requires.near
+    c.requires.counted c.charge-before.result c.charge-before.ensures.value c.charge-after.result c.charge-after.ensures.value c.requires.little c.requires.small
     c.charge-after.ensures.most in
     omega (arith, f)
 

@@ -2,7 +2,7 @@ use Rattle.std.proofs.Common.{◌≡◌, drop, map}
 use Rattle.std.specs.FinMap.{entries}
 use Rattle.datasets.specs.Rows.{entry_in}
 use Rattle.removals.specs.Edits.{HasLost}
-use Rattle.removals.specs.Families.{without_origins}
+use Rattle.removals.proofs.Swept.{without_origins}
 use Rattle.removals.proofs.sweep.sweep.Given as goal
 
 -- the origins of those that are left go as those of all do, and what went is to be freed

@@ -2,7 +2,9 @@ use Rattle.std.proofs.Common.{◌≡◌, ◌++◌, List, arith, ap, sym, subst, 
 use Rattle.std.specs.List.Sorted.{IsPermutation}
 use Rattle.std.proofs.lemmas.List.Sorted.{IsPermutation-trans, length_permutation}
 use Rattle.base.specs.declared.number.Dead.{Dead}
-use Rattle.deadlist.specs.Segments.{entries_of}
+use Rattle.deadlist.specs.Segments.{AreBornFrom, AreBornBy, entries_of}
+use Rattle.deadlist.proofs.Births.{born_from_weaker, born_by_weaker, born_from_append, born_by_append}
+use Rattle.deadlist.proofs.Orders.{born_from_permuted, born_by_permuted}
 use Rattle.deadlist.proofs.Merges.{perm_four}
 use Rattle.deadlist.proofs.deadlist.Deadlist.both.Goals as goal
 
@@ -24,7 +26,15 @@ invariant_of-result c =
     let own = c.self.invariant.1 in
     let other = c.other.invariant.1 in
     let sum = c.in-Some.ensures.1 in
-    (c.in_ok-parts-2.ensures.cut, omega (arith, many, two, same, own, other, sum))
+    let low = c.min.ensures in
+    let high = c.max.ensures in
+    let two_from = born_from_append c.min.result (entries_of p ++ fs) (entries_of o ++ gs) (born_from_weaker c.self.inside.low c.min.result (entries_of p ++ fs) c.self.invariant.2 (omega (arith, low))) (born_from_weaker c.other.inside.low c.min.result (entries_of o ++ gs) c.other.invariant.2 (omega (arith, low))) in
+    let two_by = born_by_append c.max.result (entries_of p ++ fs) (entries_of o ++ gs) (born_by_weaker c.self.inside.high c.max.result (entries_of p ++ fs) c.self.invariant.3 (omega (arith, high))) (born_by_weaker c.other.inside.high c.max.result (entries_of o ++ gs) c.other.invariant.3 (omega (arith, high))) in (
+      c.in_ok-parts-2.ensures.cut,
+      omega (arith, many, two, same, own, other, sum),
+      subst (λ (ds : List Dead). AreBornFrom c.min.result (entries_of new ++ ds)) (sym fresh) (born_from_permuted c.min.result ((entries_of p ++ fs) ++ (entries_of o ++ gs)) (entries_of new ++ (fs ++ gs)) two_from perm),
+      subst (λ (ds : List Dead). AreBornBy c.max.result (entries_of new ++ ds)) (sym fresh) (born_by_permuted c.max.result ((entries_of p ++ fs) ++ (entries_of o ++ gs)) (entries_of new ++ (fs ++ gs)) two_by perm),
+    )
 
 pub returns-clause-entries : goal.returns-clause-entries
 returns-clause-entries c =

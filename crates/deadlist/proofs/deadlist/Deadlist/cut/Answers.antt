@@ -1,9 +1,10 @@
-use Rattle.std.proofs.Common.{arith, ap, sym, ◌∙◌, length-append}
+use Rattle.std.proofs.Common.{◌++◌, arith, ap, sym, ◌∙◌}
 use Rattle.deadlist.specs.Held.{Held}
 use Rattle.deadlist.specs.Segments.{entries_of, with_cut}
 use Rattle.std.proofs.lemmas.Bool.{false≢true}
 use Rattle.std.proofs.lemmas.List.Sorted.{length_permutation, IsPermutation-append_left}
 use Rattle.deadlist.proofs.Counts.{has_cut_any}
+use Rattle.deadlist.proofs.Orders.{born_from_permuted, born_by_permuted}
 use Rattle.deadlist.proofs.Meters.{counted_none, counted_standing}
 use Rattle.deadlist.proofs.deadlist.Deadlist.cut.Goals as goal
 use Rattle.deadlist.proofs.deadlist.Deadlist.cut.Goals.{then-not-stands, else-not-stands}
@@ -44,13 +45,15 @@ returns-clause-meter c =
 
 pub invariant_of-self-2 : goal.invariant_of-self-2
 invariant_of-self-2 c =
-    let es = entries_of c.self.inside.parts in
-    let fs = c.self.inside.fresh.items in
-    let n = length_permutation es (entries_of c.cut.new.self) c.in_ok-cut.ensures.entries in
-    let a = length-append es fs in
-    let b = length-append (entries_of c.cut.new.self) fs in
-    let all = c.self.invariant.1 in
-    (c.in_ok-cut.ensures.cut, omega (arith, n, a, b, all))
+    let s = c.self.inside in
+    let old = entries_of s.parts ++ s.fresh.items in
+    let new = entries_of c.cut.new.self ++ s.fresh.items in
+    let perm = IsPermutation-append_left s.fresh.items (entries_of s.parts) (entries_of c.cut.new.self) c.in_ok-cut.ensures.entries in (
+      c.in_ok-cut.ensures.cut,
+      c.self.invariant.1 ∙ sym (length_permutation old new perm),
+      born_from_permuted s.low old new c.self.invariant.2 perm,
+      born_by_permuted s.high old new c.self.invariant.3 perm,
+    )
 
 pub returns-clause-entries : goal.returns-clause-entries
 returns-clause-entries c =

@@ -1,9 +1,8 @@
-use Rattle.std.proofs.Common.{◌≡◌, ◌+◌, length, filter, drop, arith, ap, sym, ◌∙◌, nat_le}
-use Rattle.base.specs.Counting.{counted}
+use Rattle.std.proofs.Common.{◌≡◌, length, filter, arith, ap, sym, ◌∙◌, nat_le}
 use Rattle.deadlist.specs.Entries.{is_upto}
 use Rattle.deadlist.specs.Segments.{ended, pile_at}
 use Rattle.deadlist.proofs.Places.{front_le}
-use Rattle.deadlist.proofs.Counts.{after_count, after_cuts, stands_none}
+use Rattle.deadlist.proofs.Counts.{after_count, stands_none}
 use Rattle.deadlist.proofs.parts.Parts.sum_after.Goals as goal
 
 pub sum_from-from-requires-clause-at : goal.sum_from-from-requires-clause-at
@@ -12,38 +11,26 @@ sum_from-from-requires-clause-at c =
     let at : c.upto-at.result ≡ ended c.args.cut c.args.self.now.closed.items = c.upto-at.ensures in
     omega (arith, le, at)
 
-pub returns-then-stands-clause-sum : goal.returns-then-stands-clause-sum
-returns-then-stands-clause-sum c =
+pub returns-then-stands : goal.returns-then-stands
+returns-then-stands c =
     let s = c.args.self.now in
-    let from = rw c.upto-at.ensures at c.sum_from-from.ensures.sum in
+    let from = rw c.upto-at.ensures at c.sum_from-from.ensures in
     let two = after_count s.closed.items 0 c.args.cut s.last c.requires.cut in
     let none = ap length (stands_none s.closed.items c.args.cut s.last c.requires.cut (sym c.stands.ensures ∙ c.if-stands.true)) in
     omega (arith, from, two, none)
 
-pub returns-then-stands-clause-meter : goal.returns-then-stands-clause-meter
-returns-then-stands-clause-meter c =
-    let s = c.args.self.now in
-    let n = after_cuts s.closed.items c.args.cut s.last c.requires.cut in
-    c.sum_from-from.ensures.meter ∙ ap (λ at. counted c.args.meter.now (length (drop at s.closed.items) + 1)) c.upto-at.ensures ∙ ap (λ l. counted c.args.meter.now (l + 1)) (sym n)
-
 pub overflow_sub-result : goal.overflow_sub-result
 overflow_sub-result c =
     let s = c.args.self.now in
-    let from = rw c.upto-at.ensures at c.sum_from-from.ensures.sum in
+    let from = rw c.upto-at.ensures at c.sum_from-from.ensures in
     let two = after_count s.closed.items 0 c.args.cut s.last c.requires.cut in
     let part = c.count_upto.ensures ∙ ap (λ p. length (filter (is_upto c.args.cut) p)) (c.pile.ensures ∙ ap (pile_at s.closed.items s.last) c.upto-at.ensures) in
     omega (arith, from, two, part)
 
-pub returns-clause-sum : goal.returns-clause-sum
-returns-clause-sum c =
+pub returns : goal.returns
+returns c =
     let s = c.args.self.now in
-    let from = rw c.upto-at.ensures at c.sum_from-from.ensures.sum in
+    let from = rw c.upto-at.ensures at c.sum_from-from.ensures in
     let two = after_count s.closed.items 0 c.args.cut s.last c.requires.cut in
     let part = c.count_upto.ensures ∙ ap (λ p. length (filter (is_upto c.args.cut) p)) (c.pile.ensures ∙ ap (pile_at s.closed.items s.last) c.upto-at.ensures) in
     omega (arith, from, two, part)
-
-pub returns-clause-meter : goal.returns-clause-meter
-returns-clause-meter c =
-    let s = c.args.self.now in
-    let n = after_cuts s.closed.items c.args.cut s.last c.requires.cut in
-    c.sum_from-from.ensures.meter ∙ ap (λ at. counted c.args.meter.now (length (drop at s.closed.items) + 1)) c.upto-at.ensures ∙ ap (λ l. counted c.args.meter.now (l + 1)) (sym n)

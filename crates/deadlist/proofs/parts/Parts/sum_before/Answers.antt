@@ -1,15 +1,7 @@
-use Rattle.std.proofs.Common.{arith, refl, ap, ◌∙◌, length-append}
-use Rattle.base.specs.Counting.{counted}
+use Rattle.std.proofs.Common.{arith, length-append}
 use Rattle.deadlist.specs.Segments.{entries_in}
 use Rattle.deadlist.proofs.Counts.{part_le, take_pile}
-use Rattle.deadlist.proofs.Meters.{counted_none, counted_more}
 use Rattle.deadlist.proofs.parts.Parts.sum_before.Goals as goal
-
-pub loop-i-init : goal.loop-i-init
-loop-i-init c =
-    let e = c.count-before.ensures in
-    let small = c.count-before.type_inv in
-    (refl, counted_none c.args.meter.now (omega (arith, e, small)))
 
 pub overflow_add-sum : goal.overflow_add-sum
 overflow_add-sum c =
@@ -18,7 +10,7 @@ overflow_add-sum c =
     let le = part_le s.closed.items c.loop-i.i c.index.result.now (omega arith) c.index.ensures in
     let all = length-append (entries_in s.closed.items) s.last in
     let fits = c.requires.fits in
-    let sum = c.loop-i.invariant.0 in
+    let sum = c.loop-i.invariant in
     let len = c.len-sum.ensures in
     omega (arith, le, all, fits, sum, len)
 
@@ -27,6 +19,6 @@ loop-i-preserved c =
     let s = c.args.self.now in
     let at = c.requires.at in
     let e = take_pile s.closed.items c.loop-i.i c.index.result.now (omega arith) c.index.ensures in
-    let sum = c.loop-i.invariant.0 in
+    let sum = c.loop-i.invariant in
     let len = c.len-sum.ensures in
-    (omega (arith, e, sum, len), c.add_one.ensures ∙ ap (λ m. counted m 1) c.loop-i.invariant.1 ∙ counted_more _ c.loop-i.i 1)
+    omega (arith, e, sum, len)

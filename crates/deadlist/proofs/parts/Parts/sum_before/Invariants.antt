@@ -1,7 +1,6 @@
 use Rattle.std.proofs.Common.{◌≡◌, length, take}
-use Rattle.base.specs.Counting.{counted}
 use Rattle.deadlist.specs.Segments.{entries_in}
 use Rattle.deadlist.proofs.parts.Parts.sum_before.Given as goal
 
 abbrev pub invariant-loop-i : goal.invariant-loop-i
-invariant-loop-i l = (l.sum ≡ length (entries_in (take l.i l.self.closed.items))) × (l.meter ≡ counted l.fn.meter l.i)
+invariant-loop-i l = l.sum ≡ length (entries_in (take l.i l.self.closed.items))

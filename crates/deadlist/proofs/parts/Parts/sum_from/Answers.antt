@@ -1,9 +1,7 @@
-use Rattle.std.proofs.Common.{◌≡◌, ◌+◌, ◌-◌, take, drop, arith, ap, ◌∙◌, length-append}
-use Rattle.base.specs.Counting.{counted}
+use Rattle.std.proofs.Common.{◌≡◌, take, drop, arith, length-append}
 use Rattle.deadlist.specs.Segments.{entries_in}
 use Rattle.std.proofs.lemmas.List.{take_all}
 use Rattle.deadlist.proofs.Counts.{part_le, take_pile, cut_length}
-use Rattle.deadlist.proofs.Meters.{counted_more}
 use Rattle.deadlist.proofs.parts.Parts.sum_from.Goals as goal
 
 pub overflow_add-sum : goal.overflow_add-sum
@@ -12,7 +10,7 @@ overflow_add-sum c =
     let le = part_le s.closed.items c.loop-i.i c.index.result.now (omega arith) c.index.ensures in
     let all = length-append (entries_in s.closed.items) s.last in
     let fits = c.requires.fits in
-    let sum = c.loop-i.invariant.0 in
+    let sum = c.loop-i.invariant in
     let len = c.len-sum-in-loop-i.ensures in
     omega (arith, le, all, fits, sum, len)
 
@@ -20,16 +18,15 @@ pub loop-i-preserved : goal.loop-i-preserved
 loop-i-preserved c =
     let s = c.args.self.now in
     let e = take_pile s.closed.items c.loop-i.i c.index.result.now (omega arith) c.index.ensures in
-    let sum = c.loop-i.invariant.0 in
+    let sum = c.loop-i.invariant in
     let len = c.len-sum-in-loop-i.ensures in
-    let n : (c.loop-i.i - c.args.at + 1) + 1 ≡ c.loop-i.i + 1 - c.args.at + 1 = omega arith in
-    (omega (arith, e, sum, len), c.add_one-in-loop-i.ensures ∙ ap (λ m. counted m 1) c.loop-i.invariant.1 ∙ counted_more _ (c.loop-i.i - c.args.at + 1) 1 ∙ ap (counted c.args.meter.now) n)
+    omega (arith, e, sum, len)
 
-pub returns-clause-sum : goal.returns-clause-sum
-returns-clause-sum c =
+pub returns : goal.returns
+returns c =
     let s = c.args.self.now in
     let all : take c.loop-i.i s.closed.items ≡ s.closed.items = take_all c.loop-i.i s.closed.items (omega arith) in
-    let sum = rw all at c.loop-i.invariant.0 in
+    let sum = rw all at c.loop-i.invariant in
     let two = cut_length s.closed.items c.args.at in
     let l = length-append (entries_in (drop c.args.at s.closed.items)) s.last in
     omega (arith, sum, two, l)

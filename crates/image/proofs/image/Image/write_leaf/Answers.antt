@@ -1,7 +1,5 @@
 use Rattle.std.proofs.Common.{}
-use Rattle.image.specs.ImageBlocks.{made_bytes}
 use Rattle.image.proofs.image.Image.write_leaf.Goals as goal
 
 pub returns-in-Some : goal.returns-in-Some
-unfolding made_bytes
-returns-in-Some c = rw (c.in-Some.is) c.write.ensures
+returns-in-Some c = rw (c.in-Some.is) c.write_contents.ensures

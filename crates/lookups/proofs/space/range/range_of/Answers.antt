@@ -1,8 +1,17 @@
 use Rattle.std.proofs.Common.{refl, sym, ap, ◌∙◌}
 use Rattle.std.specs.Option.{option_map, option_copied}
+use Rattle.datasets.specs.Table.{IsTable}
 use Rattle.datasets.proofs.Holders.{found_place}
+use Rattle.datasets.proofs.Removed.{are_above}
 use Rattle.lookups.proofs.Ranges.{is_cloned_there, is_range}
 use Rattle.lookups.proofs.space.range.range_of.Goals as goal
+
+-- snapshots rise
+pub look_around-around-requires-clause-rising : goal.look_around-around-requires-clause-rising
+look_around-around-requires-clause-rising c =
+    let sound : IsTable c.args.table.now = record { systems = c.facts.ensures.good; numbers = c.facts.ensures.numbers } in
+    let p = found_place c.args.table.now c.args.name.now c.in-Some.file_system.now (ap (λ x. option_copied x) (sym c.in-Some.is) ∙ c.find.ensures) in
+    (are_above c.args.table.now sound c.args.name.now c.in-Some.file_system.now.system p.0).rising
 
 pub returns-then-around-clause-refused : goal.returns-then-around-clause-refused
 returns-then-around-clause-refused c =

@@ -21,5 +21,5 @@ returns-clause-meter c =
     let sound : IsTable c.args.table.now = record { systems = c.facts.ensures.good; numbers = c.facts.ensures.numbers } in
     let many = lists_are c.args.table.now sound c.args.name.now c.args.first.now c.args.last.now c.in_ok-file_system.file_system.now c.in_ok-file_system.oldest.0 c.in_ok-file_system._last.0 c.in_ok-file_system.ensures.ok
     (option_map (λ g. g.0) c.in_ok-file_system.around.next) c.in_ok-file_system.ensures.next in
-    let reached = c.gone_after.ensures.meter in
+    let reached = c.gone_after.ensures.once in
     omega (arith, many, reached)

@@ -1,12 +1,26 @@
-use Rattle.std.proofs.Common.{Ok, Err, sym, subst, ◌∙◌, rules}
+use Rattle.std.proofs.Common.{◌≡◌, [], ◌∷◌, Result, Ok, Err, sym, subst, ◌∙◌, rules}
+use Rattle.std.specs.Prelude.{IfOk}
+use Rattle.base.specs.declared.refusal.Refusal.{Refusal}
+use Rattle.batch.specs.Updates.{IsBatch}
+use Rattle.batch.specs.declared.update.Update.{Update}
+use Rattle.datasets.specs.Rows.{live_of}
+use Rattle.image.specs.PathWrites.{block_on}
 use Rattle.steps.specs.Edits.{datasets_of, with_datasets}
 use Rattle.steps.specs.Handed.{IsAccounted}
+use Rattle.pool.specs.Imaging.{IsPathOf}
 use Rattle.pool.specs.Pools.{state_in}
 use Rattle.pool.proofs.Commits.{few, sound_changed}
 use Rattle.pool.proofs.Limited.{state_with}
 use Rattle.pool.proofs.Performed.{exits, unlimited}
-use Rattle.pool.proofs.Changes.{asks_here, allowed, no_live, not_asked, refused_now, can_now, stays_now, settles_now, may_settle, done_now}
+use Rattle.pool.proofs.Changes.{asks_here, allowed, no_live, not_asked, refused_now, can_now, stays_now, settles_now, may_settle, leads_now, done_now}
 use Rattle.pool.proofs.keep.Keep.change.Goals as goal
+
+-- the update that is asked for is a batch
+batch_of : (r : Result Update Refusal) (u : Update) → r ≡ Ok u → IfOk r (λ v. IsBatch (v ∷ [])) → IsBatch (u ∷ [])
+batch_of r u is batch = subst (λ x. IfOk x (λ v. IsBatch (v ∷ []))) is batch
+
+pub first_leaf-leaf-requires : goal.first_leaf-leaf-requires
+first_leaf-leaf-requires c = (batch_of c.args.update c.in-Ok.update c.in-Ok.is c.requires.batch).1
 
 pub returns-in_err-name-clause-performed : goal.returns-in_err-name-clause-performed
 returns-in_err-name-clause-performed c q asks =
@@ -57,7 +71,13 @@ returns-clause-performed c q asks =
       record {
         sound = sound_changed (state_in c.args.self.now c.args.world.now) c.args.self.now.numbers.present c.requires.held.sound c.apply_live.new.self _ _ (can_now (state_in c.args.self.now c.args.world.now) c.args.self.now.numbers.present c.requires.held.sound c.group-synced.result.0 c.group-synced.ensures c.in_ok-name.name.now c.apply_live.new.self c.in-Ok.update c.from_ref.result.now c.from_ref.ensures.value (c.in_ok-outlook.ensures.ok (state_in c.args.self.now c.args.world.now) (state_with (state_in c.args.self.now c.args.world.now) c.args.self.now.numbers.present c.requires.held.sound c.space.result c.space.ensures.size (c.space.ensures.freeing ∙ c.len.ensures) c.space.ensures.waiting) c.group-synced.ensures) c.in_ok-done.done (record { ok = e.ok; room = e.room; no_dataset = e.no_dataset; no_space = e.no_space; only = e.only }));
         kept = c.settle.ensures;
-        may = may_settle (state_in c.args.self.now c.args.world.now) c.args.self.now.numbers.present c.requires.held.sound c.group-synced.result.0 c.group-synced.ensures c.in_ok-name.name.now c.apply_live.new.self c.in-Ok.update c.from_ref.result.now c.from_ref.ensures.value (c.in_ok-outlook.ensures.ok (state_in c.args.self.now c.args.world.now) (state_with (state_in c.args.self.now c.args.world.now) c.args.self.now.numbers.present c.requires.held.sound c.space.result c.space.ensures.size (c.space.ensures.freeing ∙ c.len.ensures) c.space.ensures.waiting) c.group-synced.ensures) c.in_ok-done.done (record { ok = e.ok; room = e.room; no_dataset = e.no_dataset; no_space = e.no_space; only = e.only });
+        may = may_settle (state_in c.args.self.now c.args.world.now) c.args.self.now.numbers.present c.requires.held.sound c.group-synced.result.0 c.group-synced.ensures c.in_ok-name.name.now c.apply_live.new.self c.in-Ok.update c.from_ref.result.now c.from_ref.ensures.value (c.in_ok-outlook.ensures.ok (state_in c.args.self.now c.args.world.now) (state_with (state_in c.args.self.now c.args.world.now) c.args.self.now.numbers.present c.requires.held.sound c.space.result c.space.ensures.size (c.space.ensures.freeing ∙ c.len.ensures) c.space.ensures.waiting) c.group-synced.ensures) c.in_ok-done.done (record { ok = e.ok; room = e.room; no_dataset = e.no_dataset; no_space = e.no_space; only = e.only })
+            (batch_of c.args.update c.in-Ok.update c.in-Ok.is c.requires.batch) c.path_in-before.result (subst (λ n. IsPathOf (live_of c.args.world.now.table.file_systems c.in_ok-name.name.now) n (block_on c.path_in-before.result)) c.first_leaf-leaf.ensures.leaf c.path_in-before.ensures) c.writes_after-writes.result c.writes_after-writes.ensures;
+        leads = leads_now (state_in c.args.self.now c.args.world.now) c.args.self.now.numbers.present c.requires.held.sound c.group-synced.result.0 c.group-synced.ensures c.in_ok-name.name.now c.apply_live.new.self c.in-Ok.update c.from_ref.result.now c.from_ref.ensures.value (c.in_ok-outlook.ensures.ok (state_in c.args.self.now c.args.world.now) (state_with (state_in c.args.self.now c.args.world.now) c.args.self.now.numbers.present c.requires.held.sound c.space.result c.space.ensures.size (c.space.ensures.freeing ∙ c.len.ensures) c.space.ensures.waiting) c.group-synced.ensures) c.in_ok-done.done (record { ok = e.ok; room = e.room; no_dataset = e.no_dataset; no_space = e.no_space; only = e.only })
+            (batch_of c.args.update c.in-Ok.update c.in-Ok.is c.requires.batch) c.path_in-before.result (subst (λ n. IsPathOf (live_of c.args.world.now.table.file_systems c.in_ok-name.name.now) n (block_on c.path_in-before.result)) c.first_leaf-leaf.ensures.leaf c.path_in-before.ensures) c.writes_after-writes.result c.writes_after-writes.ensures;
       },
       done_now (state_in c.args.self.now c.args.world.now) c.args.self.now.numbers.present c.requires.held.sound c.group-synced.result.0 c.group-synced.ensures c.in_ok-name.name.now c.apply_live.new.self c.in-Ok.update c.from_ref.result.now c.from_ref.ensures.value (c.in_ok-outlook.ensures.ok (state_in c.args.self.now c.args.world.now) (state_with (state_in c.args.self.now c.args.world.now) c.args.self.now.numbers.present c.requires.held.sound c.space.result c.space.ensures.size (c.space.ensures.freeing ∙ c.len.ensures) c.space.ensures.waiting) c.group-synced.ensures) c.in_ok-done.done (record { ok = e.ok; room = e.room; no_dataset = e.no_dataset; no_space = e.no_space; only = e.only }) q (asks_here q c.args.target.now c.args.update c.in_ok-name.name.now (Ok c.in-Ok.update) c.in_ok-name.ensures.ok c.in-Ok.is asks),
     )
+
+pub writes_after-writes-requires : goal.writes_after-writes-requires
+writes_after-writes-requires c = (batch_of c.args.update c.in-Ok.update c.in-Ok.is c.requires.batch).1

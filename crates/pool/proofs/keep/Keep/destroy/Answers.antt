@@ -6,7 +6,7 @@ use Rattle.removals.specs.Requests.{destroyed, swept}
 use Rattle.steps.specs.Edits.{datasets_of}
 use Rattle.steps.specs.Handed.{IsAccounted}
 use Rattle.steps.proofs.ledgers.Labels.{unmarked_accounted}
-use Rattle.steps.proofs.ledgers.Losses.{destroy_counted}
+use Rattle.steps.proofs.ledgers.Losses.{destroy_counted, alone_counted}
 use Rattle.steps.proofs.requests.Destroying as steps
 use Rattle.pool.specs.Pools.{state_in}
 use Rattle.pool.proofs.Performed.{exits, on_err, same_both, apart, clean, bare, lost_few, lost_placed}
@@ -39,12 +39,20 @@ follow_destroy-requires-clause-few c =
     lost_few c.args.self.now c.args.world.now c.requires (swept (destroyed (datasets_of s) s.views c.args.target.now c.args.recursive c.args.defer) s.views) c.destroy.new.table c.in_ok-destroy.ensures.ok c.destroy.new.freeing c.in_ok-destroy.ensures.lost
     (steps.destroy_can s c.requires.sound.steady c.args.target.now c.args.recursive c.args.defer c.in_ok-destroy.ensures.can (subst (λ (t : Datasets). AreFileSystems t.file_systems t.group) c.in_ok-destroy.ensures.ok c.facts.ensures.good))
 
+pub follow_destroy-requires-clause-system : goal.follow_destroy-requires-clause-system
+follow_destroy-requires-clause-system c = λ name is alone.
+    let s = state_in c.args.self.now c.args.world.now in (
+      datasets_of s,
+      alone_counted s c.requires.sound.steady c.args.target.now c.args.recursive c.args.defer name is (c.is_alone-alone.ensures.one alone) (c.is_alone-alone.ensures.origin alone name is) c.destroy.new.table c.facts.ensures.good
+          c.in_ok-destroy.ensures.ok c.args.world.now.ledger c.requires.now,
+    )
+
 pub follow_destroy-requires-clause-snapshot : goal.follow_destroy-requires-clause-snapshot
 follow_destroy-requires-clause-snapshot c = λ m is alone.
     let s = state_in c.args.self.now c.args.world.now in (
       datasets_of s,
-      destroy_counted s c.requires.sound.steady c.args.target.now c.args.recursive c.args.defer m is alone c.destroy.new.table c.facts.ensures.good c.in_ok-destroy.ensures.ok c.args.world.now.ledger
-          c.requires.now,
+      destroy_counted s c.requires.sound.steady c.args.target.now c.args.recursive c.args.defer m is (c.is_alone-alone.ensures.one alone) c.destroy.new.table c.facts.ensures.good c.in_ok-destroy.ensures.ok
+          c.args.world.now.ledger c.requires.now,
     )
 
 pub follow_destroy-requires-clause-bookmark : goal.follow_destroy-requires-clause-bookmark

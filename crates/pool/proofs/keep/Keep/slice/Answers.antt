@@ -10,6 +10,7 @@ returns-clause-performed c =
         sound = sound_freed (state_in c.args.self.now c.args.world.now) c.args.self.now.numbers.present c.requires.sound c.in_ok-slice.slice.rest _ (slice_can (state_in c.args.self.now c.args.world.now) c.args.self.now.numbers.present c.requires.sound c.in_ok-slice.slice.rest c.in_ok-slice.slice.taken.items e.once e.within e.rest);
         kept = c.requires.now;
         may = slice_may (state_in c.args.self.now c.args.world.now) c.args.self.now.numbers.present c.requires.sound c.in_ok-slice.slice.rest c.in_ok-slice.slice.taken.items e.once e.within e.rest;
+        leads = tt;
       },
       slice_step (state_in c.args.self.now c.args.world.now) c.args.self.now.numbers.present c.requires.sound c.in_ok-slice.slice.rest c.in_ok-slice.slice.taken.items e.once e.within e.rest c.args.count e.count,
     )

@@ -22,7 +22,7 @@ returns-then-count-eq0-clause-performed c =
     let same = c.in_ok-count.ensures.ok ∙ nothing_taken _ _ _ (sym c.in_ok-count.ensures.count ∙ c.if-count-eq0.true) in
     subst (λ ms. IsPerformed (state_in c.args.self.now c.args.world.now) c.args.self.now.numbers.present (record c.args.world.now { table = c.snapshot.new.table }) (Snapshot ms c.args.recursive) (Ok Nothing)) c.as_slice.ensures
     (subst (λ t. IsPerformed (state_in c.args.self.now c.args.world.now) c.args.self.now.numbers.present (record c.args.world.now { table = t }) (Snapshot c.as_slice.result.now c.args.recursive) (Ok Nothing)) (sym same)
-    (record { sound = c.requires.sound; kept = c.requires.now; may = tt }, snapshot_nothing (state_in c.args.self.now c.args.world.now) c.args.self.now.numbers.present c.requires.sound c.as_slice.result.now c.args.recursive c.in_ok-count.ensures.can c.in_ok-count.count c.in_ok-count.ensures.count c.if-count-eq0.true))
+    (record { sound = c.requires.sound; kept = c.requires.now; may = tt; leads = tt }, snapshot_nothing (state_in c.args.self.now c.args.world.now) c.args.self.now.numbers.present c.requires.sound c.as_slice.result.now c.args.recursive c.in_ok-count.ensures.can c.in_ok-count.count c.in_ok-count.ensures.count c.if-count-eq0.true))
 
 pub over-requires-clause-unlimited : goal.over-requires-clause-unlimited
 over-requires-clause-unlimited c =

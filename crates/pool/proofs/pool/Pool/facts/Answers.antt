@@ -1,4 +1,10 @@
+use Rattle.std.proofs.Common.{◌<◌, ◌^◌, ◌∙◌, length, ap, subst, sym, arith}
+use Rattle.images.specs.Opened.{KeepsJust}
+use Rattle.images.proofs.Walking.{walks_now, walks_last, walks_at_each_moment}
+use Rattle.image.specs.ImageBlocks.{block_at}
+use Rattle.model.specs.World.{reach_of}
 use Rattle.pool.specs.Pools.{state_in}
+use Rattle.pool.proofs.Kept.{kept_just, kept_long}
 use Rattle.world.proofs.steps.States.{state_numbered}
 use Rattle.steps.proofs.questions.Properties.{are_balanced}
 use Rattle.steps.proofs.requests.Seeing.{once, closed}
@@ -10,12 +16,20 @@ returns c =
     let s = state_in c.self.inside.keep c.self.inside.present in
     let numbers = c.self.inside.keep.numbers.present in
     let sound = c.self.invariant.sound in
+    let image = c.self.inside.keep.image in
+    let is = c.self.invariant.image in
+    let good = sound.steady.good in
+    let few : s.size < 2 ^ 64 = let small = sound.small in omega (arith, small) in
+    let low : s.now.group < 2 ^ 64 = subst (λ n. n < 2 ^ 64) c.group-group.ensures (omega arith) in
+    let just = subst (KeepsJust (reach_of s.last)) (sym is.kept) (kept_just s good) in
     rw (← c.self.view_is) (record {
       numbered = state_numbered s sound.steady.good;
       states = sound.states;
       balanced = are_balanced s sound.steady numbers sound.states;
       kept = sound.steady.good;
       quotas = sound.steady.limits.now;
+      walked = record { now = walks_now s good few low (block_at image.bytes) is.stored; last = walks_last s good few low (block_at image.bytes) is.stored; kept = just };
+      moments = λ writes allowed. walks_at_each_moment s good few low image.kept image.bytes writes is.stored just (ap length is.kept ∙ kept_long s good) is.size allowed;
       viewing = record {
         numbers = c.self.invariant.views;
         there = sound.steady.good.views;

@@ -1,4 +1,4 @@
-use Rattle.std.proofs.Common.{suc, ◌+◌, ◌*◌, [], ◌∷◌, length, Some, sym, ap, subst, ◌∙◌, arith, length-append}
+use Rattle.std.proofs.Common.{not, suc, ◌+◌, ◌*◌, [], ◌∷◌, length, Some, sym, ap, subst, ◌∙◌, arith, length-append}
 use Rattle.node.specs.Entries.{key_at}
 use Rattle.node.specs.Kid.{places_of}
 use Rattle.node.specs.Node.{inner_part, shared_part, part_of_owner}
@@ -200,3 +200,7 @@ returns-clause-metered g c =
 
 pub returns-clause-metered_made : goal.returns-clause-metered_made
 returns-clause-metered_made g c = more_made _ _ _ _ _ _ c.reach.ensures.metered c.in_ok-below.ensures.metered_made (omega (arith, c.number_at-after.ensures.next))
+
+pub grow-requires : goal.grow-requires
+grow-requires g c =
+    (omega arith, (c.is_none.ensures ∙ ap not c.if-is_none.true, (c.in-Some.ensures.way, (search, (c.requires.level, (c.requires.within, (c.requires.low, (c.requires.order, (c.requires.sound, (c.requires.keys, c.requires.once))))))))))

@@ -1,0 +1,10 @@
+pub mod Stays
+pub mod StepMaps
+pub mod Drawing
+pub mod Written
+pub mod Opening
+pub mod Walking
+pub mod Touching
+pub mod OnePath
+pub mod MadeBlocks
+pub mod LiveChange

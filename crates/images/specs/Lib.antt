@@ -1,0 +1,4 @@
+-- "profile" stands for a rule of this project's own.
+pub mod Stored
+pub mod Opened
+pub mod Updates

@@ -1,0 +1,212 @@
+-- The image once what a request leaves to be done is done.
+use Rattle.std.proofs.Common.{◌≡◌, ◌*◌, ℕ, suc, true, false, List, [], ◌∷◌, Option, length, map, refl, sym, ap, subst, ◌∙◌, ◌⊎◌, inl, inr, arith}
+use Rattle.std.specs.Prelude.{if◌then◌else◌}
+use Rattle.std.specs.List.{All}
+use Rattle.std.proofs.lemmas.Bool.{false_from_ne_true}
+use Rattle.base.specs.Counting.{counted}
+use Rattle.base.specs.declared.number.BlockNo.{BlockNo}
+use Rattle.base.specs.Map.{IsTree}
+use Rattle.stream.specs.Spelling.{Sending}
+use Rattle.zalloc.specs.declared.BlockState.{BlockState}
+use Rattle.model.specs.Edits.{with_now}
+use Rattle.model.specs.State.{State}
+use Rattle.model.specs.Step.{Step, Follows, done, refused, out_of_memory}
+use Rattle.model.specs.requests.{rule_of}
+use Rattle.model.specs.declared.request.Request.{Request}
+use Rattle.model.specs.declared.request.Request.TheVariants.{Create as ToCreate, Write as ToWrite, Punch as ToPunch, FreeObject as ToFreeObject, Snapshot as ToSnapshot, Read as ToRead, Get as ToGet, PoolGet as ToPoolGet, List as ToList, Rollback as ToRollback, Destroy as ToDestroy, Slice as ToSlice, Sync as ToSync, Abandon as ToAbandon, OpenView as ToOpenView, CloseView as ToCloseView, Clone as ToClone, Promote as ToPromote, Hold as ToHold, Release as ToRelease, Holds as ToHolds, Bookmark as ToBookmark, WrittenSince as ToWrittenSince, WouldFree as ToWouldFree, Set as ToSet, Send as ToSend, Receive as ToReceive}
+use Rattle.model.specs.declared.reply.Reply.{Reply}
+use Rattle.model.specs.declared.reply.Reply.TheVariants.{Done, Refused, Data, Value, Names, Count, Group, Opened, Stream}
+use Rattle.world.specs.Worlds.{Place, InNow, InLast, maps_of_both}
+use Rattle.image.specs.BlockWrites.{bytes_put, images_put, written_pair}
+use Rattle.image.specs.Image.{ShownImage, AreOpen, AreAllOpen}
+use Rattle.image.specs.ImageBlocks.{block_at}
+use Rattle.image.specs.PathWrites.{block_on}
+use Rattle.image.proofs.Patches.{length-bytes_put}
+use Rattle.image.proofs.PathOpen.{path_open}
+use Rattle.images.specs.Stored.{IsStored, changes_maps}
+use Rattle.images.proofs.Drawing.{stored_stay}
+use Rattle.images.proofs.StepMaps.{step_maps}
+use Rattle.images.proofs.Walking.{bytes_stored}
+use Rattle.pool.specs.Effects.{effected, reply_of, MaySettle, Settles, WritesBlocks, image_after, keeps_of, Images}
+use Rattle.pool.specs.Images.{IsImageOf, AreWrites, is_synced, keeps_after}
+use Rattle.pool.specs.Imaging.{writes_in, MayWrite}
+use Rattle.pool.specs.Kinds.{kind_of}
+use Rattle.pool.specs.Pools.{world_in, IsSound}
+use Rattle.pool.specs.declared.effect.Effect.{Effect}
+use Rattle.pool.specs.declared.effect.Effect.TheVariants.{Nothing, Guids, Blocks, Taken, Synced, Abandoned, Closed}
+use Rattle.pool.specs.declared.imaging.Writes.{Writes}
+use Rattle.pool.specs.declared.imaging.Writes.TheVariants.{Idle, OnPath, Each}
+use Rattle.pool.specs.declared.kind.Kind.TheVariants.{Question, View}
+use Rattle.pool.specs.declared.worlds.World.{World}
+use Rattle.pool.proofs.Kept.{kept_long}
+
+-- ---- what may be written
+
+each_open : (kept : List BlockState) (bs : List (BlockNo × List ℕ)) → AreAllOpen kept bs → All (λ b. length b.1 ≡ 512) bs → AreOpen kept (map written_pair bs)
+each_open kept [] a l = tt
+each_open kept (b ∷ bs) a l = ((a 0 b (omega arith), l 0 b (omega arith)), each_open kept bs (λ i d h. a (suc i) d (omega (arith, h))) (λ i d h. l (suc i) d (omega (arith, h))))
+
+pub may_open : (kept : List BlockState) (image : List ℕ) (writes : Writes) → length image ≡ 512 * length kept → MayWrite kept writes → AreOpen kept (writes_in (block_at image) writes)
+may_open kept image Idle size may = tt
+may_open kept image (OnPath leaf before after bytes) size may = path_open image bytes kept leaf (block_on before) (block_on after) size may.2 may.0 6 (omega arith)
+may_open kept image (Each blocks) size may = each_open kept blocks.items may.0 may.1
+
+length-images_put : (kept : List BlockState) (image : List ℕ) (ws : List (ℕ × List ℕ)) → length image ≡ 512 * length kept → AreOpen kept ws → length (images_put image ws) ≡ 512 * length kept
+length-images_put kept image [] size allowed = size
+length-images_put kept image (w ∷ ws) size allowed =
+    let there = allowed.0.0.within in
+    let whole = allowed.0.1 in
+    length-images_put kept (bytes_put image (512 * w.0) w.1) ws (length-bytes_put image w.1 (512 * w.0) (omega (arith, there, whole, size)) ∙ size) allowed.1
+
+-- ---- the image after it
+
+module _ (s : State) (numbers : List BlockState) (sound : IsSound s numbers) (w : World) where
+  -- a step that writes no block
+  idle : (t : State) → (q : Request) (r : Reply) → Step s q r t → (changes_maps q ≡ true → ⊥) → (bytes : List ℕ) → IsStored s (block_at bytes) → IsStored t (block_at bytes)
+  idle t q r step none bytes stored = stored_stay s t sound.steady.good (block_at bytes) (step_maps q r s t (false_from_ne_true (changes_maps q) none) step) stored
+
+  pub images : (e : Effect) → Settles s numbers w e → (q : Request) → Step s q (reply_of e) (effected (with_now s (world_in w)) e) → (changes_maps q ≡ true → WritesBlocks e) → Images s w e
+  images (Blocks changed writes) settles q step blocks i is =
+      let t = with_now s (world_in w) in
+      let long : length i.kept ≡ s.size = ap length is.kept ∙ kept_long s sound.steady.good in
+      let may = may_open i.kept i.bytes writes is.size (subst (λ k. MayWrite k writes) (sym is.kept) settles.may.2) in
+      record {
+        size = length-images_put i.kept i.bytes (writes_in (block_at i.bytes) writes) is.size may;
+        kept = is.kept;
+        stored = bytes_stored (maps_of_both t.now s.last) i.kept i.bytes (writes_in (block_at i.bytes) writes) is.size may
+            (λ p. subst (λ n. IsTree n (maps_of_both t.now s.last p)) (sym long) (trees p)) (settles.leads (block_at i.bytes) is.stored);
+      }
+    where
+      trees : (p : Place) → IsTree s.size (maps_of_both (world_in w) s.last p)
+      trees (InNow d) = settles.sound.steady.good.now.trees d
+      trees (InLast d) = settles.sound.steady.good.last.trees d
+  images Nothing settles q step blocks i is = record { size = is.size; kept = is.kept; stored = idle (with_now s (world_in w)) q _ step blocks i.bytes is.stored }
+  images (Guids next) settles q step blocks i is = record { size = is.size; kept = is.kept; stored = idle (effected (with_now s (world_in w)) (Guids next)) q _ step blocks i.bytes is.stored }
+  images (Taken taken) settles q step blocks i is = record { size = is.size; kept = is.kept; stored = idle (with_now s (world_in w)) q _ step blocks i.bytes is.stored }
+  images (Synced last viewed) settles q step blocks i is = record {
+    size = is.size ∙ ap (λ n. 512 * n) (ap length is.kept ∙ kept_long s sound.steady.good ∙ sym (kept_long (effected (with_now s (world_in w)) (Synced last viewed)) settles.sound.steady.good));
+    kept = refl;
+    stored = idle (effected (with_now s (world_in w)) (Synced last viewed)) q _ step blocks i.bytes is.stored;
+  }
+  images Abandoned settles q step blocks i is = record { size = is.size; kept = is.kept; stored = idle (with_now s (world_in w)) q _ step blocks i.bytes is.stored }
+  images (Closed number) settles q step blocks i is = record { size = is.size; kept = is.kept; stored = idle (effected (with_now s (world_in w)) (Closed number)) q _ step blocks i.bytes is.stored }
+
+-- it writes to numbers that may be written
+pub are_writes : (s : State) (numbers : List BlockState) (i : ShownImage) → IsImageOf s i → (e : Effect) → MaySettle s.last s.size numbers e → AreWrites i (image_after s.size i e)
+are_writes s numbers i is (Blocks changed writes) may =
+    record { writes = writes_in (block_at i.bytes) writes; allowed = may_open i.kept i.bytes writes is.size (subst (λ k. MayWrite k writes) (sym is.kept) may.2); bytes = refl }
+are_writes s numbers i is Nothing may = record { writes = []; allowed = tt; bytes = refl }
+are_writes s numbers i is (Guids next) may = record { writes = []; allowed = tt; bytes = refl }
+are_writes s numbers i is (Taken taken) may = record { writes = []; allowed = tt; bytes = refl }
+are_writes s numbers i is (Synced last viewed) may = record { writes = []; allowed = tt; bytes = refl }
+are_writes s numbers i is Abandoned may = record { writes = []; allowed = tt; bytes = refl }
+are_writes s numbers i is (Closed number) may = record { writes = []; allowed = tt; bytes = refl }
+
+pub no_writes : (i : ShownImage) → AreWrites i i
+no_writes i = record { writes = []; allowed = tt; bytes = refl }
+
+-- ---- how often states were put in
+
+pub keeps_are : (size : ℕ) (i : ShownImage) (e : Effect) → (image_after size i e).keeps ≡ keeps_of i.keeps e
+keeps_are size i (Blocks changed writes) = refl
+keeps_are size i Nothing = refl
+keeps_are size i (Guids next) = refl
+keeps_are size i (Taken taken) = refl
+keeps_are size i (Synced last viewed) = refl
+keeps_are size i Abandoned = refl
+keeps_are size i (Closed number) = refl
+
+-- only a sync replies with a group
+grouped : (q : Request) (reading : Option Sending) (s : State) → ¬ (kind_of q ≡ Question) → ¬ (kind_of q ≡ View) → (g : ℕ) → Group g ≡ (rule_of q reading).reply s → is_synced (Group g) q ≡ true
+grouped ToSync reading s a b g e = refl
+grouped (ToCreate name) reading s a b g e = absurd cc
+grouped (ToWrite target object block bytes) reading s a b g e = absurd cc
+grouped (ToPunch target object block) reading s a b g e = absurd cc
+grouped (ToFreeObject target object) reading s a b g e = absurd cc
+grouped (ToSnapshot names recursive) reading s a b g e = absurd cc
+grouped (ToRollback target later) reading s a b g e = absurd cc
+grouped (ToDestroy target recursive defer) reading s a b g e = absurd cc
+grouped (ToSlice count) reading s a b g e = absurd cc
+grouped ToAbandon reading s a b g e = absurd cc
+grouped (ToCloseView view) reading s a b g e = absurd cc
+grouped (ToClone target name) reading s a b g e = absurd cc
+grouped (ToPromote name) reading s a b g e = absurd cc
+grouped (ToHold tag target) reading s a b g e = absurd cc
+grouped (ToRelease tag target) reading s a b g e = absurd cc
+grouped (ToBookmark target mark) reading s a b g e = absurd cc
+grouped (ToSet name limit amount) reading s a b g e = absurd cc
+grouped (ToReceive snapshot bytes force) reading s a b g e = absurd cc
+grouped (ToOpenView target) reading s a b g e = absurd (b refl)
+grouped (ToRead target object block) reading s a b g e = absurd (a refl)
+grouped (ToGet target property) reading s a b g e = absurd (a refl)
+grouped (ToPoolGet property) reading s a b g e = absurd (a refl)
+grouped ToList reading s a b g e = absurd (a refl)
+grouped (ToHolds target) reading s a b g e = absurd (a refl)
+grouped (ToWrittenSince target since) reading s a b g e = absurd (a refl)
+grouped (ToWouldFree name first last) reading s a b g e = absurd (a refl)
+grouped (ToSend target from) reading s a b g e = absurd (a refl)
+
+synced_by : (s t : State) (q : Request) (g : ℕ) → ¬ (kind_of q ≡ Question) → ¬ (kind_of q ≡ View) → Step s q (Group g) t → is_synced (Group g) q ≡ true
+synced_by s t q g a b step = by_rule step.follows
+  where
+    by_rule : Follows s (rule_of q step.reading) (Group g) t → is_synced (Group g) q ≡ true
+    by_rule (done h) = grouped q step.reading s a b g h.reply_is
+    by_rule (refused h) = let e = h.reply_is in absurd cc
+    by_rule (out_of_memory h) = let e = h.reply_is in absurd cc
+
+pub keeps_so : (s t : State) (q : Request) (e : Effect) → ¬ (kind_of q ≡ Question) → ¬ (kind_of q ≡ View) → Step s q (reply_of e) t → (n : ℕ) → keeps_of n e ≡ keeps_after q (reply_of e) n
+keeps_so s t q (Synced last viewed) a b step n = ap (λ x. if x then counted n 1 else n) (sym (synced_by s t q last.table.group a b step))
+keeps_so s t q (Blocks changed writes) a b step n = refl
+keeps_so s t q Nothing a b step n = refl
+keeps_so s t q (Guids next) a b step n = refl
+keeps_so s t q (Taken taken) a b step n = refl
+keeps_so s t q Abandoned a b step n = refl
+keeps_so s t q (Closed number) a b step n = refl
+
+-- a request that only reads, or opens a view, puts in none
+no_group : (q : Request) → (kind_of q ≡ Question) ⊎ (kind_of q ≡ View) → (g : ℕ) → is_synced (Group g) q ≡ false
+no_group ToSync (inl k) g = absurd cc
+no_group ToSync (inr k) g = absurd cc
+no_group (ToCreate name) k g = refl
+no_group (ToWrite target object block bytes) k g = refl
+no_group (ToPunch target object block) k g = refl
+no_group (ToFreeObject target object) k g = refl
+no_group (ToSnapshot names recursive) k g = refl
+no_group (ToRollback target later) k g = refl
+no_group (ToDestroy target recursive defer) k g = refl
+no_group (ToSlice count) k g = refl
+no_group ToAbandon k g = refl
+no_group (ToCloseView view) k g = refl
+no_group (ToClone target name) k g = refl
+no_group (ToPromote name) k g = refl
+no_group (ToHold tag target) k g = refl
+no_group (ToRelease tag target) k g = refl
+no_group (ToBookmark target mark) k g = refl
+no_group (ToSet name limit amount) k g = refl
+no_group (ToReceive snapshot bytes force) k g = refl
+no_group (ToOpenView target) k g = refl
+no_group (ToRead target object block) k g = refl
+no_group (ToGet target property) k g = refl
+no_group (ToPoolGet property) k g = refl
+no_group ToList k g = refl
+no_group (ToHolds target) k g = refl
+no_group (ToWrittenSince target since) k g = refl
+no_group (ToWouldFree name first last) k g = refl
+no_group (ToSend target from) k g = refl
+
+not_synced : (q : Request) → ((g : ℕ) → is_synced (Group g) q ≡ false) → (r : Reply) → is_synced r q ≡ false
+not_synced q none (Group g) = none g
+not_synced q none Done = refl
+not_synced q none (Refused why) = refl
+not_synced q none (Data bytes) = refl
+not_synced q none (Value value) = refl
+not_synced q none (Names names) = refl
+not_synced q none (Count count) = refl
+not_synced q none (Opened view sight) = refl
+not_synced q none (Stream bytes) = refl
+
+unchanged : (q : Request) (r : Reply) (n : ℕ) → is_synced r q ≡ false → n ≡ keeps_after q r n
+unchanged q r n e = ap (λ x. if x then counted n 1 else n) (sym e)
+
+pub keeps_same : (q : Request) (r : Reply) → (kind_of q ≡ Question) ⊎ (kind_of q ≡ View) → (n : ℕ) → n ≡ keeps_after q r n
+keeps_same q r kind n = unchanged q r n (not_synced q (no_group q kind) r)

@@ -1,0 +1,8 @@
+use Rattle.std.proofs.Common.{◌≡◌, ◌++◌, map}
+use Rattle.pool.specs.Roots.{shown_root}
+use Rattle.pool.proofs.AllRoots.{kept_root}
+use Rattle.pool.proofs.rooting.push_snapshots.Given as goal
+
+-- the roots of the snapshots so far
+abbrev pub invariant-loop-kept : goal.invariant-loop-kept
+invariant-loop-kept l = map shown_root l.roots.items ≡ map shown_root l.initial.roots.items ++ map (kept_root l.name) l.yielded

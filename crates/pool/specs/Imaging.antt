@@ -1,0 +1,56 @@
+-- What a change of a live map writes into the image.
+use Rattle.std.specs.Prelude.{◌≡◌, ◌≤◌, ℕ, List, [], Option, None, IsSome, length, map, slice_index_or}
+use Rattle.std.specs.List.{All}
+use Rattle.std.specs.Option.{option_map}
+use Rattle.std.specs.FinMap.{get}
+use Rattle.base.specs.Map.{Map, Block, block_of}
+use Rattle.batch.specs.Updates.{first_of}
+use Rattle.batch.specs.declared.numbers.NewBlock.{NewBlock}
+use Rattle.batch.specs.declared.update.Update.{Update}
+use Rattle.batch.specs.declared.update.Update.TheVariants.{Write, Punch}
+use Rattle.tree.specs.Reading.{key_over}
+use Rattle.tree.specs.declared.block.Root.{Root}
+use Rattle.zalloc.specs.declared.BlockState.{BlockState}
+use Rattle.image.specs.BlockWrites.{written_pair}
+use Rattle.image.specs.Image.{AreAllOpen}
+use Rattle.image.specs.PathWrites.{block_on, path_writes, IsPathOpen, AreSourcesApart}
+use Rattle.images.specs.Updates.{IsWritten}
+use Rattle.pool.specs.declared.imaging.Writes.{Writes}
+use Rattle.pool.specs.declared.imaging.Writes.TheVariants.{Idle, OnPath, Each}
+
+-- the blocks that are written, each with its number, where the image has these blocks (On-Disk Specification, chapter 3)
+abbrev pub writes_in : (ℕ → List ℕ) → Writes → List (ℕ × List ℕ)
+writes_in image Idle = []
+writes_in image (OnPath leaf before after bytes) = path_writes image leaf (block_on before) (block_on after) bytes 6
+writes_in image (Each blocks) = map written_pair blocks.items
+
+-- they may be written: at numbers that the kept states don't have Allocated, each of a whole block, none before it is copied (profile)
+abbrev pub MayWrite : List BlockState → Writes → Type 0
+MayWrite kept Idle = Unit {0}
+MayWrite kept (OnPath leaf before after bytes) = IsPathOpen kept (block_on before) (block_on after) × AreSourcesApart (block_on before) (block_on after) × (length bytes ≡ 512)
+MayWrite kept (Each blocks) = AreAllOpen kept blocks.items × All (λ b. length b.1 ≡ 512) blocks.items
+
+-- where the blocks are that a map has on the path to a leaf, by their levels (On-Disk Specification, chapter 3)
+abbrev pub IsPathOf : Map → ℕ → (ℕ → Option Block) → Type 0
+IsPathOf m leaf path = (l : ℕ) → l ≤ 5 → path l ≡ option_map block_of (get m (key_over leaf l))
+
+-- what an update punches stands on the path to its first leaf (profile)
+abbrev pub IsThere : List (Option Root) → Update → Type 0
+IsThere path (Write leaf bytes) = Unit {0}
+IsThere path (Punch key) = IsSome (slice_index_or path key.level None)
+
+-- an update punches what isn't there (profile)
+abbrev pub IsMissing : List (Option Root) → Update → Type 0
+IsMissing path (Write leaf bytes) = ⊥
+IsMissing path (Punch key) = slice_index_or path key.level None ≡ None
+
+-- the map has a block at each of these keys (profile)
+abbrev pub ArePresent : Map → List NewBlock → Type 0
+ArePresent m = All (λ b. IsSome (get m b.key))
+
+-- what an update leaves to be written that has led to this map, where that was the path to its first leaf before (On-Disk Specification,
+-- chapter 3)
+abbrev pub IsWrittenAs : Map → Update → List (Option Root) → Writes → Type 0
+IsWrittenAs m u path Idle = IsMissing path u
+IsWrittenAs m u path (OnPath leaf before after bytes) = (leaf ≡ first_of u) × (before ≡ path) × IsPathOf m leaf (block_on after) × IsWritten u bytes × (length bytes ≡ 512) × IsThere path u
+IsWrittenAs m u path (Each blocks) = ⊥

@@ -1,0 +1,33 @@
+-- The roots of datasets.
+use Rattle.std.specs.Prelude.{ℕ, List, ◌∷◌, Option, None, Some, map}
+use Rattle.std.specs.List.{flat_map}
+use Rattle.std.specs.FinMap.{entries}
+use Rattle.base.specs.Map.{Block}
+use Rattle.model.specs.World.{FileSystem}
+use Rattle.model.specs.Hierarchy.{FileSystems}
+use Rattle.image.specs.HasBlocks.{root_of}
+use Rattle.image.specs.ImageBlocks.{maybe_block}
+use Rattle.pool.specs.declared.rooting.DatasetRoot.{DatasetRoot}
+
+-- a dataset's root: the name of its file system, that of a snapshot within it, or none for the live map, and its topmost block, or none where
+-- it is empty (On-Disk Specification, chapter 3)
+pub record RootAt : Type 0 where
+  pub file_system : List ℕ
+  pub snapshot : Option (List ℕ)
+  pub root : Option Block
+
+-- what contracts see of one that is handed out (profile)
+abbrev pub shown_root : DatasetRoot → RootAt
+shown_root r = record { file_system = r.file_system; snapshot = r.snapshot; root = maybe_block r.root }
+
+-- those of a file system's snapshots (On-Disk Specification, chapter 4)
+abbrev pub snapshot_roots : List ℕ × FileSystem → List RootAt
+snapshot_roots e = map (λ t. record { file_system = e.0; snapshot = Some t.name; root = root_of t.map }) e.1.snaps
+
+-- that of its live map, and then those (On-Disk Specification, chapter 4)
+abbrev pub own_roots : List ℕ × FileSystem → List RootAt
+own_roots e = record { file_system = e.0; snapshot = None; root = root_of e.1.live } ∷ snapshot_roots e
+
+-- those of all file systems, in byte order of their names (zfs-list(8))
+abbrev pub roots_in : FileSystems → List RootAt
+roots_in ss = flat_map own_roots (entries ss)

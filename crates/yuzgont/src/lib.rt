@@ -1,0 +1,52 @@
+//! Yuzgont for hosts: all that a container runtime, a backup tool or a file server asks of it, in one crate.
+//!
+//! A [`Pool`] answers one [`Request`] after another with a [`Reply`], by `apply`. What it refuses has changed nothing.
+//!
+//! ```text
+//! let mut pool = Pool::create(alloc, 1, 1000)?;
+//! let write = Request::Write {
+//!     target: Target::read(alloc, b"p")?,
+//!     object: 0,
+//!     block: 0,
+//!     bytes: Data::new(alloc, &[97; 512])?,
+//! };
+//! match pool.apply(alloc, &write) {
+//!     Reply::Done => {}
+//!     Reply::Refused(why) => return Err(why),
+//!     _ => {}
+//! }
+//! ```
+//!
+//! A pool that threads share is a [`Session`]; each thread has a [`Seat`], and a [`View`] of a snapshot is read without the lock. A send's
+//! bytes are those that a [`Request::Receive`] of another pool takes; [`read_stream`] says what is in them. A pool under a [`PoolCaller`]
+//! answers lines, one by [`answer_line`], or a script by [`run_script`]; docs/COMMANDS.md has the lines.
+//!
+//! docs/EMBEDDING.md says what a host has to know.
+#![tactic(auto)]
+
+pub use base::data::Data;
+pub use base::failing::{Counted, Failing};
+pub use base::limit::Blocks;
+pub use base::name::{Component, DsName, MarkName, Member, SnapName, Tag, Target};
+pub use base::number::{BlockNo, Group, Guid};
+pub use base::refusal::Refusal;
+pub use base::text::Bytes;
+pub use image::Image;
+pub use model::entry::{Entry, KeptReply};
+pub use model::limits::{Limit, Limits};
+pub use model::names::Names;
+pub use model::reply::{Reply, Value};
+pub use model::request::{PoolProperty, Property, Request};
+pub use model::sight::Sight;
+pub use model::snap_names::SnapNames;
+pub use model::source::{Source, SourceName};
+pub use pool::{MOST_BLOCKS, Pool, Ready};
+pub use runner::PoolCaller;
+pub use script::lines::LINE_LIMIT;
+pub use script::run::{Caller, LineFault, ScriptFault, answer_line, run_script};
+pub use session::{
+    Book, CALL_LIMIT, Closed, ClosedView, Gate, OpenedView, Opening, Receipt, SEAT_LIMIT, Seat,
+    Session, View,
+};
+pub use stream::{Record, Stream, StreamFault, read_stream, write_stream};
+pub use views::VIEW_LIMIT;
