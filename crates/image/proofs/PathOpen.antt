@@ -2,7 +2,7 @@
 use Rattle.std.proofs.Common.{◌≡◌, ℕ, zero, suc, ◌+◌, ◌*◌, ◌/◌, ◌%◌, ◌^◌, ◌<◌, ◌≤◌, inl, inr, ⊎_elim, Bool, true, false, cond, List, [], ◌∷◌, ◌++◌, length, take, drop, set, replicate, Option, Some, None, refl, sym, ap, subst, ◌∙◌, arith, append_assoc, append-nil, length-drop}
 use Rattle.std.specs.Prelude.{◌==◌, ◌&&◌, IfSome}
 use Rattle.std.specs.List.{flat_map, range_with_len}
-use Rattle.std.proofs.lemmas.List.{take-append-drop, take-append-le, drop-append-le, drop-drop, length-take-le, length-set}
+use Rattle.std.proofs.lemmas.List.{take-append-drop, take-append-le, drop-append-le, drop-drop, length-take-le, length-set, length-replicate}
 use Rattle.std.proofs.Math.Nat.{mod-lt}
 use Rattle.std.proofs.Math.Seq.{take-append-add, drop-append-add}
 use Rattle.base.specs.Map.{Block}
@@ -16,7 +16,7 @@ use Rattle.image.specs.BlockWrites.{bytes_put, images_put}
 use Rattle.image.specs.Image.{IsOpen, AreOpen}
 use Rattle.image.specs.PathWrites.{is_same_block, inner_writes, leaf_writes, level_writes, path_writes, AreSourcesApart, IsPathOpen}
 use Rattle.image.proofs.Moments.{blocks_of_put}
-use Rattle.image.proofs.Patches.{length-bytes_put}
+use Rattle.image.proofs.Patches.{length-bytes_put, pointer_put}
 use Rattle.image.proofs.PathHeld.{from_flat, level_number}
 use Rattle.image.proofs.Pointers.{length-pointer_bytes, length-pointers_bytes}
 use Rattle.image.proofs.Unwritten.{unwritten}
@@ -155,6 +155,11 @@ module _ (image bytes : List ℕ) (kept : List BlockState) (leaf : ℕ) (before 
   pub first_level : images_put image (leaf_writes (after 0) bytes) ≡ images_put image (so_far 1)
   first_level = ap (images_put image) (sym (append-nil (leaf_writes (after 0) bytes)))
 
+-- a block of zeros points to no block
+no_child : (l : ℕ) → replicate 512 0 ≡ pointers_bytes l (replicate 16 None)
+unfolding pointers_bytes
+no_child l = refl
+
 -- What is done at one level
 and_false : (a b : Bool) → b ≡ false → (a && b) ≡ false
 and_false true b e = e
@@ -182,6 +187,12 @@ module _ (image : List ℕ) (l i : ℕ) (o n : Block) (c d : Option Block) (smal
   writes_moved other was =
       moved image (pointer_bytes l d) o.number n.number i (length-pointer_bytes l d) small was there
       ∙ ap (λ t. images_put image (cond (t && is_same_block c d) [] all)) (sym (eq_not o.number n.number other))
+
+  pub writes_made : bytes_put (bytes_put image (512 * n.number) (replicate 512 0)) (512 * n.number + 32 * i) (pointer_bytes l d) ≡ images_put image (inner_writes (block_at image) l i None (Some n) c d)
+  writes_made =
+      put_within image (replicate 512 0) (pointer_bytes l d) (512 * n.number) (32 * i) (omega (arith, length-replicate {A = ℕ} 512 0, length-pointer_bytes l d, small)) (omega (arith, length-replicate {A = ℕ} 512 0, there))
+      ∙ ap (λ xs. bytes_put image (512 * n.number) (bytes_put xs (32 * i) (pointer_bytes l d))) (no_child l)
+      ∙ ap (bytes_put image (512 * n.number)) (pointer_put l i (replicate 16 None) d (omega (arith, small)))
 
 -- a root that may be none, of which something holds
 pub some_root : (P : ℕ → Type 0) (r : Option Root) → ((n : Block) → maybe_block r ≡ Some n → P n.number) → IfSome r (λ r. P r.block.0)

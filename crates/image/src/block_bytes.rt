@@ -8,8 +8,8 @@ use base::number::BlockNo;
 use byteorder::{BigEndian, ByteOrder};
 use tree::{Block, Root};
 
-/// The zeros of one block.
-const ZEROS: [u8; 512] = [0; 512];
+/// The zeros of one block, which is also one that points to no block.
+pub(crate) const ZEROS: [u8; 512] = [0; 512];
 
 /// Fills bytes up with zeros to a size, within the room that they have. It takes no memory. One block more, as numbers are taken in turn,
 /// is a copy of as many zeros.

@@ -5,6 +5,7 @@ ghost use Rattle.image.specs.Image.{IsOpen};
 ghost use Rattle.image.specs.ImageBlocks.{block_at, maybe_block, pointers_bytes, made_bytes, IsOfTree};
 ghost use Rattle.image.specs.PathWrites.{block_on, is_same_block, inner_writes, leaf_writes, path_writes, IsPathOpen, AreSourcesApart};
 
+use crate::block_bytes::ZEROS;
 use crate::image::Image;
 use crate::walk::block_of;
 use base::number::BlockNo;
@@ -19,21 +20,6 @@ fn is_same(one: Option<Root>, other: Option<Root>) -> bool
         (Some(one), Some(other)) => one.block == other.block && one.birth == other.birth,
         (None, None) => true,
         _ => false,
-    }
-}
-
-/// An indirect block over blocks of a level, which has one at a place alone.
-fn block_with(level: u8, place: u32, root: Option<Root>) -> Block<'static>
-    requires level { level < 5 }
-    requires place { place < 16 }
-    ensures bytes { made_bytes result ≡ pointers_bytes level (set (replicate 16 None) place (maybe_block root)) }
-    ensures of_tree { IsOfTree result }
-{
-    let mut roots = [None; 16];
-    roots[place as usize] = root;
-    Block::Pointers {
-        level: level + 1,
-        roots,
     }
 }
 
@@ -81,7 +67,8 @@ impl Image {
             return;
         };
         let Some(old) = old else {
-            self.write(new.block, &block_with(level, place, is));
+            self.write_contents(new.block, &ZEROS);
+            self.point(new.block, place, level, is);
             return;
         };
         if old.block == new.block {

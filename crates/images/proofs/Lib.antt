@@ -8,3 +8,5 @@ pub mod Touching
 pub mod OnePath
 pub mod MadeBlocks
 pub mod LiveChange
+pub mod LiveTrees
+pub mod AllRoots

@@ -2,3 +2,5 @@
 pub mod Stored
 pub mod Opened
 pub mod Updates
+pub mod Writes
+pub mod Roots

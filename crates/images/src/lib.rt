@@ -1,5 +1,10 @@
-//! Lemmas on a pool's image: that it has the blocks of the present datasets and of those that the last sync left, and that each step keeps
-//! that.
+//! The image of a pool's datasets: what a change of a live map leaves to be written into it, and where the roots of the datasets are.
 //!
-//! The crate has no function: other crates cite its `proofs/`.
+//! Its lemmas say that an image has the blocks of the present datasets and of those that the last sync left, and that each step keeps that.
 #![tactic(auto)]
+
+mod roots;
+mod writes;
+
+pub use roots::{DatasetRoot, roots_of};
+pub use writes::{ChangedPath, Writes, blocks_in, path_before, write_down, writes_after};

@@ -38,10 +38,10 @@ use Rattle.steps.proofs.requests.Writing.{IsThere, there_or, allows, written_can
 use Rattle.pool.specs.Asked.{Asks}
 use Rattle.pool.specs.Effects.{MaySettle}
 use Rattle.pool.specs.Images.{LeadsTo}
-use Rattle.pool.specs.Imaging.{IsPathOf, IsWrittenAs}
+use Rattle.images.specs.Writes.{IsPathOf, IsWrittenAs}
 use Rattle.pool.specs.Pools.{IsSound}
 use Rattle.pool.specs.declared.effect.Effect.TheVariants.{Blocks}
-use Rattle.pool.specs.declared.imaging.Writes.{Writes}
+use Rattle.images.specs.declared.writes.Writes.{Writes}
 use Rattle.pool.proofs.OneUpdate.{update_may, update_leads}
 
 -- no update

@@ -29,13 +29,13 @@ use Rattle.images.proofs.StepMaps.{step_maps}
 use Rattle.images.proofs.Walking.{bytes_stored}
 use Rattle.pool.specs.Effects.{effected, reply_of, MaySettle, Settles, WritesBlocks, image_after, keeps_of, Images}
 use Rattle.pool.specs.Images.{IsImageOf, AreWrites, is_synced, keeps_after}
-use Rattle.pool.specs.Imaging.{writes_in, MayWrite}
+use Rattle.images.specs.Writes.{writes_in, MayWrite}
 use Rattle.pool.specs.Kinds.{kind_of}
 use Rattle.pool.specs.Pools.{world_in, IsSound}
 use Rattle.pool.specs.declared.effect.Effect.{Effect}
 use Rattle.pool.specs.declared.effect.Effect.TheVariants.{Nothing, Guids, Blocks, Taken, Synced, Abandoned, Closed}
-use Rattle.pool.specs.declared.imaging.Writes.{Writes}
-use Rattle.pool.specs.declared.imaging.Writes.TheVariants.{Idle, OnPath, Each}
+use Rattle.images.specs.declared.writes.Writes.{Writes}
+use Rattle.images.specs.declared.writes.Writes.TheVariants.{Idle, OnPath, Each}
 use Rattle.pool.specs.declared.kind.Kind.TheVariants.{Question, View}
 use Rattle.pool.specs.declared.worlds.World.{World}
 use Rattle.pool.proofs.Kept.{kept_long}
@@ -48,7 +48,7 @@ each_open kept (b ∷ bs) a l = ((a 0 b (omega arith), l 0 b (omega arith)), eac
 
 pub may_open : (kept : List BlockState) (image : List ℕ) (writes : Writes) → length image ≡ 512 * length kept → MayWrite kept writes → AreOpen kept (writes_in (block_at image) writes)
 may_open kept image Idle size may = tt
-may_open kept image (OnPath leaf before after bytes) size may = path_open image bytes kept leaf (block_on before) (block_on after) size may.2 may.0 6 (omega arith)
+may_open kept image (OnPath p) size may = path_open image p.value.bytes kept p.value.leaf (block_on p.value.before) (block_on p.value.after) size may.2 may.0 6 (omega arith)
 may_open kept image (Each blocks) size may = each_open kept blocks.items may.0 may.1
 
 length-images_put : (kept : List BlockState) (image : List ℕ) (ws : List (ℕ × List ℕ)) → length image ≡ 512 * length kept → AreOpen kept ws → length (images_put image ws) ≡ 512 * length kept

@@ -28,9 +28,9 @@ use Rattle.pool.specs.declared.keep.Keep.{Keep}
 use Rattle.pool.specs.declared.worlds.World.{World}
 use Rattle.pool.specs.Effects.{IsPerformed, numbers_after}
 use Rattle.pool.specs.Pools.{state_in, IsSound, IsHeld}
-use Rattle.pool.specs.Imaging.{ArePresent}
-use Rattle.pool.specs.declared.imaging.Writes.{Writes}
-use Rattle.pool.specs.declared.imaging.Writes.TheVariants.{Idle, Each}
+use Rattle.images.specs.Writes.{ArePresent}
+use Rattle.images.specs.declared.writes.Writes.{Writes}
+use Rattle.images.specs.declared.writes.Writes.TheVariants.{Idle, Each}
 use Rattle.pool.proofs.NewBlocks.{present as present_blocks, each_may, each_leads}
 use Rattle.pool.proofs.Commits.{few, sound_received}
 use Rattle.pool.proofs.Performed.{unlimited}

@@ -15,6 +15,4 @@ pub mod Kept
 pub mod OneUpdate
 pub mod NewBlocks
 pub mod Imaged
-pub mod LiveTrees
 pub mod Done
-pub mod AllRoots

@@ -57,9 +57,9 @@ use Rattle.steps.specs.declared.intake.Intake.{Intake}
 use Rattle.tree.proofs.Told.{range_long}
 use Rattle.tree.specs.Branch.{child_key}
 use Rattle.pool.specs.Images.{LeadsTo}
-use Rattle.pool.specs.Imaging.{MayWrite, ArePresent}
+use Rattle.images.specs.Writes.{MayWrite, ArePresent}
 use Rattle.pool.specs.Numbers.{synced_numbers}
-use Rattle.pool.specs.declared.imaging.Writes.TheVariants.{Each}
+use Rattle.images.specs.declared.writes.Writes.TheVariants.{Each}
 use Rattle.pool.proofs.Kept.{kept_long, kept_just}
 
 -- ---- lists

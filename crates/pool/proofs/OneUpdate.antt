@@ -1,5 +1,5 @@
 -- What a change of a live map by one update leaves to be written.
-use Rattle.std.proofs.Common.{◌≡◌, ◌≤◌, ◌<◌, ℕ, false, List, [], ◌∷◌, Option, Some, None, refl, sym, ap, subst, ◌∙◌, inr, arith, true≢false}
+use Rattle.std.proofs.Common.{◌≡◌, ◌≤◌, ◌<◌, ℕ, false, List, [], ◌∷◌, length, Option, Some, None, refl, sym, ap, subst, ◌∙◌, inr, arith, true≢false}
 use Rattle.std.specs.Prelude.{IfSome, is_some, slice_get, slice_index_or}
 use Rattle.std.specs.Option.{option_map, option_map_or}
 use Rattle.std.specs.FinMap.{get, insert}
@@ -37,11 +37,11 @@ use Rattle.datasets.specs.Rows.{live_of}
 use Rattle.image.specs.BlockWrites.{blocks_put}
 use Rattle.image.specs.HasBlocks.{HasBlocks, AreBirthsRising}
 use Rattle.image.specs.Image.{IsOpen}
-use Rattle.image.specs.PathWrites.{block_on, path_writes, IsPathChange, IsPathOpen}
+use Rattle.image.specs.PathWrites.{block_on, path_writes, IsPathChange, IsPathOpen, AreSourcesApart}
 use Rattle.image.proofs.AfterChange.{same_bytes}
 use Rattle.image.proofs.PathsApart.{paths_apart}
-use Rattle.images.specs.Stored.{IsStored, AreMapsBeside}
-use Rattle.images.specs.Updates.{ChangesSome}
+use Rattle.images.specs.Stored.{IsStored, AreStored, AreMapsBeside}
+use Rattle.images.specs.Updates.{ChangesSome, IsWritten}
 use Rattle.images.proofs.LiveChange.{put_beside, change_stored, number_open}
 use Rattle.images.proofs.MadeBlocks.{path_made, path_within}
 use Rattle.images.proofs.OnePath.{path_young, path_change}
@@ -53,11 +53,11 @@ use Rattle.steps.specs.Steady.{IsSteady}
 use Rattle.steps.proofs.numbers.Known.{states_of}
 use Rattle.steps.proofs.numbers.States.{state_at-now}
 use Rattle.pool.specs.Images.{LeadsTo}
-use Rattle.pool.specs.Imaging.{MayWrite, IsPathOf, IsThere, IsMissing, IsWrittenAs}
+use Rattle.images.specs.Writes.{MayWrite, IsPathOf, IsThere, IsMissing, IsWrittenAs}
 use Rattle.pool.specs.Numbers.{synced_numbers}
 use Rattle.pool.specs.Pools.{IsSound}
-use Rattle.pool.specs.declared.imaging.Writes.{Writes}
-use Rattle.pool.specs.declared.imaging.Writes.TheVariants.{Idle, OnPath, Each}
+use Rattle.images.specs.declared.writes.Writes.{Writes}
+use Rattle.images.specs.declared.writes.Writes.TheVariants.{Idle, OnPath, Each}
 use Rattle.pool.proofs.Kept.{kept_long, kept_just}
 
 -- the key of a punch stands on the path to its first leaf
@@ -171,7 +171,8 @@ module _ (s : State) (numbers : List BlockState) (sound : IsSound s numbers) (na
           had image stored k x (sym (same k) ∙ there) ∙ same_bytes f.live m k x (λ high i small. same (child_key k i))
 
   -- one path is written
-  module _ (leaf : ℕ) (before after_path : List (Option Root)) (bytes : List ℕ) (is : IsWrittenAs (live_of new.file_systems name) u path (OnPath leaf before after_path bytes)) where
+  module _ (leaf : ℕ) (before after_path : List (Option Root)) (bytes : List ℕ)
+      (is : (leaf ≡ first_of u) × (before ≡ path) × IsPathOf (live_of new.file_systems name) leaf (block_on after_path) × IsWritten u bytes × (length bytes ≡ 512) × IsThere path u) where
     some : ChangesSome f.live u
     some = there_some f.live path u batch was_live is.5
 
@@ -202,14 +203,14 @@ module _ (s : State) (numbers : List BlockState) (sound : IsSound s numbers) (na
           omega (arith, small, number, long);
     }
 
-    pub path_may : MayWrite (synced_numbers s.size s.last) (OnPath leaf before after_path bytes)
+    pub path_may : IsPathOpen (synced_numbers s.size s.last) (block_on before) (block_on after_path) × AreSourcesApart (block_on before) (block_on after_path) × (length bytes ≡ 512)
     path_may = (
       open_path,
       paths_apart f.live ch s.now.group (young_of (datasets_of s) name s.last.group) numbers has.change change old_unique allocated (first_of u) (block_on before) (block_on after_path) from_before to_after,
       is.4,
     )
 
-    pub path_leads : LeadsTo s (with_datasets s new) (OnPath leaf before after_path bytes)
+    pub path_leads : (image : ℕ → List ℕ) → IsStored s image → AreStored (maps_of_both now s.last) (blocks_put image (path_writes image leaf (block_on before) (block_on after_path) bytes 6))
     path_leads image stored =
         change_stored s now good after.good name m here beside image (blocks_put image (path_writes image leaf (block_on before) (block_on after_path) bytes 6))
         (path_made s.size image f.live m leaf (block_on before) (block_on after_path) bytes tree new_tree unique at_leaf (had image stored))
@@ -219,10 +220,10 @@ module _ (s : State) (numbers : List BlockState) (sound : IsSound s numbers) (na
   -- so may what is left to be written, and it leads there
   pub update_may : (writes : Writes) → IsWrittenAs (live_of new.file_systems name) u path writes → MayWrite (synced_numbers s.size s.last) writes
   update_may Idle is = tt
-  update_may (OnPath leaf before after_path bytes) is = path_may leaf before after_path bytes is
+  update_may (OnPath p) is = path_may p.value.leaf p.value.before p.value.after p.value.bytes (is.0.0, is.1, is.2, is.0.1, is.0.2, is.3)
   update_may (Each blocks) is = absurd is
 
   pub update_leads : (writes : Writes) → IsWrittenAs (live_of new.file_systems name) u path writes → LeadsTo s (with_datasets s new) writes
   update_leads Idle is = idle_leads is
-  update_leads (OnPath leaf before after_path bytes) is = path_leads leaf before after_path bytes is
+  update_leads (OnPath p) is = path_leads p.value.leaf p.value.before p.value.after p.value.bytes (is.0.0, is.1, is.2, is.0.1, is.0.2, is.3)
   update_leads (Each blocks) is = absurd is

@@ -13,9 +13,9 @@ use Rattle.image.specs.Image.{ShownImage, AreOpen}
 use Rattle.image.specs.ImageBlocks.{block_at}
 use Rattle.images.specs.Opened.{KeepsJust}
 use Rattle.images.specs.Stored.{AreStored, IsStored, AllWalk}
-use Rattle.pool.specs.Imaging.{writes_in}
+use Rattle.images.specs.Writes.{writes_in}
 use Rattle.pool.specs.Numbers.{synced_numbers}
-use Rattle.pool.specs.declared.imaging.Writes.{Writes}
+use Rattle.images.specs.declared.writes.Writes.{Writes}
 
 -- The image has the blocks of both worlds, and keeps the states of the numbers as the last synced world gives them (profile)
 pub record IsImageOf (s : State) (i : ShownImage) : Type 0 where

@@ -1,6 +1,5 @@
 pub mod Shown
 pub mod Numbers
-pub mod Imaging
 pub mod Images
 pub mod Pools
 pub mod Kinds
@@ -8,4 +7,3 @@ pub mod Reached
 pub mod Effects
 pub mod Plans
 pub mod Asked
-pub mod Roots

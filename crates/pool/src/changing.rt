@@ -10,11 +10,11 @@ ghost use Rattle.pool.specs.Pools.{state_in, IsHeld};
 ghost use Rattle.pool.specs.Effects.{IsPerformed, WritesBlocks};
 
 use crate::effect::Effect;
-use crate::imaging::{first_leaf, path_in, writes_after};
 use crate::keep::{Keep, Meters};
 use crate::worlds::World;
 use base::name::{DsName, Target};
 use base::refusal::Refusal;
+use images::{path_before, writes_after};
 use std::alloc::Global;
 use std::slice::from_ref;
 use steps::{ask_change, live_name, settle};
@@ -54,8 +54,7 @@ impl Keep {
             &update,
             &mut meters.blocks,
         )?;
-        let leaf = first_leaf(&update);
-        let before = path_in(&world.table, name, leaf, &mut meters.blocks);
+        let path = path_before(alloc, &world.table, name, &update, &mut meters.blocks)?;
         let done = world.table.apply_live(
             name,
             alloc,
@@ -66,7 +65,7 @@ impl Keep {
             &mut meters.segments,
         )?;
         settle(&mut world.ledger, &world.table, name, outlook);
-        let writes = writes_after(&world.table, name, &update, before, &mut meters.blocks);
+        let writes = writes_after(&world.table, name, &update, path, &mut meters.blocks);
         Ok(Effect::Blocks { done, writes })
     }
 

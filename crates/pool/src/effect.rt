@@ -2,9 +2,9 @@
 ghost use Rattle.std.specs.Prelude.{◌≡◌};
 ghost use Rattle.pool.specs.Effects.{reply_of};
 
-use crate::imaging::Writes;
 use crate::worlds::World;
 use base::number::Dead;
+use images::Writes;
 use model::reply::Reply;
 use model::snapshot_id::SnapshotId;
 use tree::Changed;

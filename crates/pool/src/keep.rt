@@ -9,11 +9,11 @@ ghost use Rattle.pool.specs.Pools.{state_in, world_in, synced_numbers, AreBelow,
 ghost use Rattle.pool.specs.Effects.{effected, numbers_after, image_after, MaySettle};
 
 use crate::effect::Effect;
-use crate::imaging::write_down;
 use crate::worlds::World;
 use base::meter::{Meter, SegMeter};
 use base::number::{BlockNo, Dead, Group};
 use image::Image;
+use images::write_down;
 use model::snapshot_id::SnapshotId;
 use views::Views;
 use zalloc::Numbers;

@@ -5,12 +5,12 @@ ghost use Rattle.pool.specs.Pools.{state_in, IsHeld};
 ghost use Rattle.pool.specs.Effects.{IsPerformed, WritesBlocks};
 
 use crate::effect::Effect;
-use crate::imaging::{Writes, blocks_in};
 use crate::keep::{Keep, Meters};
 use crate::worlds::World;
 use base::name::SnapName;
 use base::refusal::Refusal;
 use base::text::Bytes;
+use images::{Writes, blocks_in};
 use std::alloc::Global;
 use steps::{Intake, Present, intake_of, recount};
 

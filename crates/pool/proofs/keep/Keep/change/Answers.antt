@@ -1,4 +1,4 @@
-use Rattle.std.proofs.Common.{◌≡◌, [], ◌∷◌, Result, Ok, Err, sym, subst, ◌∙◌, rules}
+use Rattle.std.proofs.Common.{◌≡◌, [], ◌∷◌, Result, Ok, Err, inl, sym, subst, ◌∙◌, rules}
 use Rattle.std.specs.Prelude.{IfOk}
 use Rattle.base.specs.declared.refusal.Refusal.{Refusal}
 use Rattle.batch.specs.Updates.{IsBatch}
@@ -7,7 +7,7 @@ use Rattle.datasets.specs.Rows.{live_of}
 use Rattle.image.specs.PathWrites.{block_on}
 use Rattle.steps.specs.Edits.{datasets_of, with_datasets}
 use Rattle.steps.specs.Handed.{IsAccounted}
-use Rattle.pool.specs.Imaging.{IsPathOf}
+use Rattle.images.specs.Writes.{IsPathOf}
 use Rattle.pool.specs.Pools.{state_in}
 use Rattle.pool.proofs.Commits.{few, sound_changed}
 use Rattle.pool.proofs.Limited.{state_with}
@@ -19,8 +19,8 @@ use Rattle.pool.proofs.keep.Keep.change.Goals as goal
 batch_of : (r : Result Update Refusal) (u : Update) → r ≡ Ok u → IfOk r (λ v. IsBatch (v ∷ [])) → IsBatch (u ∷ [])
 batch_of r u is batch = subst (λ x. IfOk x (λ v. IsBatch (v ∷ []))) is batch
 
-pub first_leaf-leaf-requires : goal.first_leaf-leaf-requires
-first_leaf-leaf-requires c = (batch_of c.args.update c.in-Ok.update c.in-Ok.is c.requires.batch).1
+pub path_before-requires : goal.path_before-requires
+path_before-requires c = (batch_of c.args.update c.in-Ok.update c.in-Ok.is c.requires.batch).1
 
 pub returns-in_err-name-clause-performed : goal.returns-in_err-name-clause-performed
 returns-in_err-name-clause-performed c q asks =
@@ -39,6 +39,11 @@ returns-in_err-outlook-clause-performed c q asks =
     exits (state_in c.args.self.now c.args.world.now) c.args.self.now.numbers.present _ q c.from_residual-in_err-outlook.result c.in_err-outlook.field-0.0 c.from_residual-in_err-outlook.ensures.1
     (not_asked (state_in c.args.self.now c.args.world.now) c.args.self.now.numbers.present c.requires.held.sound q c.in_ok-name.name.now c.in-Ok.update (asks_here q c.args.target.now c.args.update c.in_ok-name.name.now (Ok c.in-Ok.update) c.in_ok-name.ensures.ok c.in-Ok.is asks) c.in_err-outlook.field-0.0
     (c.in_err-outlook.ensures.err (state_in c.args.self.now c.args.world.now) (state_with (state_in c.args.self.now c.args.world.now) c.args.self.now.numbers.present c.requires.held.sound c.space.result c.space.ensures.size (c.space.ensures.freeing ∙ c.len.ensures) c.space.ensures.waiting) c.group-synced.ensures))
+
+pub returns-in_err-path-clause-performed : goal.returns-in_err-path-clause-performed
+returns-in_err-path-clause-performed c q asks =
+    exits (state_in c.args.self.now c.args.world.now) c.args.self.now.numbers.present _ q c.from_residual-in_err-path.result c.in_err-path.field-0.0 c.from_residual-in_err-path.ensures.1
+    (not_asked (state_in c.args.self.now c.args.world.now) c.args.self.now.numbers.present c.requires.held.sound q c.in_ok-name.name.now c.in-Ok.update (asks_here q c.args.target.now c.args.update c.in_ok-name.name.now (Ok c.in-Ok.update) c.in_ok-name.ensures.ok c.in-Ok.is asks) c.in_err-path.field-0.0 (inl c.in_err-path.ensures.err))
 
 pub apply_live-requires : goal.apply_live-requires
 apply_live-requires c = rw c.present.ensures (allowed (state_in c.args.self.now c.args.world.now) c.args.self.now.numbers.present c.requires.held.sound c.group-synced.result.0 c.group-synced.ensures c.from_ref.result.now (search rules))
@@ -72,12 +77,12 @@ returns-clause-performed c q asks =
         sound = sound_changed (state_in c.args.self.now c.args.world.now) c.args.self.now.numbers.present c.requires.held.sound c.apply_live.new.self _ _ (can_now (state_in c.args.self.now c.args.world.now) c.args.self.now.numbers.present c.requires.held.sound c.group-synced.result.0 c.group-synced.ensures c.in_ok-name.name.now c.apply_live.new.self c.in-Ok.update c.from_ref.result.now c.from_ref.ensures.value (c.in_ok-outlook.ensures.ok (state_in c.args.self.now c.args.world.now) (state_with (state_in c.args.self.now c.args.world.now) c.args.self.now.numbers.present c.requires.held.sound c.space.result c.space.ensures.size (c.space.ensures.freeing ∙ c.len.ensures) c.space.ensures.waiting) c.group-synced.ensures) c.in_ok-done.done (record { ok = e.ok; room = e.room; no_dataset = e.no_dataset; no_space = e.no_space; only = e.only }));
         kept = c.settle.ensures;
         may = may_settle (state_in c.args.self.now c.args.world.now) c.args.self.now.numbers.present c.requires.held.sound c.group-synced.result.0 c.group-synced.ensures c.in_ok-name.name.now c.apply_live.new.self c.in-Ok.update c.from_ref.result.now c.from_ref.ensures.value (c.in_ok-outlook.ensures.ok (state_in c.args.self.now c.args.world.now) (state_with (state_in c.args.self.now c.args.world.now) c.args.self.now.numbers.present c.requires.held.sound c.space.result c.space.ensures.size (c.space.ensures.freeing ∙ c.len.ensures) c.space.ensures.waiting) c.group-synced.ensures) c.in_ok-done.done (record { ok = e.ok; room = e.room; no_dataset = e.no_dataset; no_space = e.no_space; only = e.only })
-            (batch_of c.args.update c.in-Ok.update c.in-Ok.is c.requires.batch) c.path_in-before.result (subst (λ n. IsPathOf (live_of c.args.world.now.table.file_systems c.in_ok-name.name.now) n (block_on c.path_in-before.result)) c.first_leaf-leaf.ensures.leaf c.path_in-before.ensures) c.writes_after-writes.result c.writes_after-writes.ensures;
+            (batch_of c.args.update c.in-Ok.update c.in-Ok.is c.requires.batch) c.in_ok-path.path.value.before c.in_ok-path.ensures.path c.writes_after-writes.result c.writes_after-writes.ensures;
         leads = leads_now (state_in c.args.self.now c.args.world.now) c.args.self.now.numbers.present c.requires.held.sound c.group-synced.result.0 c.group-synced.ensures c.in_ok-name.name.now c.apply_live.new.self c.in-Ok.update c.from_ref.result.now c.from_ref.ensures.value (c.in_ok-outlook.ensures.ok (state_in c.args.self.now c.args.world.now) (state_with (state_in c.args.self.now c.args.world.now) c.args.self.now.numbers.present c.requires.held.sound c.space.result c.space.ensures.size (c.space.ensures.freeing ∙ c.len.ensures) c.space.ensures.waiting) c.group-synced.ensures) c.in_ok-done.done (record { ok = e.ok; room = e.room; no_dataset = e.no_dataset; no_space = e.no_space; only = e.only })
-            (batch_of c.args.update c.in-Ok.update c.in-Ok.is c.requires.batch) c.path_in-before.result (subst (λ n. IsPathOf (live_of c.args.world.now.table.file_systems c.in_ok-name.name.now) n (block_on c.path_in-before.result)) c.first_leaf-leaf.ensures.leaf c.path_in-before.ensures) c.writes_after-writes.result c.writes_after-writes.ensures;
+            (batch_of c.args.update c.in-Ok.update c.in-Ok.is c.requires.batch) c.in_ok-path.path.value.before c.in_ok-path.ensures.path c.writes_after-writes.result c.writes_after-writes.ensures;
       },
       done_now (state_in c.args.self.now c.args.world.now) c.args.self.now.numbers.present c.requires.held.sound c.group-synced.result.0 c.group-synced.ensures c.in_ok-name.name.now c.apply_live.new.self c.in-Ok.update c.from_ref.result.now c.from_ref.ensures.value (c.in_ok-outlook.ensures.ok (state_in c.args.self.now c.args.world.now) (state_with (state_in c.args.self.now c.args.world.now) c.args.self.now.numbers.present c.requires.held.sound c.space.result c.space.ensures.size (c.space.ensures.freeing ∙ c.len.ensures) c.space.ensures.waiting) c.group-synced.ensures) c.in_ok-done.done (record { ok = e.ok; room = e.room; no_dataset = e.no_dataset; no_space = e.no_space; only = e.only }) q (asks_here q c.args.target.now c.args.update c.in_ok-name.name.now (Ok c.in-Ok.update) c.in_ok-name.ensures.ok c.in-Ok.is asks),
     )
 
-pub writes_after-writes-requires : goal.writes_after-writes-requires
-writes_after-writes-requires c = (batch_of c.args.update c.in-Ok.update c.in-Ok.is c.requires.batch).1
+pub writes_after-writes-requires-clause-of_tree : goal.writes_after-writes-requires-clause-of_tree
+writes_after-writes-requires-clause-of_tree c = (batch_of c.args.update c.in-Ok.update c.in-Ok.is c.requires.batch).1

@@ -10,7 +10,7 @@ use Rattle.steps.specs.Limiting.{CanRecount}
 use Rattle.pool.specs.Effects.{IsPerformed}
 use Rattle.pool.specs.Pools.{state_in}
 use Rattle.pool.specs.declared.effect.Effect.TheVariants.{Blocks}
-use Rattle.pool.specs.declared.imaging.Writes.TheVariants.{Each}
+use Rattle.images.specs.declared.writes.Writes.TheVariants.{Each}
 use Rattle.steps.proofs.requests.Receiving.{receive_no_memory}
 use Rattle.pool.proofs.Intakes.{present, intake_few, intake_bare, intake_present, intake_counted, intake_performed}
 use Rattle.pool.proofs.Performed.{exits, unlimited}

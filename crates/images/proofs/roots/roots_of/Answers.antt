@@ -3,8 +3,8 @@ use Rattle.std.specs.List.{flat_map}
 use Rattle.std.proofs.lemmas.List.{take_all}
 use Rattle.datasets.specs.Rows.{entry_in}
 use Rattle.removals.proofs.Shared.{shared_are}
-use Rattle.pool.specs.Roots.{own_roots}
-use Rattle.pool.proofs.rooting.roots_of.Goals as goal
+use Rattle.images.specs.Roots.{own_roots}
+use Rattle.images.proofs.roots.roots_of.Goals as goal
 
 -- those of all file systems
 pub returns-clause-ok : goal.returns-clause-ok

@@ -2,7 +2,7 @@ use Rattle.std.proofs.Common.{◌≡◌, ℕ, zero, suc, ◌<◌, ◌*◌, ◌^�
 use Rattle.std.proofs.Math.Nat.{pow-suc}
 use Rattle.batch.specs.Updates.{IsOfTree}
 use Rattle.batch.proofs.SaidLaws.{key_bound}
-use Rattle.pool.proofs.imaging.first_leaf.Goals as goal
+use Rattle.images.proofs.writes.first_leaf.Goals as goal
 
 positive : (l : ℕ) → 0 < 16 ^ l
 positive zero = omega arith

@@ -8,7 +8,7 @@ ghost use Rattle.image.specs.ImageBlocks.{block_at};
 ghost use Rattle.image.specs.PathWrites.{block_on};
 ghost use Rattle.images.specs.Updates.{IsWritten};
 ghost use Rattle.tree.specs.ChangeParts.{made_pair};
-ghost use Rattle.pool.specs.Imaging.{writes_in, MayWrite, IsPathOf, IsThere, IsMissing, ArePresent, IsWrittenAs};
+ghost use Rattle.images.specs.Writes.{writes_in, MayWrite, IsBegun, IsPathOf, IsThere, IsMissing, ArePresent, IsWrittenAs};
 
 use base::meter::Meter;
 use base::name::DsName;
@@ -20,43 +20,43 @@ use node::span;
 use std::alloc::Global;
 use tree::{NewBlock, Root, Update};
 
+/// The path to a leaf that one update changes: where its blocks are before and after, each at its level, and the bytes of the leaf, if that is
+/// there afterwards.
+#[derive(Drop)]
+pub struct ChangedPath {
+    pub leaf: u32,
+    pub before: [Option<Root>; 6],
+    pub after: [Option<Root>; 6],
+    pub bytes: [u8; 512],
+}
+
 /// What a change of a live map leaves to be written.
 #[derive(Drop)]
-pub(crate) enum Writes {
+pub enum Writes {
     /// Nothing: the map is what it was.
     Idle,
-    /// The path that one update changed, by where its blocks were and are, each at its level, and the bytes of its leaf, if that is there.
-    OnPath {
-        leaf: u32,
-        before: [Option<Root>; 6],
-        after: [Option<Root>; 6],
-        bytes: [u8; 512],
-    },
+    /// The path that one update changed, in memory of its own: a move of it costs a pointer.
+    OnPath { path: Box<ChangedPath> },
     /// These blocks, each at its number.
-    Each {
-        blocks: Vec<(BlockNo, [u8; 512])>,
-    },
+    Each { blocks: Vec<(BlockNo, [u8; 512])> },
 }
 
 /// Writes them. It takes no memory.
-pub(crate) fn write_down(image: &mut Image, writes: &Writes)
+pub fn write_down(image: &mut Image, writes: &Writes)
     requires { MayWrite image.old.kept writes.now }
     ensures { image.new ≡ record image.old { bytes = images_put image.old.bytes (writes_in (block_at image.old.bytes) writes.now) } }
 {
     match writes {
         Writes::Idle => {}
-        Writes::OnPath {
-            leaf,
-            before,
-            after,
-            bytes,
-        } => image.write_path(*leaf, before, after, bytes),
+        Writes::OnPath { path } => {
+            image.write_path(path.leaf, &path.before, &path.after, &path.bytes)
+        }
         Writes::Each { blocks } => image.write_all(blocks.as_slice()),
     }
 }
 
-/// The first leaf that an update changes. Constant time.
-pub(crate) fn first_leaf(update: &Update) -> u32
+// The first leaf that an update changes. Constant time.
+fn first_leaf(update: &Update) -> u32
     requires { IsOfTree update.now }
     ensures leaf { result ≡ first_of update.now }
     ensures within { result < 1048576 }
@@ -67,14 +67,9 @@ pub(crate) fn first_leaf(update: &Update) -> u32
     }
 }
 
-/// Where the blocks are on the path to a leaf of a live tree, each at its level; none where there is no file system of this name. It costs
-/// the logarithm of the number of file systems, and the path.
-pub(crate) fn path_in(
-    table: &Table,
-    name: &DsName,
-    leaf: u32,
-    meter: &mut Meter,
-) -> [Option<Root>; 6]
+// Where the blocks are on the path to a leaf of a live tree, each at its level; none where there is no file system of this name. It costs
+// the logarithm of the number of file systems, and the path.
+fn path_in(table: &Table, name: &DsName, leaf: u32, meter: &mut Meter) -> [Option<Root>; 6]
     requires { leaf < 1048576 }
     ensures { IsPathOf (live_of table.now.file_systems name.now) leaf (block_on result) }
 {
@@ -115,34 +110,57 @@ fn bytes_of(update: &Update) -> [u8; 512]
     }
 }
 
-/// What this update of a live tree leaves to be written once it is in force, where the path to its first leaf was this before. It costs what
-/// `path_in` does.
-pub(crate) fn writes_after(
+/// The path that an update of a live tree is to change, before it is in force. NoMemory where there is none for it. It takes 804 bytes, and
+/// costs the logarithm of the number of file systems, and the path.
+pub fn path_before(
+    alloc: Global,
     table: &Table,
     name: &DsName,
     update: &Update,
-    before: [Option<Root>; 6],
+    meter: &mut Meter,
+) -> Result<Box<ChangedPath>, Refusal>
+    requires { IsOfTree update.now }
+    ensures begun { IfOk result (λ p. IsBegun update.now p.value) }
+    ensures path { IfOk result (λ p. IsPathOf (live_of table.now.file_systems name.now) (first_of update.now) (block_on p.value.before)) }
+    ensures err { IfErr result (λ e. e ≡ Refusal.NoMemory) }
+{
+    let leaf = first_leaf(update);
+    let path = ChangedPath {
+        leaf,
+        before: path_in(table, name, leaf, meter),
+        after: [None; 6],
+        bytes: bytes_of(update),
+    };
+    match Box::new(alloc, path) {
+        Ok(path) => Ok(path),
+        Err(_) => Err(Refusal::NoMemory),
+    }
+}
+
+/// What this update of a live tree leaves to be written once it is in force, where this is the path that it was to change. It costs what
+/// `path_before` does.
+pub fn writes_after(
+    table: &Table,
+    name: &DsName,
+    update: &Update,
+    path: Box<ChangedPath>,
     meter: &mut Meter,
 ) -> Writes
-    requires { IsOfTree update.now }
-    ensures { IsWrittenAs (live_of table.now.file_systems name.now) update.now before result }
+    requires of_tree { IsOfTree update.now }
+    requires begun { IsBegun update.now path.value }
+    ensures { IsWrittenAs (live_of table.now.file_systems name.now) update.now path.value.before result }
 {
-    if is_missing(&before, update) {
+    if is_missing(&path.before, update) {
         return Writes::Idle;
     }
-    let leaf = first_leaf(update);
-    let after = path_in(table, name, leaf, meter);
-    Writes::OnPath {
-        leaf,
-        before,
-        after,
-        bytes: bytes_of(update),
-    }
+    let mut path = path;
+    path.after = path_in(table, name, path.leaf, meter);
+    Writes::OnPath { path }
 }
 
 /// The new blocks of a live tree, as they are to be written. NoMemory where there is none for them. It takes 516 bytes a block, and costs the
 /// logarithm of the number of file systems, and for each the nodes from the root down.
-pub(crate) fn blocks_in(
+pub fn blocks_in(
     alloc: Global,
     table: &Table,
     name: &DsName,

@@ -5,8 +5,8 @@ use Rattle.std.specs.Option.{option_copied, option_map}
 use Rattle.std.specs.FinMap.{get, get-empty}
 use Rattle.base.specs.Map.{block_of}
 use Rattle.tree.specs.Reading.{key_over}
-use Rattle.pool.proofs.LiveTrees.{found_live, absent_live, no_path}
-use Rattle.pool.proofs.imaging.path_in.Goals as goal
+use Rattle.images.proofs.LiveTrees.{found_live, absent_live, no_path}
+use Rattle.images.proofs.writes.path_in.Goals as goal
 
 pub returns-in-Some : goal.returns-in-Some
 returns-in-Some c l low =

@@ -7,8 +7,8 @@ use Rattle.image.specs.HasBlocks.{root_of}
 use Rattle.model.specs.World.{FileSystem}
 use Rattle.datasets.specs.Dead.{snaps_in}
 use Rattle.snapshots.specs.declared.kept.Kept.{Kept}
-use Rattle.pool.specs.declared.rooting.DatasetRoot.{DatasetRoot}
-use Rattle.pool.specs.Roots.{RootAt, shown_root, snapshot_roots}
+use Rattle.images.specs.declared.roots.DatasetRoot.{DatasetRoot}
+use Rattle.images.specs.Roots.{RootAt, shown_root, snapshot_roots}
 
 -- what an iterator has yielded is the front of what was left
 yielded_front : {S A : Type 0} (rest : S → List A) (s : S) (xs : List (Bor A)) (t : S) → Yields (YieldsFirstRef rest) s xs t → rest s ≡ map (λ x. x.now) xs ++ rest t

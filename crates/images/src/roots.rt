@@ -4,7 +4,7 @@ ghost use Rattle.std.specs.Option.{option_copied};
 ghost use Rattle.base.specs.declared.refusal.Refusal.{Refusal};
 ghost use Rattle.datasets.specs.Rows.{entry_of};
 ghost use Rattle.image.specs.HasBlocks.{root_of};
-ghost use Rattle.pool.specs.Roots.{shown_root, own_roots, snapshot_roots, roots_in};
+ghost use Rattle.images.specs.Roots.{shown_root, own_roots, snapshot_roots, roots_in};
 
 use base::name::{Component, DsName};
 use base::refusal::Refusal;
@@ -66,7 +66,7 @@ fn push_roots(roots: &mut Vec<DatasetRoot>, file_system: &FileSystem) -> Result<
 
 /// The roots of the datasets of a table: of each file system, in byte order of the names, that of its live tree, and then those of its
 /// snapshots, the oldest first. NoMemory where there is none for them. It costs the names.
-pub(crate) fn roots_of(alloc: Global, table: &Table) -> Result<Vec<DatasetRoot>, Refusal>
+pub fn roots_of(alloc: Global, table: &Table) -> Result<Vec<DatasetRoot>, Refusal>
     ensures ok { IfOk result (λ roots. map shown_root roots.items ≡ roots_in table.now.file_systems) }
     ensures err { IfErr result (λ e. e ≡ Refusal.NoMemory) }
 {

@@ -1,7 +1,7 @@
 use Rattle.std.proofs.Common.{◌≡◌, ◌++◌, map}
-use Rattle.pool.specs.Roots.{shown_root}
-use Rattle.pool.proofs.AllRoots.{kept_root}
-use Rattle.pool.proofs.rooting.push_snapshots.Given as goal
+use Rattle.images.specs.Roots.{shown_root}
+use Rattle.images.proofs.AllRoots.{kept_root}
+use Rattle.images.proofs.roots.push_snapshots.Given as goal
 
 -- the roots of the snapshots so far
 abbrev pub invariant-loop-kept : goal.invariant-loop-kept

@@ -7,7 +7,7 @@ use Rattle.model.specs.World.{FileSystem}
 use Rattle.model.specs.Hierarchy.{FileSystems}
 use Rattle.image.specs.HasBlocks.{root_of}
 use Rattle.image.specs.ImageBlocks.{maybe_block}
-use Rattle.pool.specs.declared.rooting.DatasetRoot.{DatasetRoot}
+use Rattle.images.specs.declared.roots.DatasetRoot.{DatasetRoot}
 
 -- a dataset's root: the name of its file system, that of a snapshot within it, or none for the live map, and its topmost block, or none where
 -- it is empty (On-Disk Specification, chapter 3)

@@ -2,8 +2,8 @@ use Rattle.std.proofs.Common.{◌∙◌, sym, ap}
 use Rattle.shared_list.specs.Left.{left}
 use Rattle.datasets.specs.Dead.{snaps_in}
 use Rattle.datasets.specs.Rows.{entry_of}
-use Rattle.pool.proofs.AllRoots.{yielded_all, snapshots_rooted}
-use Rattle.pool.proofs.rooting.push_snapshots.Goals as goal
+use Rattle.images.proofs.AllRoots.{yielded_all, snapshots_rooted}
+use Rattle.images.proofs.roots.push_snapshots.Goals as goal
 
 -- those of all its snapshots
 pub returns-clause-ok : goal.returns-clause-ok

@@ -4,9 +4,9 @@ use Rattle.std.specs.Option.{option_copied}
 use Rattle.datasets.specs.Rows.{live_of}
 use Rattle.image.specs.BlockWrites.{writes_of, written_pair}
 use Rattle.tree.specs.ChangeParts.{made_pair}
-use Rattle.pool.specs.Imaging.{ArePresent}
-use Rattle.pool.proofs.LiveTrees.{found_live, absent_live, none_present}
-use Rattle.pool.proofs.imaging.blocks_in.Goals as goal
+use Rattle.images.specs.Writes.{ArePresent}
+use Rattle.images.proofs.LiveTrees.{found_live, absent_live, none_present}
+use Rattle.images.proofs.writes.blocks_in.Goals as goal
 
 pub returns-in-Some-clause-ok : goal.returns-in-Some-clause-ok
 returns-in-Some-clause-ok c =

@@ -1,8 +1,8 @@
 use Rattle.std.proofs.Common.{◌≡◌, map, take}
 use Rattle.std.specs.List.{flat_map}
 use Rattle.datasets.specs.Rows.{entry_in}
-use Rattle.pool.specs.Roots.{shown_root, own_roots}
-use Rattle.pool.proofs.rooting.roots_of.Given as goal
+use Rattle.images.specs.Roots.{shown_root, own_roots}
+use Rattle.images.proofs.roots.roots_of.Given as goal
 
 -- the roots so far
 abbrev pub invariant-loop-file_system : goal.invariant-loop-file_system

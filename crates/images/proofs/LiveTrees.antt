@@ -14,7 +14,7 @@ use Rattle.model.specs.World.{FileSystem}
 use Rattle.datasets.specs.Rows.{FileSystems, Row, live_of}
 use Rattle.datasets.specs.Clones.{row_in}
 use Rattle.world.proofs.lists.Maps.{same_value, no_value}
-use Rattle.pool.specs.Imaging.{ArePresent}
+use Rattle.images.specs.Writes.{ArePresent}
 
 pub found_live : (ss : FileSystems) (name : List ℕ) (r : Row) → Some r ≡ option_map (λ (f : FileSystem). row_in ss (name, f)) (get ss name) → live_of ss name ≡ r.system.live
 found_live ss name r e = by_system (get ss name) refl e
