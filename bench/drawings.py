@@ -216,6 +216,7 @@ WRITE = [
     (3, "tree", "Tree::forecast, by batch::forecast_of"),
     (3, "limits", "outlook_of"),
     (3, "limits", "Ledger::over_after"),
+    (2, "images", "path_before: where the path's blocks are"),
     (2, "datasets", "Table::apply_live: the row"),
     (3, "file_system", "FileSystem::apply"),
     (4, "snapshots", "SnapshotList::last: the newest group"),
@@ -227,9 +228,10 @@ WRITE = [
     (5, "node", "the nodes on the path"),
     (4, "deadlist", "Deadlist::push_upto"),
     (2, "steps", "settle, by Ledger::settle of limits"),
+    (2, "images", "writes_after: where they are now"),
     (0, "pool", "Keep::settle: Effect::Blocks"),
-    (1, "zalloc", "release of each that goes"),
-    (1, "tree", "take_all: zalloc's take of each new one"),
+    (1, "zalloc", "release of each that goes, take of each new one"),
+    (1, "images", "write_down, by Image::write_path"),
 ]
 DESTROY = [
     (0, "script", "run_script, request_at, Caller::ask"),

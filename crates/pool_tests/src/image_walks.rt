@@ -13,7 +13,13 @@ use std::process::Abort;
 type Leaves = Vec<(u32, [u8; 512])>;
 
 /// A write of a block of `p` that begins with a byte, with zeros behind it.
-fn write_of(rt: &impl Abort, alloc: Global, object: u32, block: u32, byte: u8) -> Request {
+pub(crate) fn write_of(
+    rt: &impl Abort,
+    alloc: Global,
+    object: u32,
+    block: u32,
+    byte: u8,
+) -> Request {
     let mut bytes = [0; 512];
     bytes[0] = byte;
     Request::Write {

@@ -4,6 +4,8 @@
 #[cfg(test)]
 mod damaged;
 #[cfg(test)]
+mod image_moments;
+#[cfg(test)]
 mod image_walks;
 #[cfg(test)]
 mod pools;
