@@ -1,5 +1,5 @@
 -- Maps that were there before are stored as they were.
-use Rattle.std.proofs.Common.{◌≡◌, ℕ, List, Option, Some, None, refl, sym, ap, subst, ◌∙◌, ◌⊎◌, inl, inr, ⊎_elim}
+use Rattle.std.proofs.Common.{◌≡◌, ℕ, List, Option, Some, None, refl, sym, subst, ◌∙◌, ◌⊎◌, inl, inr, ⊎_elim}
 use Rattle.std.specs.FinMap.{get, get-empty}
 use Rattle.std.specs.FinMap as finmap
 use Rattle.base.specs.declared.number.Key.{Key}
@@ -9,7 +9,7 @@ use Rattle.model.specs.State.{State}
 use Rattle.base.specs.Surveys.{IsIn}
 use Rattle.model.specs.World.{World, FileSystem, Snap, Dataset, Live, Snapped, id_of, snap_at, map_of, maps_of}
 use Rattle.world.specs.Shapes.{Name, IsGood}
-use Rattle.world.specs.Worlds.{FileSystems, AreMapsFrom, AreFileSystems, IsPoolState, Place, InNow, InLast, maps_of_both, shapes}
+use Rattle.world.specs.Worlds.{IsPoolState, InNow, InLast, maps_of_both, shapes}
 use Rattle.world.proofs.lineage.Bridge.{from_snap_at, map_of_live, map_of_gone, map_of_found, map_of_absent, map_of_kept}
 use Rattle.world.proofs.lists.Listed.{in_map, map_in}
 use Rattle.world.proofs.changes.Drawn.{drawn}

@@ -1,16 +1,15 @@
 -- A change of one live map of the present world: what is written may be written, and then the image has both worlds.
-use Rattle.std.proofs.Common.{◌≡◌, ◌≤◌, ℕ, List, ◌∷◌, ◌++◌, [], length, map, Some, None, refl, sym, ap, subst, ◌∙◌, ◌⊎◌, inl, inr, ⊎_elim, arith}
+use Rattle.std.proofs.Common.{◌≡◌, ℕ, List, ◌∷◌, ◌++◌, [], length, map, Some, refl, sym, ap, subst, ◌∙◌, inl, inr, ⊎_elim, arith}
 use Rattle.std.specs.FinMap.{get, insert}
-use Rattle.std.specs.FinMap as finmap
 use Rattle.base.specs.declared.number.Key.{Key}
 use Rattle.base.specs.Map.{Map, Cell, block_of}
 use Rattle.base.specs.Surveys.{IsIn}
 use Rattle.model.specs.State.{State}
-use Rattle.model.specs.World.{World, FileSystem, Snap, Dataset, Live, map_of, maps_of, reach_of}
+use Rattle.model.specs.World.{World, FileSystem, Snap, Live, map_of, maps_of, reach_of}
 use Rattle.world.specs.Shapes.{Name}
-use Rattle.world.specs.Worlds.{FileSystems, AreMapsFrom, IsPoolState, Place, InNow, InLast, maps_of_both}
+use Rattle.world.specs.Worlds.{FileSystems, AreMapsFrom, IsPoolState, InNow, InLast, maps_of_both}
 use Rattle.world.proofs.lineage.Bridge.{map_of_live}
-use Rattle.world.proofs.lineage.Put.{put_here, put_cases}
+use Rattle.world.proofs.lineage.Put.{put_cases}
 use Rattle.world.proofs.lists.Finding.{in_either}
 use Rattle.world.proofs.lists.Listed.{in_map, map_in}
 use Rattle.zalloc.specs.declared.BlockState.{BlockState}

@@ -1,12 +1,10 @@
 -- The writes of a change: of one path, or of all its new blocks.
-use Rattle.std.proofs.Common.{◌≡◌, ℕ, zero, suc, ◌<◌, ◌≤◌, ◌*◌, Bool, true, false, List, [], ◌∷◌, Option, Some, None, length, map, refl, sym, ap, subst, ◌∙◌, ◌⊎◌, inl, inr, ⊎_elim, arith, true≢false}
+use Rattle.std.proofs.Common.{◌≡◌, ℕ, zero, suc, ◌<◌, ◌≤◌, Bool, true, false, List, [], ◌∷◌, Option, Some, None, refl, sym, ap, subst, ◌∙◌, ◌⊎◌, inl, inr, ⊎_elim, arith, true≢false}
 use Rattle.std.specs.Prelude.{◌==◌}
-use Rattle.std.specs.Option.{option_map}
-use Rattle.std.specs.List.{list_any}
 use Rattle.std.specs.FinMap.{get}
 use Rattle.std.proofs.lemmas.Bool.{eqb-true, eq-eqb, cases_lt}
 use Rattle.base.specs.declared.number.Key.{Key}
-use Rattle.base.specs.Map.{Map, Cell, Block, IsTree, block_of}
+use Rattle.base.specs.Map.{Map, Cell, Block, IsTree}
 use Rattle.base.specs.Rewrite.{Changes, rewrite, is_touched}
 use Rattle.base.specs.Surveys.{IsIn}
 use Rattle.base.proofs.Untouched.{rewrite_keeps, rewrite_makes}

@@ -1,20 +1,19 @@
 -- A change of a tree by one update, as the change of one path.
-use Rattle.std.proofs.Common.{◌≡◌, ℕ, ◌+◌, ◌/◌, ◌^◌, ◌<◌, ◌≤◌, Bool, true, false, List, [], ◌∷◌, Option, Some, None, refl, sym, ap, subst, ◌∙◌, ◌⊎◌, inl, inr, ⊎_elim, arith, true≢false}
-use Rattle.std.specs.Prelude.{◌==◌, IfSome, IsSome, is_some}
+use Rattle.std.proofs.Common.{◌≡◌, ℕ, ◌+◌, ◌/◌, ◌^◌, ◌<◌, ◌≤◌, Bool, true, false, List, [], ◌∷◌, Option, Some, None, refl, sym, ap, ◌∙◌, ⊎_elim, arith, true≢false}
+use Rattle.std.specs.Prelude.{IfSome, IsSome, is_some}
 use Rattle.std.specs.Option.{option_map}
 use Rattle.std.specs.FinMap.{get}
-use Rattle.std.proofs.Math.Nat.{div-div-eq-div-mul, pow-suc}
-use Rattle.std.proofs.lemmas.Bool.{cases_lt, eqb-true, eq-eqb, le-leb}
+use Rattle.std.proofs.Math.Nat.{div-div-eq-div-mul}
+use Rattle.std.proofs.lemmas.Bool.{cases_lt, eqb-true, eq-eqb}
 use Rattle.std.proofs.lemmas.Nat.{pow-add}
 use Rattle.base.specs.declared.number.Key.{Key}
 use Rattle.base.specs.Key.{covers, parent}
 use Rattle.base.specs.Map.{Map, Cell, Block, IsTree, block_of}
-use Rattle.base.specs.Rewrite.{Changes, rewrite, is_touched}
+use Rattle.base.specs.Rewrite.{rewrite, is_touched}
 use Rattle.base.proofs.Untouched.{rewrite_keeps, rewrite_makes}
 use Rattle.batch.specs.Updates.{changes_of, first_of, IsBatch}
 use Rattle.batch.specs.declared.update.Update.{Update}
 use Rattle.batch.specs.declared.update.Update.TheVariants.{Write, Punch}
-use Rattle.node.proofs.Options.{mapped}
 use Rattle.tree.specs.Reading.{key_over}
 use Rattle.world.proofs.lists.Maps.{no_value}
 use Rattle.image.specs.PathWrites.{IsPathChange}

@@ -1,32 +1,30 @@
 -- Worlds whose maps are those of worlds before.
-use Rattle.std.proofs.Common.{◌≡◌, ℕ, Bool, true, false, not, ◌&&◌, List, [], ◌∷◌, ◌++◌, Option, Some, None, map, refl, sym, ap, subst, ◌∙◌, ◌⊎◌, inl, inr, ⊎_elim}
+use Rattle.std.proofs.Common.{◌≡◌, ℕ, List, [], ◌∷◌, ◌++◌, Option, Some, None, map, refl, sym, ap, subst, ◌∙◌, ◌⊎◌, inl, inr, ⊎_elim}
 use Rattle.std.specs.Prelude.{nat_le, nat_lt, ◌+◌}
 use Rattle.std.specs.List.{filter}
-use Rattle.std.specs.Option.{option_map, option_map_or, option_and_then}
+use Rattle.std.specs.Option.{option_map, option_map_or}
 use Rattle.std.specs.FinMap.{get, insert}
 use Rattle.std.specs.FinMap as finmap
 use Rattle.base.specs.Map.{Map}
 use Rattle.base.specs.Surveys.{IsIn}
 use Rattle.base.specs.declared.name.member.Member.{Member}
-use Rattle.model.specs.State.{State}
-use Rattle.model.specs.World.{World, FileSystem, Snap, SnapId, maps_of, snap_at, file_system_at, empty_file_system, map_of_snap}
-use Rattle.model.specs.Edits.{with_now, with_file_system, with_file_systems, without_snaps}
+use Rattle.model.specs.World.{World, FileSystem, Snap, SnapId, maps_of, snap_at, empty_file_system, map_of_snap}
+use Rattle.model.specs.Edits.{with_file_system, with_file_systems}
 use Rattle.model.specs.requests.Snapshot.{snap_of_live, with_snapshot, with_snapshots}
 use Rattle.model.specs.requests.Rollback.{back_at, after_rollback}
 use Rattle.model.specs.requests.Clone.{with_clone}
 use Rattle.model.specs.requests.Promote.{Promotion, promotion_of, promoted, demoted, after_promotion}
 use Rattle.world.specs.Shapes.{Name}
-use Rattle.world.specs.Worlds.{FileSystems, AreMapsFrom, AreFileSystems}
+use Rattle.world.specs.Worlds.{AreMapsFrom}
 use Rattle.world.proofs.changes.Promotions.{IsPromotion, promotion_is}
 use Rattle.world.proofs.lineage.Bridge.{from_snap_at, map_of_found, map_of_absent}
-use Rattle.world.proofs.lineage.Put.{put_maps, put_cases, put_here, put_other}
+use Rattle.world.proofs.lineage.Put.{put_maps, put_cases}
 use Rattle.world.proofs.lists.Finding.{from_filter, in_either}
 use Rattle.world.proofs.lists.Listed.{in_map, map_in}
 use Rattle.world.proofs.lists.Maps.{same_value, no_value}
 use Rattle.world.proofs.removals.Sweep.{get-with_file_systems}
 use Rattle.world.proofs.steps.Groups.{same_maps}
 use Rattle.world.proofs.steps.SnapshotLists.{maps_through}
-use Rattle.images.specs.Stored.{AreFromState, MapsStay}
 
 abbrev at_map : Snap → Map
 at_map t = t.map

@@ -1,5 +1,5 @@
 -- Each request, one by one: but for the changes of live maps, both worlds after it have maps of those before.
-use Rattle.std.proofs.Common.{◌≡◌, ◌+◌, ℕ, Option, Some, Bool, true, false, not, ◌&&◌, ◌||◌, List, [], ◌∷◌, ◌++◌, None, refl, sym, ap, subst, ◌∙◌, inl, inr, ⊎_elim, true≢false}
+use Rattle.std.proofs.Common.{◌≡◌, ℕ, Option, Some, Bool, true, false, not, ◌&&◌, ◌||◌, List, [], ◌∷◌, ◌++◌, None, refl, sym, subst, inl, inr, ⊎_elim, true≢false}
 use Rattle.std.specs.Prelude.{if◌then◌else◌}
 use Rattle.std.specs.List.{list_any}
 use Rattle.std.specs.Option.{option_map_or}
@@ -18,16 +18,16 @@ use Rattle.model.specs.declared.reply.Reply.{Reply}
 use Rattle.model.specs.State.{State}
 use Rattle.model.specs.Rule.{Choice, Rule}
 use Rattle.model.specs.Outcome.{is_needed, state_after_sweep, state_after}
-use Rattle.model.specs.World.{World, FileSystem, Snap, id_of, same_id, empty_file_system, maps_of}
-use Rattle.model.specs.Edits.{with_now, with_file_system, with_losses, with_next_group, with_tags, without_snaps}
+use Rattle.model.specs.World.{World, FileSystem, Snap, id_of, same_id, empty_file_system}
+use Rattle.model.specs.Edits.{with_now, with_file_system, with_losses, with_tags, without_snaps}
 use Rattle.model.specs.Step.{Step, Follows, done, refused, out_of_memory}
 use Rattle.model.specs.requests.{rule_of}
 use Rattle.model.specs.requests.Create.{with_new_file_system}
-use Rattle.model.specs.requests.Snapshot.{snapshots_taken, snapshot_names, with_snapshots, guid_by}
+use Rattle.model.specs.requests.Snapshot.{snapshots_taken, snapshot_names, guid_by}
 use Rattle.model.specs.requests.Rollback.{placed, rolled_back, after_rollback}
 use Rattle.model.specs.requests.Clone.{with_clone}
 use Rattle.model.specs.requests.Promote.{Promotion, promotion_of, after_promotion}
-use Rattle.model.specs.requests.Destroy.{file_systems_named, snaps_named, is_one_of, without_file_systems, with_deferred, after_destroy}
+use Rattle.model.specs.requests.Destroy.{file_systems_named, snaps_named, is_one_of, with_deferred, after_destroy}
 use Rattle.model.specs.requests.Release.{without_tag}
 use Rattle.model.specs.requests.Set.{after_set}
 use Rattle.model.specs.requests.Bookmark.{bookmarked, bookmark_of_snap}

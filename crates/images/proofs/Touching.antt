@@ -1,5 +1,5 @@
 -- What one update of a tree touches: what is at or below its key, and above it.
-use Rattle.std.proofs.Common.{◌≡◌, ℕ, zero, suc, ◌+◌, ◌-◌, ◌*◌, ◌/◌, ◌^◌, ◌<◌, ◌≤◌, Bool, Bor, true, false, cond, ◌&&◌, ◌||◌, List, [], ◌∷◌, Option, Some, None, refl, sym, ap, subst, ◌∙◌, ◌⊎◌, inl, inr, ⊎_elim, arith, true≢false}
+use Rattle.std.proofs.Common.{◌≡◌, ℕ, zero, suc, ◌+◌, ◌-◌, ◌/◌, ◌^◌, ◌<◌, ◌≤◌, Bool, Bor, true, false, cond, ◌&&◌, ◌||◌, List, [], ◌∷◌, Option, Some, None, refl, sym, ap, subst, ◌∙◌, ◌⊎◌, inl, inr, ⊎_elim, arith, true≢false}
 use Rattle.std.specs.Prelude.{◌==◌, IsSome, is_some, unwrap_or}
 use Rattle.std.specs.Option.{option_map}
 use Rattle.std.specs.List.{list_any}
@@ -10,8 +10,8 @@ use Rattle.std.proofs.lemmas.Bool.{or_cases, or_left, or_right, and_parts, and_f
 use Rattle.std.proofs.lemmas.Nat.{pow-add}
 use Rattle.std.proofs.Math.Nat.{div-div-eq-div-mul, div-one, mul-div_cancel, pow-suc}
 use Rattle.base.specs.declared.number.Key.{Key}
-use Rattle.base.specs.Key.{covers, parent, first_leaf}
-use Rattle.base.specs.Map.{Map, Cell, IsTree, Contents, contents}
+use Rattle.base.specs.Key.{covers, first_leaf}
+use Rattle.base.specs.Map.{Map, Cell, IsTree, contents}
 use Rattle.base.specs.Rewrite.{Changes, rewrite, is_touched, cell_after, new_cell, changed_contents}
 use Rattle.base.specs.Surveys.{IsIn}
 use Rattle.base.proofs.Contents.{leaf_key, get-contents}

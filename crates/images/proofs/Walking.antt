@@ -9,13 +9,13 @@ use Rattle.model.specs.World.{World, Dataset, map_of, union_of, reach_of}
 use Rattle.tree.specs.Asking.{AreAllocated}
 use Rattle.world.specs.Sets.{Has}
 use Rattle.world.specs.Blocks.{block_order as o}
-use Rattle.world.specs.Worlds.{IsWorld, IsPoolState, InNow, InLast, maps_of_both}
+use Rattle.world.specs.Worlds.{IsWorld, IsPoolState, InNow, InLast}
 use Rattle.world.proofs.lineage.Bridge.{in_world}
 use Rattle.world.proofs.lists.SetCounts.{in_union_left}
 use Rattle.world.proofs.maps.Cells.{in_blocks}
 use Rattle.zalloc.specs.declared.BlockState.{BlockState}
 use Rattle.zalloc.specs.declared.BlockState.TheVariants.{Allocated}
-use Rattle.image.specs.HasBlocks.{HasBlocks, IsWritable, AreBirthsRising, root_of}
+use Rattle.image.specs.HasBlocks.{IsWritable, AreBirthsRising, root_of}
 use Rattle.image.specs.Image.{AreOpen}
 use Rattle.image.specs.ImageBlocks.{block_at}
 use Rattle.image.specs.ImageWalk.{walk}

@@ -1,8 +1,7 @@
 -- One map becomes another, and its new blocks are written.
-use Rattle.std.proofs.Common.{◌≡◌, ◌≤◌, ℕ, Bool, true, false, List, Some, None, refl, sym, ap, subst, ◌∙◌, ◌⊎◌, inl, inr, ⊎_elim, arith, true≢false}
-use Rattle.std.specs.Prelude.{IsTrue, nat_le, ◌&&◌, ◌==◌, ◌/◌, ◌^◌, ◌-◌, ◌+◌, ◌*◌, ◌<◌}
+use Rattle.std.proofs.Common.{◌≡◌, ◌≤◌, ℕ, Bool, true, false, List, Some, refl, sym, ap, subst, ◌∙◌, ◌⊎◌, ⊎_elim, arith}
+use Rattle.std.specs.Prelude.{IsTrue, nat_le, ◌/◌, ◌^◌, ◌-◌, ◌+◌, ◌*◌, ◌<◌}
 use Rattle.std.specs.FinMap.{get}
-use Rattle.std.specs.FinMap as finmap
 use Rattle.std.proofs.lemmas.Bool.{and_from, le-leb, eq-eqb}
 use Rattle.base.specs.declared.number.Key.{Key}
 use Rattle.base.specs.Key.{is_at_or_below, parent}
