@@ -19,7 +19,6 @@ use Rattle.model.specs.declared.request.Request.TheVariants.{Sync, Abandon, Clos
 use Rattle.model.specs.declared.reply.Reply.TheVariants.{Done, Group}
 use Rattle.model.specs.declared.snapshot_id.SnapshotId.{SnapshotId}
 use Rattle.zalloc.specs.States.{after_group}
-use Rattle.zalloc.specs.declared.BlockState.{BlockState}
 use Rattle.world.specs.Sets.{Has, AreDisjoint}
 use Rattle.world.specs.Tables.{Datasets, world_of, lost_between}
 use Rattle.world.proofs.changes.Kept.{union-fields}

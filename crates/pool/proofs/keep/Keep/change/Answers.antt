@@ -3,11 +3,8 @@ use Rattle.std.specs.Prelude.{IfOk}
 use Rattle.base.specs.declared.refusal.Refusal.{Refusal}
 use Rattle.batch.specs.Updates.{IsBatch}
 use Rattle.batch.specs.declared.update.Update.{Update}
-use Rattle.datasets.specs.Rows.{live_of}
-use Rattle.image.specs.PathWrites.{block_on}
 use Rattle.steps.specs.Edits.{datasets_of, with_datasets}
 use Rattle.steps.specs.Handed.{IsAccounted}
-use Rattle.images.specs.Writes.{IsPathOf}
 use Rattle.pool.specs.Pools.{state_in}
 use Rattle.pool.proofs.Commits.{few, sound_changed}
 use Rattle.pool.proofs.Limited.{state_with}

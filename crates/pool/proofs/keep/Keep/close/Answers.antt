@@ -1,4 +1,4 @@
-use Rattle.std.proofs.Common.{refl, sym, ap, ◌∙◌}
+use Rattle.std.proofs.Common.{refl, sym, ◌∙◌}
 use Rattle.steps.specs.Edits.{datasets_of}
 use Rattle.steps.proofs.ledgers.Losses.{gone_counted, close_kept}
 use Rattle.pool.specs.Pools.{state_in}

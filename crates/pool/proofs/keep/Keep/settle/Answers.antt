@@ -1,10 +1,6 @@
-use Rattle.std.proofs.Common.{◌≡◌, ℕ, length, sym, ap, subst, ◌∙◌}
-use Rattle.model.specs.World.{World as OneWorld, reach_of}
-use Rattle.steps.proofs.numbers.Known.{are_known}
-use Rattle.pool.specs.Effects.{MaySettle}
-use Rattle.pool.specs.Numbers.{synced_numbers}
+use Rattle.std.proofs.Common.{sym, subst, ◌∙◌}
 use Rattle.views.specs.Viewing.{Viewing}
-use Rattle.pool.specs.Pools.{world_in, AreBelow}
+use Rattle.pool.specs.Pools.{AreBelow}
 use Rattle.pool.proofs.Numbered.{closed_below}
 use Rattle.pool.proofs.keep.Keep.settle.Goals as goal
 
