@@ -6,8 +6,9 @@ use crate::rig::{lacks_memory, request_at_last};
 use crate::seated::{Calls, Seated};
 use crate::ways::{Ask, Plain, Steps, Told};
 use model::reply::Reply;
+use model::request::Request;
 use pool::{DatasetRoot, Pool};
-use session::{Opening, Session};
+use session::{Book, Opening, Seat, Session};
 use std::alloc::Global;
 use std::marker::Brand;
 use std::process::Abort;
@@ -66,8 +67,8 @@ const LINES: [&str; 51] = [
     "abandon",
     "write p/a 0 2 68",
     "sync",
-    "destroy -r p/r",
     "destroy p/a@s2",
+    "destroy -r p/a",
     "slice 100",
 ];
 
@@ -83,8 +84,9 @@ const OF_POOL: [&str; 7] = [
 ];
 
 /// and of each of these names.
-const NAMES: [&str; 9] = [
-    "p", "p/a", "p/c", "p/r", "p/a@s", "p/c@s", "p/a@t", "p/r@t", "p/a#b",
+const NAMES: [&str; 12] = [
+    "p", "p/a", "p/c", "p/r", "p@s2", "p/a@s", "p/a@s2", "p/a@t", "p/c@s", "p/r@s", "p/r@t",
+    "p/a#b",
 ];
 
 const OF_NAMES: [&str; 30] = [
@@ -136,12 +138,19 @@ fn filled(rt: &impl Abort, alloc: Global, line: &str, stream: &str) -> String {
 }
 
 /// The reply of a pool, asked again where it was refused memory.
+fn applied_at_last(alloc: Global, pool: &mut Pool, request: &Request) -> Reply {
+    let reply = pool.apply(alloc, request);
+    if !lacks_memory(&reply) {
+        return reply;
+    }
+    drop(reply);
+    pool.apply(alloc, request)
+}
+
+/// The same of a line.
 fn reply_at_last(rt: &impl Abort, alloc: Global, pool: &mut Pool, line: &str) -> Reply {
     let request = request_at_last(rt, alloc, line);
-    let mut reply = pool.apply(alloc, &request);
-    if lacks_memory(&reply) {
-        reply = pool.apply(alloc, &request);
-    }
+    let reply = applied_at_last(alloc, pool, &request);
     drop(request);
     reply
 }
@@ -213,20 +222,36 @@ fn is_same<S: Ask>(
     is_same
 }
 
-/// How many lines are answered as by the pool beside, up to the first that isn't.
+/// Whether a line is done, and answered as by the pool beside. A stream that it gives is kept in digits.
+fn is_step<S: Ask>(
+    rt: &impl Abort,
+    alloc: Global,
+    subject: &mut S,
+    beside: &mut Pool,
+    line: &str,
+    stream: &mut String,
+) -> bool {
+    let told = told_at_last(rt, alloc, subject, beside, line);
+    let reply = reply_at_last(rt, alloc, beside, line);
+    let is_same = told.is(&reply) && !matches!(reply, Reply::Refused(_));
+    drop(told);
+    keep_stream(rt, alloc, &reply, stream);
+    drop(reply);
+    is_same
+}
+
+fn keep_stream(rt: &impl Abort, alloc: Global, reply: &Reply, stream: &mut String) {
+    if let Reply::Stream(bytes) = reply {
+        *stream = hex::encode(alloc, bytes.as_slice()).expect(rt, "memory for digits");
+    }
+}
+
+/// How many lines are done, and answered as by the pool beside, up to the first that isn't.
 fn goes_along<S: Ask>(rt: &impl Abort, alloc: Global, subject: &mut S, beside: &mut Pool) -> usize {
     let mut stream = String::new(alloc);
     for (at, line) in LINES.iter().enumerate() {
         let line = filled(rt, alloc, line, stream.as_str());
-        let told = told_at_last(rt, alloc, subject, beside, line.as_str());
-        let reply = reply_at_last(rt, alloc, beside, line.as_str());
-        let is_same = told.is(&reply);
-        drop(told);
-        if let Reply::Stream(bytes) = &reply {
-            stream = hex::encode(alloc, bytes.as_slice()).expect(rt, "memory for digits");
-        }
-        drop(reply);
-        if !is_same {
+        if !is_step(rt, alloc, subject, beside, line.as_str(), &mut stream) {
             return at;
         }
     }
@@ -275,24 +300,26 @@ fn fresh(rt: &impl Abort, alloc: Global) -> Pool {
     Pool::create(alloc, 1, BLOCKS).expect(rt, "memory for a pool")
 }
 
-/// Whether a pool goes along with another in both ways to take a step.
-fn goes_on(rt: &impl Abort, alloc: Global, steps: Steps) {
+/// Whether a pool that is asked in steps goes along with another, and has the same blocks in the end.
+fn goes_on(rt: &impl Abort, alloc: Global, steps: Steps) -> bool {
     let mut beside = fresh(rt, alloc);
     let pool = fresh(rt, alloc);
     let mut plain = Plain { pool, steps };
-    let lines = goes_along(rt, alloc, &mut plain, &mut beside);
-    assert_eq!(rt; lines, LINES.len());
-    assert!(rt; have_same_blocks(rt, alloc, &plain.pool, &beside));
+    let is_right = goes_along(rt, alloc, &mut plain, &mut beside) == LINES.len()
+        && have_same_blocks(rt, alloc, &plain.pool, &beside);
+    drop(plain);
+    drop(beside);
+    is_right
 }
 
 #[test]
 fn refused_memory_at_once(rt: HostRuntime) {
-    goes_on(&rt, rt.alloc(), Steps::AtOnce);
+    assert!(rt; goes_on(&rt, rt.alloc(), Steps::AtOnce));
 }
 
 #[test]
 fn refused_memory_in_two(rt: HostRuntime) {
-    goes_on(&rt, rt.alloc(), Steps::InTwo);
+    assert!(rt; goes_on(&rt, rt.alloc(), Steps::InTwo));
 }
 
 #[test]
@@ -312,18 +339,32 @@ fn session_goes_on<K: Opening, R: Wait + Abort>(rt: &R, alloc: Global, pool: Poo
     requires opening { pool.state ≡ K.opening }
     requires limit { 1000 ≡ K.limit }
 {
+    let session = Session::<K>::open(alloc, pool, 1000).ok();
+    let session = session.expect(rt, "memory for a session");
     let mut beside = fresh(rt, alloc);
-    let session: Session<K> = Session::open(alloc, pool, 1000)
-        .ok()
-        .expect(rt, "memory for a session");
+    let (seat, lines) = seat_goes_on(rt, alloc, &session, &mut beside, calls);
+    let is_same = is_left(rt, alloc, session.end(), seat, &beside);
+    drop(beside);
+    assert!(rt; lines == LINES.len() && is_same);
+}
+
+/// A seat that has gone along, and for how many lines.
+fn seat_goes_on<K: Opening, R: Wait + Abort>(
+    rt: &R,
+    alloc: Global,
+    session: &Session<K>,
+    beside: &mut Pool,
+    calls: Calls,
+) -> (Seat<K>, usize) {
+    let seat = session.seat(alloc, rt).expect(rt, "a seat");
     let mut seated = Seated {
         rt,
-        session: &session,
-        seat: session.seat(alloc, rt).expect(rt, "a seat"),
+        session,
+        seat,
         view: None,
         calls,
     };
-    let lines = goes_along(rt, alloc, &mut seated, &mut beside);
+    let lines = goes_along(rt, alloc, &mut seated, beside);
     let Seated {
         rt: _,
         session: _,
@@ -332,9 +373,20 @@ fn session_goes_on<K: Opening, R: Wait + Abort>(rt: &R, alloc: Global, pool: Poo
         calls: _,
     } = seated;
     drop(view);
-    assert_eq!(rt; lines, LINES.len());
+    (seat, lines)
+}
+
+/// Whether a book is closed with this seat, and leaves a pool with these blocks.
+fn is_left<K: Opening>(
+    rt: &impl Abort,
+    alloc: Global,
+    book: Book<K>,
+    seat: Seat<K>,
+    beside: &Pool,
+) -> bool {
     let seats = vec![in alloc; seat].expect(rt, "memory for a list");
-    let closed = session.end().close(seats).ok();
-    let closed = closed.expect(rt, "the receipts are the history");
-    assert!(rt; have_same_blocks(rt, alloc, &closed.pool, &beside));
+    match book.close(seats) {
+        Ok(closed) => have_same_blocks(rt, alloc, &closed.pool, beside),
+        Err(_) => false,
+    }
 }

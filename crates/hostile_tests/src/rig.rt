@@ -91,8 +91,11 @@ pub fn next(seed: u64) -> u64 {
 /// One of these for a number of the sequence.
 pub fn one_of<'a>(texts: &[&'a str], seed: u64) -> &'a str {
     let place = (seed >> 33) as usize;
-    match place.checked_rem(texts.len()) {
-        Some(place) => texts[place],
+    let Some(place) = place.checked_rem(texts.len()) else {
+        return "";
+    };
+    match texts.get(place) {
+        Some(text) => *text,
         None => "",
     }
 }

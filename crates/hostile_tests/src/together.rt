@@ -3,11 +3,12 @@ ghost use Rattle.std.specs.Prelude.{◌≡◌};
 
 use crate::players::{Kept, Player, Role, call, play};
 use crate::walked::{are_whole, is_replayed, reads_are_last_writes};
-use session::{Opening, Pool, Seat, Session};
+use model::entry::Entry;
+use session::{Book, Opening, Pool, Seat, Session};
 use std::alloc::Global;
 use std::marker::Brand;
 use std::process::Abort;
-use std::sync::Wait;
+use std::sync::{Arc, Wait};
 use std::thread::{Threads, map_vec};
 
 /// How many blocks the pool has.
@@ -32,8 +33,19 @@ enum Order {
     Mixed,
 }
 
-fn fresh(rt: &impl Abort, alloc: Global) -> Pool {
-    Pool::create(alloc, 1, BLOCKS).expect(rt, "memory")
+impl Order {
+    fn put<T>(self, seats: &mut [T]) {
+        match self {
+            Order::Reversed => seats.reverse(),
+            Order::Mixed => {
+                if seats.len() > 8 {
+                    seats.rotate_left(4);
+                    seats.swap(0, 5);
+                    seats.swap(2, 8);
+                }
+            }
+        }
+    }
 }
 
 #[test]
@@ -59,24 +71,49 @@ fn all_at_once<K: Opening + Send + Sync, R: Threads + Wait + Abort + Sync>(
     requires limit { 5000 ≡ K.limit }
 {
     let session: Session<K> = Session::open(alloc, pool, 5000).ok().expect(rt, "opens");
-    let first = begun(rt, alloc, &session);
-    let players = players(rt, alloc, &session, seed);
-    let shared = &session;
+    let (mut seats, kept) = played(rt, alloc, &session, seed);
+    order.put(&mut seats);
+    let is_right = is_walked(rt, alloc, session.end(), seats, kept.as_slice());
+    drop(kept);
+    assert!(rt; is_right);
+}
+
+/// Whether a book is closed with these seats, and its history is right.
+fn is_walked<K: Opening>(
+    rt: &impl Abort,
+    alloc: Global,
+    book: Book<K>,
+    seats: Vec<Seat<K>>,
+    kept: &[Kept],
+) -> bool {
+    match book.close(seats) {
+        Ok(closed) => is_right(rt, alloc, closed.history.as_slice(), kept),
+        Err(_) => false,
+    }
+}
+
+fn is_right(rt: &impl Abort, alloc: Global, history: &[Arc<Entry>], kept: &[Kept]) -> bool {
+    let mut pool = Pool::create(alloc, 1, BLOCKS).expect(rt, "memory");
+    let is_replayed = is_replayed(rt, alloc, &mut pool, history, kept);
+    drop(pool);
+    is_replayed && are_whole(history, kept) && reads_are_last_writes(history)
+}
+
+/// The seats in the order in which they were given, and what was kept beside them.
+fn played<K: Opening + Send + Sync, R: Threads + Wait + Abort + Sync>(
+    rt: &R,
+    alloc: Global,
+    session: &Session<K>,
+    seed: u64,
+) -> (Vec<Seat<K>>, Vec<Kept>) {
+    let first = begun(rt, alloc, session);
+    let players = players(rt, alloc, session, seed);
     let played = map_vec(
         rt,
         players,
-        &|player: Player<K>| play(rt, alloc, shared, player),
+        &|player: Player<K>| play(rt, alloc, session, player),
     );
-    let played = played.expect(rt, "memory");
-    let (seats, kept) = parted(rt, alloc, first, played);
-    let seats = in_order(seats, order);
-    let closed = session.end().close(seats).ok();
-    let closed = closed.expect(rt, "the receipts are the history");
-    let (history, kept) = (closed.history.as_slice(), kept.as_slice());
-    let are_right = are_whole(history, kept)
-        && reads_are_last_writes(history)
-        && is_replayed(rt, alloc, fresh(rt, alloc), history, kept);
-    assert!(rt; are_right);
+    parted(rt, alloc, first, played.expect(rt, "memory"))
 }
 
 /// What the first seat has asked.
@@ -134,16 +171,4 @@ fn parted<K: Opening>(
         all.push(kept).expect(rt, "memory");
     }
     (seats, all)
-}
-
-fn in_order<K: Opening>(mut seats: Vec<Seat<K>>, order: Order) -> Vec<Seat<K>> {
-    match order {
-        Order::Reversed => seats.reverse(),
-        Order::Mixed => {
-            for at in 0..seats.len() / 2 {
-                seats.swap(at, seats.len() - 1 - at / 2);
-            }
-        }
-    }
-    seats
 }

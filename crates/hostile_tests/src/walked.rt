@@ -132,20 +132,23 @@ fn written_by(entry: &Entry, to: &Target, at: u32, in_it: u32) -> Option<[u8; 51
 pub fn is_replayed(
     rt: &impl Abort,
     alloc: Global,
-    mut pool: Pool,
+    pool: &mut Pool,
     history: &[Arc<Entry>],
     kept: &[Kept],
 ) -> bool {
-    for number in 0..history.len() {
-        let entry = &history[number];
-        let reply = pool.apply(alloc, &entry.request);
-        let is_same = entry.reply.is(&reply);
-        drop(reply);
-        if !is_same || !are_seen(rt, alloc, &mut pool, number as u64, kept) {
+    for (number, entry) in history.iter().enumerate() {
+        if !is_replied(alloc, pool, entry) || !are_seen(rt, alloc, pool, number as u64, kept) {
             return false;
         }
     }
     true
+}
+
+fn is_replied(alloc: Global, pool: &mut Pool, entry: &Entry) -> bool {
+    let reply = pool.apply(alloc, &entry.request);
+    let is_same = entry.reply.is(&reply);
+    drop(reply);
+    is_same
 }
 
 /// Whether the view that was opened at a number, if one was, showed what its snapshot is.
@@ -161,11 +164,14 @@ fn are_seen(rt: &impl Abort, alloc: Global, pool: &mut Pool, number: u64, kept: 
 fn is_seen(rt: &impl Abort, alloc: Global, pool: &mut Pool, seen: &Seen) -> bool {
     for (at, (object, block)) in PLACES.iter().enumerate() {
         let line = format!(in alloc; "read {} {object} {block}", seen.snapshot);
-        let line = line.expect(rt, "memory");
-        let shown = seen.blocks.get(at).copied();
-        match answer(rt, alloc, pool, line.as_str()) {
-            Reply::Data(bytes) if Some(bytes) == shown => {}
-            _ => return false,
+        let reply = answer(rt, alloc, pool, line.expect(rt, "memory"));
+        let is_shown = match &reply {
+            Reply::Data(bytes) => seen.blocks.get(at) == Some(bytes),
+            _ => false,
+        };
+        drop(reply);
+        if !is_shown {
+            return false;
         }
     }
     is_sent(rt, alloc, pool, seen)
@@ -173,14 +179,17 @@ fn is_seen(rt: &impl Abort, alloc: Global, pool: &mut Pool, seen: &Seen) -> bool
 
 fn is_sent(rt: &impl Abort, alloc: Global, pool: &mut Pool, seen: &Seen) -> bool {
     let line = format!(in alloc; "send {}", seen.snapshot).expect(rt, "memory");
-    match answer(rt, alloc, pool, line.as_str()) {
+    let reply = answer(rt, alloc, pool, line);
+    let is_sent = match &reply {
         Reply::Stream(bytes) => bytes.same(&seen.stream),
         _ => false,
-    }
+    };
+    drop(reply);
+    is_sent
 }
 
-fn answer(rt: &impl Abort, alloc: Global, pool: &mut Pool, line: &str) -> Reply {
-    let request = request_at_last(rt, alloc, line);
+fn answer(rt: &impl Abort, alloc: Global, pool: &mut Pool, line: String) -> Reply {
+    let request = request_at_last(rt, alloc, line.as_str());
     let reply = pool.apply(alloc, &request);
     drop(request);
     reply
