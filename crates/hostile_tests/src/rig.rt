@@ -88,14 +88,14 @@ pub fn next(seed: u64) -> u64 {
         .wrapping_add(1442695040888963407)
 }
 
-/// One of these for a number of the sequence.
-pub fn one_of<'a>(texts: &[&'a str], seed: u64) -> &'a str {
-    let place = (seed >> 33) as usize;
-    let Some(place) = place.checked_rem(texts.len()) else {
+/// One of the texts between commas, for a number of the sequence.
+pub fn one_of(texts: &'static str, seed: u64) -> &'static str {
+    let count = texts.split(',').count();
+    let Some(place) = ((seed >> 33) as usize).checked_rem(count) else {
         return "";
     };
-    match texts.get(place) {
-        Some(text) => *text,
+    match texts.split(',').nth(place) {
+        Some(text) => text,
         None => "",
     }
 }

@@ -18,11 +18,11 @@ pub enum Calls {
 
 /// A seat of a session, with the view that it has opened.
 pub struct Seated<'t, 's, K: Opening, R: Wait> {
-    pub rt: &'t R,
-    pub session: &'s Session<K>,
-    pub seat: Seat<K>,
-    pub view: Option<View<K>>,
-    pub calls: Calls,
+    rt: &'t R,
+    session: &'s Session<K>,
+    seat: Seat<K>,
+    view: Option<View<K>>,
+    calls: Calls,
 }
 
 impl<K: Opening, R: Wait> Ask for Seated<'_, '_, K, R> {
@@ -37,7 +37,34 @@ impl<K: Opening, R: Wait> Ask for Seated<'_, '_, K, R> {
     }
 }
 
-impl<K: Opening, R: Wait> Seated<'_, '_, K, R> {
+impl<'t, 's, K: Opening, R: Wait> Seated<'t, 's, K, R> {
+    pub fn new(
+        rt: &'t R,
+        session: &'s Session<K>,
+        seat: Seat<K>,
+        calls: Calls,
+    ) -> Seated<'t, 's, K, R> {
+        Seated {
+            rt,
+            session,
+            seat,
+            view: None,
+            calls,
+        }
+    }
+
+    pub fn end(self) -> Seat<K> {
+        let Seated {
+            rt: _,
+            session: _,
+            seat,
+            view,
+            calls: _,
+        } = self;
+        drop(view);
+        seat
+    }
+
     fn open(&mut self, alloc: Global, target: Target) -> Told {
         match self
             .session

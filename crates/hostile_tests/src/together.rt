@@ -1,7 +1,7 @@
 //! Everything at once: nine threads, and then the history that they have made together.
 ghost use Rattle.std.specs.Prelude.{◌≡◌};
 
-use crate::players::{Kept, Player, Role, call, play};
+use crate::players::{Kept, Player, Playing, Role, play};
 use crate::walked::{are_whole, is_replayed, reads_are_last_writes};
 use model::entry::Entry;
 use session::{Book, Opening, Pool, Seat, Session};
@@ -15,16 +15,8 @@ use std::thread::{Threads, map_vec};
 const BLOCKS: u32 = 2000;
 
 /// What is asked before the threads begin.
-const FIRST: [&str; 8] = [
-    "write p 0 0 61",
-    "snapshot p@1",
-    "clone p@1 p/b",
-    "write p 0 1 63",
-    "snapshot p@2",
-    "create p/a",
-    "write p/a 0 0 65",
-    "snapshot -r p@3",
-];
+const FIRST: &str =
+    "write p 0 0 61,snapshot p@1,clone p@1 p/b,write p 0 1 63,snapshot p@2,create p/a,write p/a 0 0 65,snapshot -r p@3";
 
 /// The order in which seats are handed to the end of their session.
 #[derive(Clone, Copy)]
@@ -122,12 +114,12 @@ fn begun<K: Opening, R: Wait + Abort>(
     alloc: Global,
     session: &Session<K>,
 ) -> (Seat<K>, Kept) {
-    let mut seat = session.seat(alloc, rt).expect(rt, "a seat");
-    let mut kept = Kept::new(alloc);
-    for line in FIRST {
-        call(rt, alloc, session, &mut seat, &mut kept, line);
+    let seat = session.seat(alloc, rt).expect(rt, "a seat");
+    let mut first = Playing::new(rt, alloc, session, seat);
+    for line in FIRST.split(',') {
+        first.call(line);
     }
-    (seat, kept)
+    first.end()
 }
 
 /// Four callers, one of batches, two readers of views, a syncer and a destroyer, each with a seat.
