@@ -2,12 +2,13 @@
 //! a run: what was asked then has changed nothing that a pool tells, and asked again it is answered as ever.
 ghost use Rattle.std.specs.Prelude.{◌≡◌};
 
+use crate::blocks::have_same_blocks;
 use crate::rig::{lacks_memory, request_at_last};
 use crate::seated::{Calls, Seated};
 use crate::ways::{Ask, Plain, Steps, Told};
 use model::reply::Reply;
 use model::request::Request;
-use pool::{DatasetRoot, Pool};
+use pool::Pool;
 use session::{Book, Opening, Seat, Session};
 use std::alloc::Global;
 use std::marker::Brand;
@@ -186,44 +187,6 @@ fn applied_at_last(alloc: Global, pool: &mut Pool, request: &Request) -> Reply {
     }
     drop(reply);
     pool.apply(alloc, request)
-}
-
-/// The roots of a world's datasets, asked for again where memory was refused.
-fn roots(rt: &impl Abort, alloc: Global, pool: &Pool, last: bool) -> Vec<DatasetRoot> {
-    match pool.roots(alloc, last) {
-        Ok(roots) => roots,
-        Err(_) => pool.roots(alloc, last).ok().expect(rt, "roots"),
-    }
-}
-
-fn are_same_roots(ones: &[DatasetRoot], others: &[DatasetRoot]) -> bool {
-    if ones.len() != others.len() {
-        return false;
-    }
-    for at in 0..ones.len() {
-        if !is_same_root(&ones[at], &others[at]) {
-            return false;
-        }
-    }
-    true
-}
-
-fn is_same_root(one: &DatasetRoot, other: &DatasetRoot) -> bool {
-    let are_same_snapshots = match (&one.snapshot, &other.snapshot) {
-        (Some(a), Some(b)) => a.same(b),
-        (None, None) => true,
-        _ => false,
-    };
-    are_same_snapshots && one.file_system.same(&other.file_system) && one.root == other.root
-}
-
-/// Whether two pools have the same blocks at the same numbers, in both worlds: what was refused, and what was left, has taken none.
-fn have_same_blocks(rt: &impl Abort, alloc: Global, one: &Pool, other: &Pool) -> bool {
-    let present = roots(rt, alloc, one, false);
-    let last = roots(rt, alloc, one, true);
-    one.image().bytes() == other.image().bytes()
-        && are_same_roots(&present, &roots(rt, alloc, other, false))
-        && are_same_roots(&last, &roots(rt, alloc, other, true))
 }
 
 /// Whether a pool that is asked in steps goes along with another, and has the same blocks in the end.

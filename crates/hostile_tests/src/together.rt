@@ -1,14 +1,14 @@
 //! Everything at once: nine threads, and then the history that they have made together.
 ghost use Rattle.std.specs.Prelude.{◌≡◌};
 
+use crate::blocks::have_same_blocks;
 use crate::players::{Kept, Player, Playing, Role, play};
 use crate::walked::{are_whole, is_replayed, reads_are_last_writes};
-use model::entry::Entry;
-use session::{Book, Opening, Pool, Seat, Session};
+use session::{Book, Closed, Opening, Pool, Seat, Session};
 use std::alloc::Global;
 use std::marker::Brand;
 use std::process::Abort;
-use std::sync::{Arc, Wait};
+use std::sync::Wait;
 use std::thread::{Threads, map_vec};
 
 /// How many blocks the pool has.
@@ -79,16 +79,19 @@ fn is_walked<K: Opening>(
     kept: &[Kept],
 ) -> bool {
     match book.close(seats) {
-        Ok(closed) => is_right(rt, alloc, closed.history.as_slice(), kept),
+        Ok(closed) => is_right(rt, alloc, &closed, kept),
         Err(_) => false,
     }
 }
 
-fn is_right(rt: &impl Abort, alloc: Global, history: &[Arc<Entry>], kept: &[Kept]) -> bool {
+/// Whether a history is whole and right, and leads a fresh pool to the blocks that it has left.
+fn is_right(rt: &impl Abort, alloc: Global, closed: &Closed, kept: &[Kept]) -> bool {
+    let history = closed.history.as_slice();
     let mut pool = Pool::create(alloc, 1, BLOCKS).expect(rt, "memory");
-    let is_replayed = is_replayed(rt, alloc, &mut pool, history, kept);
+    let is_led_to = is_replayed(rt, alloc, &mut pool, history, kept)
+        && have_same_blocks(rt, alloc, &closed.pool, &pool);
     drop(pool);
-    is_replayed && are_whole(history, kept) && reads_are_last_writes(history)
+    is_led_to && are_whole(history, kept) && reads_are_last_writes(history)
 }
 
 /// The seats in the order in which they were given, and what was kept beside them.
