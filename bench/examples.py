@@ -5,8 +5,9 @@
 
 For each examples/NAME.script the program is started on a pipe, with the blocks and the id that the script's first line names, as
 `zfsp 1000 1`. A line is written only once the one before has its answer, as at a terminal; an answer that doesn't come within ten seconds
-is a fault. Each is run once more beside workers (-w), where each line is answered too. Then the examples in Python run. It prints a line for
-each that goes wrong, and at the end how many agree; the exit status is 1 where one doesn't.
+is a fault. Each is run once more beside workers (-w), where each line is answered too. Then the examples in Python run, and a script of
+10,000 lines that nothing refuses beside workers, in one piece. It prints a line for each that goes wrong, and at the end how many agree; the
+exit status is 1 where one doesn't.
 """
 
 import argparse
@@ -84,6 +85,17 @@ def fault_of(program, script, wanted):
         live.stop()
 
 
+def fault_of_many(program):
+    """What is wrong with a run of 10,000 lines beside workers, none of which is refused, where something is."""
+    turn = "write p {0} {1} {2:02x}|snapshot p@{3}|read p@{3} {0} {1}|clone p@{3} p/c|destroy p/c|destroy p@{3}|get used p|pget free"
+    lines = [it for n in range(1250) for it in turn.format(n % 4, n % 64, n % 256, n).split("|")]
+    ran = subprocess.run([program, "-e", "-w", "20000", "1"], input="\n".join(lines), capture_output=True, text=True, timeout=60)
+    replies = ran.stdout.splitlines()
+    if (ran.returncode, len(replies), ran.stderr) == (0, len(lines), "") and not any(it.startswith("error") for it in replies):
+        return None
+    return f"{len(replies)} of {len(lines)} lines are answered, with status {ran.returncode}{': ' * bool(replies)}{''.join(replies[-1:])[:60]}"
+
+
 def main():
     options = argparse.ArgumentParser(description=__doc__, formatter_class=argparse.RawDescriptionHelpFormatter)
     options.add_argument("program", type=Path)
@@ -101,6 +113,8 @@ def main():
         ran = subprocess.run([sys.executable, story, program], capture_output=True, text=True, timeout=60)
         wanted = story.with_suffix(".replies").read_text()
         faults += [f"{story.stem}: {ran.stderr[-200:] or 'it tells another story'}"] * (ran.returncode != 0 or ran.stdout != wanted)
+    count, fault = count + 1, fault_of_many(program)
+    faults += [f"many lines beside workers: {fault}"] * bool(fault)
     unasked = [it for it in REQUESTS if it not in asked]
     faults += [f"no example asks {' '.join(unasked)}"] * bool(unasked)
     print("".join(f"{it}\n" for it in faults) + f"{count - len([it for it in faults if not it.startswith('no example')])} of {count} agree")

@@ -16,7 +16,7 @@ fn stream(rt: &impl Abort, alloc: Global, name: &str) -> Vec<u8> {
     push_named(&mut digits, name).expect(rt, "memory for digits");
     let bytes = hex::decode(alloc, digits.as_slice());
     drop(digits);
-    bytes.expect(rt, "digits of bytes")
+    bytes.expect(rt, "memory for the bytes of digits")
 }
 
 /// What a pool answers that receives these bytes as a snapshot of this name.
