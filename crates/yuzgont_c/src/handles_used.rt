@@ -103,7 +103,7 @@ fn a_send_is_received_by_another(rt: HostRuntime) {
     let mut other = YuzPool::closed();
     let mut size = 0;
     let mut count = 0;
-    let mut bytes = [0; 1000];
+    let mut bytes = [0; 1_100];
     assert!(rt;
         yuzgont_create(alloc, &mut one, 1, 100) == 0
             && yuzgont_create(alloc, &mut other, 2, 100) == 0
@@ -111,10 +111,10 @@ fn a_send_is_received_by_another(rt: HostRuntime) {
     assert!(rt;
         write_first(alloc, &mut one, 97) && yuzgont_snapshot(alloc, &mut one, b"p@s", false) == 0
     );
-    assert!(rt; yuzgont_send(alloc, &mut one, b"p@s", b"", &mut size) == 0 && size == 574);
-    assert!(rt; yuzgont_stream(alloc, &mut one, 0, &mut bytes, &mut count) == 0 && count == 574);
-    assert!(rt; yuzgont_receive(alloc, &mut other, b"p/copy@s", &bytes[..573], false) == 22);
-    assert!(rt; yuzgont_receive(alloc, &mut other, b"p/copy@s", &bytes[..574], false) == 0);
+    assert!(rt; yuzgont_send(alloc, &mut one, b"p@s", b"", &mut size) == 0 && size == 1_024);
+    assert!(rt; yuzgont_stream(alloc, &mut one, 0, &mut bytes, &mut count) == 0 && count == 1_024);
+    assert!(rt; yuzgont_receive(alloc, &mut other, b"p/copy@s", &bytes[..1_023], false) == 22);
+    assert!(rt; yuzgont_receive(alloc, &mut other, b"p/copy@s", &bytes[..1_024], false) == 0);
     assert!(rt; reads_first(alloc, &mut other, b"p/copy", 97));
     assert!(rt; yuzgont_forget(alloc, &mut one) == 0);
     assert!(rt; yuzgont_stream(alloc, &mut one, 0, &mut bytes, &mut count) == 0 && count == 0);
