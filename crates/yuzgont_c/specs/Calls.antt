@@ -1,0 +1,125 @@
+-- Calls on a host and on a handle.
+use Rattle.std.specs.Prelude.{◌≡◌, ◌⊎◌, ℕ, ◌==◌, ◌<◌, Bool, true, false, List, [], Option, None, Some, length, replicate, if◌then◌else◌}
+use Rattle.base.specs.declared.refusal.Refusal.{Refusal}
+use Rattle.base.specs.declared.refusal.Refusal.TheVariants.{BadName, TooMany, NoMemory}
+use Rattle.model.specs.declared.request.Request.{Request}
+use Rattle.model.specs.declared.request.Request.TheVariants.{Sync, Slice, Abandon}
+use Rattle.model.specs.declared.request.Property.{Property}
+use Rattle.model.specs.declared.reply.Reply.{Reply}
+use Rattle.model.specs.declared.reply.Reply.TheVariants as R
+use Rattle.model.specs.State.{State, fresh_state}
+use Rattle.model.specs.Step.{Step}
+use Rattle.runner.specs.Serving.{Serves}
+use Rattle.script.specs.Meaning.{meaning}
+use Rattle.script.specs.Served.{IsServed, IsUnserved}
+use Rattle.script.specs.declared.run.LineFault.{LineFault}
+use Rattle.yuzgont_c.specs.declared.host.Host.{Host}
+use Rattle.yuzgont_c.specs.declared.answer.Answer.{Answer}
+use Rattle.yuzgont_c.specs.declared.answer.Answer.TheVariants.{Done, Refused, NoPool, HasPool, BadLength, NoProperty}
+use Rattle.yuzgont_c.specs.Answers.{answer_of, got_answer, number_in, group_in, count_in, stream_in}
+use Rattle.yuzgont_c.specs.Asking.{asked_write, asked_punch, asked_read, asked_snapshot, asked_get, asked_send_from, asked_receive, property_at}
+use Rattle.yuzgont_c.specs.Pieces.{IsPiece}
+
+-- a request that was asked, if its names are some: the reply, of which more is said, is that of the pool's step; or memory was wanting before
+-- the request was whole, and the pool is as it was (profile)
+abbrev pub Asks : State → Option Request → State → (Reply → Type 0) → Type 0
+Asks s None t says = (t ≡ s) × (says (R.Refused BadName) ⊎ says (R.Refused NoMemory))
+Asks s (Some request) t says = (reply : Reply) × says reply × (Step s request reply t ⊎ ((reply ≡ R.Refused NoMemory) × (t ≡ s)))
+
+-- the bytes that a host hands out by pieces are the same (profile)
+abbrev pub KeepsBytes : Host → Host → Type 0
+KeepsBytes h k = (k.reply ≡ h.reply) × (k.stream ≡ h.stream)
+
+-- a call without a value of its own (profile)
+abbrev pub Does : Option Request → Host → Answer → Host → Type 0
+Does request h answer k = Asks h.caller request k.caller (λ reply. answer ≡ answer_of reply) × KeepsBytes h k
+
+-- a call that did nothing (profile)
+abbrev pub Idle : Answer → Host → Answer → Host → Type 0
+Idle why h answer k = (answer ≡ why) × (k ≡ h)
+
+-- a write of a block of 512 bytes (profile)
+abbrev pub Writes : List ℕ → ℕ → ℕ → List ℕ → Host → Answer → Host → Type 0
+Writes name object block bytes h answer k =
+    if length bytes == 512 then Does (asked_write name object block bytes) h answer k else Idle BadLength h answer k
+
+-- what a read leaves in the buffer, and whether the block is a hole: 512 bytes, all zero for a hole; a refused one leaves both (profile)
+abbrev pub ReadInto : Reply → List ℕ → Bool → List ℕ → Bool → Type 0
+ReadInto (R.Data (Some bytes)) before was after is = (after ≡ bytes) × (is ≡ false)
+ReadInto (R.Data None) before was after is = (after ≡ replicate 512 0) × (is ≡ true)
+ReadInto _ before was after is = (after ≡ before) × (is ≡ was)
+
+-- a read of a block into a buffer of 512 bytes (profile)
+abbrev pub ReadsBlock : List ℕ → ℕ → ℕ → List ℕ → Bool → List ℕ → Bool → Host → Answer → Host → Type 0
+ReadsBlock name object block before was after is h answer k =
+    if length before == 512
+    then Asks h.caller (asked_read name object block) k.caller (λ reply. (answer ≡ answer_of reply) × ReadInto reply before was after is) × KeepsBytes h k
+    else Idle BadLength h answer k × (after ≡ before) × (is ≡ was)
+
+-- a property's number (profile)
+abbrev pub GetsOf : List ℕ → Option Property → ℕ → ℕ → Host → Answer → Host → Type 0
+GetsOf name None before after h answer k = Idle NoProperty h answer k × (after ≡ before)
+GetsOf name (Some property) before after h answer k =
+    Asks h.caller (asked_get name property) k.caller (λ reply. (answer ≡ got_answer reply) × (after ≡ number_in reply before)) × KeepsBytes h k
+
+-- a sync, and the open group after it (profile)
+abbrev pub Syncs : ℕ → ℕ → Host → Answer → Host → Type 0
+Syncs before after h answer k = Asks h.caller (Some Sync) k.caller (λ reply. (answer ≡ answer_of reply) × (after ≡ group_in reply before)) × KeepsBytes h k
+
+-- a slice, and how many blocks it has taken (profile)
+abbrev pub Slices : ℕ → ℕ → ℕ → Host → Answer → Host → Type 0
+Slices count before after h answer k =
+    Asks h.caller (Some (Slice count)) k.caller (λ reply. (answer ≡ answer_of reply) × (after ≡ count_in reply before)) × KeepsBytes h k
+
+-- a send: its stream is kept in the place of an earlier one (profile)
+abbrev pub Sends : List ℕ → List ℕ → ℕ → Host → Answer → Host → Type 0
+Sends name from size h answer k =
+    Asks h.caller (asked_send_from name from) k.caller (λ reply. (answer ≡ answer_of reply) × (k.stream ≡ stream_in reply h.stream))
+    × (k.reply ≡ h.reply) × (size ≡ length k.stream)
+
+-- a line: its reply's line is kept in the place of an earlier one, and it is told whether it was refused (profile)
+abbrev pub LineAnswered : List ℕ → Bool → Bool → Host → Answer → Host → Type 0
+LineAnswered line was refused h Done k = IsServed Serves (meaning line) (Some []) (Some k.reply.items) h.caller k.caller refused
+LineAnswered line was refused h (Refused why) k =
+    (why ≡ NoMemory) × (refused ≡ was) × (fault : LineFault) × IsUnserved Serves (meaning line) (Some []) (Some k.reply.items) h.caller k.caller fault
+LineAnswered line was refused h _ k = ⊥
+
+abbrev pub Answers : List ℕ → Bool → Bool → ℕ → Host → Answer → Host → Type 0
+Answers line was refused size h answer k =
+    LineAnswered line was refused h answer k × (k.stream ≡ h.stream) × (size ≡ length k.reply.items)
+
+-- a piece of the last reply, or of the last stream (profile)
+abbrev pub RepliesPiece : ℕ → List ℕ → List ℕ → ℕ → Host → Answer → Host → Type 0
+RepliesPiece from before after count h answer k = Idle Done h answer k × IsPiece h.reply.items from before after count
+
+abbrev pub StreamsPiece : ℕ → List ℕ → List ℕ → ℕ → Host → Answer → Host → Type 0
+StreamsPiece from before after count h answer k = Idle Done h answer k × IsPiece h.stream from before after count
+
+-- no bytes are kept any more (profile)
+abbrev pub Forgets : Host → Host → Type 0
+Forgets h k = (k.caller ≡ h.caller) × (k.reply.items ≡ []) × (k.stream ≡ [])
+
+abbrev pub Forgotten : Host → Answer → Host → Type 0
+Forgotten h answer k = (answer ≡ Done) × Forgets h k
+
+-- a call on a handle: without a pool it answers so, and else it is one on the pool's host (profile)
+abbrev pub Calls : (Host → Answer → Host → Type 0) → Option Host → Answer → Option Host → Type 0
+Calls does None answer new = (answer ≡ NoPool) × (new ≡ None)
+Calls does (Some h) answer None = ⊥
+Calls does (Some h) answer (Some k) = does h answer k
+
+-- a new pool: its state is the fresh one, and it keeps no bytes (profile)
+abbrev pub IsFresh : ℕ → ℕ → Host → Type 0
+IsFresh id blocks k = (k.caller ≡ fresh_state id blocks) × (k.reply.items ≡ []) × (k.stream ≡ [])
+
+-- why a pool isn't made: an id of 0, a number of blocks that no pool has, or want of memory (profile)
+abbrev pub CreateRefused : ℕ → ℕ → Refusal → Type 0
+CreateRefused id blocks why =
+    ((why ≡ BadName) × (id ≡ 0)) ⊎ (((why ≡ TooMany) × ((blocks < 1) ⊎ (4194304 < blocks))) ⊎ (why ≡ NoMemory))
+
+-- a create: a pool in a handle that had none, or a refusal (profile)
+abbrev pub Creates : ℕ → ℕ → Option Host → Answer → Option Host → Type 0
+Creates id blocks (Some h) answer new = (answer ≡ HasPool) × (new ≡ Some h)
+Creates id blocks None (Refused why) None = CreateRefused id blocks why
+Creates id blocks None answer None = ⊥
+Creates id blocks None answer (Some k) = (answer ≡ Done) × IsFresh id blocks k

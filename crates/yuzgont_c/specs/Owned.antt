@@ -1,0 +1,13 @@
+-- What a handle owns.
+use Rattle.std.specs.Prelude.{Option, Some, None}
+use base.Fml.{Fml, ftrue}
+use denote.RawPtr.{Ptr}
+use Rattle.std.specs.Box.Ownership.{box_owns}
+use Rattle.libc.specs.Heap.{chunk}
+use Rattle.yuzgont_c.specs.declared.host.Host.{Host}
+use Rattle.yuzgont_c.specs.contracts.host.Host.{the_row}
+
+-- the memory at the pointer with the host in it, where there is one (profile)
+abbrev pub owns_if : Ptr → Option Host → Fml
+owns_if p None = ftrue
+owns_if p (Some host) = box_owns chunk the_row p host

@@ -1,0 +1,15 @@
+//! Bytes that are handed out by pieces.
+ghost use Rattle.yuzgont_c.specs.Pieces.{IsPiece};
+
+// Copies the bytes from a place on into the front of the buffer, as many as fit and are there, and says how many.
+pub(crate) fn copy_piece(bytes: &[u8], from: usize, buffer: &mut [u8]) -> usize
+    ensures { IsPiece bytes.now from buffer.old buffer.new result }
+{
+    if from >= bytes.len() {
+        return 0;
+    }
+    let rest = &bytes[from..];
+    let count = rest.len().min(buffer.len());
+    buffer[..count].copy_from_slice(&rest[..count]);
+    count
+}

@@ -1,0 +1,48 @@
+#!/usr/bin/env bash
+# Builds the hosts in C and Rust over the proved static library, and runs them: the session of the README, a million writes, streams, refused
+# memory, mistakes, and a backup over a connection. `rt ci` or `rt lib` in crates/yuzgont_c makes the library. Status 1 where anything fails.
+#
+#     hosts/run.sh [WRITES]     how many writes are timed, 1,000,000 if left out
+set -euo pipefail
+cd "$(dirname "$0")/.."
+writes=${1:-1000000}
+made=hosts/out
+kit=$(dirname "$(readlink -f "$(command -v rt)")")/..
+library=crates/yuzgont_c/out/libyuzgont_c.a
+zfsp=crates/zfsp/out/zfsp
+mkdir -p "$made"
+[ -e "$library" ] || (cd crates/yuzgont_c && rt lib)
+export YUZGONT_LIB=$PWD/crates/yuzgont_c/out RATTLE_C=$kit/c
+
+cc -std=c11 -D_GNU_SOURCE -O2 -g -Wall -Wextra -Wpedantic -Werror -I include -o "$made/host" hosts/c/host.c "$library" "$RATTLE_C/liblibc_c.a" \
+    -Wl,--gc-sections -Wl,--wrap=malloc,--wrap=realloc
+cargo build --quiet --release --offline --manifest-path hosts/rust/Cargo.toml --target-dir "$made/rust"
+rust=$made/rust/release
+
+for host in "$made/host" "$rust/yuz-host"; do
+    echo "== $host"
+    "$host" session hosts/session.script hosts/session.replies
+    "$host" streams
+    "$host" memory
+    "$host" writes "$writes"
+done
+"$made/host" mistakes
+
+# The same writes as lines, to the program.
+if [ -x "$zfsp" ]; then
+    echo "== $zfsp"
+    python3 hosts/writes.py "$writes" >"$made/writes.script"
+    TIMEFORMAT="writes: $writes as lines in %R s"
+    time "$zfsp" 4194304 1 "$made/writes.script" >"$made/writes.replies"
+    [ "$(sort -u "$made/writes.replies")" = ok ]
+fi
+
+echo "== valgrind"
+for words in "host session hosts/session.script hosts/session.replies" "host streams" "host memory" "host mistakes" "host writes 3000" \
+    "rust/release/yuz-host session hosts/session.script hosts/session.replies" "rust/release/yuz-host streams"; do
+    valgrind --quiet --error-exitcode=9 --leak-check=full --show-leak-kinds=definite,indirect --errors-for-leak-kinds=definite,indirect $made/$words >/dev/null
+    echo "clean: $words"
+done
+
+echo "== yuz-replicate"
+timeout 60 "$rust/yuz-replicate" try

@@ -1,0 +1,203 @@
+//! Yuzgont's pools for Rust, over the static library `yuzgont_c`.
+//!
+//! A [`Pool`] owns a pool and lets it go when it is dropped. Its calls take `&mut self`, so the compiler orders them. What isn't `Ok` has
+//! changed nothing. A send is read as a [`Stream`], which is [`Read`]; a receive is written as a [`Receiver`], which is [`Write`], and made
+//! by [`Receiver::finish`].
+
+mod error;
+mod sys;
+
+pub use error::Error;
+
+use std::io::{self, Read, Write};
+
+/// The bytes of a block.
+pub type Block = [u8; 512];
+
+/// What [`Pool::get`] tells: sizes in bytes, and from `Guid` on numbers.
+#[derive(Clone, Copy, PartialEq, Eq, Debug)]
+#[repr(u32)]
+pub enum Property {
+    Used = 1,
+    Available = 2,
+    Referenced = 3,
+    Written = 4,
+    UsedByDataset = 5,
+    UsedBySnapshots = 6,
+    UsedByChildren = 7,
+    UsedByRefReservation = 8,
+    Quota = 9,
+    RefQuota = 10,
+    Reservation = 11,
+    RefReservation = 12,
+    Guid = 13,
+    CreateTxg = 14,
+    UserRefs = 15,
+}
+
+/// A line's reply, and whether it is a refusal.
+#[derive(Clone, PartialEq, Eq, Debug)]
+pub struct Reply {
+    pub text: Vec<u8>,
+    pub is_refused: bool,
+}
+
+/// A pool. It stays on its thread.
+#[derive(Debug)]
+pub struct Pool {
+    handle: sys::Handle,
+}
+
+impl Pool {
+    /// A pool with an id, not 0, and 1 to 4,194,304 blocks.
+    pub fn create(id: u32, blocks: u32) -> Result<Pool, Error> {
+        let mut pool = Pool { handle: sys::Handle::NONE };
+        // SAFETY: the handle has no pool.
+        Error::check(unsafe { sys::yuzgont_create(&mut pool.handle, id, blocks) })?;
+        Ok(pool)
+    }
+
+    /// Answers a line, without its line feed (docs/COMMANDS.md).
+    pub fn line(&mut self, line: &str) -> Result<Reply, Error> {
+        let (mut is_refused, mut size, mut count) = (false, 0, 0);
+        // SAFETY: the lengths are those of the slices, here and below.
+        Error::check(unsafe { sys::yuzgont_line(&mut self.handle, line.as_ptr(), line.len(), &mut is_refused, &mut size) })?;
+        let mut text = Vec::new();
+        text.try_reserve_exact(size).map_err(|_| Error::NoMemory)?;
+        text.resize(size, 0);
+        Error::check(unsafe { sys::yuzgont_reply(&mut self.handle, 0, text.as_mut_ptr(), size, &mut count) })?;
+        Ok(Reply { text, is_refused })
+    }
+
+    /// Writes block `block`, 0 to 4095, of object `object`, 0 to 255, of a file system.
+    pub fn write(&mut self, name: &str, object: u32, block: u32, bytes: &Block) -> Result<(), Error> {
+        Error::check(unsafe { sys::yuzgont_write(&mut self.handle, name.as_ptr(), name.len(), object, block, bytes.as_ptr(), bytes.len()) })
+    }
+
+    /// Reads a block; none for a hole.
+    pub fn read(&mut self, name: &str, object: u32, block: u32) -> Result<Option<Block>, Error> {
+        let (mut bytes, mut is_hole) = ([0; 512], false);
+        Error::check(unsafe {
+            sys::yuzgont_read(&mut self.handle, name.as_ptr(), name.len(), object, block, bytes.as_mut_ptr(), bytes.len(), &mut is_hole)
+        })?;
+        Ok((!is_hole).then_some(bytes))
+    }
+
+    /// Makes a block a hole.
+    pub fn punch(&mut self, name: &str, object: u32, block: u32) -> Result<(), Error> {
+        Error::check(unsafe { sys::yuzgont_punch(&mut self.handle, name.as_ptr(), name.len(), object, block) })
+    }
+
+    /// Makes a snapshot, as `p/a@s`, and with `recursive` one of the same component of each file system below.
+    pub fn snapshot(&mut self, name: &str, recursive: bool) -> Result<(), Error> {
+        Error::check(unsafe { sys::yuzgont_snapshot(&mut self.handle, name.as_ptr(), name.len(), recursive) })
+    }
+
+    /// A property of a dataset; [`Error::NotApplicable`] where it hasn't it.
+    pub fn get(&mut self, name: &str, property: Property) -> Result<u64, Error> {
+        let mut value = 0;
+        Error::check(unsafe { sys::yuzgont_get(&mut self.handle, name.as_ptr(), name.len(), property as u32, &mut value) })?;
+        Ok(value)
+    }
+
+    /// Syncs: the open group.
+    pub fn sync(&mut self) -> Result<u64, Error> {
+        let mut group = 0;
+        Error::check(unsafe { sys::yuzgont_sync(&mut self.handle, &mut group) })?;
+        Ok(group)
+    }
+
+    /// Frees so many blocks of what was destroyed, or all where they are fewer: how many.
+    pub fn slice(&mut self, count: u64) -> Result<u64, Error> {
+        let mut taken = 0;
+        Error::check(unsafe { sys::yuzgont_slice(&mut self.handle, count, &mut taken) })?;
+        Ok(taken)
+    }
+
+    /// Goes back to the last sync.
+    pub fn abandon(&mut self) -> Result<(), Error> {
+        Error::check(unsafe { sys::yuzgont_abandon(&mut self.handle) })
+    }
+
+    /// The stream of a snapshot, in full or from a source, which is a snapshot or a bookmark.
+    pub fn send(&mut self, name: &str, from: Option<&str>) -> Result<Stream<'_>, Error> {
+        let (from, mut size) = (from.unwrap_or(""), 0);
+        Error::check(unsafe { sys::yuzgont_send(&mut self.handle, name.as_ptr(), name.len(), from.as_ptr(), from.len(), &mut size) })?;
+        Ok(Stream { pool: self, at: 0, size })
+    }
+
+    /// Receives what will be written, as a snapshot of this name; with `force` the file system goes back to its newest snapshot first.
+    pub fn receive<'a>(&'a mut self, name: &'a str, force: bool) -> Receiver<'a> {
+        Receiver { pool: self, name, force, bytes: Vec::new() }
+    }
+}
+
+impl Drop for Pool {
+    fn drop(&mut self) {
+        // SAFETY: the handle isn't used again.
+        unsafe { sys::yuzgont_free(&mut self.handle) }
+    }
+}
+
+/// The stream of a send, which the pool keeps until this is dropped.
+#[derive(Debug)]
+pub struct Stream<'a> {
+    pool: &'a mut Pool,
+    at: usize,
+    size: usize,
+}
+
+impl Stream<'_> {
+    /// How many bytes it has in all.
+    pub fn size(&self) -> usize {
+        self.size
+    }
+}
+
+impl Read for Stream<'_> {
+    fn read(&mut self, buffer: &mut [u8]) -> io::Result<usize> {
+        let mut count = 0;
+        let handle = &mut self.pool.handle;
+        Error::check(unsafe { sys::yuzgont_stream(handle, self.at, buffer.as_mut_ptr(), buffer.len(), &mut count) })?;
+        self.at += count;
+        Ok(count)
+    }
+}
+
+impl Drop for Stream<'_> {
+    fn drop(&mut self) {
+        // It can't fail: the handle has a pool.
+        let _code = unsafe { sys::yuzgont_forget(&mut self.pool.handle) };
+    }
+}
+
+/// The bytes of a receive. Nothing is received but by `finish`.
+#[derive(Debug)]
+pub struct Receiver<'a> {
+    pool: &'a mut Pool,
+    name: &'a str,
+    force: bool,
+    bytes: Vec<u8>,
+}
+
+impl Receiver<'_> {
+    /// Receives what was written: [`Error::BadStream`] where that isn't one whole stream.
+    pub fn finish(self) -> Result<(), Error> {
+        let (name, bytes) = (self.name, &self.bytes);
+        Error::check(unsafe {
+            sys::yuzgont_receive(&mut self.pool.handle, name.as_ptr(), name.len(), bytes.as_ptr(), bytes.len(), self.force)
+        })
+    }
+}
+
+impl Write for Receiver<'_> {
+    fn write(&mut self, bytes: &[u8]) -> io::Result<usize> {
+        self.bytes.try_reserve(bytes.len()).map_err(|_| io::ErrorKind::OutOfMemory)?;
+        self.bytes.extend_from_slice(bytes);
+        Ok(bytes.len())
+    }
+
+    fn flush(&mut self) -> io::Result<()> {
+        Ok(())
+    }
+}
