@@ -31,13 +31,14 @@ fn walks(alloc: Global, roots: &[DatasetRoot], image: &Image) -> Result<Walks, R
 
 /// Puts a block where the bytes have another one, and tells whether they had.
 fn put(bytes: &mut [u8], at: usize, block: &[u8]) -> bool {
-    match bytes.get_mut(at..at.saturating_add(512)) {
-        Some(here) if here.len() == block.len() && *here != *block => {
-            here.copy_from_slice(block);
-            true
-        }
-        _ => false,
+    let Some(end) = at.checked_add(block.len()) else {
+        return false;
+    };
+    if end > bytes.len() || &bytes[at..end] == block {
+        return false;
     }
+    bytes[at..end].copy_from_slice(block);
+    true
 }
 
 /// How many blocks a step writes, where in an image that was stopped after any of them the datasets of the last synced world walk to what
