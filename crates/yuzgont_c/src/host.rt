@@ -1,6 +1,7 @@
 //! A pool with the bytes that it hands out by pieces.
 ghost use Rattle.std.specs.Prelude.{◌≡◌, Option, Some, IfOk, IfErr};
 ghost use Rattle.model.specs.Step.{Step};
+ghost use Rattle.yuzgont_c.specs.Answers.{answer_of, stream_in};
 ghost use Rattle.yuzgont_c.specs.Asking.{asked_punch, asked_snapshot, asked_receive, property_at};
 ghost use Rattle.yuzgont_c.specs.Calls.{Does, Asks, KeepsBytes, Writes, ReadsBlock, GetsOf, Syncs, Slices, Sends, Answers, Forgets, IsFresh, CreateRefused};
 ghost use Rattle.yuzgont_c.specs.Pieces.{IsPiece};
@@ -180,12 +181,29 @@ impl Host {
     {
         let request = ask_send(self.caller.alloc, name, from);
         let reply = self.ask_read_one(request);
-        let answer = Answer::of(&reply);
-        if let Reply::Stream(bytes) = reply {
-            self.stream = bytes;
-        }
+        let answer = self.keep(reply);
         *size = self.stream.as_slice().len();
         answer
+    }
+
+    // Keeps the stream of a reply.
+    fn keep(&mut self, reply: Reply) -> Answer
+        ensures answer { result ≡ answer_of reply }
+        ensures stream { self.new.stream ≡ stream_in reply self.old.stream }
+        ensures reply { self.new.reply ≡ self.old.reply }
+        ensures pool { self.new.caller ≡ self.old.caller }
+    {
+        match reply {
+            Reply::Stream(bytes) => {
+                self.stream = bytes;
+                Answer::Done
+            }
+            Reply::Refused(refusal) => Answer::Refused(refusal),
+            other => {
+                drop(other);
+                Answer::Done
+            }
+        }
     }
 
     /// Receives a stream as a snapshot, as `Request::Receive`.
