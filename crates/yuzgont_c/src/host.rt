@@ -1,9 +1,9 @@
 //! A pool with the bytes that it hands out by pieces.
-ghost use Rattle.std.specs.Prelude.{◌≡◌, Option, Some, IfOk, IfErr};
+ghost use Rattle.std.specs.Prelude.{◌≡◌, Option, Some, IfOk, IfErr, length};
 ghost use Rattle.model.specs.Step.{Step};
-ghost use Rattle.yuzgont_c.specs.Answers.{answer_of, stream_in};
+ghost use Rattle.yuzgont_c.specs.Answers.{answer_of, number_in, stream_in};
 ghost use Rattle.yuzgont_c.specs.Asking.{asked_punch, asked_snapshot, asked_receive, property_at};
-ghost use Rattle.yuzgont_c.specs.Calls.{Does, Asks, KeepsBytes, Writes, ReadsBlock, GetsOf, Syncs, Slices, Sends, Answers, Forgets, IsFresh, CreateRefused};
+ghost use Rattle.yuzgont_c.specs.Calls.{Does, Asks, KeepsBytes, Writes, ReadsBlock, ReadInto, GetsOf, Syncs, Slices, Sends, Answers, Forgets, IsFresh, CreateRefused};
 ghost use Rattle.yuzgont_c.specs.Pieces.{IsPiece};
 ghost use Rattle.base.specs.Reading.{Reads};
 ghost use Rattle.model.specs.declared.request.Request.{Request};
@@ -97,17 +97,7 @@ impl Host {
         }
         let request = ask_read(self.caller.alloc, name, object, block);
         let reply = self.ask_read_one(request);
-        match &reply {
-            Reply::Data(Some(bytes)) => {
-                buffer.copy_from_slice(bytes.as_slice());
-                *is_hole = false;
-            }
-            Reply::Data(None) => {
-                buffer.fill(0);
-                *is_hole = true;
-            }
-            _ => {}
-        }
+        fill(&reply, buffer, is_hole);
         Answer::of(&reply)
     }
 
@@ -137,11 +127,7 @@ impl Host {
         };
         let request = ask_get(self.caller.alloc, name, property);
         let reply = self.ask_read_one(request);
-        match &reply {
-            Reply::Value(Value::Size(n)) => *value = *n,
-            Reply::Value(Value::Number(n)) => *value = *n,
-            _ => {}
-        }
+        tell_number(&reply, value);
         Answer::of_number(&reply)
     }
 
@@ -252,5 +238,34 @@ impl Host {
         let alloc = self.caller.alloc;
         self.reply = Vec::new(alloc);
         self.stream = Bytes::from(Vec::new(alloc));
+    }
+}
+
+// Puts the block of a reply into a buffer, and says whether it is a hole.
+fn fill(reply: &Reply, buffer: &mut [u8], is_hole: &mut bool)
+    requires { length buffer.old ≡ 512 }
+    ensures { ReadInto reply.now buffer.old is_hole.old buffer.new is_hole.new }
+{
+    match reply {
+        Reply::Data(Some(bytes)) => {
+            buffer.copy_from_slice(bytes.as_slice());
+            *is_hole = false;
+        }
+        Reply::Data(None) => {
+            buffer.fill(0);
+            *is_hole = true;
+        }
+        _ => {}
+    }
+}
+
+// Tells the number of a reply.
+fn tell_number(reply: &Reply, value: &mut u64)
+    ensures { value.new ≡ number_in reply.now value.old }
+{
+    match reply {
+        Reply::Value(Value::Size(n)) => *value = *n,
+        Reply::Value(Value::Number(n)) => *value = *n,
+        _ => {}
     }
 }
