@@ -56,7 +56,7 @@ there id blocks old new h e f = subst (λ (o : Option Host). Creates id blocks o
 
 pub made : (id blocks : ℕ) (old new : Option Host) (k : Host) → None ≡ old → new ≡ Some k → IsFresh id blocks k → Creates id blocks old Done new
 made id blocks old new k e f fresh =
-    subst (λ (o : Option Host). Creates id blocks o Done new) e (subst (λ (n : Option Host). Creates id blocks None Done n) (sym f) (refl, fresh.0, fresh.1.0, fresh.1.1))
+    subst (λ (o : Option Host). Creates id blocks o Done new) e (subst (λ (n : Option Host). Creates id blocks None Done n) (sym f) (refl, fresh))
 
 pub unmade : (id blocks : ℕ) (old new : Option Host) (why : Refusal) → None ≡ old → new ≡ None → CreateRefused id blocks why → Creates id blocks old (Refused why) new
 unmade id blocks old new why e f refused =

@@ -97,8 +97,7 @@ impl Host {
         }
         let request = ask_read(self.caller.alloc, name, object, block);
         let reply = self.ask_read_one(request);
-        fill(&reply, buffer, is_hole);
-        Answer::of(&reply)
+        fill(reply, buffer, is_hole)
     }
 
     /// Makes a block a hole, as `Request::Punch`.
@@ -242,11 +241,12 @@ impl Host {
 }
 
 // Puts the block of a reply into a buffer, and says whether it is a hole.
-fn fill(reply: &Reply, buffer: &mut [u8], is_hole: &mut bool)
+fn fill(reply: Reply, buffer: &mut [u8], is_hole: &mut bool) -> Answer
     requires { length buffer.old ≡ 512 }
-    ensures { ReadInto reply.now buffer.old is_hole.old buffer.new is_hole.new }
+    ensures answer { result ≡ answer_of reply }
+    ensures filled { ReadInto reply buffer.old is_hole.old buffer.new is_hole.new }
 {
-    match reply {
+    match &reply {
         Reply::Data(Some(bytes)) => {
             buffer.copy_from_slice(bytes.as_slice());
             *is_hole = false;
@@ -257,6 +257,7 @@ fn fill(reply: &Reply, buffer: &mut [u8], is_hole: &mut bool)
         }
         _ => {}
     }
+    Answer::of(&reply)
 }
 
 // Tells the number of a reply.
