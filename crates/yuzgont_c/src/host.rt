@@ -3,7 +3,7 @@ ghost use Rattle.std.specs.Prelude.{◌≡◌, Option, Some, IfOk, IfErr, length
 ghost use Rattle.model.specs.Step.{Step};
 ghost use Rattle.yuzgont_c.specs.Answers.{answer_of, number_in, stream_in};
 ghost use Rattle.yuzgont_c.specs.Asking.{asked_punch, asked_snapshot, asked_receive, property_at};
-ghost use Rattle.yuzgont_c.specs.Calls.{Does, Asks, KeepsBytes, Writes, ReadsBlock, ReadInto, GetsOf, Syncs, Slices, Sends, Answers, Forgets, IsFresh, CreateRefused};
+ghost use Rattle.yuzgont_c.specs.Calls.{Does, Asks, KeepsBytes, Writes, ReadsBlock, ReadInto, GetsOf, Syncs, Slices, Sends, Answers, Forgotten, IsFresh, CreateRefused};
 ghost use Rattle.yuzgont_c.specs.Pieces.{IsPiece};
 ghost use Rattle.base.specs.Reading.{Reads};
 ghost use Rattle.model.specs.declared.request.Request.{Request};
@@ -231,12 +231,13 @@ impl Host {
     }
 
     /// Lets go of the last reply and of the last stream, with their memory.
-    pub fn forget(&mut self)
-        ensures { Forgets self.old self.new }
+    pub fn forget(&mut self) -> Answer
+        ensures { Forgotten self.old result self.new }
     {
         let alloc = self.caller.alloc;
         self.reply = Vec::new(alloc);
         self.stream = Bytes::from(Vec::new(alloc));
+        Answer::Done
     }
 }
 
