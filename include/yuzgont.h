@@ -6,12 +6,12 @@
  *     yuz_free(&pool);
  *
  * Each call answers with a number: YUZ_DONE, a refusal (1 to 30, docs/REFUSALS.md), or a negative number for what the caller did wrong. A
- * call that isn't YUZ_DONE has changed nothing, want of memory (YUZ_NO_MEMORY) included.
+ * call that isn't YUZ_DONE has changed nothing of the pool, want of memory (YUZ_NO_MEMORY) included.
  *
  * What the caller owes:
  *   - A handle is YUZ_NO_POOL at first. Only these calls write it, and it is neither copied nor taken apart.
- *   - Calls on one handle come one after another; nothing here takes a lock. Two handles have nothing in common, and may be used in two
- *     threads at once. A handle may go to another thread between two calls that a lock or a join orders.
+ *   - Calls on one handle come one after another, in one thread; nothing here takes a lock. Two handles have nothing in common, and may be
+ *     used in two threads at once.
  *   - A buffer has as many bytes as its length says, and no buffer, handle or result of one call overlaps another that the call writes.
  *   - `malloc`, `realloc` and `free` come from one allocator, and no call is made from a signal handler, or after `fork` in the child of a
  *     process with threads.
@@ -72,21 +72,21 @@ enum yuz_code {
 
 /* The properties that `yuz_get` tells: sizes in bytes, and from YUZ_GUID on numbers (docs/COMMANDS.md). */
 enum yuz_property {
-    YUZ_USED = 1,
-    YUZ_AVAILABLE = 2,
-    YUZ_REFERENCED = 3,
-    YUZ_WRITTEN = 4,
-    YUZ_USED_BY_DATASET = 5,
-    YUZ_USED_BY_SNAPSHOTS = 6,
-    YUZ_USED_BY_CHILDREN = 7,
-    YUZ_USED_BY_REF_RESERVATION = 8,
-    YUZ_PROPERTY_QUOTA = 9,
-    YUZ_PROPERTY_REF_QUOTA = 10,
-    YUZ_RESERVATION = 11,
-    YUZ_REF_RESERVATION = 12,
-    YUZ_GUID = 13,
-    YUZ_CREATE_TXG = 14,
-    YUZ_USER_REFS = 15
+    YUZ_USED = 0,
+    YUZ_AVAILABLE = 1,
+    YUZ_REFERENCED = 2,
+    YUZ_WRITTEN = 3,
+    YUZ_USED_BY_DATASET = 4,
+    YUZ_USED_BY_SNAPSHOTS = 5,
+    YUZ_USED_BY_CHILDREN = 6,
+    YUZ_USED_BY_REF_RESERVATION = 7,
+    YUZ_PROPERTY_QUOTA = 8,
+    YUZ_PROPERTY_REF_QUOTA = 9,
+    YUZ_RESERVATION = 10,
+    YUZ_REF_RESERVATION = 11,
+    YUZ_GUID = 12,
+    YUZ_CREATE_TXG = 13,
+    YUZ_USER_REFS = 14
 };
 
 /* A handle. Its parts are the library's. */

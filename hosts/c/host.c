@@ -341,7 +341,7 @@ static int mistakes(void) {
     told_so("no name", yuz_write(&pool, NULL, 0, 0, 0, block, 512), YUZ_BAD_NAME);
     told_so("no such name", yuz_write(&pool, NAME("p/a"), 0, 0, block, 512), YUZ_NO_DATASET);
     told_so("no such object", yuz_write(&pool, NAME("p"), 256, 0, block, 512), YUZ_BAD_KEY);
-    told_so("no such property", yuz_get(&pool, NAME("p"), 0, &value), YUZ_NO_PROPERTY);
+    told_so("no such property", yuz_get(&pool, NAME("p"), YUZ_USER_REFS + 1, &value), YUZ_NO_PROPERTY);
     told_so("not its property", yuz_get(&pool, NAME("p"), YUZ_GUID, &value), YUZ_NOT_APPLICABLE);
     told_so("a line that is none", yuz_line(&pool, NAME("nothing"), &flag, &size), YUZ_DONE);
     if (!flag || size != strlen("error 28 BadLine\n") || value != 7) wrong("a bad line", (int)size);

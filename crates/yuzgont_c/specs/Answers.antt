@@ -1,5 +1,5 @@
 -- What a call tells C.
-use Rattle.std.specs.Prelude.{ℕ, ℤ, pos, negsuc, List}
+use Rattle.std.specs.Prelude.{◌≡◌, ℕ, ℤ, pos, negsuc, List}
 use Rattle.base.specs.Refusals.{number_of}
 use Rattle.model.specs.declared.reply.Reply.{Reply}
 use Rattle.model.specs.declared.reply.Reply.TheVariants as R

@@ -1,5 +1,5 @@
 -- The requests of calls without text.
-use Rattle.std.specs.Prelude.{ℕ, Bool, List, [], ◌∷◌, Option, None, Some}
+use Rattle.std.specs.Prelude.{ℕ, Bool, List, [], ◌∷◌, Option, None, Some, slice_get}
 use Rattle.std.specs.Option.{option_map, option_and_then}
 use Rattle.base.specs.declared.name.member.Member.{Member}
 use Rattle.base.specs.declared.name.target.Target.{Target}
@@ -37,21 +37,12 @@ asked_send_from name (b ∷ bs) = option_and_then (λ source. option_map (λ tar
 abbrev pub asked_receive : List ℕ → List ℕ → Bool → Option Request
 asked_receive name bytes force = option_map (λ snapshot. Receive snapshot bytes force) (snap_of name)
 
--- the properties by their numbers in C (profile)
+-- the properties, each at its number in C (profile)
+abbrev pub properties : List Property
+properties =
+    Used ∷ Available ∷ Referenced ∷ Written ∷ UsedByDataset ∷ UsedBySnapshots ∷ UsedByChildren ∷ UsedByRefReservation ∷ Quota ∷ RefQuota ∷ Reservation
+    ∷ RefReservation ∷ Guid ∷ CreateTxg ∷ UserRefs ∷ []
+
+-- the property of a number, if there is one (profile)
 abbrev pub property_at : ℕ → Option Property
-property_at 1 = Some Used
-property_at 2 = Some Available
-property_at 3 = Some Referenced
-property_at 4 = Some Written
-property_at 5 = Some UsedByDataset
-property_at 6 = Some UsedBySnapshots
-property_at 7 = Some UsedByChildren
-property_at 8 = Some UsedByRefReservation
-property_at 9 = Some Quota
-property_at 10 = Some RefQuota
-property_at 11 = Some Reservation
-property_at 12 = Some RefReservation
-property_at 13 = Some Guid
-property_at 14 = Some CreateTxg
-property_at 15 = Some UserRefs
-property_at _ = None
+property_at number = slice_get properties number

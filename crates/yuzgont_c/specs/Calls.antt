@@ -1,5 +1,5 @@
 -- Calls on a host and on a handle.
-use Rattle.std.specs.Prelude.{◌≡◌, ◌⊎◌, ℕ, ◌==◌, ◌<◌, Bool, true, false, List, [], Option, None, Some, length, replicate, if◌then◌else◌}
+use Rattle.std.specs.Prelude.{◌≡◌, ◌⊎◌, ℕ, ◌==◌, ◌<◌, Bool, true, false, List, [], Option, None, Some, length, replicate, MatchBool}
 use Rattle.base.specs.declared.refusal.Refusal.{Refusal}
 use Rattle.base.specs.declared.refusal.Refusal.TheVariants.{BadName, TooMany, NoMemory}
 use Rattle.model.specs.declared.request.Request.{Request}
@@ -41,7 +41,7 @@ Idle why h answer k = (answer ≡ why) × (k ≡ h)
 -- a write of a block of 512 bytes (profile)
 abbrev pub Writes : List ℕ → ℕ → ℕ → List ℕ → Host → Answer → Host → Type 0
 Writes name object block bytes h answer k =
-    if length bytes == 512 then Does (asked_write name object block bytes) h answer k else Idle BadLength h answer k
+    MatchBool (length bytes == 512) (Does (asked_write name object block bytes) h answer k) (Idle BadLength h answer k)
 
 -- what a read leaves in the buffer, and whether the block is a hole: 512 bytes, all zero for a hole; a refused one leaves both (profile)
 abbrev pub ReadInto : Reply → List ℕ → Bool → List ℕ → Bool → Type 0
@@ -52,9 +52,9 @@ ReadInto _ before was after is = (after ≡ before) × (is ≡ was)
 -- a read of a block into a buffer of 512 bytes (profile)
 abbrev pub ReadsBlock : List ℕ → ℕ → ℕ → List ℕ → Bool → List ℕ → Bool → Host → Answer → Host → Type 0
 ReadsBlock name object block before was after is h answer k =
-    if length before == 512
-    then Asks h.caller (asked_read name object block) k.caller (λ reply. (answer ≡ answer_of reply) × ReadInto reply before was after is) × KeepsBytes h k
-    else Idle BadLength h answer k × (after ≡ before) × (is ≡ was)
+    MatchBool (length before == 512)
+    (Asks h.caller (asked_read name object block) k.caller (λ reply. (answer ≡ answer_of reply) × ReadInto reply before was after is) × KeepsBytes h k)
+    (Idle BadLength h answer k × (after ≡ before) × (is ≡ was))
 
 -- a property's number (profile)
 abbrev pub GetsOf : List ℕ → Option Property → ℕ → ℕ → Host → Answer → Host → Type 0

@@ -120,22 +120,22 @@ pub(crate) fn ask_receive(
 pub(crate) fn property_of(number: u32) -> Option<Property>
     ensures { result ≡ property_at number }
 {
-    match number {
-        1 => Some(Property::Used),
-        2 => Some(Property::Available),
-        3 => Some(Property::Referenced),
-        4 => Some(Property::Written),
-        5 => Some(Property::UsedByDataset),
-        6 => Some(Property::UsedBySnapshots),
-        7 => Some(Property::UsedByChildren),
-        8 => Some(Property::UsedByRefReservation),
-        9 => Some(Property::Quota),
-        10 => Some(Property::RefQuota),
-        11 => Some(Property::Reservation),
-        12 => Some(Property::RefReservation),
-        13 => Some(Property::Guid),
-        14 => Some(Property::CreateTxg),
-        15 => Some(Property::UserRefs),
-        _ => None,
-    }
+    let properties = [
+        Property::Used,
+        Property::Available,
+        Property::Referenced,
+        Property::Written,
+        Property::UsedByDataset,
+        Property::UsedBySnapshots,
+        Property::UsedByChildren,
+        Property::UsedByRefReservation,
+        Property::Quota,
+        Property::RefQuota,
+        Property::Reservation,
+        Property::RefReservation,
+        Property::Guid,
+        Property::CreateTxg,
+        Property::UserRefs,
+    ];
+    properties.get(number as usize).copied()
 }

@@ -292,7 +292,7 @@ pub extern "C" fn yuzgont_forget(alloc: Global, pool: &mut YuzPool) -> i32
     let Some(mut host) = pool.take(alloc) else {
         return Answer::NoPool.code();
     };
-    host.forget();
+    let answer = host.forget();
     pool.put(host);
-    Answer::Done.code()
+    answer.code()
 }

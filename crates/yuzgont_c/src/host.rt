@@ -1,8 +1,9 @@
 //! A pool with the bytes that it hands out by pieces.
-ghost use Rattle.std.specs.Prelude.{◌≡◌, Option, Some, IfOk, IfErr};
+ghost use Rattle.std.specs.Prelude.{◌≡◌, Option, Some, IfOk, IfErr, length};
 ghost use Rattle.model.specs.Step.{Step};
+ghost use Rattle.yuzgont_c.specs.Answers.{answer_of, number_in, stream_in};
 ghost use Rattle.yuzgont_c.specs.Asking.{asked_punch, asked_snapshot, asked_receive, property_at};
-ghost use Rattle.yuzgont_c.specs.Calls.{Does, Asks, KeepsBytes, Writes, ReadsBlock, GetsOf, Syncs, Slices, Sends, Answers, Forgets, IsFresh, CreateRefused};
+ghost use Rattle.yuzgont_c.specs.Calls.{Does, Asks, KeepsBytes, Writes, ReadsBlock, ReadInto, GetsOf, Syncs, Slices, Sends, Answers, Forgotten, IsFresh, CreateRefused};
 ghost use Rattle.yuzgont_c.specs.Pieces.{IsPiece};
 ghost use Rattle.base.specs.Reading.{Reads};
 ghost use Rattle.model.specs.declared.request.Request.{Request};
@@ -96,18 +97,7 @@ impl Host {
         }
         let request = ask_read(self.caller.alloc, name, object, block);
         let reply = self.ask_read_one(request);
-        match &reply {
-            Reply::Data(Some(bytes)) => {
-                buffer.copy_from_slice(bytes.as_slice());
-                *is_hole = false;
-            }
-            Reply::Data(None) => {
-                buffer.fill(0);
-                *is_hole = true;
-            }
-            _ => {}
-        }
-        Answer::of(&reply)
+        fill(reply, buffer, is_hole)
     }
 
     /// Makes a block a hole, as `Request::Punch`.
@@ -136,11 +126,7 @@ impl Host {
         };
         let request = ask_get(self.caller.alloc, name, property);
         let reply = self.ask_read_one(request);
-        match &reply {
-            Reply::Value(Value::Size(n)) => *value = *n,
-            Reply::Value(Value::Number(n)) => *value = *n,
-            _ => {}
-        }
+        tell_number(&reply, value);
         Answer::of_number(&reply)
     }
 
@@ -180,12 +166,29 @@ impl Host {
     {
         let request = ask_send(self.caller.alloc, name, from);
         let reply = self.ask_read_one(request);
-        let answer = Answer::of(&reply);
-        if let Reply::Stream(bytes) = reply {
-            self.stream = bytes;
-        }
+        let answer = self.keep(reply);
         *size = self.stream.as_slice().len();
         answer
+    }
+
+    // Keeps the stream of a reply.
+    fn keep(&mut self, reply: Reply) -> Answer
+        ensures answer { result ≡ answer_of reply }
+        ensures stream { self.new.stream ≡ stream_in reply self.old.stream }
+        ensures reply { self.new.reply ≡ self.old.reply }
+        ensures pool { self.new.caller ≡ self.old.caller }
+    {
+        match reply {
+            Reply::Stream(bytes) => {
+                self.stream = bytes;
+                Answer::Done
+            }
+            Reply::Refused(refusal) => Answer::Refused(refusal),
+            other => {
+                drop(other);
+                Answer::Done
+            }
+        }
     }
 
     /// Receives a stream as a snapshot, as `Request::Receive`.
@@ -228,11 +231,43 @@ impl Host {
     }
 
     /// Lets go of the last reply and of the last stream, with their memory.
-    pub fn forget(&mut self)
-        ensures { Forgets self.old self.new }
+    pub fn forget(&mut self) -> Answer
+        ensures { Forgotten self.old result self.new }
     {
         let alloc = self.caller.alloc;
         self.reply = Vec::new(alloc);
         self.stream = Bytes::from(Vec::new(alloc));
+        Answer::Done
+    }
+}
+
+// Puts the block of a reply into a buffer, and says whether it is a hole.
+fn fill(reply: Reply, buffer: &mut [u8], is_hole: &mut bool) -> Answer
+    requires { length buffer.old ≡ 512 }
+    ensures answer { result ≡ answer_of reply }
+    ensures filled { ReadInto reply buffer.old is_hole.old buffer.new is_hole.new }
+{
+    match &reply {
+        Reply::Data(Some(bytes)) => {
+            buffer.copy_from_slice(bytes.as_slice());
+            *is_hole = false;
+        }
+        Reply::Data(None) => {
+            buffer.fill(0);
+            *is_hole = true;
+        }
+        _ => {}
+    }
+    Answer::of(&reply)
+}
+
+// Tells the number of a reply.
+fn tell_number(reply: &Reply, value: &mut u64)
+    ensures { value.new ≡ number_in reply.now value.old }
+{
+    match reply {
+        Reply::Value(Value::Size(n)) => *value = *n,
+        Reply::Value(Value::Number(n)) => *value = *n,
+        _ => {}
     }
 }

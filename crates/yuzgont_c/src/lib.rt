@@ -17,6 +17,3 @@ mod slot;
 
 pub use answer::Answer;
 pub use handle::YuzPool;
-
-#[cfg(test)]
-mod handles_used;

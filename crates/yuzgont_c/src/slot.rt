@@ -1,6 +1,8 @@
 //! A host as a pointer that C keeps.
 ghost use Rattle.std.specs.Prelude.{◌≡◌, Option, Some, None, IsSome};
+ghost use Rattle.std.specs.Coded.{coded_option};
 ghost use Rattle.yuzgont_c.specs.declared.host.Host.{Host};
+ghost use Rattle.yuzgont_c.specs.contracts.host.Host.{the_row};
 
 use crate::host::Host;
 use std::alloc::Global;
@@ -12,7 +14,7 @@ use std::ptr;
 #[derive(Drop)]
 pub struct Slot {
     held: *mut u8,
-    pub ghost host: { Option Host },
+    pub ghost host: { Option Host } by { coded_option the_row.coded },
 }
 
 impl Model for Slot {

@@ -18,21 +18,21 @@ pub type Block = [u8; 512];
 #[derive(Clone, Copy, PartialEq, Eq, Debug)]
 #[repr(u32)]
 pub enum Property {
-    Used = 1,
-    Available = 2,
-    Referenced = 3,
-    Written = 4,
-    UsedByDataset = 5,
-    UsedBySnapshots = 6,
-    UsedByChildren = 7,
-    UsedByRefReservation = 8,
-    Quota = 9,
-    RefQuota = 10,
-    Reservation = 11,
-    RefReservation = 12,
-    Guid = 13,
-    CreateTxg = 14,
-    UserRefs = 15,
+    Used = 0,
+    Available = 1,
+    Referenced = 2,
+    Written = 3,
+    UsedByDataset = 4,
+    UsedBySnapshots = 5,
+    UsedByChildren = 6,
+    UsedByRefReservation = 7,
+    Quota = 8,
+    RefQuota = 9,
+    Reservation = 10,
+    RefReservation = 11,
+    Guid = 12,
+    CreateTxg = 13,
+    UserRefs = 14,
 }
 
 /// A line's reply, and whether it is a refusal.

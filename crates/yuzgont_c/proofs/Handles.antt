@@ -1,0 +1,75 @@
+-- Calls on handles, and requests that were asked.
+use Rattle.std.proofs.Common.{◌≡◌, ◌⊎◌, ℕ, Bool, true, List, length, Option, Some, None, inl, inr, refl, sym, ◌∙◌, subst}
+use Rattle.std.specs.Prelude.{◌==◌, MatchBool}
+use Rattle.base.specs.declared.refusal.Refusal.{Refusal}
+use Rattle.model.specs.declared.request.Request.{Request}
+use Rattle.model.specs.declared.reply.Reply.{Reply}
+use Rattle.model.specs.State.{State}
+use Rattle.yuzgont_c.specs.declared.host.Host.{Host}
+use Rattle.yuzgont_c.specs.declared.answer.Answer.{Answer}
+use Rattle.model.specs.declared.request.Property.{Property}
+use Rattle.yuzgont_c.specs.declared.answer.Answer.TheVariants.{Done, Refused, NoPool, HasPool, BadLength}
+use Rattle.yuzgont_c.specs.Answers.{answer_of, got_answer, number_in, stream_in}
+use Rattle.yuzgont_c.specs.Asking.{asked_write, asked_read, asked_get, asked_send_from}
+use Rattle.yuzgont_c.specs.Calls.{Calls, Creates, IsFresh, CreateRefused, Asks, Does, Idle, KeepsBytes, Writes, ReadInto, ReadsBlock, GetsOf, Sends}
+
+-- a handle without a pool says so
+pub unopened : (does : Host → Answer → Host → Type 0) (old new : Option Host) → None ≡ old → new ≡ None → Calls does old NoPool new
+unopened does old new e f = subst (λ (o : Option Host). Calls does o NoPool new) e (refl, f)
+
+-- a call on the host of a handle is one on the handle
+pub opened : (does : Host → Answer → Host → Type 0) (old new : Option Host) (answer : Answer) (h k : Host) → Some h ≡ old → new ≡ Some k → does h answer k → Calls does old answer new
+opened does old new answer h k e f d =
+    subst (λ (o : Option Host). Calls does o answer new) e (subst (λ (n : Option Host). Calls does (Some h) answer n) (sym f) d)
+
+-- what holds of the reply that came is said of it
+pub said : (s t : State) (read : Option Request) (r : Reply) (says : Reply → Type 0) → Asks s read t (λ reply. reply ≡ r) → says r → Asks s read t says
+said s t None r says (same, inl e) it = (same, inl (subst says (sym e) it))
+said s t None r says (same, inr e) it = (same, inr (subst says (sym e) it))
+said s t (Some request) r says (reply, e, step) it = (reply, subst says (sym e) it, step)
+
+-- a write of 512 bytes, of which the request has a copy
+pub writes : (name : List ℕ) (object block : ℕ) (copy bytes : List ℕ) (h k : Host) (answer : Answer) → (length bytes == 512) ≡ true → copy ≡ bytes
+    → Does (asked_write name object block copy) h answer k → Writes name object block bytes h answer k
+writes name object block copy bytes h k answer is same does =
+    subst (λ (b : Bool). MatchBool b (Does (asked_write name object block bytes) h answer k) (Idle BadLength h answer k)) (sym is)
+    (subst (λ (bs : List ℕ). Does (asked_write name object block bs) h answer k) same does)
+
+-- a read into 512 bytes
+pub reads : (name : List ℕ) (object block : ℕ) (before : List ℕ) (was : Bool) (after : List ℕ) (hole : Bool) (h k : Host) (answer : Answer) → (length before == 512) ≡ true
+    → Asks h.caller (asked_read name object block) k.caller (λ reply. (answer ≡ answer_of reply) × ReadInto reply before was after hole) × KeepsBytes h k
+    → ReadsBlock name object block before was after hole h answer k
+reads name object block before was after hole h k answer is asks =
+    subst (λ (b : Bool). MatchBool b
+    (Asks h.caller (asked_read name object block) k.caller (λ reply. (answer ≡ answer_of reply) × ReadInto reply before was after hole) × KeepsBytes h k)
+    (Idle BadLength h answer k × (after ≡ before) × (hole ≡ was))) (sym is) asks
+
+-- a property that has a number
+pub gets : (name : List ℕ) (at : Option Property) (property : Property) (before after : ℕ) (h k : Host) (answer : Answer) → Some property ≡ at
+    → Asks h.caller (asked_get name property) k.caller (λ reply. (answer ≡ got_answer reply) × (after ≡ number_in reply before)) × KeepsBytes h k
+    → GetsOf name at before after h answer k
+gets name at property before after h k answer is asks = subst (λ (o : Option Property). GetsOf name o before after h answer k) is asks
+
+-- a create: the handle has a pool, or gets one, or there is none for it
+pub there : (id blocks : ℕ) (old new : Option Host) (h : Host) → Some h ≡ old → new ≡ Some h → Creates id blocks old HasPool new
+there id blocks old new h e f = subst (λ (o : Option Host). Creates id blocks o HasPool new) e (refl, f)
+
+pub made : (id blocks : ℕ) (old new : Option Host) (k : Host) → None ≡ old → new ≡ Some k → IsFresh id blocks k → Creates id blocks old Done new
+made id blocks old new k e f fresh =
+    subst (λ (o : Option Host). Creates id blocks o Done new) e (subst (λ (n : Option Host). Creates id blocks None Done n) (sym f) (refl, fresh))
+
+pub unmade : (id blocks : ℕ) (old new : Option Host) (why : Refusal) → None ≡ old → new ≡ None → CreateRefused id blocks why → Creates id blocks old (Refused why) new
+unmade id blocks old new why e f refused =
+    subst (λ (o : Option Host). Creates id blocks o (Refused why) new) e (subst (λ (n : Option Host). Creates id blocks None (Refused why) n) (sym f) refused)
+
+-- a send, whose stream is kept once it is made
+pub sent : (name from : List ℕ) (size : ℕ) (h m k : Host) (r : Reply) (answer : Answer) → Asks h.caller (asked_send_from name from) m.caller (λ reply. reply ≡ r)
+    → KeepsBytes h m → answer ≡ answer_of r → k.stream ≡ stream_in r m.stream → k.reply ≡ m.reply → k.caller ≡ m.caller → size ≡ length k.stream
+    → Sends name from size h answer k
+sent name from size h m k r answer asks keeps is stream reply pool counted = (
+  said h.caller k.caller (asked_send_from name from) r (λ told. (answer ≡ answer_of told) × (k.stream ≡ stream_in told h.stream))
+      (subst (λ (t : State). Asks h.caller (asked_send_from name from) t (λ told. told ≡ r)) (sym pool) asks)
+      (is, subst (λ (bs : List ℕ). k.stream ≡ stream_in r bs) keeps.1 stream),
+  reply ∙ keeps.0,
+  counted,
+)
