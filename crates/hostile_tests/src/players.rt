@@ -106,6 +106,15 @@ impl Kept {
         }
     }
 
+    /// Keeps what a batch gave at a gate with so many turns.
+    fn keep_batch(&mut self, rt: &impl Abort, receipts: Vec<Receipt>, turns: u64) {
+        let count = receipts.len() as u64;
+        let is_right = count == BATCH.min(turns.saturating_add(1))
+            && follow_on(receipts.as_slice());
+        self.is_right &= is_right;
+        self.keep_all(rt, receipts);
+    }
+
     fn note_work(&mut self, turns: u64, worked: (u64, Option<Refusal>)) {
         self.worked = worked.0;
         self.is_right = worked == (turns, None);
@@ -119,15 +128,6 @@ pub struct Player<K: Opening> {
     pub role: Role,
 }
 
-/// A seat at its session, with what it keeps.
-pub struct Playing<'t, 's, K: Opening, R: Wait + Abort> {
-    pub rt: &'t R,
-    pub alloc: Global,
-    pub session: &'s Session<K>,
-    pub seat: Seat<K>,
-    pub kept: Kept,
-}
-
 /// Does what a player's role is.
 pub fn play<K: Opening, R: Wait + Abort>(
     rt: &R,
@@ -135,159 +135,80 @@ pub fn play<K: Opening, R: Wait + Abort>(
     session: &Session<K>,
     player: Player<K>,
 ) -> (Seat<K>, Kept) {
-    let Player { seat, role } = player;
-    let mut playing = Playing::new(rt, alloc, session, seat);
-    playing.play(role);
-    playing.end()
+    let Player { mut seat, role } = player;
+    let mut kept = Kept::new(alloc);
+    match role {
+        Role::Caller(seed) => calls(rt, alloc, session, &mut seat, &mut kept, seed),
+        Role::Batcher(seed) => batches(rt, alloc, session, &mut seat, &mut kept, seed),
+        Role::Viewer(seed) => views(rt, alloc, session, &mut seat, &mut kept, seed),
+        Role::Syncer => {
+            let gate = &mut Turns::new(SYNCS);
+            kept.note_work(SYNCS, session.run_syncer(alloc, rt, &mut seat, gate));
+        }
+        Role::Destroyer => {
+            let gate = &mut Turns::new(SLICES);
+            let worked = session.run_destroyer(alloc, rt, &mut seat, SLICE, gate);
+            kept.note_work(SLICES, worked);
+        }
+    }
+    (seat, kept)
 }
 
-impl<'t, 's, K: Opening, R: Wait + Abort> Playing<'t, 's, K, R> {
-    pub fn new(
-        rt: &'t R,
-        alloc: Global,
-        session: &'s Session<K>,
-        seat: Seat<K>,
-    ) -> Playing<'t, 's, K, R> {
-        Playing {
-            rt,
-            alloc,
-            session,
-            seat,
-            kept: Kept::new(alloc),
-        }
-    }
+/// Asks a line by a call.
+pub fn call<K: Opening, R: Wait + Abort>(
+    rt: &R,
+    alloc: Global,
+    session: &Session<K>,
+    seat: &mut Seat<K>,
+    kept: &mut Kept,
+    line: &str,
+) {
+    let request = request_at_last(rt, alloc, line);
+    let receipt = session.call(alloc, rt, seat, request);
+    kept.keep(rt, receipt.expect(rt, "room"));
+}
 
-    pub fn end(self) -> (Seat<K>, Kept) {
-        let Playing {
-            rt: _,
-            alloc: _,
-            session: _,
-            seat,
-            kept,
-        } = self;
-        (seat, kept)
+fn calls<K: Opening, R: Wait + Abort>(
+    rt: &R,
+    alloc: Global,
+    session: &Session<K>,
+    seat: &mut Seat<K>,
+    kept: &mut Kept,
+    mut seed: u64,
+) {
+    for _ in 0..CALLS {
+        seed = next(seed);
+        call(rt, alloc, session, seat, kept, one_of(LINES, seed));
     }
+}
 
-    fn play(&mut self, role: Role) {
-        match role {
-            Role::Caller(seed) => self.calls(seed),
-            Role::Batcher(seed) => self.batches(seed),
-            Role::Viewer(seed) => self.views(seed),
-            Role::Syncer => self.syncs(),
-            Role::Destroyer => self.slices(),
-        }
+fn batches<K: Opening, R: Wait + Abort>(
+    rt: &R,
+    alloc: Global,
+    session: &Session<K>,
+    seat: &mut Seat<K>,
+    kept: &mut Kept,
+    mut seed: u64,
+) {
+    for _ in 0..BATCHES {
+        seed = next(seed);
+        batch(rt, alloc, session, seat, kept, seed);
     }
+}
 
-    /// Asks a line by a call.
-    pub fn call(&mut self, line: &str) {
-        let request = request_at_last(self.rt, self.alloc, line);
-        let receipt = self
-            .session
-            .call(self.alloc, self.rt, &mut self.seat, request);
-        self.kept.keep(self.rt, receipt.expect(self.rt, "room"));
-    }
-
-    fn calls(&mut self, mut seed: u64) {
-        for _ in 0..CALLS {
-            seed = next(seed);
-            self.call(one_of(LINES, seed));
-        }
-    }
-
-    fn batches(&mut self, mut seed: u64) {
-        for _ in 0..BATCHES {
-            seed = next(seed);
-            self.batch(seed);
-        }
-    }
-
-    /// Asks for a batch, at a gate that ends it early where it has few turns. The numbers of what ran follow one another.
-    fn batch(&mut self, seed: u64) {
-        let turns = (seed >> 33) % 24;
-        let requests = requests_of(self.rt, self.alloc, seed);
-        let gate = &mut Turns::new(turns);
-        let receipts = self
-            .session
-            .batch(self.alloc, self.rt, &mut self.seat, requests, gate);
-        let receipts = receipts.expect(self.rt, "room");
-        let wanted = if turns < BATCH { turns + 1 } else { BATCH };
-        self.kept.is_right &= receipts.len() as u64 == wanted && follow_on(receipts.as_slice());
-        self.kept.keep_all(self.rt, receipts);
-    }
-
-    fn views(&mut self, mut seed: u64) {
-        for _ in 0..VIEWS {
-            seed = next(seed);
-            if let Some(view) = self.open(one_of(VIEWED, seed)) {
-                self.close(view);
-            }
-        }
-    }
-
-    /// Opens a view of a snapshot, where the pool allows it, and keeps what it shows while others go on.
-    fn open(&mut self, snapshot: &'static str) -> Option<View<K>> {
-        let target = Target::read(self.alloc, snapshot.as_bytes()).expect(self.rt, "memory");
-        let opened = self
-            .session
-            .open_view(self.alloc, self.rt, &mut self.seat, target);
-        match opened.expect(self.rt, "room") {
-            OpenedView::Opened(view, receipt) => {
-                self.look(&view, receipt.number, snapshot);
-                self.kept.keep(self.rt, receipt);
-                Some(view)
-            }
-            OpenedView::Refused(receipt) => {
-                self.kept.keep(self.rt, receipt);
-                None
-            }
-        }
-    }
-
-    fn look(&mut self, view: &View<K>, number: u64, snapshot: &'static str) {
-        let blocks = blocks_of(self.rt, self.alloc, view);
-        self.kept.is_right &= shows_on(self.rt, self.alloc, view, blocks.as_slice());
-        let stream = view.send(self.alloc, None).expect(self.rt, "memory");
-        let seen = Seen {
-            number,
-            snapshot,
-            blocks,
-            stream,
-        };
-        self.kept.seen.push(seen).expect(self.rt, "memory");
-    }
-
-    fn close(&mut self, view: View<K>) {
-        match self
-            .session
-            .close_view(self.alloc, self.rt, &mut self.seat, view)
-        {
-            ClosedView::Closed(receipt) => self.kept.keep(self.rt, receipt),
-            ClosedView::Refused(receipt, view) => {
-                drop(view);
-                drop(receipt);
-                self.kept.is_right = false;
-            }
-            ClosedView::NotRun(_, view) => {
-                drop(view);
-                self.kept.is_right = false;
-            }
-        }
-    }
-
-    fn syncs(&mut self) {
-        let gate = &mut Turns::new(SYNCS);
-        let worked = self
-            .session
-            .run_syncer(self.alloc, self.rt, &mut self.seat, gate);
-        self.kept.note_work(SYNCS, worked);
-    }
-
-    fn slices(&mut self) {
-        let gate = &mut Turns::new(SLICES);
-        let (session, seat) = (self.session, &mut self.seat);
-        let worked = session.run_destroyer(self.alloc, self.rt, seat, SLICE, gate);
-        self.kept.note_work(SLICES, worked);
-    }
+/// Asks for a batch, at a gate that ends it early where it has few turns. The numbers of what ran follow one another.
+fn batch<K: Opening, R: Wait + Abort>(
+    rt: &R,
+    alloc: Global,
+    session: &Session<K>,
+    seat: &mut Seat<K>,
+    kept: &mut Kept,
+    seed: u64,
+) {
+    let turns = (seed >> 33) % 24;
+    let requests = requests_of(rt, alloc, seed);
+    let receipts = session.batch(alloc, rt, seat, requests, &mut Turns::new(turns));
+    kept.keep_batch(rt, receipts.expect(rt, "room"), turns);
 }
 
 fn requests_of(rt: &impl Abort, alloc: Global, mut seed: u64) -> Vec<Request> {
@@ -301,8 +222,73 @@ fn requests_of(rt: &impl Abort, alloc: Global, mut seed: u64) -> Vec<Request> {
 }
 
 fn follow_on(receipts: &[Receipt]) -> bool {
-    for at in 1..receipts.len() {
-        if receipts[at].number != receipts[at - 1].number.saturating_add(1) {
+    let Some(first) = receipts.first() else {
+        return true;
+    };
+    let mut next = first.number;
+    for receipt in receipts {
+        if receipt.number != next {
+            return false;
+        }
+        next = next.saturating_add(1);
+    }
+    true
+}
+
+fn views<K: Opening, R: Wait + Abort>(
+    rt: &R,
+    alloc: Global,
+    session: &Session<K>,
+    seat: &mut Seat<K>,
+    kept: &mut Kept,
+    mut seed: u64,
+) {
+    for _ in 0..VIEWS {
+        seed = next(seed);
+        let snapshot = one_of(VIEWED, seed);
+        if let Some(view) = opens(rt, alloc, session, seat, kept, snapshot) {
+            kept.is_right &= closes(rt, alloc, session, seat, kept, view);
+        }
+    }
+}
+
+/// Opens a view of a snapshot, where the pool allows it, and keeps what it shows while others go on.
+fn opens<K: Opening, R: Wait + Abort>(
+    rt: &R,
+    alloc: Global,
+    session: &Session<K>,
+    seat: &mut Seat<K>,
+    kept: &mut Kept,
+    snapshot: &'static str,
+) -> Option<View<K>> {
+    let target = Target::read(alloc, snapshot.as_bytes()).expect(rt, "memory");
+    let opened = session.open_view(alloc, rt, seat, target);
+    match opened.expect(rt, "room") {
+        OpenedView::Opened(view, receipt) => {
+            kept.is_right &= looks_on(rt, alloc, &view);
+            let seen = Seen {
+                number: receipt.number,
+                snapshot,
+                blocks: blocks_of(rt, alloc, &view),
+                stream: view.send(alloc, None).expect(rt, "memory"),
+            };
+            kept.seen.push(seen).expect(rt, "memory");
+            kept.keep(rt, receipt);
+            Some(view)
+        }
+        OpenedView::Refused(receipt) => {
+            kept.keep(rt, receipt);
+            None
+        }
+    }
+}
+
+/// Whether a view shows the same again and again.
+fn looks_on<K: Opening>(rt: &impl Abort, alloc: Global, view: &View<K>) -> bool {
+    let blocks = blocks_of(rt, alloc, view);
+    for _ in 0..LOOKS {
+        yield_now();
+        if blocks_of(rt, alloc, view).as_slice() != blocks.as_slice() {
             return false;
         }
     }
@@ -318,18 +304,27 @@ fn blocks_of<K: Opening>(rt: &impl Abort, alloc: Global, view: &View<K>) -> Vec<
     blocks
 }
 
-/// Whether a view shows these blocks again and again.
-fn shows_on<K: Opening>(
-    rt: &impl Abort,
+fn closes<K: Opening, R: Wait + Abort>(
+    rt: &R,
     alloc: Global,
-    view: &View<K>,
-    blocks: &[Option<[u8; 512]>],
+    session: &Session<K>,
+    seat: &mut Seat<K>,
+    kept: &mut Kept,
+    view: View<K>,
 ) -> bool {
-    for _ in 0..LOOKS {
-        yield_now();
-        if blocks_of(rt, alloc, view).as_slice() != blocks {
-            return false;
+    match session.close_view(alloc, rt, seat, view) {
+        ClosedView::Closed(receipt) => {
+            kept.keep(rt, receipt);
+            true
+        }
+        ClosedView::Refused(receipt, view) => {
+            drop(view);
+            drop(receipt);
+            false
+        }
+        ClosedView::NotRun(_, view) => {
+            drop(view);
+            false
         }
     }
-    true
 }

@@ -2,7 +2,7 @@
 ghost use Rattle.std.specs.Prelude.{◌≡◌};
 
 use crate::blocks::have_same_blocks;
-use crate::players::{Kept, Player, Playing, Role, play};
+use crate::players::{Kept, Player, Role, call, play};
 use crate::walked::{are_whole, is_replayed, reads_are_last_writes};
 use session::{Book, Closed, Opening, Pool, Seat, Session};
 use std::alloc::Global;
@@ -117,12 +117,12 @@ fn begun<K: Opening, R: Wait + Abort>(
     alloc: Global,
     session: &Session<K>,
 ) -> (Seat<K>, Kept) {
-    let seat = session.seat(alloc, rt).expect(rt, "a seat");
-    let mut first = Playing::new(rt, alloc, session, seat);
+    let mut seat = session.seat(alloc, rt).expect(rt, "a seat");
+    let mut kept = Kept::new(alloc);
     for line in FIRST.split(',') {
-        first.call(line);
+        call(rt, alloc, session, &mut seat, &mut kept, line);
     }
-    first.end()
+    (seat, kept)
 }
 
 /// Four callers, one of batches, two readers of views, a syncer and a destroyer, each with a seat.

@@ -45,13 +45,17 @@ fn is_at_its_number(history: &[Arc<Entry>], receipt: &Receipt) -> bool {
 
 /// Whether the workers' requests are there, of which nobody else makes one.
 fn has_work(history: &[Arc<Entry>]) -> bool {
-    let slice = Request::Slice { count: SLICE };
-    count_of(history, &Request::Sync) == SYNCS && count_of(history, &slice) == SLICES
+    let mut syncs: u64 = 0;
+    let mut slices: u64 = 0;
+    for entry in history {
+        syncs = syncs.saturating_add(is_sync(entry) as u64);
+        slices = slices.saturating_add(is_slice(entry) as u64);
+    }
+    syncs == SYNCS && slices == SLICES
 }
 
-fn count_of(history: &[Arc<Entry>], request: &Request) -> u64 {
-    let same = history.iter().filter(|entry| entry.request.same(request));
-    same.count() as u64
+fn is_slice(entry: &Entry) -> bool {
+    matches!(entry.request, Request::Slice { count: SLICE })
 }
 
 /// Whether each read of a block of `p` is answered with what was last written there.
