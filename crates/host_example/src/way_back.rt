@@ -12,11 +12,15 @@ pub fn goes_back(alloc: Global) -> Result<bool, Refusal> {
 }
 
 fn is_back(alloc: Global, pool: &mut Pool) -> Result<bool, Refusal> {
-    let first = write(alloc, 0, 0, 97)?;
-    let second = write(alloc, 0, 0, 98)?;
-    let is_synced = is_done(alloc, pool, first) && opens(alloc, pool, 2);
-    let is_gone = is_done(alloc, pool, second) && is_done(alloc, pool, Request::Abandon);
+    let is_synced = is_written(alloc, pool, 97)? && opens(alloc, pool, 2);
+    let is_gone = is_written(alloc, pool, 98)? && is_done(alloc, pool, Request::Abandon);
     Ok(is_synced && is_gone && is_full_of(alloc, pool, b"p", 97)?)
+}
+
+// Whether a write of blocks full of this byte is done.
+fn is_written(alloc: Global, pool: &mut Pool, byte: u8) -> Result<bool, Refusal> {
+    let request = write(alloc, 0, 0, byte)?;
+    Ok(is_done(alloc, pool, request))
 }
 
 // Whether a sync opens this group.
