@@ -28,7 +28,6 @@ use borrow.Kind.Owned.{p_owned}
 use denote.Struct.Struct.{within}
 use denote.Struct.Owning.{shape}
 use Rattle.std.specs.Box.Ownership.{box_owns}
-use Rattle.libc.specs.Heap.{chunk}
 use Rattle.std.specs.Option.{IsSome}
 use Rattle.std.specs.contracts.alloc.Global as Heap
 use Rattle.std.proofs.alloc.Global.TheLaws as heap
@@ -39,7 +38,7 @@ use Rattle.yuzgont_c.specs.contracts.host.Host as inner
 use Rattle.yuzgont_c.proofs.host.Host.TheLaws as inner_laws
 use Rattle.yuzgont_c.specs.declared.slot.Slot as S
 use Rattle.yuzgont_c.specs.contracts.slot.Slot as slot
-use Rattle.yuzgont_c.specs.Owned.{owns_if}
+use Rattle.yuzgont_c.specs.Owned.{chunk, owns_if}
 
 abbrev pub R : RattleType
 R = inner.the_row

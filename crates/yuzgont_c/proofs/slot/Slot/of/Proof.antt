@@ -46,7 +46,7 @@ use borrow.Fn.Run.{Over}
 use Rattle.std.proofs.raw_atomic.Walks.{proved_at, leaves}
 use Rattle.std.specs.Box.Ownership.{box_owns}
 use Rattle.std.specs.contracts.boxed.Box as boxed
-use Rattle.libc.specs.Heap.{chunk}
+use Rattle.yuzgont_c.specs.Owned.{chunk}
 use Rattle.std.proofs.BoxSteps.Form as box
 use Rattle.std.proofs.BoxSteps.Steps.{box_out, box_in}
 use Rattle.std.specs.contracts.boxed.Box.into_raw as callee
