@@ -1,6 +1,6 @@
 #!/usr/bin/env bash
 # Builds the hosts in C and Rust over the proved static library, and runs them: the session of the README, a million writes, streams, refused
-# memory, mistakes, and a backup over a connection. `rt ci` or `rt lib` in crates/yuzgont_c makes the library. Status 1 where anything fails.
+# memory, mistakes, and a backup over a connection. `rt lib` in crates/yuzgont_c makes the library. Status 1 where anything fails.
 #
 #     hosts/run.sh [WRITES]     how many writes are timed, 1,000,000 if left out
 set -euo pipefail
