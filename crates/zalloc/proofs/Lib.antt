@@ -1,15 +1,8 @@
 pub mod Counting
-pub mod Exchanged
 pub mod Finding
 pub mod Freed
-pub mod Groups
-pub mod Laid
-pub mod Moves
 pub mod Noted
 pub mod Pairing
-pub mod Shorter
-pub mod Slots
-pub mod Spread
+pub mod Sets
 pub mod States
-pub mod Stored
 pub mod Words

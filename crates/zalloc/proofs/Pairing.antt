@@ -5,9 +5,9 @@ use Rattle.std.specs.List.{Contains}
 use Rattle.std.proofs.lemmas.Bool.{cases_eq}
 use Rattle.zalloc.specs.declared.BlockState.{BlockState}
 use Rattle.zalloc.specs.declared.BlockState.TheVariants.{Free, Allocated, Waiting}
-use Rattle.zalloc.specs.declared.extents.Extents.{Extents}
+use Rattle.zalloc.specs.declared.set.NumberSet.{NumberSet}
 use Rattle.zalloc.specs.States.{after_group}
-use Rattle.zalloc.specs.Laid.{is_held, AreSame}
+use Rattle.zalloc.specs.Sets.{is_held, AreSame}
 use Rattle.zalloc.specs.Allocator.{states_from}
 use Rattle.zalloc.specs.Paired.{AreSameBut, NoneWaits}
 use Rattle.zalloc.proofs.States.{same_held, same_sets}
@@ -68,10 +68,10 @@ none_at_first (suc n) zero e = cc
 none_at_first (suc n) (suc k) e = none_at_first n k e
 
 -- the sets of two allocators, which are the same but for the windows of a list
-abbrev pub AreApart : Extents → Extents → Type 0
+abbrev pub AreApart : NumberSet → NumberSet → Type 0
 AreApart x y = (k : ℕ) → k < x.numbers → is_held x k ≡ true → is_held y k ≡ false
 
-module _ (x y v w : Extents) (touched : List Bool) (ws : List ℕ) (n : v.numbers ≡ x.numbers) (a : AreApart x y) (b : AreApart v w) (same : AreSameBut touched (states_from x y) (states_from v w)) (all : (i : ℕ) → slice_get touched i ≡ Some true → Contains ws i) where
+module _ (x y v w : NumberSet) (touched : List Bool) (ws : List ℕ) (n : v.numbers ≡ x.numbers) (a : AreApart x y) (b : AreApart v w) (same : AreSameBut touched (states_from x y) (states_from v w)) (all : (i : ℕ) → slice_get touched i ≡ Some true → Contains ws i) where
   pub free_but : (k : ℕ) → k < x.numbers → (is_held x k ≡ is_held v k) ⊎ Contains ws (k / 64)
   free_but k h =
       ⊎_elim
@@ -87,5 +87,5 @@ module _ (x y v w : Extents) (touched : List Bool) (ws : List ℕ) (n : v.number
       (same k)
 
 -- the states of sets that were copied
-pub copied_states : (x y v w : Extents) → y.numbers ≡ x.numbers → AreSame x v → AreSame y w → states_from v w ≡ states_from x y
+pub copied_states : (x y v w : NumberSet) → y.numbers ≡ x.numbers → AreSame x v → AreSame y w → states_from v w ≡ states_from x y
 copied_states x y v w n f g = same_sets x y v w f.numbers (λ k h. (f.held k h, g.held k (omega (arith, h, n))))

@@ -6,7 +6,7 @@ use Rattle.std.specs.Int.{bit_at, trailing_zeros}
 use Rattle.std.proofs.lemmas.Bool.{eq-eqb, ne_eqb, cases_lt}
 use Rattle.std.proofs.lemmas.Nat.{and_le_l}
 use Rattle.std.proofs.lemmas.Nat.Bits.{bit_at-zero, bit_at_ones, bit_at_and, bit_at_or, bit_at-lt, bit_at_mask_inside, bit_at_mask_below, bit_at-trailing_zeros, ones_shl}
-use Rattle.zalloc.specs.Bits.{is_one, IsEven, IsLowest}
+use Rattle.zalloc.specs.Bits.{is_one, IsLowest}
 
 pub one_from : (word i : ℕ) → bit_at word i ≡ 1 → is_one word i ≡ true
 one_from word i h = eq-eqb (bit_at word i) 1 h
@@ -35,9 +35,15 @@ max_one (suc (suc x)) y p q = absurd (omega arith)
 pub either_one : (a b i : ℕ) → is_one (bit_or a b) i ≡ (is_one a i || is_one b i)
 either_one a b i = ap (λ (x : ℕ). x == 1) (bit_at_or a b i) ∙ max_one (bit_at a i) (bit_at b i) (bit_at-lt a i) (bit_at-lt b i)
 
-pub even_same : (word i j : ℕ) → IsEven word → i < 64 → j < 64 → is_one word i ≡ is_one word j
-even_same word i j (inl e) p q = ap (λ x. is_one x i) e ∙ no_ones i ∙ sym (no_ones j) ∙ ap (λ x. is_one x j) (sym e)
-even_same word i j (inr e) p q = ap (λ x. is_one x i) e ∙ all_ones i p ∙ sym (all_ones j q) ∙ ap (λ x. is_one x j) (sym e)
+pub lowest_of : (word : ℕ) → word < 2 ^ 64 → 0 < word → IsLowest word 0 (trailing_zeros w64 word)
+lowest_of word fits some =
+    let t = bit_at-trailing_zeros w64 word some fits in
+    record {
+      from = omega arith;
+      within = t.0;
+      one = one_from word (trailing_zeros w64 word) t.1;
+      below = λ i p q. none_from word i (t.2 i q);
+    }
 
 -- the bits from one on
 abbrev pub high : ℕ → ℕ → ℕ

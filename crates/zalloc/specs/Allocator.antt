@@ -3,9 +3,9 @@ use Rattle.std.specs.Prelude.{◌≡◌, ℕ, ◌<◌, Bool, true, false, List, 
 use Rattle.std.specs.List.{range_with_len}
 use Rattle.zalloc.specs.declared.BlockState.{BlockState}
 use Rattle.zalloc.specs.declared.BlockState.TheVariants.{Free, Allocated, Waiting}
-use Rattle.zalloc.specs.declared.extents.Extents.{Extents}
+use Rattle.zalloc.specs.declared.set.NumberSet.{NumberSet}
 use Rattle.zalloc.specs.declared.Allocator.TheInside.{Inside}
-use Rattle.zalloc.specs.Laid.{IsKept, is_held}
+use Rattle.zalloc.specs.Sets.{IsKept, is_held}
 use Rattle.zalloc.specs.States.{is_free, is_waiting}
 
 -- the state of a number that the Free ones have, or not, and the Waiting ones
@@ -15,7 +15,7 @@ state_from false true = Waiting
 state_from false false = Allocated
 
 -- the state of each number
-abbrev pub states_from : Extents → Extents → List BlockState
+abbrev pub states_from : NumberSet → NumberSet → List BlockState
 states_from free waiting = map (λ k. state_from (is_held free k) (is_held waiting k)) (range_with_len 0 free.numbers)
 
 -- both sets are kept, no number is in both, and the counts are those of the states [profile]

@@ -1,5 +1,5 @@
 -- The bits of a word.
-use Rattle.std.specs.Prelude.{◌≡◌, ℕ, ◌<◌, ◌≤◌, ◌⊎◌, ◌==◌, ◌||◌, Bool, true, false}
+use Rattle.std.specs.Prelude.{◌≡◌, ℕ, ◌<◌, ◌≤◌, ◌⊎◌, ◌==◌, Bool, true, false}
 use Rattle.std.specs.Int.{bit_at}
 
 -- a bit is one
@@ -7,9 +7,6 @@ abbrev pub is_one : ℕ → ℕ → Bool
 is_one word i = bit_at word i == 1
 
 -- all bits of a word of 64 are the same
-abbrev pub is_even : ℕ → Bool
-is_even word = (word == 0) || (word == 18446744073709551615)
-
 abbrev pub IsEven : ℕ → Type 0
 IsEven word = (word ≡ 0) ⊎ (word ≡ 18446744073709551615)
 

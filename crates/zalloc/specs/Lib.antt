@@ -1,11 +1,8 @@
 pub mod Allocator
 pub mod Bits
-pub mod Covers
-pub mod Extents
-pub mod Laid
 pub mod Numbers
 pub mod Paired
-pub mod Places
+pub mod Sets
 pub mod States
 pub mod Tallies
 pub mod Touched

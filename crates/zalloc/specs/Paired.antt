@@ -2,7 +2,7 @@
 use Rattle.std.specs.Prelude.{◌≡◌, ◌≢◌, ◌⊎◌, ℕ, ◌+◌, ◌/◌, List, Bool, true, Some, slice_get, length}
 use Rattle.zalloc.specs.declared.BlockState.{BlockState}
 use Rattle.zalloc.specs.declared.BlockState.TheVariants.{Waiting}
-use Rattle.zalloc.specs.declared.extents.TheConstants.{WINDOW}
+use Rattle.zalloc.specs.declared.set.TheConstants.{WINDOW}
 use Rattle.zalloc.specs.declared.numbers.Numbers.TheInside.{Inside}
 
 -- the states are the same but where a number of the window was touched [profile]

@@ -1,6 +1,6 @@
 //! The numbers of a window as the bits of a word.
 ghost use Rattle.std.specs.Prelude.{◌≡◌, ◌≢◌, ℕ, ◌<◌, ◌≤◌, ◌||◌, true, false, IfSome, IfNone};
-ghost use Rattle.zalloc.specs.Bits.{is_one, is_even as is_even_word, IsEven, IsLowest};
+ghost use Rattle.zalloc.specs.Bits.{is_one, IsEven, IsLowest};
 
 /// Whether a bit is one.
 pub fn has(word: u64, bit: u32) -> bool
@@ -28,6 +28,19 @@ pub fn without(word: u64, bit: u32) -> u64
     word & !(1 << bit)
 }
 
+/// The word with this bit.
+pub fn put(word: u64, bit: u32, one: bool) -> u64
+    requires { bit < 64 }
+    ensures same { is_one result bit ≡ one }
+    ensures others { (i : ℕ) → i < 64 → i ≢ bit → is_one result i ≡ is_one word i }
+{
+    if one {
+        with(word, bit)
+    } else {
+        without(word, bit)
+    }
+}
+
 /// The bits of one word or another.
 pub fn either(one: u64, other: u64) -> u64
     ensures { (i : ℕ) → is_one result i ≡ (is_one one i || is_one other i) }
@@ -49,11 +62,12 @@ pub fn lowest(word: u64, from: u32) -> Option<u32>
     }
 }
 
-/// Whether all bits are the same.
-pub fn is_even(word: u64) -> bool
-    ensures { result ≡ is_even_word word }
+/// The lowest bit that is one of a word that has one.
+pub fn least(word: u64) -> u32
+    requires { 0 < word }
+    ensures { IsLowest word 0 result }
 {
-    word == 0 || word == u64::MAX
+    word.trailing_zeros()
 }
 
 /// All bits, or none.

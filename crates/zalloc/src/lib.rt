@@ -1,31 +1,29 @@
 //! The allocator: the state of every block number of a pool.
 //!
 //! A number is Free, Allocated or Waiting (profile). Waiting numbers are those of blocks that were let go and whose number
-//! may be used again only after the group is synced. The Free and the Waiting numbers are kept as extents, which are windows of
-//! 64 numbers in a row that are all in a set, or none; a window that has some has a bit for each number. So a pool that is empty
-//! or full takes little memory, and one full of holes is searched as fast.
+//! may be used again only after the group is synced. The Free and the Waiting numbers are sets with a bit for each number, in words
+//! of 64, and two levels above that say which words have a bit: so a pool full of holes takes no more memory than another one, and a
+//! number is found, taken and released in constant time.
 #![tactic(auto)]
 
 ghost use Rattle.std.specs.Prelude.{◌≡◌, ◌≢◌, ℕ, ◌+◌, ◌/◌, ◌<◌, ◌≤◌, ◌||◌, true, false, length, IfSome, IfNone, IfOk, IfErr, Some, slice_get, slice_set, map, count_by, if◌then◌else◌, replicate};
 ghost use Rattle.zalloc.specs.States.{is_free, is_waiting, is_allocated, after_group};
-ghost use Rattle.zalloc.specs.Laid.{IsKept, is_held};
+ghost use Rattle.zalloc.specs.Sets.{IsKept, is_held, bit_in};
 ghost use Rattle.zalloc.specs.Paired.{AreSameBut};
 ghost use Rattle.zalloc.specs.Tallies.{IsTaken};
 ghost use Rattle.zalloc.specs.declared.BlockState.TheVariants.{Free, Allocated, Waiting};
-ghost use Rattle.zalloc.specs.declared.extents.TheConstants.{WINDOW};
+ghost use Rattle.zalloc.specs.declared.set.TheConstants.{WINDOW};
 
 mod bits;
-mod covers;
-mod extents;
 mod numbers;
-mod places;
+mod set;
 mod touched;
 
 use base::number::BlockNo;
 use base::refusal::Refusal;
 use bits::either;
-use extents::{Extent, Extents, WINDOW};
 pub use numbers::Numbers;
+use set::{NumberSet, WINDOW};
 use std::alloc::Global;
 use std::fmt;
 use std::marker::Model;
@@ -55,13 +53,12 @@ pub struct Counts {
 
 /// The state of each number below the size of the pool. Contracts see the list of the states.
 ///
-/// The Free numbers are one set of extents, and the Waiting ones another; every other number is Allocated. An empty pool takes
-/// 17 bytes for each 64 numbers, and 64 numbers of which some are Free, and not all, take 16 bytes more, as many where some wait.
-/// The room for the most extents is reserved by `new` and by `copy`, and the system gives its pages when they are first used: no
-/// other function takes memory.
+/// The Free numbers are one set, and the Waiting ones another; every other number is Allocated. A set takes a bit for each number below
+/// the greatest that was ever taken out of the one or put into the other, and a 64th of that. The room for all is reserved by `new` and
+/// by `copy`, and the system gives its pages when they are first used: no other function takes memory.
 pub struct Allocator {
-    free: Extents,
-    waiting: Extents,
+    free: NumberSet,
+    waiting: NumberSet,
     free_count: u32,
     waiting_count: u32,
 }
@@ -95,14 +92,14 @@ impl Model for Allocator {
 
 impl Allocator {
     /// An allocator of `n` numbers, at most `MOST_BLOCKS`, each Free, with room for everything that it will keep. NoMemory
-    /// where the room was refused. It takes time by a 64th of `n`.
+    /// where the room was refused. Constant time.
     pub fn new(alloc: Global, n: u32) -> Result<Allocator, Refusal>
         requires { n ≤ MOST_BLOCKS }
         ensures ok { IfOk result (λ a. a ≡ replicate n Free) }
         ensures no_memory { IfErr result (λ r. r ≡ Refusal.NoMemory) }
     {
-        let free = Extents::new(alloc, n, true)?;
-        let waiting = Extents::new(alloc, n, false)?;
+        let free = NumberSet::new(alloc, n, true)?;
+        let waiting = NumberSet::new(alloc, n, false)?;
         Ok(Allocator {
             free,
             waiting,
@@ -111,8 +108,8 @@ impl Allocator {
         })
     }
 
-    /// Another allocator of the same states, with the room that `new` makes. NoMemory where the room was refused. It takes
-    /// time and memory by the most extents that there have been, and a little by a 64th of the size of the pool.
+    /// Another allocator of the same states, with the room that `new` makes. NoMemory where the room was refused. It takes time and memory
+    /// by a 64th of the greatest number that was ever taken.
     pub fn copy(&self) -> Result<Allocator, Refusal>
         ensures ok { IfOk result (λ a. a ≡ self.now) }
         ensures no_memory { IfErr result (λ r. r ≡ Refusal.NoMemory) }
@@ -155,8 +152,7 @@ impl Allocator {
         }
     }
 
-    /// The least Free number not below `from`, or None where there is none. It reads at most three
-    /// slots, since an empty one is joined with its neighbours.
+    /// The least Free number not below `from`, or None where there is none. It reads at most 21 words. Constant time.
     pub fn find(&self, from: u32) -> Option<BlockNo>
         ensures found { IfSome result (λ b. slice_get self.now b.0 ≡ Some Free) }
         ensures not_below { IfSome result (λ b. from ≤ b.0) }
@@ -164,21 +160,16 @@ impl Allocator {
         ensures within { IfSome result (λ b. b.0 < MOST_BLOCKS) }
         ensures none { IfNone result ((k : ℕ) → from ≤ k → slice_get self.now k ≢ Some Free) }
     {
-        let extent = self.free.next(from)?;
-        Some(BlockNo(extent.first))
+        let number = self.free.next(from)?;
+        Some(BlockNo(number))
     }
 
-    /// Makes a Free number Allocated. Constant time, but where the numbers of a window were all in the same state, or are now: a slot
-    /// is divided or joined then, and what covers the windows of the shorter part is written, a number for each 4,096 numbers of
-    /// it and at most 256 more.
+    /// Makes a Free number Allocated. Constant time, but for the words before the number's that no number has asked for yet.
     pub fn take(&mut self, b: BlockNo)
         requires { slice_get self.old b.0 ≡ Some Free }
         ensures { self.new ≡ slice_set self.old b.0 Allocated }
     {
-        self.free.remove(Extent {
-            first: b.0,
-            past: b.0 + 1,
-        });
+        self.free.remove(b.0);
         self.free_count -= 1;
     }
 
@@ -188,22 +179,16 @@ impl Allocator {
         ensures { self.new ≡ slice_set self.old b.0 (if wait then Waiting else Free) }
     {
         if wait {
-            self.waiting.insert(Extent {
-                first: b.0,
-                past: b.0 + 1,
-            });
+            self.waiting.insert(b.0);
             self.waiting_count += 1;
         } else {
-            self.free.insert(Extent {
-                first: b.0,
-                past: b.0 + 1,
-            });
+            self.free.insert(b.0);
             self.free_count += 1;
         }
     }
 
-    /// Makes each Waiting number Free. It costs a `take` and a `release` for each 64 numbers of which some wait, and none by the size of
-    /// the pool else.
+    /// Makes each Waiting number Free. It costs by how many windows of 64 numbers have some that wait, and nothing by the
+    /// size of the pool.
     pub fn end_group(&mut self)
         ensures { self.new ≡ map after_group self.old }
     {
@@ -240,7 +225,7 @@ impl fmt::Debug for Allocator {
 }
 
 /// Adds the numbers that wait to the Free ones, window by window.
-fn free_all(free: &mut Extents, waiting: &mut Extents)
+fn free_all(free: &mut NumberSet, waiting: &mut NumberSet)
     requires free { IsKept free.old }
     requires waiting { IsKept waiting.old }
     requires same { waiting.old.numbers ≡ free.old.numbers }
@@ -253,8 +238,8 @@ fn free_all(free: &mut Extents, waiting: &mut Extents)
     ensures emptied { (k : ℕ) → k < free.old.numbers → is_held waiting.new k ≡ false }
 {
     let mut from = 0;
-    while let Some(extent) = waiting.next(from) {
-        let window = extent.first / WINDOW;
+    while let Some(number) = waiting.next(from) {
+        let window = number / WINDOW;
         free.write(window, either(free.word(window), waiting.word(window)));
         waiting.write(window, 0);
         from = (window + 1) * WINDOW;

@@ -3,7 +3,7 @@ ghost use Rattle.std.specs.Prelude.{◌≡◌, ℕ, ◌+◌, ◌/◌, ◌<◌, �
 ghost use Rattle.std.specs.List.{Contains};
 
 use crate::MOST_BLOCKS;
-use crate::extents::WINDOW;
+use crate::set::WINDOW;
 use std::alloc::{AllocError, Global};
 use std::marker::Model;
 

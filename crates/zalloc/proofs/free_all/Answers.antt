@@ -2,16 +2,15 @@ use Rattle.std.proofs.Common.{◌/◌, ◌∙◌, refl, sym, arith}
 use Rattle.zalloc.proofs.Freed.{freed_either, freed_apart, freed_below}
 use Rattle.zalloc.proofs.free_all.Goals as goal
 
-pub loop-extent-preserved : goal.loop-extent-preserved
-loop-extent-preserved c =
-    let i = c.loop-extent.invariant in
-    let f = c.in-Some.extent in
-    let w = f.first / 64 in
-    let x = c.loop-extent.free in
-    let y = c.loop-extent.waiting in
+pub loop-number-preserved : goal.loop-number-preserved
+loop-number-preserved c =
+    let i = c.loop-number.invariant in
+    let f = c.in-Some.number in
+    let w = f / 64 in
+    let x = c.loop-number.free in
+    let y = c.loop-number.waiting in
     let a = c.write.ensures.written in
     let b = c.write-in-Some.ensures.written in
-    let n = i.same ∙ sym i.numbers in
     let v = c.write.new.self in
     let z = c.write-in-Some.new.self in
     record {
@@ -19,7 +18,7 @@ loop-extent-preserved c =
       waiting = c.write-in-Some.ensures.kept;
       numbers = a.numbers ∙ i.numbers;
       same = b.numbers ∙ i.same;
-      either = λ k h. freed_either x y v z w c.either.result c.word.result c.word-in-Some.result a b n c.either.ensures c.word.ensures c.word-in-Some.ensures k (omega (arith, h, i.numbers)) ∙ i.either k h;
-      apart = λ k h t. freed_apart x y v z w c.either.result c.word.result c.word-in-Some.result a b n c.either.ensures c.word.ensures c.word-in-Some.ensures k (omega (arith, h, i.numbers)) (i.apart k h) t;
-      moved = λ k h p. freed_below x y v z w c.either.result c.word.result c.word-in-Some.result a b n c.either.ensures c.word.ensures c.word-in-Some.ensures c.loop-extent.from f c.in-Some.ensures.found refl k (omega (arith, h, i.numbers)) (i.moved k h) p;
+      either = λ k h. freed_either x y v z w c.either.result c.word.result c.word-in-Some.result a b c.either.ensures c.word.ensures c.word-in-Some.ensures k (omega (arith, h, i.numbers)) ∙ i.either k h;
+      apart = λ k h t. freed_apart x y v z w c.either.result c.word.result c.word-in-Some.result a b c.either.ensures c.word.ensures c.word-in-Some.ensures k (omega (arith, h, i.numbers)) (i.apart k h) t;
+      moved = λ k h p. freed_below x y v z w c.either.result c.word.result c.word-in-Some.result a b c.either.ensures c.word.ensures c.word-in-Some.ensures c.loop-number.from f c.in-Some.ensures.found refl k (omega (arith, h, i.numbers)) (i.moved k h) p;
     }

@@ -1,9 +1,9 @@
 use Rattle.std.proofs.Common.{◌≡◌, ◌<◌, ◌-◌, ◌||◌, true, false, ℕ}
-use Rattle.zalloc.specs.Laid.{IsKept, is_held}
+use Rattle.zalloc.specs.Sets.{IsKept, is_held}
 use Rattle.zalloc.proofs.free_all.Given as goal
 
-abbrev pub invariant-loop-extent : goal.invariant-loop-extent
-invariant-loop-extent l = record {
+abbrev pub invariant-loop-number : goal.invariant-loop-number
+invariant-loop-number l = record {
   free : IsKept l.free;
   waiting : IsKept l.waiting;
   numbers : l.free.numbers ≡ l.initial.free.numbers;
@@ -13,5 +13,5 @@ invariant-loop-extent l = record {
   moved : (k : ℕ) → k < l.initial.free.numbers → k < l.from → is_held l.waiting k ≡ false;
 }
 
-abbrev pub decreases-loop-extent : goal.decreases-loop-extent
-decreases-loop-extent l = l.waiting.numbers - l.from
+abbrev pub decreases-loop-number : goal.decreases-loop-number
+decreases-loop-number l = l.waiting.numbers - l.from

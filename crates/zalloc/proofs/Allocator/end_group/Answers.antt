@@ -11,7 +11,7 @@ overflow_add-self c =
     let x = c.self.inside.free in
     let y = c.self.inside.waiting in
     let i = c.self.invariant in
-    let p : c.self.inside.free_count + c.self.inside.waiting_count ≤ 4194304 = omega (arith, three (states_from x y), states_len x y, i.free_count, i.waiting_count, i.free.laid.few) in
+    let p : c.self.inside.free_count + c.self.inside.waiting_count ≤ 4194304 = omega (arith, three (states_from x y), states_len x y, i.free_count, i.waiting_count, i.free.few) in
     search (rules, p)
 
 pub invariant_of-self : goal.invariant_of-self

@@ -1,6 +1,6 @@
 use Rattle.std.proofs.Common.{Some, ◌∙◌, sym, ap, arith}
 use Rattle.std.specs.Prelude.{slice_get}
-use Rattle.zalloc.specs.Laid.{is_held}
+use Rattle.zalloc.specs.Sets.{is_held}
 use Rattle.zalloc.specs.Allocator.{state_from}
 use Rattle.zalloc.proofs.States.{state_get, state_none}
 use Rattle.zalloc.proofs.Allocator.state.Goals as goal

@@ -1,0 +1,24 @@
+use Rattle.std.proofs.Common.{◌≡◌, ◌+◌, ◌*◌, ◌/◌, ◌≤◌, ℕ, false, subst}
+use Rattle.zalloc.specs.Sets.{bit_in, HasNone, IsFirst}
+use Rattle.zalloc.proofs.Finding.{if_none}
+use Rattle.zalloc.proofs.Sets.{first_through, none_through}
+use Rattle.zalloc.proofs.set.NumberSet.next_window.Goals as goal
+
+pub returns-in_err-group-clause-none : goal.returns-in_err-group-clause-none
+returns-in_err-group-clause-none c =
+    let s = c.args.self.now in
+    let a = c.args.from in
+    let none = subst (λ xs. (i : ℕ) → a ≤ i → i / 64 ≡ a / 64 → bit_in s.fill xs i ≡ false) c.deref.ensures.value c.in_default.ensures.none in
+    if_none c.from_residual.result (none_through s.fill s.tops.items s.groups.items a c.requires.kept.tops none (subst (λ xs. HasNone s.fill xs (a / 64 + 1)) c.deref-2.ensures.value c.in_err-group.ensures.none))
+
+pub returns-clause-found : goal.returns-clause-found
+returns-clause-found c =
+    let s = c.args.self.now in
+    let a = c.args.from in
+    let g = c.in_ok-group.group in
+    let k = c.first_of_word.result in
+    let none = subst (λ xs. (i : ℕ) → a ≤ i → i / 64 ≡ a / 64 → bit_in s.fill xs i ≡ false) c.deref.ensures.value c.in_default.ensures.none in
+    first_through s.fill s.tops.items s.groups.items a c.requires.kept.tops none g k
+    (subst (λ xs. IsFirst s.fill xs (a / 64 + 1) g) c.deref-2.ensures.value c.in_ok-group.ensures.found)
+    (subst (λ xs. IsFirst s.fill xs (g * 64) k) c.deref-3.ensures.value c.first_of_word.ensures.first)
+    c.first_of_word.ensures.same
