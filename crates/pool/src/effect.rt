@@ -1,5 +1,6 @@
 //! What a request leaves to be done once its world is in place.
 ghost use Rattle.std.specs.Prelude.{◌≡◌};
+ghost use Rattle.model.specs.declared.reply.Reply.{Reply};
 ghost use Rattle.pool.specs.Effects.{reply_of};
 
 use crate::worlds::World;
@@ -42,14 +43,24 @@ pub(crate) enum Effect {
 }
 
 impl Effect {
+    /// Puts the reply to the request in the place of Done. Constant time.
+    pub(crate) fn tell(&self, reply: &mut Reply)
+        requires { reply.old ≡ Reply.Done }
+        ensures { reply.new ≡ reply_of self.now }
+    {
+        match self {
+            Effect::Taken { taken } => *reply = Reply::Count(taken.len() as u64),
+            Effect::Synced { last, .. } => *reply = Reply::Group(last.table.group().0),
+            _ => {}
+        }
+    }
+
     /// The reply to the request. Constant time.
     pub(crate) fn reply(&self) -> Reply
         ensures { result ≡ reply_of self.now }
     {
-        match self {
-            Effect::Taken { taken } => Reply::Count(taken.len() as u64),
-            Effect::Synced { last, .. } => Reply::Group(last.table.group().0),
-            _ => Reply::Done,
-        }
+        let mut reply = Reply::Done;
+        self.tell(&mut reply);
+        reply
     }
 }

@@ -289,7 +289,8 @@ impl Pool {
         ensures keeps { self.new.image.keeps ≡ keeps_after request.now result self.old.image.keeps }
     {
         self.facts();
-        let reply = self.answer(alloc, request);
+        let mut reply = Reply::Done;
+        self.answer(alloc, request, &mut reply);
         self.facts();
         reply
     }
@@ -308,37 +309,31 @@ impl Pool {
         let _group = self.present.table.group();
     }
 
-    // One step: in place, but for what must not be seen half done.
-    fn answer(&mut self, alloc: Global, request: &Request) -> Reply
-        ensures step { Step self.old.state request.now result self.new.state }
-        ensures metered { IsMetered self.old request.now result self.new }
+    // One step: in place, but for what must not be seen half done. The reply comes in the place of Done: it has room for a block's bytes, and
+    // few replies are moved so.
+    fn answer(&mut self, alloc: Global, request: &Request, reply: &mut Reply)
+        requires { reply.old ≡ Reply.Done }
+        ensures step { Step self.old.state request.now reply.new self.new.state }
+        ensures metered { IsMetered self.old request.now reply.new self.new }
         ensures writes { AreWrites self.old.image self.new.image }
-        ensures keeps { self.new.image.keeps ≡ keeps_after request.now result self.old.image.keeps }
+        ensures keeps { self.new.image.keeps ≡ keeps_after request.now reply.new self.old.image.keeps }
     {
         match kind_of(request) {
-            Kind::Question => self
-                .keep
-                .asked(alloc, &self.present, request, &mut self.meters),
-            Kind::View => self.prepared(alloc, request),
-            Kind::Change => in_place(
+            Kind::Question => {
+                *reply = self
+                    .keep
+                    .asked(alloc, &self.present, request, &mut self.meters)
+            }
+            Kind::View => *reply = self.prepared(alloc, request),
+            Kind::Asking if self.present.ledger.is_some() => *reply = self.prepared(alloc, request),
+            _ => in_place(
                 alloc,
                 &mut self.present,
                 &mut self.keep,
                 request,
                 &mut self.meters,
+                reply,
             ),
-            Kind::Asking => {
-                if self.present.ledger.is_some() {
-                    return self.prepared(alloc, request);
-                }
-                in_place(
-                    alloc,
-                    &mut self.present,
-                    &mut self.keep,
-                    request,
-                    &mut self.meters,
-                )
-            }
         }
     }
 
@@ -408,21 +403,22 @@ fn in_place(
     keep: &mut Keep,
     request: &Request,
     meters: &mut Meters,
-) -> Reply
+    reply: &mut Reply,
+)
     requires held { IsHeld keep.old world.old }
     requires kind { (kind_of request.now ≡ Kind.Change) ⊎ ((kind_of request.now ≡ Kind.Asking) × (world.old.ledger ≡ None)) }
+    requires done { reply.old ≡ Reply.Done }
     ensures held { IsHeld keep.new world.new }
-    ensures step { Step (state_in keep.old world.old) request.now result (state_in keep.new world.new) }
-    ensures metered { IsMetered (shown_in keep.old world.old meters.old) request.now result (shown_in keep.new world.new meters.new) }
+    ensures step { Step (state_in keep.old world.old) request.now reply.new (state_in keep.new world.new) }
+    ensures metered { IsMetered (shown_in keep.old world.old meters.old) request.now reply.new (shown_in keep.new world.new meters.new) }
     ensures writes { AreWrites keep.old.image keep.new.image }
-    ensures keeps { keep.new.image.keeps ≡ keeps_after request.now result keep.old.image.keeps }
+    ensures keeps { keep.new.image.keeps ≡ keeps_after request.now reply.new keep.old.image.keeps }
 {
     match keep.perform(alloc, world, request, meters) {
         Ok(effect) => {
-            let reply = effect.reply();
+            effect.tell(reply);
             keep.settle(effect);
-            reply
         }
-        Err(refusal) => Reply::Refused(refusal),
+        Err(refusal) => *reply = Reply::Refused(refusal),
     }
 }

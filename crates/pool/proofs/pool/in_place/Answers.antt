@@ -34,7 +34,7 @@ returns-in-Ok-clause-keeps c =
     (done_of (state_in c.args.keep.now c.args.world.now) c.args.keep.now.numbers.present c.perform.new.world c.args.request.now c.perform.result c.in-Ok.effect c.in-Ok.is c.perform.ensures.performed)
     (λ changes. blocks_of c.args.request.now c.perform.result c.in-Ok.effect c.in-Ok.is (c.perform.ensures.blocks changes))
     c.settle.ensures.state c.settle.ensures.numbers c.settle.ensures.image c.settle.ensures.synced c.settle.ensures.kept c.settle.ensures.swept c.settle.ensures.below
-    (no_question (kind_of c.args.request.now) c.requires.kind) (no_view (kind_of c.args.request.now) c.requires.kind) c.reply-reply.result c.reply-reply.ensures
+    (no_question (kind_of c.args.request.now) c.requires.kind) (no_view (kind_of c.args.request.now) c.requires.kind) c.tell.new.reply c.tell.ensures
 
 pub returns-in-Err-clause-writes : goal.returns-in-Err-clause-writes
 returns-in-Err-clause-writes c = no_writes c.args.keep.now.image
