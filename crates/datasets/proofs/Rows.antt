@@ -12,6 +12,8 @@ use Rattle.std.specs.Cmp.Lexicographic.{nat_list_cmp_total}
 use Rattle.std.specs.Prelude.{is_ok, Result, Ok, Err, IfOk, IfErr}
 use Rattle.std.specs.List.Sorted.{IsSearchInRange, IsBinarySearchResult, IsNonDecreasingBy}
 use Rattle.std.specs.List.{insert}
+use Rattle.std.specs.Slice.{IsItemAt}
+use denote.Ref.{Bor}
 use Rattle.std.specs.FinMap as finmap
 use Rattle.std.specs.FinMap.{get, contains_key, len, entries, empty, find, put, is_sorted, from_sorted, get-from_sorted, entries-from_sorted, entries-insert, same_entries_map, get-insert, len-entries, len-empty, nat_cmp-IsAntisymmetric, slice_cmp-IsAntisymmetric, IsAntisymmetric}
 use Rattle.std.specs.FinMap.Entries.{is_sorted-put}
@@ -102,6 +104,13 @@ at_row g P (x ∷ xs) i lt h e = subst P (sym (get_or-map g (x ∷ xs) i x e lt)
 -- the element at a place makes the row at that place
 pub row_of : {A B : Type 0} (g : A → B) (xs : List A) (i : ℕ) (a : A) → a ≡ get_or xs i a → g a ≡ get_or (map g xs) i (g a)
 row_of g xs i a is = ap g is ∙ sym (get_or-map_same g xs i a)
+
+-- an element that a look at its place finds makes the row there
+pub at_looked_up : {A : Type 0} (g : A → Entry) (xs : List A) (i : ℕ) (r : Option (Bor A)) (a : Bor A) (q : List ℕ) → IsItemAt xs i r → r ≡ Some a → (g a.now).0 ≡ q → IsAt (map g xs) q i
+at_looked_up g xs i r a q looked is named =
+    let there = (subst (IsItemAt xs i) is looked).3 in
+    let long = length-map xs g in
+    record { within = omega (arith, there.0, long); named = at_row g (λ e. e.0 ≡ q) xs i there.0 (λ d. subst (λ y. (g y).0 ≡ q) (there.1 d) named) }
 
 -- a binary search among elements that make rows ends at the name, or at the gap for it
 module _ {A : Type 0} (g : A → Entry) (xs : List A) (sorted : IsTrue (is_sorted name_cmp (map g xs))) where

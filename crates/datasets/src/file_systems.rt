@@ -31,7 +31,7 @@ ghost use Rattle.tree.specs.Change.{HasRoom, LacksRoom, CountsDropped};
 ghost use Rattle.tree.specs.Updates.{changes_of};
 
 use crate::clones::{CloneIndex, CloneName};
-use crate::place::{gap, place};
+use crate::place::{gap, place_near};
 use crate::row::{own, owner_place, promoted, put, shared};
 use base::limit::Blocks;
 use base::meter::{Meter, SegMeter};
@@ -53,12 +53,15 @@ use zalloc::Allocator;
 /// File systems by name. Contracts see the map from their names to them.
 ///
 /// They stand in byte order of their names, so that `p/a-x` comes between `p/a` and `p/a/x`. Those that were copied from one another
-/// share the file systems that none of them changed.
+/// share the file systems that none of them changed. They keep the place of the last change, `near`, where a search for a name looks
+/// first.
 #[derive(Drop)]
 pub(crate) struct FileSystems {
     rows: Vec<Arc<FileSystem>>,
     snapshot_count: usize,
     clones: CloneIndex,
+    /// Where the file system that was changed last stood: a search looks there first. Any number will do.
+    near: usize,
 }
 
 impl Model for FileSystems {
@@ -90,6 +93,7 @@ impl FileSystems {
             rows,
             snapshot_count: 0,
             clones: CloneIndex::new(alloc),
+            near: 0,
         })
     }
 
@@ -104,6 +108,7 @@ impl FileSystems {
             rows,
             snapshot_count: self.snapshot_count,
             clones,
+            near: self.near,
         })
     }
 
@@ -133,7 +138,7 @@ impl FileSystems {
     pub(crate) fn find(&self, name: &DsName) -> Option<&FileSystem>
         ensures { option_copied result ≡ option_map (λ f. row_in self.now (name.now, f)) (get self.now name.now) }
     {
-        match place(&self.rows, name.as_bytes()) {
+        match place_near(&self.rows, self.near, name.as_bytes()) {
             Ok(place) => Some(&*self.rows[place]),
             Err(_) => None,
         }
@@ -150,7 +155,7 @@ impl FileSystems {
     pub(crate) fn contains(&self, name: &[u8]) -> bool
         ensures { result ≡ finmap.contains_key self.now name.now }
     {
-        place(&self.rows, name).is_ok()
+        place_near(&self.rows, self.near, name).is_ok()
     }
 
     /// The allocator of their memory. Constant time.
@@ -189,7 +194,7 @@ impl FileSystems {
         ensures err { OnErr result (self.new ≡ self.old) }
         ensures only { IfErr result (λ e. e ≡ Refusal.NoMemory) }
     {
-        let Ok(place) = place(&self.rows, name.as_bytes()) else {
+        let Ok(place) = place_near(&self.rows, self.near, name.as_bytes()) else {
             unreachable!()
         };
         let Some(origin) = self.rows[place].origin() else {
@@ -209,6 +214,7 @@ impl FileSystems {
             .promote(origin, &self.rows[place], &self.rows[other])?;
         self.rows[other] = owner;
         self.rows[place] = clone;
+        self.near = place;
         Ok(())
     }
 
@@ -237,9 +243,10 @@ impl FileSystems {
         ensures metered { OnOk result (CountsDropped (live_of self.old name.now) (changes_of updates.now) meter.old meter.new) }
         ensures never_lower { meter.old ≤ meter.new }
     {
-        let Ok(place) = place(&self.rows, name.as_bytes()) else {
+        let Ok(place) = place_near(&self.rows, self.near, name.as_bytes()) else {
             return Err(Refusal::NoDataset);
         };
+        self.near = place;
         let file_system = own(&mut self.rows[place], alloc)?;
         file_system.apply(alloc, updates, group, synced, allocator, meter, segments)
     }
@@ -261,12 +268,13 @@ impl FileSystems {
         ensures err { OnErr result (self.new ≡ self.old) }
         ensures only { IfErr result (λ e. e ≡ Refusal.NoMemory) }
     {
-        let Ok(place) = place(&self.rows, name.as_bytes()) else {
+        let Ok(place) = place_near(&self.rows, self.near, name.as_bytes()) else {
             unreachable!()
         };
         let Some(count) = self.snapshot_count.checked_add(1) else {
             return Err(Refusal::NoMemory);
         };
+        self.near = place;
         let file_system = own(&mut self.rows[place], alloc)?;
         file_system.take(alloc, component, guid, group)?;
         self.snapshot_count = count;
@@ -291,9 +299,10 @@ impl FileSystems {
         ensures err { OnErr result (self.new ≡ self.old) }
         ensures only { IfErr result (λ e. e ≡ Refusal.NoMemory) }
     {
-        let Ok(place) = place(&self.rows, name.as_bytes()) else {
+        let Ok(place) = place_near(&self.rows, self.near, name.as_bytes()) else {
             unreachable!()
         };
+        self.near = place;
         let file_system = own(&mut self.rows[place], alloc)?;
         let lost = file_system.splice(alloc, group, segments)?;
         self.snapshot_count -= 1;
@@ -314,9 +323,10 @@ impl FileSystems {
         ensures err { OnErr result (self.new ≡ self.old) }
         ensures only { IfErr result (λ e. e ≡ Refusal.NoMemory) }
     {
-        let Ok(place) = place(&self.rows, name.as_bytes()) else {
+        let Ok(place) = place_near(&self.rows, self.near, name.as_bytes()) else {
             unreachable!()
         };
+        self.near = place;
         let file_system = own(&mut self.rows[place], alloc)?;
         file_system.defer(alloc, group)
     }
@@ -336,9 +346,10 @@ impl FileSystems {
         ensures err { OnErr result (self.new ≡ self.old) }
         ensures only { IfErr result (λ e. e ≡ Refusal.NoMemory) }
     {
-        let Ok(place) = place(&self.rows, name.as_bytes()) else {
+        let Ok(place) = place_near(&self.rows, self.near, name.as_bytes()) else {
             unreachable!()
         };
+        self.near = place;
         let file_system = own(&mut self.rows[place], alloc)?;
         file_system.set_tags(alloc, group, tags)
     }
@@ -355,9 +366,10 @@ impl FileSystems {
         ensures err { OnErr result (self.new ≡ self.old) }
         ensures only { IfErr result (λ e. (e ≡ Refusal.NoDataset) ⊎ (e ≡ Refusal.NoMemory)) }
     {
-        let Ok(place) = place(&self.rows, name.as_bytes()) else {
+        let Ok(place) = place_near(&self.rows, self.near, name.as_bytes()) else {
             return Err(Refusal::NoDataset);
         };
+        self.near = place;
         let file_system = own(&mut self.rows[place], alloc)?;
         file_system.set_bookmarks(bookmarks);
         Ok(())
@@ -376,9 +388,10 @@ impl FileSystems {
         ensures err { OnErr result (self.new ≡ self.old) }
         ensures only { IfErr result (λ e. (e ≡ Refusal.NoDataset) ⊎ (e ≡ Refusal.NoMemory)) }
     {
-        let Ok(place) = place(&self.rows, name.as_bytes()) else {
+        let Ok(place) = place_near(&self.rows, self.near, name.as_bytes()) else {
             return Err(Refusal::NoDataset);
         };
+        self.near = place;
         let file_system = own(&mut self.rows[place], alloc)?;
         file_system.set_limit(limit, amount);
         Ok(())
@@ -399,9 +412,10 @@ impl FileSystems {
         ensures err { OnErr result (self.new ≡ self.old) }
         ensures only { IfErr result (λ e. e ≡ Refusal.NoMemory) }
     {
-        let Ok(place) = place(&self.rows, name.as_bytes()) else {
+        let Ok(place) = place_near(&self.rows, self.near, name.as_bytes()) else {
             unreachable!()
         };
+        self.near = place;
         let file_system = own(&mut self.rows[place], alloc)?;
         file_system.rollback(alloc, segments)
     }
@@ -415,7 +429,7 @@ impl FileSystems {
         ensures lost { IfOk result (IsLost (blocks (below_at self.now name.now)) (origin_group (origin_at self.now name.now)) (live_of self.now name.now) []) }
         ensures err { IfErr result (λ e. e ≡ Refusal.NoMemory) }
     {
-        let Ok(place) = place(&self.rows, name.as_bytes()) else {
+        let Ok(place) = place_near(&self.rows, self.near, name.as_bytes()) else {
             unreachable!()
         };
         self.rows[place].lost()
@@ -427,7 +441,7 @@ impl FileSystems {
         requires bare { snaps_at self.old name.now ≡ [] }
         ensures { self.new ≡ finmap.remove self.old name.now }
     {
-        let Ok(place) = place(&self.rows, name.as_bytes()) else {
+        let Ok(place) = place_near(&self.rows, self.near, name.as_bytes()) else {
             unreachable!()
         };
         let origin = self.rows[place].origin();
@@ -447,13 +461,14 @@ impl FileSystems {
         ensures only { IfErr result (λ e. e ≡ Refusal.NoMemory) }
     {
         let lost = self.lost(name)?;
-        let Ok(place) = place(&self.rows, name.as_bytes()) else {
+        let Ok(place) = place_near(&self.rows, self.near, name.as_bytes()) else {
             unreachable!()
         };
         let empty = Arc::new(alloc, FileSystem::new(alloc, name)?)?;
         let origin = self.rows[place].origin();
         self.clones.leave(origin, name);
         self.rows[place] = empty;
+        self.near = place;
         Ok(lost)
     }
 }

@@ -17,6 +17,25 @@ pub(crate) fn place(file_systems: &[Arc<FileSystem>], name: &[u8]) -> Result<usi
     file_systems.binary_search_by(|file_system| file_system.compare(name))
 }
 
+/// What `place` answers. It looks first at the row at `near`, whatever number that is: where the file system of this name stands there, it is
+/// found in constant time but for the length of the name, and else the search costs the logarithm of their number.
+pub(crate) fn place_near(
+    file_systems: &[Arc<FileSystem>],
+    near: usize,
+    name: &[u8],
+) -> Result<usize, usize>
+    requires { IsTrue (is_sorted name_cmp (map entry_in file_systems.now)) }
+    ensures found { IfOk result (IsAt (map entry_in file_systems.now) name.now) }
+    ensures absent { IfErr result (IsGapFor (map entry_in file_systems.now) name.now) }
+{
+    if let Some(file_system) = file_systems.get(near)
+        && file_system.is_named(name)
+    {
+        return Ok(near);
+    }
+    place(file_systems, name)
+}
+
 /// Where a file system of this name would stand, which isn't there. It costs the logarithm of their number.
 pub(crate) fn gap(file_systems: &[Arc<FileSystem>], name: &[u8]) -> usize
     requires sorted { IsTrue (is_sorted name_cmp (map entry_in file_systems.now)) }

@@ -1,5 +1,5 @@
 //! One file system, with its snapshots.
-ghost use Rattle.std.specs.Prelude.{◌≡◌, ◌≤◌, ◌<◌, ◌+◌, ◌^◌, ◌==◌, max, nat_lt, ◌++◌, ◌∷◌, [], Some, IsSome, List, IfOk, IfErr, OnOk, OnErr, length, map, remove, slice_get, slice_set};
+ghost use Rattle.std.specs.Prelude.{◌≡◌, ◌≤◌, ◌<◌, ◌+◌, ◌^◌, ◌==◌, max, nat_lt, ◌++◌, ◌∷◌, ◌↔◌, [], Some, IsSome, IsTrue, List, IfOk, IfErr, OnOk, OnErr, length, map, remove, slice_get, slice_set};
 ghost use Rattle.std.specs.Option.{option_map, option_copied};
 ghost use Rattle.std.specs.Arc.{arc_value};
 ghost use Rattle.std.specs.Borrow.{sem};
@@ -315,6 +315,13 @@ impl FileSystem {
         ensures { result ≡ name_cmp self.now.name name.now }
     {
         self.name.as_bytes().cmp(&name)
+    }
+
+    /// Whether this is its name. Constant time where the lengths differ, and else it costs the length of the name.
+    pub fn is_named(&self, name: &[u8]) -> bool
+        ensures { IsTrue result ↔ (self.now.name ≡ name.now) }
+    {
+        self.name.as_bytes() == name
     }
 
     // What is kept of the snapshot of this name, or none.

@@ -6,4 +6,4 @@ use Rattle.datasets.proofs.file_systems.FileSystems.contains.Goals as goal
 -- a name is there where the search finds it
 pub returns : goal.returns
 returns c =
-    rw (c.is_ok.ensures.value, ← c.self.view_is) (found_is (map entry_in c.self.inside.rows.items) c.self.invariant.sorted c.args.name.now c.place.result (rw (← c.deref.ensures.value) c.place.ensures.found) (rw (← c.deref.ensures.value) c.place.ensures.absent))
+    rw (c.is_ok.ensures.value, ← c.self.view_is) (found_is (map entry_in c.self.inside.rows.items) c.self.invariant.sorted c.args.name.now c.place_near.result (rw (← c.deref.ensures.value) c.place_near.ensures.found) (rw (← c.deref.ensures.value) c.place_near.ensures.absent))
