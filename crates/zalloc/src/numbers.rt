@@ -15,7 +15,7 @@ use std::marker::Model;
 ///
 /// These are two allocators, and which windows of 64 numbers have changed since the last group ended: a byte for each, and four of
 /// room for a list of those. So to end a group, and to go back to where it began, cost by how many windows have changed, and nothing
-/// by the size of the pool. All room is reserved by `new`. An empty pool takes 34 bytes for each 64 numbers.
+/// by the size of the pool. All room is reserved by `new`. An empty pool takes a byte for each 64 numbers.
 pub struct Numbers {
     present: Allocator,
     synced: Allocator,
