@@ -184,7 +184,8 @@ fn serve_request<C: Caller, W: Write>(
     }
 }
 
-/// Writes that a line is refused, unless it is for want of memory.
+/// Writes that a line is refused, unless it is for want of memory. It stands apart, since a reply takes room on the stack, which is filled first.
+#[inline(never)]
 fn refuse<W: Write>(writer: &mut W, refusal: Refusal) -> Result<bool, LineFault>
     ensures ok { IfOk result (λ refused. IsTrue refused × Appends (W.contents writer.old) (W.contents writer.new) (line_of (Reply.Refused refusal))) }
     ensures no_memory { (refusal ≡ Refusal.NoMemory) → result ≡ Err LineFault.NoMemory }
