@@ -325,8 +325,7 @@ impl Pool {
                     .asked(alloc, &self.present, request, &mut self.meters)
             }
             Kind::View => *reply = self.prepared(alloc, request),
-            Kind::Asking if self.present.ledger.is_some() => *reply = self.prepared(alloc, request),
-            _ => in_place(
+            Kind::Change => in_place(
                 alloc,
                 &mut self.present,
                 &mut self.keep,
@@ -334,6 +333,20 @@ impl Pool {
                 &mut self.meters,
                 reply,
             ),
+            Kind::Asking => {
+                if self.present.ledger.is_some() {
+                    *reply = self.prepared(alloc, request);
+                    return;
+                }
+                in_place(
+                    alloc,
+                    &mut self.present,
+                    &mut self.keep,
+                    request,
+                    &mut self.meters,
+                    reply,
+                )
+            }
         }
     }
 
