@@ -1,5 +1,5 @@
 -- Calls on handles, and requests that were asked.
-use Rattle.std.proofs.Common.{◌≡◌, ◌⊎◌, ℕ, Bool, true, List, length, Option, Some, None, inl, inr, refl, sym, ◌∙◌, subst}
+use Rattle.std.proofs.Common.{◌≡◌, ℕ, Bool, true, List, length, Option, Some, None, inl, inr, refl, sym, ◌∙◌, subst}
 use Rattle.std.specs.Prelude.{◌==◌, MatchBool}
 use Rattle.base.specs.declared.refusal.Refusal.{Refusal}
 use Rattle.model.specs.declared.request.Request.{Request}

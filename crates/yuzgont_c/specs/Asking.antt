@@ -1,8 +1,6 @@
 -- The requests of calls without text.
 use Rattle.std.specs.Prelude.{ℕ, Bool, List, [], ◌∷◌, Option, None, Some, slice_get}
 use Rattle.std.specs.Option.{option_map, option_and_then}
-use Rattle.base.specs.declared.name.member.Member.{Member}
-use Rattle.base.specs.declared.name.target.Target.{Target}
 use Rattle.base.specs.Reading.{snap_of, target_of}
 use Rattle.model.specs.declared.request.Property.{Property}
 use Rattle.model.specs.declared.request.Request.{Request}

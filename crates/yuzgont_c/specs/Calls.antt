@@ -3,7 +3,7 @@ use Rattle.std.specs.Prelude.{◌≡◌, ◌⊎◌, ℕ, ◌==◌, ◌<◌, ◌�
 use Rattle.base.specs.declared.refusal.Refusal.{Refusal}
 use Rattle.base.specs.declared.refusal.Refusal.TheVariants.{BadName, TooMany, NoMemory}
 use Rattle.model.specs.declared.request.Request.{Request}
-use Rattle.model.specs.declared.request.Request.TheVariants.{Sync, Slice, Abandon}
+use Rattle.model.specs.declared.request.Request.TheVariants.{Sync, Slice}
 use Rattle.model.specs.declared.request.Property.{Property}
 use Rattle.model.specs.declared.reply.Reply.{Reply}
 use Rattle.model.specs.declared.reply.Reply.TheVariants as R
@@ -17,7 +17,7 @@ use Rattle.yuzgont_c.specs.declared.host.Host.{Host}
 use Rattle.yuzgont_c.specs.declared.answer.Answer.{Answer}
 use Rattle.yuzgont_c.specs.declared.answer.Answer.TheVariants.{Done, Refused, NoPool, HasPool, BadLength, NoProperty}
 use Rattle.yuzgont_c.specs.Answers.{answer_of, got_answer, number_in, group_in, count_in, stream_in}
-use Rattle.yuzgont_c.specs.Asking.{asked_write, asked_punch, asked_read, asked_snapshot, asked_get, asked_send_from, asked_receive, property_at}
+use Rattle.yuzgont_c.specs.Asking.{asked_write, asked_read, asked_get, asked_send_from}
 use Rattle.yuzgont_c.specs.Pieces.{IsPiece}
 
 -- a request that was asked, if its names are some: the reply, of which more is said, is that of the pool's step; or memory was wanting before
