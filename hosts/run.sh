@@ -1,6 +1,6 @@
 #!/usr/bin/env bash
-# Builds the hosts in C and Rust over the proved static library, and runs them: the session of the README, a million writes, streams, refused
-# memory, mistakes, and a backup over a connection. `rt lib` in crates/yuzgont_c makes the library. Status 1 where anything fails.
+# Builds the hosts in C and Rust over the proved static library, and runs them: the session of the README, each call, so many writes, streams,
+# refused memory, mistakes, and a backup over a connection. Where there is no library, hosts/library.py makes it. Status 1 where anything fails.
 #
 #     hosts/run.sh [WRITES]     how many writes are timed, 1,000,000 if left out
 set -euo pipefail
@@ -11,7 +11,7 @@ kit=$(dirname "$(readlink -f "$(command -v rt)")")/..
 library=crates/yuzgont_c/out/libyuzgont_c.a
 zfsp=crates/zfsp/out/zfsp
 mkdir -p "$made"
-[ -e "$library" ] || (cd crates/yuzgont_c && rt lib)
+[ -e "$library" ] || python3 hosts/library.py
 export YUZGONT_LIB=$PWD/crates/yuzgont_c/out RATTLE_C=$kit/c
 
 cc -std=c11 -D_GNU_SOURCE -O2 -g -Wall -Wextra -Wpedantic -Werror -I include -o "$made/host" hosts/c/host.c "$library" "$RATTLE_C/liblibc_c.a" \
@@ -19,9 +19,16 @@ cc -std=c11 -D_GNU_SOURCE -O2 -g -Wall -Wextra -Wpedantic -Werror -I include -o 
 cargo build --quiet --release --offline --manifest-path hosts/rust/Cargo.toml --target-dir "$made/rust"
 rust=$made/rust/release
 
+# The linker leaves out what nothing calls, so a host in which each export stands calls each.
+exports() { nm --defined-only "$1" 2>/dev/null | sed -n 's/.* T \(yuzgont_[a-z]*\)$/\1/p' | sort -u; }
+every=$(exports "$library")
+[ -n "$every" ]
+
 for host in "$made/host" "$rust/yuz-host"; do
     echo "== $host"
+    diff <(echo "$every") <(exports "$host")
     "$host" session hosts/session.script hosts/session.replies
+    "$host" calls
     "$host" streams
     "$host" memory
     "$host" writes "$writes"
@@ -38,8 +45,8 @@ if [ -x "$zfsp" ]; then
 fi
 
 echo "== valgrind"
-for words in "host session hosts/session.script hosts/session.replies" "host streams" "host memory" "host mistakes" "host writes 3000" \
-    "rust/release/yuz-host session hosts/session.script hosts/session.replies" "rust/release/yuz-host streams"; do
+for words in "host session hosts/session.script hosts/session.replies" "host calls" "host streams" "host memory" "host mistakes" "host writes 3000" \
+    "rust/release/yuz-host session hosts/session.script hosts/session.replies" "rust/release/yuz-host calls" "rust/release/yuz-host streams"; do
     valgrind --quiet --error-exitcode=9 --leak-check=full --show-leak-kinds=definite,indirect --errors-for-leak-kinds=definite,indirect $made/$words >/dev/null
     echo "clean: $words"
 done

@@ -123,7 +123,7 @@ static inline bool yuz_is_wrong(const void *bytes, size_t length) { return lengt
 /* A pointer that isn't null, for bytes of which there may be none. */
 static inline const uint8_t *yuz_bytes(const void *bytes) { return bytes == NULL ? (const uint8_t *)"" : (const uint8_t *)bytes; }
 
-/* Makes a pool with an id, not 0, and 1 to 4,194,304 blocks. YUZ_BAD_NAME for id 0, YUZ_TOO_MANY for another number of blocks. */
+/* Makes a pool with an id, not 0, and 1 to 4,194,304 blocks. YUZ_BAD_NAME for id 0, else YUZ_TOO_MANY for another number of blocks. */
 static inline int yuz_create(yuz_pool *pool, uint32_t id, uint32_t blocks) {
     if (pool == NULL) return YUZ_NULL;
     return yuzgont_create(pool, id, blocks);

@@ -1,13 +1,16 @@
 /* A host in C: each command tries one thing of the library, says what it saw, and ends with status 1 where that isn't what it should be.
  *
  *     host session SCRIPT REPLIES     answers the lines of a script, and compares the replies
+ *     host calls                      makes each call of the library, and compares what it tells
  *     host writes COUNT               writes so many blocks of 512 bytes, and prints the seconds and the resident kilobytes before and after
+ *     host apply COUNT                writes as many and does nothing else, as `session_workloads apply`: bench/hosts.py times it
  *     host streams                    sends a snapshot from one pool by pieces, and receives it in another
  *     host memory                     refuses each request for memory of each call in turn
  *     host mistakes                   makes each mistake that a call tells
  */
 #include "yuzgont.h"
 
+#include <inttypes.h>
 #include <stdio.h>
 #include <stdlib.h>
 #include <string.h>
@@ -132,6 +135,15 @@ static int writes(uint64_t count) {
     return count <= 10000 || after <= before + before / 50 + 1024 ? 0 : 1;
 }
 
+static int apply(uint64_t count) {
+    yuz_pool pool = YUZ_NO_POOL;
+    done("create", yuz_create(&pool, 1, 4194304));
+    write_numbers(&pool, 0, count);
+    /* The pool isn't freed there either, since the program ends. */
+    printf("%" PRIu64 "\n", count);
+    return 0;
+}
+
 static uint8_t *whole_stream(yuz_pool *pool, size_t size) {
     uint8_t *bytes = malloc(size);
     size_t count = 0;
@@ -189,6 +201,116 @@ static int streams(void) {
     return 0;
 }
 
+static char *reply_of(yuz_pool *pool, const char *line) {
+    char *text = NULL;
+    size_t size;
+    FILE *out = open_memstream(&text, &size);
+    answer(pool, line, strlen(line), out);
+    fclose(out);
+    return text;
+}
+
+static void expect_line(yuz_pool *pool, const char *line, const char *wanted) {
+    char *text = reply_of(pool, line);
+    if (strcmp(text, wanted) != 0) wrong(line, 0);
+    free(text);
+}
+
+/* A hole is told as one, and read as zeros. */
+static void expect_hole(yuz_pool *pool, uint32_t object, uint32_t number) {
+    uint8_t block[YUZ_BLOCK_SIZE], zeros[YUZ_BLOCK_SIZE] = {0};
+    bool is_hole = false;
+    memset(block, 1, sizeof block);
+    done("read", yuz_read(pool, NAME("p"), object, number, block, sizeof block, &is_hole));
+    if (!is_hole || memcmp(block, zeros, sizeof zeros) != 0) wrong("read no hole", block[0]);
+}
+
+/* The property of each number is what a line tells of its name, `-` where the dataset has none. */
+static void expect_properties(yuz_pool *pool, const char *name) {
+    static const char *const words[] = {"used", "available", "referenced", "written", "usedbydataset", "usedbysnapshots", "usedbychildren", "usedbyrefreservation", "quota", "refquota", "reservation", "refreservation", "guid", "createtxg", "userrefs"};
+    for (uint32_t property = YUZ_USED; property <= YUZ_USER_REFS; property++) {
+        char line[100], told[100] = "-\n";
+        uint64_t value = 0;
+        int code = yuz_get(pool, name, strlen(name), property, &value);
+        if (code == YUZ_DONE) snprintf(told, sizeof told, "%" PRIu64 "\n", value);
+        else if (code != YUZ_NOT_APPLICABLE) wrong("get", code);
+        snprintf(line, sizeof line, "get %s %s", words[property], name);
+        expect_line(pool, line, told);
+    }
+}
+
+/* Datasets whose properties differ from one another. */
+static void expect_all_properties(yuz_pool *pool) {
+    expect_line(pool, "create p/a", "ok\n");
+    expect_line(pool, "set quota=102400 p", "ok\n");
+    expect_line(pool, "set refquota=51200 p", "ok\n");
+    expect_line(pool, "set reservation=20480 p", "ok\n");
+    expect_line(pool, "set refreservation=10240 p", "ok\n");
+    expect_line(pool, "set reservation=2048 p/a", "ok\n");
+    expect_line(pool, "write p/a 0 0 61", "ok\n");
+    done("snapshot", yuz_snapshot(pool, NAME("p@s"), true));
+    expect_line(pool, "list", "p p@s p/a p/a@s\n");
+    expect_line(pool, "hold kept p@s", "ok\n");
+    write_first(pool, 98);
+    expect_properties(pool, "p");
+    expect_properties(pool, "p/a");
+    expect_properties(pool, "p@s");
+    expect_line(pool, "release kept p@s", "ok\n");
+}
+
+/* What a destroy lets go is freed by slices. */
+static void expect_slices(yuz_pool *pool) {
+    uint64_t taken = 0;
+    expect_line(pool, "destroy p@s", "ok\n");
+    done("slice", yuz_slice(pool, 1, &taken));
+    if (taken != 1) wrong("a slice of one block", (int)taken);
+    done("slice", yuz_slice(pool, 1000, &taken));
+    if (taken == 0) wrong("nothing was left for a slice", 0);
+    expect_line(pool, "pget freeing", "0\n");
+    done("slice", yuz_slice(pool, 1000, &taken));
+    if (taken != 0) wrong("a slice of nothing", (int)taken);
+}
+
+static void expect_forgotten(yuz_pool *pool) {
+    uint8_t byte;
+    size_t count = 1;
+    done("forget", yuz_forget(pool));
+    done("reply", yuz_reply(pool, 0, &byte, 1, &count));
+    if (count != 0) wrong("a reply is kept", (int)count);
+    count = 1;
+    done("stream", yuz_stream(pool, 0, &byte, 1, &count));
+    if (count != 0) wrong("a stream is kept", (int)count);
+}
+
+static int calls(void) {
+    yuz_pool pool = YUZ_NO_POOL;
+    uint64_t group = 0, next = 0;
+    size_t size;
+    done("create", yuz_create(&pool, 1, 1000));
+    write_first(&pool, 97);
+    expect_first(&pool, NAME("p"), 97);
+    expect_hole(&pool, 0, 1);
+    done("sync", yuz_sync(&pool, &group));
+    done("punch", yuz_punch(&pool, NAME("p"), 0, 0));
+    expect_hole(&pool, 0, 0);
+    done("abandon", yuz_abandon(&pool));
+    expect_first(&pool, NAME("p"), 97);
+    done("sync", yuz_sync(&pool, &next));
+    if (next != group + 1) wrong("the open group", (int)next);
+    expect_all_properties(&pool);
+    done("send", yuz_send(&pool, NAME("p@s"), NULL, 0, &size));
+    uint8_t *bytes = whole_stream(&pool, size);
+    done("receive", yuz_receive(&pool, NAME("p/copy@s"), bytes, size, false));
+    expect_first(&pool, NAME("p/copy"), 97);
+    free(bytes);
+    expect_slices(&pool);
+    expect_forgotten(&pool);
+    yuz_free(&pool);
+    if (yuz_sync(&pool, &next) != YUZ_POOL_MISSING) wrong("free", 0);
+    printf("calls: each tells what it should\n");
+    return 0;
+}
+
 /* All that lines tell of a pool that the calls below change. */
 static char *told(yuz_pool *pool) {
     static const char *const lines[] = {"list", "get used p", "get written p", "get userrefs p@s", "pget group", "pget allocated", "pget freeing", "pget waiting", "read p 0 0", "read p 0 1", "send p@s"};
@@ -240,6 +362,25 @@ static int do_list(yuz_pool *pool) {
     size_t size;
     bool is_refused;
     return yuz_line(pool, NAME("list"), &is_refused, &size);
+}
+
+static int do_reply(yuz_pool *pool) {
+    uint8_t byte;
+    size_t count;
+    return yuz_reply(pool, 0, &byte, 1, &count);
+}
+
+static int do_stream(yuz_pool *pool) {
+    uint8_t byte;
+    size_t count;
+    return yuz_stream(pool, 0, &byte, 1, &count);
+}
+
+static int do_forget(yuz_pool *pool) { return yuz_forget(pool); }
+
+static int do_free(yuz_pool *pool) {
+    yuz_free(pool);
+    return YUZ_DONE;
 }
 
 /* A pool with a synced snapshot, a newer write and something to be freed. */
@@ -307,14 +448,14 @@ static int memory(void) {
     static const struct {
         const char *what;
         int (*call)(yuz_pool *);
-    } calls[] = {{"write", do_write}, {"read", do_read}, {"punch", do_punch}, {"snapshot", do_snapshot}, {"sync", do_sync}, {"slice", do_slice}, {"abandon", do_abandon}, {"get", do_get}, {"send", do_send}, {"receive", do_receive}, {"line", do_list}};
+    } each[] = {{"write", do_write}, {"read", do_read}, {"punch", do_punch}, {"snapshot", do_snapshot}, {"sync", do_sync}, {"slice", do_slice}, {"abandon", do_abandon}, {"get", do_get}, {"send", do_send}, {"receive", do_receive}, {"line", do_list}, {"reply", do_reply}, {"stream", do_stream}, {"forget", do_forget}, {"free", do_free}};
     yuz_pool pool = YUZ_NO_POOL;
     prepare(&pool);
     done("send", yuz_send(&pool, NAME("p@s"), NULL, 0, &sent_size));
     sent = whole_stream(&pool, sent_size);
     yuz_free(&pool);
     printf("memory: refused requests of create %ld", refuse_create());
-    for (size_t i = 0; i < sizeof calls / sizeof *calls; i++) printf(", %s %ld", calls[i].what, refuse_each(calls[i].what, calls[i].call));
+    for (size_t i = 0; i < sizeof each / sizeof *each; i++) printf(", %s %ld", each[i].what, refuse_each(each[i].what, each[i].call));
     printf("; nothing was changed\n");
     free(sent);
     return 0;
@@ -356,10 +497,12 @@ static int mistakes(void) {
 
 int main(int count, char **words) {
     if (count == 4 && strcmp(words[1], "session") == 0) return session(words[2], words[3]);
+    if (count == 2 && strcmp(words[1], "calls") == 0) return calls();
+    if (count == 3 && strcmp(words[1], "apply") == 0) return apply(strtoull(words[2], NULL, 10));
     if (count == 3 && strcmp(words[1], "writes") == 0) return writes(strtoull(words[2], NULL, 10));
     if (count == 2 && strcmp(words[1], "streams") == 0) return streams();
     if (count == 2 && strcmp(words[1], "memory") == 0) return memory();
     if (count == 2 && strcmp(words[1], "mistakes") == 0) return mistakes();
-    fprintf(stderr, "usage: host session SCRIPT REPLIES | writes COUNT | streams | memory | mistakes\n");
+    fprintf(stderr, "usage: host session SCRIPT REPLIES | calls | writes COUNT | apply COUNT | streams | memory | mistakes\n");
     return 2;
 }

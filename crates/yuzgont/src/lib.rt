@@ -21,7 +21,10 @@
 //! bytes are those that a [`Request::Receive`] of another pool takes; [`read_stream`] says what is in them. A pool under a [`PoolCaller`]
 //! answers lines, one by [`answer_line`], or a script by [`run_script`]; docs/COMMANDS.md has the lines.
 //!
-//! docs/EMBEDDING.md says what a host has to know.
+//! The program `host_example` is a host, a file of it for each of these, and the gate runs it: `requests` writes a block and reads it back,
+//! `backup` sends a snapshot from one pool to another, `way_back` returns to the last sync, `scripts` answers lines, and `threads` shares a
+//! session among three writers and a reader of a view. `asking` has the requests that they make. docs/EMBEDDING.md says what a host has to
+//! know.
 #![tactic(auto)]
 
 pub use base::data::Data;

@@ -1,5 +1,5 @@
 -- Calls on handles, and requests that were asked.
-use Rattle.std.proofs.Common.{◌≡◌, ◌⊎◌, ℕ, Bool, true, List, length, Option, Some, None, inl, inr, refl, sym, ◌∙◌, subst}
+use Rattle.std.proofs.Common.{◌≡◌, ℕ, Bool, true, List, length, Option, Some, None, inl, inr, refl, sym, ◌∙◌, subst}
 use Rattle.std.specs.Prelude.{◌==◌, MatchBool}
 use Rattle.base.specs.declared.refusal.Refusal.{Refusal}
 use Rattle.model.specs.declared.request.Request.{Request}
@@ -11,7 +11,7 @@ use Rattle.model.specs.declared.request.Property.{Property}
 use Rattle.yuzgont_c.specs.declared.answer.Answer.TheVariants.{Done, Refused, NoPool, HasPool, BadLength}
 use Rattle.yuzgont_c.specs.Answers.{answer_of, got_answer, number_in, stream_in}
 use Rattle.yuzgont_c.specs.Asking.{asked_write, asked_read, asked_get, asked_send_from}
-use Rattle.yuzgont_c.specs.Calls.{Calls, Creates, IsFresh, CreateRefused, Asks, Does, Idle, KeepsBytes, Writes, ReadInto, ReadsBlock, GetsOf, Sends}
+use Rattle.yuzgont_c.specs.Calls.{Calls, Creates, IsFresh, CanBe, CreateRefused, Asks, Does, Idle, KeepsBytes, Writes, ReadInto, ReadsBlock, GetsOf, Sends}
 
 -- a handle without a pool says so
 pub unopened : (does : Host → Answer → Host → Type 0) (old new : Option Host) → None ≡ old → new ≡ None → Calls does old NoPool new
@@ -51,16 +51,16 @@ pub gets : (name : List ℕ) (at : Option Property) (property : Property) (befor
 gets name at property before after h k answer is asks = subst (λ (o : Option Property). GetsOf name o before after h answer k) is asks
 
 -- a create: the handle has a pool, or gets one, or there is none for it
-pub there : (id blocks : ℕ) (old new : Option Host) (h : Host) → Some h ≡ old → new ≡ Some h → Creates id blocks old HasPool new
-there id blocks old new h e f = subst (λ (o : Option Host). Creates id blocks o HasPool new) e (refl, f)
+pub there : (most id blocks : ℕ) (old new : Option Host) (h : Host) → Some h ≡ old → new ≡ Some h → Creates most id blocks old HasPool new
+there most id blocks old new h e f = subst (λ (o : Option Host). Creates most id blocks o HasPool new) e (refl, f)
 
-pub made : (id blocks : ℕ) (old new : Option Host) (k : Host) → None ≡ old → new ≡ Some k → IsFresh id blocks k → Creates id blocks old Done new
-made id blocks old new k e f fresh =
-    subst (λ (o : Option Host). Creates id blocks o Done new) e (subst (λ (n : Option Host). Creates id blocks None Done n) (sym f) (refl, fresh))
+pub made : (most id blocks : ℕ) (old new : Option Host) (k : Host) → None ≡ old → new ≡ Some k → CanBe most id blocks × IsFresh id blocks k → Creates most id blocks old Done new
+made most id blocks old new k e f fresh =
+    subst (λ (o : Option Host). Creates most id blocks o Done new) e (subst (λ (n : Option Host). Creates most id blocks None Done n) (sym f) (refl, fresh.0, fresh.1))
 
-pub unmade : (id blocks : ℕ) (old new : Option Host) (why : Refusal) → None ≡ old → new ≡ None → CreateRefused id blocks why → Creates id blocks old (Refused why) new
-unmade id blocks old new why e f refused =
-    subst (λ (o : Option Host). Creates id blocks o (Refused why) new) e (subst (λ (n : Option Host). Creates id blocks None (Refused why) n) (sym f) refused)
+pub unmade : (most id blocks : ℕ) (old new : Option Host) (why : Refusal) → None ≡ old → new ≡ None → CreateRefused most id blocks why → Creates most id blocks old (Refused why) new
+unmade most id blocks old new why e f refused =
+    subst (λ (o : Option Host). Creates most id blocks o (Refused why) new) e (subst (λ (n : Option Host). Creates most id blocks None (Refused why) n) (sym f) refused)
 
 -- a send, whose stream is kept once it is made
 pub sent : (name from : List ℕ) (size : ℕ) (h m k : Host) (r : Reply) (answer : Answer) → Asks h.caller (asked_send_from name from) m.caller (λ reply. reply ≡ r)

@@ -1,13 +1,11 @@
 -- The requests of calls without text.
 use Rattle.std.specs.Prelude.{ℕ, Bool, List, [], ◌∷◌, Option, None, Some, slice_get}
 use Rattle.std.specs.Option.{option_map, option_and_then}
-use Rattle.base.specs.declared.name.member.Member.{Member}
-use Rattle.base.specs.declared.name.target.Target.{Target}
 use Rattle.base.specs.Reading.{snap_of, target_of}
 use Rattle.model.specs.declared.request.Property.{Property}
-use Rattle.model.specs.declared.request.Property.TheVariants.{Used, Available, Referenced, Written, UsedByDataset, UsedBySnapshots, UsedByChildren, UsedByRefReservation, Quota, RefQuota, Reservation, RefReservation, Guid, CreateTxg, UserRefs}
 use Rattle.model.specs.declared.request.Request.{Request}
 use Rattle.model.specs.declared.request.Request.TheVariants.{Write, Punch, Read, Get, Snapshot, Send, Receive}
+use Rattle.yuzgont_c.specs.declared.asking.TheConstants.{PROPERTIES}
 
 -- a write of a block, where the bytes are a name (profile)
 abbrev pub asked_write : List ℕ → ℕ → ℕ → List ℕ → Option Request
@@ -37,12 +35,6 @@ asked_send_from name (b ∷ bs) = option_and_then (λ source. option_map (λ tar
 abbrev pub asked_receive : List ℕ → List ℕ → Bool → Option Request
 asked_receive name bytes force = option_map (λ snapshot. Receive snapshot bytes force) (snap_of name)
 
--- the properties, each at its number in C (profile)
-abbrev pub properties : List Property
-properties =
-    Used ∷ Available ∷ Referenced ∷ Written ∷ UsedByDataset ∷ UsedBySnapshots ∷ UsedByChildren ∷ UsedByRefReservation ∷ Quota ∷ RefQuota ∷ Reservation
-    ∷ RefReservation ∷ Guid ∷ CreateTxg ∷ UserRefs ∷ []
-
 -- the property of a number, if there is one (profile)
 abbrev pub property_at : ℕ → Option Property
-property_at number = slice_get properties number
+property_at number = slice_get PROPERTIES number

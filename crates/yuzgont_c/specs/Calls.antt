@@ -1,9 +1,9 @@
 -- Calls on a host and on a handle.
-use Rattle.std.specs.Prelude.{◌≡◌, ◌⊎◌, ℕ, ◌==◌, ◌<◌, Bool, true, false, List, [], Option, None, Some, length, replicate, MatchBool}
+use Rattle.std.specs.Prelude.{◌≡◌, ◌⊎◌, ℕ, ◌==◌, ◌<◌, ◌≤◌, Bool, true, false, List, [], Option, None, Some, length, replicate, MatchBool}
 use Rattle.base.specs.declared.refusal.Refusal.{Refusal}
 use Rattle.base.specs.declared.refusal.Refusal.TheVariants.{BadName, TooMany, NoMemory}
 use Rattle.model.specs.declared.request.Request.{Request}
-use Rattle.model.specs.declared.request.Request.TheVariants.{Sync, Slice, Abandon}
+use Rattle.model.specs.declared.request.Request.TheVariants.{Sync, Slice}
 use Rattle.model.specs.declared.request.Property.{Property}
 use Rattle.model.specs.declared.reply.Reply.{Reply}
 use Rattle.model.specs.declared.reply.Reply.TheVariants as R
@@ -17,7 +17,7 @@ use Rattle.yuzgont_c.specs.declared.host.Host.{Host}
 use Rattle.yuzgont_c.specs.declared.answer.Answer.{Answer}
 use Rattle.yuzgont_c.specs.declared.answer.Answer.TheVariants.{Done, Refused, NoPool, HasPool, BadLength, NoProperty}
 use Rattle.yuzgont_c.specs.Answers.{answer_of, got_answer, number_in, group_in, count_in, stream_in}
-use Rattle.yuzgont_c.specs.Asking.{asked_write, asked_punch, asked_read, asked_snapshot, asked_get, asked_send_from, asked_receive, property_at}
+use Rattle.yuzgont_c.specs.Asking.{asked_write, asked_read, asked_get, asked_send_from}
 use Rattle.yuzgont_c.specs.Pieces.{IsPiece}
 
 -- a request that was asked, if its names are some: the reply, of which more is said, is that of the pool's step; or memory was wanting before
@@ -112,14 +112,20 @@ Calls does (Some h) answer (Some k) = does h answer k
 abbrev pub IsFresh : ℕ → ℕ → Host → Type 0
 IsFresh id blocks k = (k.caller ≡ fresh_state id blocks) × (k.reply.items ≡ []) × (k.stream ≡ [])
 
--- why a pool isn't made: an id of 0, a number of blocks that no pool has, or want of memory (profile)
-abbrev pub CreateRefused : ℕ → ℕ → Refusal → Type 0
-CreateRefused id blocks why =
-    ((why ≡ BadName) × (id ≡ 0)) ⊎ (((why ≡ TooMany) × ((blocks < 1) ⊎ (4194304 < blocks))) ⊎ (why ≡ NoMemory))
+-- an id and a number of blocks, of at most so many, that a pool can have (profile)
+abbrev pub CanBe : ℕ → ℕ → ℕ → Type 0
+CanBe most id blocks = (0 < id) × ((1 ≤ blocks) × (blocks ≤ most))
+
+-- why a pool isn't made: an id of 0, else a number of blocks that no pool has, else want of memory (profile)
+abbrev pub CreateRefused : ℕ → ℕ → ℕ → Refusal → Type 0
+CreateRefused most id blocks BadName = id ≡ 0
+CreateRefused most id blocks TooMany = (0 < id) × ((blocks < 1) ⊎ (most < blocks))
+CreateRefused most id blocks NoMemory = CanBe most id blocks
+CreateRefused most id blocks _ = ⊥
 
 -- a create: a pool in a handle that had none, or a refusal (profile)
-abbrev pub Creates : ℕ → ℕ → Option Host → Answer → Option Host → Type 0
-Creates id blocks (Some h) answer new = (answer ≡ HasPool) × (new ≡ Some h)
-Creates id blocks None (Refused why) None = CreateRefused id blocks why
-Creates id blocks None answer None = ⊥
-Creates id blocks None answer (Some k) = (answer ≡ Done) × IsFresh id blocks k
+abbrev pub Creates : ℕ → ℕ → ℕ → Option Host → Answer → Option Host → Type 0
+Creates most id blocks (Some h) answer new = (answer ≡ HasPool) × (new ≡ Some h)
+Creates most id blocks None (Refused why) None = CreateRefused most id blocks why
+Creates most id blocks None answer None = ⊥
+Creates most id blocks None answer (Some k) = (answer ≡ Done) × CanBe most id blocks × IsFresh id blocks k

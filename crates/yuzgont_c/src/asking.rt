@@ -11,6 +11,26 @@ use model::request::{Property, Request};
 use model::snap_names::SnapNames;
 use std::alloc::Global;
 
+// The properties that C asks for, each at its number. `enum yuz_property` of the header names the numbers, and the hosts compare what is told
+// at each with a line that names it.
+const PROPERTIES: [Property; 15] = [
+    Property::Used,
+    Property::Available,
+    Property::Referenced,
+    Property::Written,
+    Property::UsedByDataset,
+    Property::UsedBySnapshots,
+    Property::UsedByChildren,
+    Property::UsedByRefReservation,
+    Property::Quota,
+    Property::RefQuota,
+    Property::Reservation,
+    Property::RefReservation,
+    Property::Guid,
+    Property::CreateTxg,
+    Property::UserRefs,
+];
+
 // A write of a block.
 pub(crate) fn ask_write(
     alloc: Global,
@@ -120,22 +140,5 @@ pub(crate) fn ask_receive(
 pub(crate) fn property_of(number: u32) -> Option<Property>
     ensures { result ≡ property_at number }
 {
-    let properties = [
-        Property::Used,
-        Property::Available,
-        Property::Referenced,
-        Property::Written,
-        Property::UsedByDataset,
-        Property::UsedBySnapshots,
-        Property::UsedByChildren,
-        Property::UsedByRefReservation,
-        Property::Quota,
-        Property::RefQuota,
-        Property::Reservation,
-        Property::RefReservation,
-        Property::Guid,
-        Property::CreateTxg,
-        Property::UserRefs,
-    ];
-    properties.get(number as usize).copied()
+    PROPERTIES.get(number as usize).copied()
 }

@@ -2,19 +2,32 @@
 ghost use Rattle.std.specs.Prelude.{◌≡◌, Some, None, IfOk, IfErr};
 ghost use Rattle.yuzgont_c.specs.Answers.{Codes};
 ghost use Rattle.yuzgont_c.specs.Asking.{asked_punch, asked_snapshot, asked_receive, property_at};
-ghost use Rattle.yuzgont_c.specs.Calls.{Calls, Creates, IsFresh, CreateRefused, Does, Writes, ReadsBlock, GetsOf, Syncs, Slices, Sends, Answers, RepliesPiece, StreamsPiece, Forgotten};
+ghost use Rattle.yuzgont_c.specs.Calls.{Calls, Creates, IsFresh, CanBe, CreateRefused, Does, Writes, ReadsBlock, GetsOf, Syncs, Slices, Sends, Answers, RepliesPiece, StreamsPiece, Forgotten};
 ghost use Rattle.model.specs.declared.request.Request.TheVariants.{Abandon};
 
 use crate::answer::Answer;
 use crate::handle::YuzPool;
 use crate::host::Host;
 use base::refusal::Refusal;
+use pool::MOST_BLOCKS;
 use std::alloc::Global;
+
+// Takes the pool out of a handle, makes a call of it and puts it back: the number of what it answers, or of NoPool where the handle has none.
+macro_rules! on_host {
+    ($alloc:ident, $pool:ident, |$host:ident| $call:expr) => {{
+        let Some(mut $host) = $pool.take($alloc) else {
+            return Answer::NoPool.code();
+        };
+        let answer = $call;
+        $pool.put($host);
+        answer.code()
+    }};
+}
 
 /// Makes a pool in a handle that has none: `Host::create`, and HasPool where the handle has one.
 #[unsafe(no_mangle)]
 pub extern "C" fn yuzgont_create(alloc: Global, pool: &mut YuzPool, id: u32, blocks: u32) -> i32
-    ensures { Codes result (λ answer. Creates id blocks pool.old.slot.host answer pool.new.slot.host) }
+    ensures { Codes result (λ answer. Creates MOST_BLOCKS id blocks pool.old.slot.host answer pool.new.slot.host) }
 {
     if let Some(host) = pool.take(alloc) {
         pool.put(host);
@@ -31,8 +44,8 @@ pub extern "C" fn yuzgont_create(alloc: Global, pool: &mut YuzPool, id: u32, blo
 
 // A host in memory of its own.
 fn created(alloc: Global, id: u32, blocks: u32) -> Result<Box<Host>, Refusal>
-    ensures ok { IfOk result (λ host. IsFresh id blocks host.value) }
-    ensures err { IfErr result (λ why. CreateRefused id blocks why) }
+    ensures ok { IfOk result (λ host. CanBe MOST_BLOCKS id blocks × IsFresh id blocks host.value) }
+    ensures err { IfErr result (λ why. CreateRefused MOST_BLOCKS id blocks why) }
 {
     let host = Host::create(alloc, id, blocks)?;
     Ok(Box::new(alloc, host)?)
@@ -59,12 +72,7 @@ pub extern "C" fn yuzgont_line(
 ) -> i32
     ensures { Codes result (λ answer. Calls (Answers line.now refused.old refused.new size.new) pool.old.slot.host answer pool.new.slot.host) }
 {
-    let Some(mut host) = pool.take(alloc) else {
-        return Answer::NoPool.code();
-    };
-    let answer = host.line(line, refused, size);
-    pool.put(host);
-    answer.code()
+    on_host!(alloc, pool, |host| host.line(line, refused, size))
 }
 
 /// `Host::reply_piece`, whose result goes to `count`.
@@ -78,12 +86,10 @@ pub extern "C" fn yuzgont_reply(
 ) -> i32
     ensures { Codes result (λ answer. Calls (RepliesPiece from buffer.old buffer.new count.new) pool.old.slot.host answer pool.new.slot.host) }
 {
-    let Some(host) = pool.take(alloc) else {
-        return Answer::NoPool.code();
-    };
-    *count = host.reply_piece(from, buffer);
-    pool.put(host);
-    Answer::Done.code()
+    on_host!(alloc, pool, |host| {
+        *count = host.reply_piece(from, buffer);
+        Answer::Done
+    })
 }
 
 /// `Host::write`.
@@ -98,12 +104,7 @@ pub extern "C" fn yuzgont_write(
 ) -> i32
     ensures { Codes result (λ answer. Calls (Writes name.now object block bytes.now) pool.old.slot.host answer pool.new.slot.host) }
 {
-    let Some(mut host) = pool.take(alloc) else {
-        return Answer::NoPool.code();
-    };
-    let answer = host.write(name, object, block, bytes);
-    pool.put(host);
-    answer.code()
+    on_host!(alloc, pool, |host| host.write(name, object, block, bytes))
 }
 
 /// `Host::read`.
@@ -119,12 +120,11 @@ pub extern "C" fn yuzgont_read(
 ) -> i32
     ensures { Codes result (λ answer. Calls (ReadsBlock name.now object block buffer.old is_hole.old buffer.new is_hole.new) pool.old.slot.host answer pool.new.slot.host) }
 {
-    let Some(mut host) = pool.take(alloc) else {
-        return Answer::NoPool.code();
-    };
-    let answer = host.read(name, object, block, buffer, is_hole);
-    pool.put(host);
-    answer.code()
+    on_host!(
+        alloc,
+        pool,
+        |host| host.read(name, object, block, buffer, is_hole)
+    )
 }
 
 /// `Host::punch`.
@@ -138,12 +138,7 @@ pub extern "C" fn yuzgont_punch(
 ) -> i32
     ensures { Codes result (λ answer. Calls (Does (asked_punch name.now object block)) pool.old.slot.host answer pool.new.slot.host) }
 {
-    let Some(mut host) = pool.take(alloc) else {
-        return Answer::NoPool.code();
-    };
-    let answer = host.punch(name, object, block);
-    pool.put(host);
-    answer.code()
+    on_host!(alloc, pool, |host| host.punch(name, object, block))
 }
 
 /// `Host::snapshot`.
@@ -156,12 +151,7 @@ pub extern "C" fn yuzgont_snapshot(
 ) -> i32
     ensures { Codes result (λ answer. Calls (Does (asked_snapshot name.now recursive)) pool.old.slot.host answer pool.new.slot.host) }
 {
-    let Some(mut host) = pool.take(alloc) else {
-        return Answer::NoPool.code();
-    };
-    let answer = host.snapshot(name, recursive);
-    pool.put(host);
-    answer.code()
+    on_host!(alloc, pool, |host| host.snapshot(name, recursive))
 }
 
 /// `Host::get`.
@@ -175,12 +165,7 @@ pub extern "C" fn yuzgont_get(
 ) -> i32
     ensures { Codes result (λ answer. Calls (GetsOf name.now (property_at property) value.old value.new) pool.old.slot.host answer pool.new.slot.host) }
 {
-    let Some(mut host) = pool.take(alloc) else {
-        return Answer::NoPool.code();
-    };
-    let answer = host.get(name, property, value);
-    pool.put(host);
-    answer.code()
+    on_host!(alloc, pool, |host| host.get(name, property, value))
 }
 
 /// `Host::sync`.
@@ -188,12 +173,7 @@ pub extern "C" fn yuzgont_get(
 pub extern "C" fn yuzgont_sync(alloc: Global, pool: &mut YuzPool, group: &mut u64) -> i32
     ensures { Codes result (λ answer. Calls (Syncs group.old group.new) pool.old.slot.host answer pool.new.slot.host) }
 {
-    let Some(mut host) = pool.take(alloc) else {
-        return Answer::NoPool.code();
-    };
-    let answer = host.sync(group);
-    pool.put(host);
-    answer.code()
+    on_host!(alloc, pool, |host| host.sync(group))
 }
 
 /// `Host::slice`.
@@ -206,12 +186,7 @@ pub extern "C" fn yuzgont_slice(
 ) -> i32
     ensures { Codes result (λ answer. Calls (Slices count taken.old taken.new) pool.old.slot.host answer pool.new.slot.host) }
 {
-    let Some(mut host) = pool.take(alloc) else {
-        return Answer::NoPool.code();
-    };
-    let answer = host.slice(count, taken);
-    pool.put(host);
-    answer.code()
+    on_host!(alloc, pool, |host| host.slice(count, taken))
 }
 
 /// `Host::abandon`.
@@ -219,12 +194,7 @@ pub extern "C" fn yuzgont_slice(
 pub extern "C" fn yuzgont_abandon(alloc: Global, pool: &mut YuzPool) -> i32
     ensures { Codes result (λ answer. Calls (Does (Some Abandon)) pool.old.slot.host answer pool.new.slot.host) }
 {
-    let Some(mut host) = pool.take(alloc) else {
-        return Answer::NoPool.code();
-    };
-    let answer = host.abandon();
-    pool.put(host);
-    answer.code()
+    on_host!(alloc, pool, |host| host.abandon())
 }
 
 /// `Host::send`.
@@ -238,12 +208,7 @@ pub extern "C" fn yuzgont_send(
 ) -> i32
     ensures { Codes result (λ answer. Calls (Sends name.now from.now size.new) pool.old.slot.host answer pool.new.slot.host) }
 {
-    let Some(mut host) = pool.take(alloc) else {
-        return Answer::NoPool.code();
-    };
-    let answer = host.send(name, from, size);
-    pool.put(host);
-    answer.code()
+    on_host!(alloc, pool, |host| host.send(name, from, size))
 }
 
 /// `Host::stream_piece`, whose result goes to `count`.
@@ -257,12 +222,10 @@ pub extern "C" fn yuzgont_stream(
 ) -> i32
     ensures { Codes result (λ answer. Calls (StreamsPiece from buffer.old buffer.new count.new) pool.old.slot.host answer pool.new.slot.host) }
 {
-    let Some(host) = pool.take(alloc) else {
-        return Answer::NoPool.code();
-    };
-    *count = host.stream_piece(from, buffer);
-    pool.put(host);
-    Answer::Done.code()
+    on_host!(alloc, pool, |host| {
+        *count = host.stream_piece(from, buffer);
+        Answer::Done
+    })
 }
 
 /// `Host::receive`.
@@ -276,12 +239,7 @@ pub extern "C" fn yuzgont_receive(
 ) -> i32
     ensures { Codes result (λ answer. Calls (Does (asked_receive name.now bytes.now force)) pool.old.slot.host answer pool.new.slot.host) }
 {
-    let Some(mut host) = pool.take(alloc) else {
-        return Answer::NoPool.code();
-    };
-    let answer = host.receive(name, bytes, force);
-    pool.put(host);
-    answer.code()
+    on_host!(alloc, pool, |host| host.receive(name, bytes, force))
 }
 
 /// `Host::forget`.
@@ -289,10 +247,5 @@ pub extern "C" fn yuzgont_receive(
 pub extern "C" fn yuzgont_forget(alloc: Global, pool: &mut YuzPool) -> i32
     ensures { Codes result (λ answer. Calls Forgotten pool.old.slot.host answer pool.new.slot.host) }
 {
-    let Some(mut host) = pool.take(alloc) else {
-        return Answer::NoPool.code();
-    };
-    let answer = host.forget();
-    pool.put(host);
-    answer.code()
+    on_host!(alloc, pool, |host| host.forget())
 }

@@ -3,7 +3,7 @@ ghost use Rattle.std.specs.Prelude.{◌≡◌, Option, Some, IfOk, IfErr, length
 ghost use Rattle.model.specs.Step.{Step};
 ghost use Rattle.yuzgont_c.specs.Answers.{answer_of, number_in, stream_in};
 ghost use Rattle.yuzgont_c.specs.Asking.{asked_punch, asked_snapshot, asked_receive, property_at};
-ghost use Rattle.yuzgont_c.specs.Calls.{Does, Asks, KeepsBytes, Writes, ReadsBlock, ReadInto, GetsOf, Syncs, Slices, Sends, Answers, Forgotten, IsFresh, CreateRefused};
+ghost use Rattle.yuzgont_c.specs.Calls.{Does, Asks, KeepsBytes, Writes, ReadsBlock, ReadInto, GetsOf, Syncs, Slices, Sends, Answers, Forgotten, IsFresh, CanBe, CreateRefused};
 ghost use Rattle.yuzgont_c.specs.Pieces.{IsPiece};
 ghost use Rattle.base.specs.Reading.{Reads};
 ghost use Rattle.model.specs.declared.request.Request.{Request};
@@ -18,7 +18,7 @@ use base::refusal::Refusal;
 use base::text::Bytes;
 use model::reply::{Reply, Value};
 use model::request::Request;
-use pool::Pool;
+use pool::{MOST_BLOCKS, Pool};
 use runner::PoolCaller;
 use script::run::answer_line;
 use std::alloc::Global;
@@ -32,10 +32,10 @@ pub struct Host {
 }
 
 impl Host {
-    /// A host of a new pool. It is refused as `Pool::create` says.
+    /// A host of a new pool. BadName for id 0, else TooMany for no block or more than `MOST_BLOCKS`, else NoMemory, as `Pool::create`.
     pub fn create(alloc: Global, id: u32, blocks: u32) -> Result<Host, Refusal>
-        ensures ok { IfOk result (λ host. IsFresh id blocks host) }
-        ensures err { IfErr result (λ why. CreateRefused id blocks why) }
+        ensures ok { IfOk result (λ host. CanBe MOST_BLOCKS id blocks × IsFresh id blocks host) }
+        ensures err { IfErr result (λ why. CreateRefused MOST_BLOCKS id blocks why) }
     {
         let pool = Pool::create(alloc, id, blocks)?;
         Ok(Host {

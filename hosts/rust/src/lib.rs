@@ -49,7 +49,7 @@ pub struct Pool {
 }
 
 impl Pool {
-    /// A pool with an id, not 0, and 1 to 4,194,304 blocks.
+    /// A pool with an id, not 0, and 1 to 4,194,304 blocks. BadName for id 0, else TooMany for another number of blocks.
     pub fn create(id: u32, blocks: u32) -> Result<Pool, Error> {
         let mut pool = Pool { handle: sys::Handle::NONE };
         // SAFETY: the handle has no pool.

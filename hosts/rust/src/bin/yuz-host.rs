@@ -2,7 +2,9 @@
 //!
 //! ```text
 //! yuz-host session SCRIPT REPLIES     answers the lines of a script, and compares the replies
+//! yuz-host calls                      makes each call of the library, and compares what it tells
 //! yuz-host writes COUNT               writes so many blocks of 512 bytes, and prints the seconds
+//! yuz-host apply COUNT                writes as many and does nothing else, as `session_workloads apply`: bench/hosts.py times it
 //! yuz-host streams                    sends a snapshot from one pool, and receives it in another
 //! yuz-host memory                     refuses each request for memory of each call in turn
 //! ```
@@ -10,10 +12,11 @@
 use std::error::Error as StdError;
 use std::ffi::c_void;
 use std::io::{copy, Read, Write};
+use std::mem::forget;
 use std::sync::atomic::{AtomicUsize, Ordering::Relaxed};
 use std::time::Instant;
 use std::{env, fs};
-use yuzgont::{Error, Pool, Property};
+use yuzgont::{Error, Pool, Property, Reply};
 
 type Outcome = Result<(), Box<dyn StdError>>;
 
@@ -50,6 +53,25 @@ fn refusing<T>(at: usize, call: impl FnOnce() -> Result<T, Error>) -> Option<Res
     (REQUESTS.load(Relaxed) >= at).then_some(outcome)
 }
 
+/// Each property, and its name in a line.
+const PROPERTIES: [(Property, &str); 15] = [
+    (Property::Used, "used"),
+    (Property::Available, "available"),
+    (Property::Referenced, "referenced"),
+    (Property::Written, "written"),
+    (Property::UsedByDataset, "usedbydataset"),
+    (Property::UsedBySnapshots, "usedbysnapshots"),
+    (Property::UsedByChildren, "usedbychildren"),
+    (Property::UsedByRefReservation, "usedbyrefreservation"),
+    (Property::Quota, "quota"),
+    (Property::RefQuota, "refquota"),
+    (Property::Reservation, "reservation"),
+    (Property::RefReservation, "refreservation"),
+    (Property::Guid, "guid"),
+    (Property::CreateTxg, "createtxg"),
+    (Property::UserRefs, "userrefs"),
+];
+
 fn session(script: &str, replies: &str) -> Outcome {
     let mut pool = Pool::create(1, 1000)?;
     let mut told = Vec::new();
@@ -63,15 +85,81 @@ fn session(script: &str, replies: &str) -> Outcome {
     Ok(())
 }
 
+/// How many blocks the pools have that so many are written to.
+const BLOCKS: u32 = 4_194_304;
+
 /// The same writes as `session_workloads apply`.
-fn writes(count: u64) -> Outcome {
-    let mut pool = Pool::create(1, 4_194_304)?;
-    let begin = Instant::now();
+fn write_numbers(pool: &mut Pool, count: u64) -> Result<(), Error> {
     for number in 0..count {
         let leaf = (number * 7919 % 1_048_576) as u32;
         pool.write("p", leaf / 4096, leaf % 4096, &[(number % 251) as u8; 512])?;
     }
+    Ok(())
+}
+
+fn writes(count: u64) -> Outcome {
+    let mut pool = Pool::create(1, BLOCKS)?;
+    let begin = Instant::now();
+    write_numbers(&mut pool, count)?;
     println!("writes: {count} of 512 bytes in {:.3} s", begin.elapsed().as_secs_f64());
+    Ok(())
+}
+
+/// The pool isn't freed there either, since the program ends.
+fn apply(count: u64) -> Outcome {
+    let mut pool = Pool::create(1, BLOCKS)?;
+    write_numbers(&mut pool, count)?;
+    forget(pool);
+    println!("{count}");
+    Ok(())
+}
+
+/// The property of each number is what a line tells of its name, `-` where the dataset has none.
+fn expect_properties(pool: &mut Pool, name: &str) -> Outcome {
+    for (property, word) in PROPERTIES {
+        let told = match pool.get(name, property) {
+            Ok(value) => format!("{value}\n"),
+            Err(Error::NotApplicable) => "-\n".into(),
+            Err(error) => return Err(error.into()),
+        };
+        assert_eq!(String::from_utf8(pool.line(&format!("get {word} {name}"))?.text)?, told, "{word} of {name}");
+    }
+    Ok(())
+}
+
+fn expect_done(pool: &mut Pool, lines: &[&str]) -> Outcome {
+    for line in lines {
+        assert_eq!(pool.line(line)?, Reply { text: b"ok\n".to_vec(), is_refused: false }, "{line}");
+    }
+    Ok(())
+}
+
+fn calls() -> Outcome {
+    let mut pool = Pool::create(1, 1000)?;
+    pool.write("p", 0, 0, &[97; 512])?;
+    let group = pool.sync()?;
+    pool.punch("p", 0, 0)?;
+    assert_eq!(pool.read("p", 0, 0)?, None);
+    pool.abandon()?;
+    assert_eq!(pool.read("p", 0, 0)?, Some([97; 512]));
+    assert_eq!(pool.sync()?, group + 1);
+    expect_done(&mut pool, &["create p/a", "set quota=102400 p", "set refquota=51200 p", "set reservation=20480 p", "set refreservation=10240 p"])?;
+    expect_done(&mut pool, &["set reservation=2048 p/a", "write p/a 0 0 61"])?;
+    pool.snapshot("p@s", true)?;
+    expect_done(&mut pool, &["hold kept p@s", "write p 0 0 62"])?;
+    for name in ["p", "p/a", "p@s"] {
+        expect_properties(&mut pool, name)?;
+    }
+    let bytes = sent(&mut pool, "p@s", None)?;
+    let mut receiver = pool.receive("p/copy@s", false);
+    receiver.write_all(&bytes)?;
+    receiver.finish()?;
+    assert_eq!(pool.read("p/copy", 0, 0)?, Some([97; 512]));
+    expect_done(&mut pool, &["release kept p@s", "destroy p@s"])?;
+    assert_eq!(pool.slice(1)?, 1);
+    assert!(pool.slice(1000)? > 0);
+    assert_eq!(pool.slice(1000)?, 0);
+    println!("calls: each tells what it should");
     Ok(())
 }
 
@@ -126,7 +214,7 @@ fn told(pool: &mut Pool) -> Result<Vec<u8>, Error> {
 
 type Call = fn(&mut Pool, &[u8]) -> Result<(), Error>;
 
-const CALLS: [(&str, Call); 9] = [
+const CALLS: [(&str, Call); 12] = [
     ("write", |pool, _| pool.write("p", 0, 1, &[7; 512])),
     ("read", |pool, _| pool.read("p", 0, 0).map(drop)),
     ("punch", |pool, _| pool.punch("p", 0, 0)),
@@ -134,7 +222,10 @@ const CALLS: [(&str, Call); 9] = [
     ("sync", |pool, _| pool.sync().map(drop)),
     ("slice", |pool, _| pool.slice(3).map(drop)),
     ("abandon", |pool, _| pool.abandon()),
+    ("get", |pool, _| pool.get("p@monday", Property::Used).map(drop)),
+    ("line", |pool, _| pool.line("list").map(drop)),
     ("send", |pool, _| pool.send("p@monday", None).map(drop)),
+    ("stream", |pool, _| pool.send("p@monday", None)?.read(&mut [0; 64]).map(drop).map_err(|_| Error::NoMemory)),
     ("receive", |pool, bytes| {
         let mut receiver = pool.receive("p/copy@monday", false);
         receiver.write_all(bytes).map_err(|_| Error::NoMemory)?;
@@ -142,7 +233,19 @@ const CALLS: [(&str, Call); 9] = [
     }),
 ];
 
+/// A create that is refused memory makes no pool, and its handle is let go as one that has none.
+fn create_refused() -> Outcome {
+    let mut at = 1;
+    while let Some(outcome) = refusing(at, || Pool::create(1, 1000).map(drop)) {
+        assert_eq!(outcome, Err(Error::NoMemory));
+        at += 1;
+    }
+    println!("memory: create, {} requests refused", at - 1);
+    Ok(())
+}
+
 fn memory() -> Outcome {
+    create_refused()?;
     let full = sent(&mut prepared(97)?, "p@monday", None)?;
     for (what, call) in CALLS {
         let mut at = 1;
@@ -169,9 +272,11 @@ fn main() -> Outcome {
     let words: Vec<String> = env::args().skip(1).collect();
     match words.iter().map(String::as_str).collect::<Vec<_>>()[..] {
         ["session", script, replies] => session(script, replies),
+        ["calls"] => calls(),
         ["writes", count] => writes(count.parse()?),
+        ["apply", count] => apply(count.parse()?),
         ["streams"] => streams(),
         ["memory"] => memory(),
-        _ => Err("usage: yuz-host session SCRIPT REPLIES | writes COUNT | streams | memory".into()),
+        _ => Err("usage: yuz-host session SCRIPT REPLIES | calls | writes COUNT | apply COUNT | streams | memory".into()),
     }
 }

@@ -8,18 +8,17 @@ use mir.Syntax.{w64}
 use base.Logic.{emp}
 use base.Fml.{ftrue}
 use contract.Monad.{fact, fact_i}
-use contract.Running.{tables}
-use types.Kit.{‵, raw, ◌⊛◌, ◌$◌, ◌∵◌, !, qed, by, move, drop, keep, use0, fjoin, fpack, feq_i}
-use types.Run.{lit, of_opd, no_more, and_then, returns, enter}
+use types.Kit.{‵, raw, ◌⊛◌, ◌$◌, ◌∵◌, !, qed, by, drop, use0, fjoin, fpack, feq_i}
+use types.Run.{lit, no_more, and_then, returns, enter}
 use types.ByLocal.{alloc_all, pass_all, free_all, look_at, sets}
 use types.Part.{agg}
 use denote.Builtin.{RawPtr}
-use denote.RattleType.{Valss, owns}
-use denote.RawPtr.{null_ptr, ptr_val}
+use denote.RattleType.{Valss}
+use denote.RawPtr.{null_ptr}
 use denote.Steps.{nothing}
 use denote.Struct.Struct.{within}
 use denote.Struct.Owning.{shape}
-use denote.Triple.Walked.{Stays, walk_of}
+use denote.Triple.Walked.{Stays}
 use Rattle.yuzgont_c.specs.contracts.slot.Slot as slot
 use Rattle.yuzgont_c.proofs.Owned.{one}
 use Rattle.yuzgont_c.specs.contracts.slot.Slot.empty as f

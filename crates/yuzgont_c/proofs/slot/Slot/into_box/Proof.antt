@@ -45,7 +45,7 @@ use Rattle.std.proofs.boxed.Box.from_raw.Met.{met}
 use Rattle.std.proofs.impls.GlobalAllocator.TheImpl.Met.{passed}
 use denote.Param.NoDrop.{glues}
 use Rattle.yuzgont_c.specs.contracts.slot.Slot as slot
-use Rattle.yuzgont_c.proofs.Owned.{fm, R, X, G, H as Heap, E, one, some_of, slot_out, no_drop}
+use Rattle.yuzgont_c.proofs.Owned.{fm, R, X, G, H as Heap, E, one, some_of, slot_out}
 use Rattle.yuzgont_c.specs.contracts.slot.Slot.into_box as f
 use Rattle.yuzgont_c.proofs.slot.Slot.into_box.Statement.{statement}
 use Rattle.yuzgont_c.proofs.slot.Slot.into_box.Code as code

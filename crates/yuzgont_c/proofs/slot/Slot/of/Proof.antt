@@ -56,7 +56,6 @@ use Rattle.yuzgont_c.proofs.yuzgont_c++host++Host+Destruct.drop.Kinds as kinds
 use Rattle.yuzgont_c.proofs.yuzgont_c++host++Host+Destruct.drop.Met as dropped
 use Rattle.yuzgont_c.proofs.yuzgont_c++host++Host+Destruct.drop.Reads as reads
 use Rattle.yuzgont_c.proofs.yuzgont_c++host++Host+Destruct.drop.Symbol as dropping
-use Rattle.yuzgont_c.specs.contracts.slot.Slot as slot
 use Rattle.yuzgont_c.proofs.Owned.{fm, R, X, G, H as Heap, E, one, slot_in, lent, lent_result}
 use Rattle.yuzgont_c.specs.contracts.slot.Slot.of as f
 use Rattle.yuzgont_c.proofs.slot.Slot.of.Statement.{statement}
