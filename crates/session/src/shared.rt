@@ -34,10 +34,12 @@ impl<K: Opening> Session<K> {
         ensures refusal { IfErr result (λ e. IsUnopened limit e.0) }
         ensures range { IsNoLimit limit → result ≡ Err (Refusal.TooMany, pool) }
     {
-        let book = Book::open(alloc, pool, limit)?;
-        Ok(Session {
-            book: Mutex::new(book),
-        })
+        match Book::open(alloc, pool, limit) {
+            Ok(book) => Ok(Session {
+                book: Mutex::new(book),
+            }),
+            Err(refused) => Err(refused),
+        }
     }
 
     /// A seat without receipts. Seats are numbered from 1 as they are given. TooManySeats once `SEAT_LIMIT` were given. It takes no
