@@ -13,7 +13,6 @@ ghost use Rattle.node.specs.Sound.{IsSoundTree};
 ghost use Rattle.batch.specs.Touch.{touched, claims, released, dropped};
 ghost use Rattle.batch.specs.Updates.{changes_of, IsBatch};
 
-use crate::few::Few;
 use crate::findings::{Findings, Survey};
 use crate::numbers::{NewBlock, choose, fill, fresh_count};
 use crate::update::{Update, write_count};
@@ -31,9 +30,9 @@ use zalloc::Allocator;
 pub struct Draft {
     pub touched: bool,
     pub count: u32,
-    pub released: Few<Dead>,
-    pub taken: Few<BlockNo>,
-    pub made: Few<NewBlock>,
+    pub released: Vec<Dead>,
+    pub taken: Vec<BlockNo>,
+    pub made: Vec<NewBlock>,
 }
 
 /// The root, if there is one.
@@ -65,8 +64,8 @@ pub(crate) fn findings_of(
     ensures err { OnErr result (result ≡ Err Refusal.NoMemory) }
 {
     let mut findings = Findings {
-        claims: Few::with_capacity(alloc, room)?,
-        released: Few::new(alloc),
+        claims: Vec::with_capacity(alloc, room)?,
+        released: Vec::new(alloc),
     };
     let fate = Root::survey(root_of(root), 5, 0, updates, young, &mut findings, meter)?;
     Ok((findings, fate.touched))

@@ -8,7 +8,6 @@ ghost use Rattle.batch.specs.Others.{HasOther};
 ghost use Rattle.batch.specs.Said.{said, AreInOrder};
 ghost use Rattle.batch.specs.Touch.{any_kid, later_first, touched, stays, claims, released, dropped, claim_of, let_go, own_block, young_one};
 
-use crate::few::Few;
 use crate::update::{Update, Word, is_idle, split_at_leaf, way_of, word_of};
 use base::meter::Meter;
 use base::number::{Dead, Group, Key};
@@ -32,8 +31,8 @@ pub struct Fate {
 /// The keys that are made and the blocks that are let go, from the last key to the first.
 #[derive(Drop)]
 pub struct Findings {
-    pub claims: Few<Claim>,
-    pub released: Few<Dead>,
+    pub claims: Vec<Claim>,
+    pub released: Vec<Dead>,
 }
 
 /// The block, if it was born from a group on.

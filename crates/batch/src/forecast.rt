@@ -9,7 +9,6 @@ ghost use Rattle.node.specs.Node.{root_forest};
 ghost use Rattle.node.specs.Sound.{IsSoundTree};
 
 use crate::draft::findings_of;
-use crate::few::Few;
 use crate::findings::Claim;
 use crate::update::{Update, write_count};
 use base::meter::Meter;
@@ -22,12 +21,12 @@ use std::sync::Arc;
 /// What a change would do: the blocks that the keys have now which it touches, and how many keys it would make.
 #[derive(Drop)]
 pub struct Forecast {
-    pub dropped: Few<Dead>,
+    pub dropped: Vec<Dead>,
     pub made: usize,
 }
 
 /// Adds the blocks that claims keep in place.
-fn add_kept(claims: &[Claim], dropped: &mut Few<Dead>) -> Result<(), Refusal>
+fn add_kept(claims: &[Claim], dropped: &mut Vec<Dead>) -> Result<(), Refusal>
     ensures ok { OnOk result (dropped.new.items ≡ dropped.old.items ++ kept_of claims.now) }
     ensures err { OnErr result (result ≡ Err Refusal.NoMemory) }
 {

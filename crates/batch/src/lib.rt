@@ -3,14 +3,12 @@
 #![tactic(auto)]
 
 mod draft;
-mod few;
 mod findings;
 mod forecast;
 mod numbers;
 mod update;
 
 pub use draft::{Draft, draft_of};
-pub use few::Few;
 pub use forecast::{Forecast, forecast_of};
 pub use numbers::NewBlock;
 pub use update::{Update, Way, Word, is_idle, split_at_leaf, way_of, word_of};

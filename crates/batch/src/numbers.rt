@@ -8,7 +8,6 @@ ghost use Rattle.batch.specs.Numbers.{numbers, frees_from, is_young, young_numbe
 ghost use Rattle.zalloc.specs.States.{is_free};
 ghost use Rattle.zalloc.specs.declared.BlockState.TheVariants.{Free, Allocated};
 
-use crate::few::Few;
 use crate::findings::Claim;
 use base::number::{BlockNo, Dead, Group, Key};
 use base::refusal::Refusal;
@@ -34,7 +33,7 @@ fn reuse(
     released: &[Dead],
     young: Group,
     need: usize,
-    out: &mut Few<BlockNo>,
+    out: &mut Vec<BlockNo>,
 ) -> Result<(), Refusal>
     requires { length out.old.items ≤ need }
     ensures ok { OnOk result (numbers out.new.items ≡ numbers out.old.items ++ take (need - length out.old.items) (young_numbers young.0 released.now)) }
@@ -56,7 +55,7 @@ fn take_free(
     allocator: &Allocator,
     first: u32,
     need: usize,
-    out: &mut Few<BlockNo>,
+    out: &mut Vec<BlockNo>,
 ) -> Result<(), Refusal>
     requires { length out.old.items ≤ need }
     ensures ok { OnOk result (numbers out.new.items ≡ numbers out.old.items ++ take (need - length out.old.items) (frees_from first allocator.now)) }
@@ -80,7 +79,7 @@ pub fn choose(
     released: &[Dead],
     young: Group,
     need: usize,
-) -> Result<Few<BlockNo>, Refusal>
+) -> Result<Vec<BlockNo>, Refusal>
     requires allocated { (d : Dead) → IsIn released.now d → slice_get allocator.now d.block.0 ≡ Some Allocated }
     requires once { AreDifferent (map (λ d. d.block.0) released.now) }
     ensures len { IfOk result (λ v. length v.items ≡ need) }
@@ -90,7 +89,7 @@ pub fn choose(
     ensures no_space { result ≡ Err Refusal.NoSpace → count_by is_free allocator.now + count_by (is_young young.0) released.now < need }
     ensures only { IfErr result IsNoSpaceOrNoMemory }
 {
-    let mut out = Few::with_capacity(alloc, need)?;
+    let mut out = Vec::with_capacity(alloc, need)?;
     reuse(released, young, need, &mut out)?;
     if need - out.len() > allocator.counts().free as usize {
         return Err(Refusal::NoSpace);
@@ -100,12 +99,12 @@ pub fn choose(
 }
 
 /// The claims with their numbers.
-pub fn fill(alloc: Global, claims: &[Claim], taken: &[BlockNo]) -> Result<Few<NewBlock>, Refusal>
+pub fn fill(alloc: Global, claims: &[Claim], taken: &[BlockNo]) -> Result<Vec<NewBlock>, Refusal>
     requires { length taken.now ≡ count_by is_fresh claims.now }
     ensures ok { IfOk result (λ v. v.items ≡ filled claims.now taken.now) }
     ensures err { OnErr result (result ≡ Err Refusal.NoMemory) }
 {
-    let mut out = Few::with_capacity(alloc, claims.len())?;
+    let mut out = Vec::with_capacity(alloc, claims.len())?;
     let mut next = 0;
     for claim in claims {
         let block = match claim.kept {

@@ -1,12 +1,12 @@
 //! What a change of a tree has done to the numbers.
 use base::number::{BlockNo, Dead};
-use batch::{Few, NewBlock};
+use batch::NewBlock;
 
 /// What a change that is in force has done to the numbers: the blocks that it dropped without keeping their numbers in place, the
 /// numbers that its new blocks have beside those kept, and its new blocks in the order of their keys.
 #[derive(Drop)]
 pub struct Changed {
-    pub released: Few<Dead>,
-    pub taken: Few<BlockNo>,
-    pub made: Few<NewBlock>,
+    pub released: Vec<Dead>,
+    pub taken: Vec<BlockNo>,
+    pub made: Vec<NewBlock>,
 }

@@ -13,7 +13,7 @@ mod subtree;
 mod telling;
 mod tree;
 
-pub use batch::{Draft, Few, Forecast, NewBlock, Update};
+pub use batch::{Draft, Forecast, NewBlock, Update};
 pub use block::{Block, Root};
 pub use change::Changed;
 pub use node::Cell;
