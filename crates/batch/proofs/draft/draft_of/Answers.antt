@@ -22,10 +22,10 @@ module _ (c : After-deref-2) where
   ready = record { sound = c.requires.sound; batch = c.requires.batch; sized = c.write_count.ensures.sized; allocated = c.requires.allocated }
 
   gone : c.deref-2.result.now ≡ released (said c.args.updates.now) c.args.young.0 5 0 (whole c.args.root.now)
-  gone = c.deref-2.ensures ∙ c.in_ok-findings.ensures.released
+  gone = c.deref-2.ensures.value ∙ c.in_ok-findings.ensures.released
 
   need : c.fresh_count-need.result ≡ count_by is_fresh (claims (said c.args.updates.now) c.args.young.0 5 0 (whole c.args.root.now))
-  need = c.fresh_count-need.ensures ∙ ap (count_by is_fresh) (c.deref.ensures ∙ c.in_ok-findings.ensures.claims)
+  need = c.fresh_count-need.ensures ∙ ap (count_by is_fresh) (c.deref.ensures.value ∙ c.in_ok-findings.ensures.claims)
 
 pub findings_of-requires-clause-order : goal.findings_of-requires-clause-order
 findings_of-requires-clause-order c = batch_in_order c.args.updates.now c.requires.batch
@@ -62,7 +62,7 @@ module _ (c : After-len) where
   base = (goal.at.overflow_cast-result c).After-deref-2
 
   gone_count : c.len.result ≡ length (released (said c.args.updates.now) c.args.young.0 5 0 (whole c.args.root.now))
-  gone_count = c.len.ensures.value ∙ ap length c.in_ok-findings.ensures.released
+  gone_count = let e = ap length c.in_ok-findings.ensures.released in omega (arith, e, c.len.ensures)
 
   fewer : c.len.result ≤ c.args.count
   fewer = let f = few _ _ _ _ _ (ready base) in let n = gone_count in omega (arith, f, n)
@@ -92,10 +92,10 @@ returns-clause-ok c =
       touched = c.in_ok-findings.ensures.touched;
       released = c.in_ok-findings.ensures.released;
       enough = c.in-Ok.ensures.len ∙ need b;
-      at_hand = subst (λ ds. (n : ℕ) → IsIn (numbers c.in-Ok.taken.items) n → IsAtHand c.args.allocator.now c.args.young.0 ds n) c.deref-2.ensures c.in-Ok.ensures.at_hand;
+      at_hand = subst (λ ds. (n : ℕ) → IsIn (numbers c.in-Ok.taken.items) n → IsAtHand c.args.allocator.now c.args.young.0 ds n) c.deref-2.ensures.value c.in-Ok.ensures.at_hand;
       once = c.in-Ok.ensures.once;
-      made = c.in_ok-made.ensures.ok ∙ (λ i. filled ((c.deref-3.ensures ∙ c.in_ok-findings.ensures.claims) i) (c.deref-4.ensures i));
+      made = c.in_ok-made.ensures.ok ∙ (λ i. filled ((c.deref-3.ensures.value ∙ c.in_ok-findings.ensures.claims) i) (c.deref-4.ensures.value i));
       counted =
-          let f = fewer a in let k = ready_count _ _ _ _ _ (ready b) in let l = c.len.ensures.value in let t = c.in-Ok.ensures.len in
+          let f = fewer a in let k = ready_count _ _ _ _ _ (ready b) in let l = c.len.ensures in let t = c.in-Ok.ensures.len in
           omega (arith, f, k, l, t);
     }

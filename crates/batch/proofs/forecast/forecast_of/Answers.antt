@@ -1,5 +1,5 @@
 -- The lists of the findings, by the lemmas of Forecasts.
-use Rattle.std.proofs.Common.{◌++◌, List, length, map, sym, ap, subst, ◌∙◌}
+use Rattle.std.proofs.Common.{◌++◌, List, length, map, sym, ap, subst, ◌∙◌, arith}
 use Rattle.std.proofs.lemmas.List.{length-map}
 use Rattle.base.specs.declared.number.Dead.{Dead}
 use Rattle.base.specs.Surveys.{IsSurvey, dead_block}
@@ -21,12 +21,15 @@ pub returns-clause-ok : goal.returns-clause-ok
 returns-clause-ok c =
     let u = c.args.updates.now in
     let claimed = c.in_ok-findings.ensures.claims in
-    let kept = c.in_ok-add_kept.ensures.ok ∙ (λ i. c.in_ok-findings.ensures.released i ++ kept_of ((c.deref.ensures ∙ claimed) i)) in
+    let kept = c.in_ok-add_kept.ensures.ok ∙ (λ i. c.in_ok-findings.ensures.released i ++ kept_of ((c.deref.ensures.value ∙ claimed) i)) in
     record {
       made = map claim_key (claims (said u) 0 5 0 (whole c.args.root.now));
       survey = subst (λ (ds : List Dead). IsSurvey (map_of (root_forest c.args.root.now)) (changes_of u) (map dead_block ds) (map claim_key (claims (said u) 0 5 0 (whole c.args.root.now)))) (sym kept)
           (root_survey c.args.root.now u c.requires.sound c.requires.batch c.write_count.ensures.sized);
-      count = c.len-made.ensures.value ∙ ap length claimed ∙ sym (length-map (claims (said u) 0 5 0 (whole c.args.root.now)) claim_key);
+      count =
+          let e = ap length claimed in
+          let l = length-map (claims (said u) 0 5 0 (whole c.args.root.now)) claim_key in
+          omega (arith, e, l, c.len-made.ensures);
     }
 
 pub returns-clause-metered : goal.returns-clause-metered

@@ -6,7 +6,7 @@ use Rattle.batch.proofs.numbers.reuse.Goals.{then-dead-young+in_ok-push, else-de
 
 pub returns-then-len-need-clause-ok : goal.returns-then-len-need-clause-ok
 returns-then-len-need-clause-ok c =
-    sym (take_full c.args.need (length c.loop-dead.out.items) (numbers c.loop-dead.out.items) _ (omega (arith, c.len.ensures.value, c.if-len-need.true))) ∙ c.loop-dead.invariant.got
+    sym (take_full c.args.need (length c.loop-dead.out.items) (numbers c.loop-dead.out.items) _ (omega (arith, c.len.ensures, c.if-len-need.true))) ∙ c.loop-dead.invariant.got
 
 pub loop-dead-preserved : goal.loop-dead-preserved
 loop-dead-preserved c =
@@ -17,15 +17,15 @@ loop-dead-preserved c =
     let out = c.loop-dead.out.items in
     elim c.if-dead-young.branch [
       | then-dead-young+in_ok-push w ↦
-          let items = ap (λ v. v.items) w.out-is ∙ w.in_ok-push.ensures.ok in
+          let items = ap (λ v. v.items) w.out-is ∙ w.in_ok-push.ensures.items in
           let m = ap length items ∙ length-append out _ in
           let k : length c.if-dead-young.out.items ≡ length out + 1 = omega (arith, m) in
           let here = young_here y i ds (record { block = record { 0 = 0 }; birth = record { 0 = 0 } }) c.loop-dead-test.true w.if-dead-young.true in
           record {
-            few = omega (arith, k, c.len.ensures.value, c.if-len-need.false, c.loop-dead.invariant.few);
+            few = omega (arith, k, c.len.ensures, c.if-len-need.false, c.loop-dead.invariant.few);
             got =
                 (λ j. push_number out c.if-dead-young.out.items _ items j ++ take (need - k j) (young_numbers y (drop (i + 1) ds)))
-                ∙ sym (take_step need (length out) _ (numbers out) (young_numbers y (drop (i + 1) ds)) (omega (arith, c.len.ensures.value, c.if-len-need.false, c.loop-dead.invariant.few)))
+                ∙ sym (take_step need (length out) _ (numbers out) (young_numbers y (drop (i + 1) ds)) (omega (arith, c.len.ensures, c.if-len-need.false, c.loop-dead.invariant.few)))
                 ∙ ap (λ zs. numbers out ++ take (need - length out) zs) (sym here) ∙ c.loop-dead.invariant.got;
           }
       | else-dead-young w ↦

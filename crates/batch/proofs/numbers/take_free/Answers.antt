@@ -12,7 +12,7 @@ loop-count-preserved c =
     let states = c.args.allocator.now in
     let out = c.loop-count.out.items in
     let need = c.args.need in
-    let items = c.in_ok-push.ensures.ok in
+    let items = c.in_ok-push.ensures.items in
     let m = ap length items ∙ length-append out _ in
     let here = frees_found states c.loop-count.from c.in-Some.b.0 c.in-Some.ensures.not_below c.in-Some.ensures.found c.in-Some.ensures.least in
     record {
