@@ -1,8 +1,6 @@
 -- A change, from what a draft has given.
-use Rattle.std.proofs.Common.{◌≡◌, ℕ, ◌+◌, Bool, true, false, cond, List, [], ◌∷◌, ◌++◌, length, map, reverse, take, drop, Option, refl, sym, ap, subst, ◌∙◌, arith}
+use Rattle.std.proofs.Common.{◌≡◌, ℕ, ◌+◌, Bool, true, false, cond, List, [], ◌∷◌, ◌++◌, length, map, reverse, Option, refl, sym, ap, subst, ◌∙◌, arith}
 use Rattle.std.specs.Prelude.{◌&&◌}
-use Rattle.std.specs.List.{refill}
-use Rattle.std.proofs.Math.Seq.{take-append_seam}
 use Rattle.std.specs.declared.sync.Arc.{Arc}
 use Rattle.std.specs.declared.alloc.Global.{Global}
 use Rattle.base.specs.declared.number.Key.{Key}
@@ -136,7 +134,3 @@ module _ (root : Option (Arc Root Global)) (count : ℕ) (us : List Update) (y :
       ready_change n is v p q t w x =
           subst (λ (k : Map). IsChange k (changes_of us) g y states v) is
           (is_change m o us g y states (known g kid) r.allocated d.taken.items h.enough hand h.once m' stands' v (p ∙ sym is) q t (w ∙ ap (map dead_block) h.released) (x ∙ ap (λ bs. map made_pair (reverse bs)) h.made))
-
--- a list turned round where it stands
-pub turned : {X : Type 0} (xs ys zs : List X) → ys ≡ reverse zs → length ys ≡ length zs → zs ≡ xs → refill (length xs) xs ys ≡ reverse xs
-turned xs ys zs e n z = ap (λ k. take k (ys ++ drop (length ys) xs)) (ap length (sym z) ∙ sym n) ∙ take-append_seam ys (drop (length ys) xs) ∙ e ∙ ap reverse z

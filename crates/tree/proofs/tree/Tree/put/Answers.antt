@@ -9,7 +9,6 @@ use Rattle.batch.proofs.Prepare.{own_kid}
 use Rattle.batch.proofs.Words.{batch_in_order}
 use Rattle.node.specs.Node.{whole}
 use Rattle.tree.specs.ChangeParts.{made_pair}
-use Rattle.tree.proofs.Drafted.{turned}
 use Rattle.tree.proofs.Putting.{here, ready, put_keys, put_places, put_counts, put_made, put_sound, put_change, same_sound}
 use Rattle.tree.proofs.tree.Tree.put.Goals as goal
 
@@ -19,9 +18,9 @@ renew_root-requires c =
       order = batch_in_order c.args.updates.now r.asks.batch;
       sound = own_kid _ _ _ _ _ (ready c.self.inside.root c.self.inside.count c.self.invariant c.args.self.now c.self.view_is c.args.updates.now c.args.group.0 r.young r.states c.args.draft r.asks r.is);
       touched = (here c.self.inside.root c.self.inside.count c.self.invariant c.args.self.now c.self.view_is c.args.updates.now c.args.group.0 r.young r.states c.args.draft r.asks r.is).touched;
-      keys = subst (λ bs. HasKeys bs 0 (made_keys (said c.args.updates.now) 5 0 (whole c.self.inside.root))) (sym c.deref.ensures)
+      keys = subst (λ bs. HasKeys bs 0 (made_keys (said c.args.updates.now) 5 0 (whole c.self.inside.root))) (sym c.deref.ensures.value)
           (put_keys c.self.inside.root c.self.inside.count c.self.invariant c.args.self.now c.self.view_is c.args.updates.now c.args.group.0 r.young r.states c.args.draft r.asks r.is);
-      once = subst (λ bs. AreDifferent (map new_key bs)) (sym c.deref.ensures)
+      once = subst (λ bs. AreDifferent (map new_key bs)) (sym c.deref.ensures.value)
           (put_places c.self.inside.root c.self.inside.count c.self.invariant c.args.self.now c.self.view_is c.args.updates.now c.args.group.0 r.young r.states c.args.draft r.asks r.is);
     }
 
@@ -31,16 +30,16 @@ invariant_of-self c = same_sound c.self.inside.root c.renew_root.new.root c.self
 pub invariant_of-self-2 : goal.invariant_of-self-2
 invariant_of-self-2 c =
     let r = c.requires in
-    let renewed = c.in_ok-renew_root.ensures.part ∙ ap (λ bs. rebuilt (said c.args.updates.now) (number_of bs) c.args.group.0 5 0 (whole c.self.inside.root)) c.deref.ensures in
+    let renewed = c.in_ok-renew_root.ensures.part ∙ ap (λ bs. rebuilt (said c.args.updates.now) (number_of bs) c.args.group.0 5 0 (whole c.self.inside.root)) c.deref.ensures.value in
     put_sound c.self.inside.root c.self.inside.count c.self.invariant c.args.self.now c.self.view_is c.args.updates.now c.args.group.0 r.young r.states c.args.draft r.asks r.is c.renew_root.new.root renewed
 
 pub returns-clause-ok : goal.returns-clause-ok
 returns-clause-ok c =
-    let renewed = c.in_ok-renew_root.ensures.part ∙ ap (λ bs. rebuilt (said c.args.updates.now) (number_of bs) c.args.group.0 5 0 (whole c.self.inside.root)) c.deref.ensures in
+    let renewed = c.in_ok-renew_root.ensures.part ∙ ap (λ bs. rebuilt (said c.args.updates.now) (number_of bs) c.args.group.0 5 0 (whole c.self.inside.root)) c.deref.ensures.value in
     record {
       changed = λ young states asks of.
           put_change c.self.inside.root c.self.inside.count c.self.invariant c.args.self.now c.self.view_is c.args.updates.now c.args.group.0 young states c.args.draft asks of c.renew_root.new.root renewed
-          _ refl refl refl refl (ap (map made_pair) (turned c.args.draft.made.items c.reverse.new.self c.deref_mut.result.now c.reverse.ensures.after c.reverse.ensures.len c.deref_mut.ensures.value));
+          _ refl refl refl refl (ap (map made_pair) c.reverse.ensures.items);
       released = refl;
     }
 
@@ -53,7 +52,7 @@ pub returns-clause-metered_made : goal.returns-clause-metered_made
 returns-clause-metered_made c =
     let r = c.requires in
     let even =
-    ap length (turned c.args.draft.made.items c.reverse.new.self c.deref_mut.result.now c.reverse.ensures.after c.reverse.ensures.len c.deref_mut.ensures.value)
+    ap length c.reverse.ensures.items
     ∙ length-reverse c.args.draft.made.items
     ∙ sym (put_made c.self.inside.root c.self.inside.count c.self.invariant c.args.self.now c.self.view_is c.args.updates.now c.args.group.0 r.young r.states c.args.draft r.asks r.is) in
     subst (λ n. counted c.args.meter.now n ≤ c.renew_root.new.meter) (sym even) c.in_ok-renew_root.ensures.metered_made
