@@ -1,6 +1,5 @@
 -- Levels of words.
-use Rattle.std.proofs.Common.{◌≡◌, ◌≢◌, ℕ, zero, suc, ◌+◌, ◌*◌, ◌/◌, ◌%◌, ◌<◌, ◌≤◌, ◌⊎◌, inl, inr, Bool, true, false, not, List, [], ◌∷◌, ◌++◌, length, get_or, arith, refl, ap, sym, ◌∙◌, subst, ⊎_elim}
-use Rattle.std.specs.Prelude.{◌==◌}
+use Rattle.std.proofs.Common.{◌≡◌, ◌≢◌, ℕ, ◌+◌, ◌*◌, ◌/◌, ◌%◌, ◌<◌, ◌≤◌, ◌⊎◌, inl, inr, false, not, List, length, get_or, arith, ap, sym, ◌∙◌, subst, ⊎_elim}
 use Rattle.std.proofs.lemmas.Bool.{cases_eq, cases_lt, true≢false, ne_eqb}
 use Rattle.std.proofs.lemmas.List.{get_or_past}
 use Rattle.zalloc.specs.Bits.{is_one, IsEven}
@@ -9,33 +8,15 @@ use Rattle.zalloc.specs.Sets.{word_at, bit_in, has_one, is_held, Tells, HasNone,
 use Rattle.std.proofs.lemmas.Grind.{get_or_default_zero}
 use Rattle.zalloc.proofs.Words.{all_ones, no_ones}
 
--- a word that is the same as those that aren't there
-pub grown : (fill : ℕ) (words : List ℕ) (i : ℕ) → word_at fill (words ++ fill ∷ []) i ≡ word_at fill words i
-grown fill [] zero = refl
-grown fill [] (suc i) = refl
-grown fill (w ∷ words) zero = refl
-grown fill (w ∷ words) (suc i) = grown fill words i
-
-pub past_words : (fill : ℕ) (words : List ℕ) (i : ℕ) → length words ≤ i → word_at fill words i ≡ fill
+past_words : (fill : ℕ) (words : List ℕ) (i : ℕ) → length words ≤ i → word_at fill words i ≡ fill
 past_words fill words i h = get_or_past words i fill h
 
 -- a word without a one
 no_word : (word : ℕ) → has_one word ≡ false → word ≡ 0
 no_word word h = ⊎_elim (λ (e : word ≡ 0). e) (λ (ne : word ≡ 0 → ⊥). absurd (true≢false (sym (ap not (ne_eqb word 0 ne)) ∙ h))) (cases_eq word 0)
 
-pub some_word : (word : ℕ) → has_one word ≡ true → 0 < word
-some_word word h = ⊎_elim (λ (e : word ≡ 0). absurd (true≢false (sym h ∙ ap has_one e))) (λ (ne : word ≡ 0 → ⊥). omega (arith, ne)) (cases_eq word 0)
-
 empty_word : (fill : ℕ) (words : List ℕ) (i : ℕ) → has_one (word_at fill words (i / 64)) ≡ false → bit_in fill words i ≡ false
 empty_word fill words i h = ap (λ x. is_one x (i % 64)) (no_word (word_at fill words (i / 64)) h) ∙ no_ones (i % 64)
-
--- a level of words that aren't there tells of another
-even_told : (fill i : ℕ) → IsEven fill → i < 64 → is_one fill i ≡ has_one fill
-even_told fill i (inl e) h = ap (λ x. is_one x i) e ∙ no_ones i ∙ ap has_one (sym e)
-even_told fill i (inr e) h = ap (λ x. is_one x i) e ∙ all_ones i h ∙ ap has_one (sym e)
-
-pub new_tells : (fill : ℕ) → IsEven fill → Tells fill [] []
-new_tells fill e w = even_told fill (w % 64) e (omega arith)
 
 -- a level still tells of the one below, after a word of that was put and its bit
 pub still_tells : (fill : ℕ) (upper lower uppers lowers : List ℕ) (w : ℕ) → Tells fill upper lower → bit_in fill uppers w ≡ has_one (word_at fill lowers w) → ((k : ℕ) → k ≢ w → bit_in fill uppers k ≡ bit_in fill upper k) → ((i : ℕ) → i ≢ w → word_at fill lowers i ≡ word_at fill lower i) → Tells fill uppers lowers
@@ -79,19 +60,8 @@ first_after fill words from start k p below f = record {
   below = λ i q r. ⊎_elim (λ (lt : i < start). below i q lt) (λ (ge : start ≤ i). f.below i ge r) (cases_lt i start);
 }
 
-pub below_more : (fill : ℕ) (words : List ℕ) (from start : ℕ) → ((i : ℕ) → from ≤ i → i < start → bit_in fill words i ≡ false) → ((i : ℕ) → start ≤ i → i / 64 ≡ start / 64 → bit_in fill words i ≡ false) → (i : ℕ) → from ≤ i → i < (start / 64 + 1) * 64 → bit_in fill words i ≡ false
-below_more fill words from start below none i p q =
-    ⊎_elim (λ (lt : i < start). below i p lt) (λ (ge : start ≤ i). none i ge (omega (arith, ge, q))) (cases_lt i start)
-
 past_bit : (fill : ℕ) (words : List ℕ) (i : ℕ) → length words ≤ i / 64 → bit_in fill words i ≡ is_one fill (i % 64)
 past_bit fill words i h = ap (λ x. is_one x (i % 64)) (past_words fill words (i / 64) h)
-
-pub none_past : (fill : ℕ) (words : List ℕ) (from start : ℕ) → fill ≡ 0 → length words ≤ start / 64 → ((i : ℕ) → from ≤ i → i < start → bit_in fill words i ≡ false) → HasNone fill words from
-none_past fill words from start e h below i p =
-    ⊎_elim
-    (λ (lt : i < start). below i p lt)
-    (λ (ge : start ≤ i). past_bit fill words i (omega (arith, ge, h)) ∙ ap (λ x. is_one x (i % 64)) e ∙ no_ones (i % 64))
-    (cases_lt i start)
 
 pub first_past : (fill : ℕ) (words : List ℕ) (start : ℕ) → IsEven fill → fill ≢ 0 → length words ≤ start / 64 → IsFirst fill words start start
 first_past fill words start (inl z) ne h = absurd (ne z)
@@ -99,20 +69,6 @@ first_past fill words start (inr m) ne h = record {
   from = omega arith;
   one = past_bit fill words start h ∙ ap (λ x. is_one x (start % 64)) m ∙ all_ones (start % 64) (omega arith);
   below = λ i p q. absurd (omega (arith, p, q));
-}
-
--- the first bit of a word
-pub first_in : (fill : ℕ) (words : List ℕ) (start bit : ℕ) → bit < 64 → start % 64 ≤ bit → is_one (word_at fill words (start / 64)) bit ≡ true → ((i : ℕ) → start % 64 ≤ i → i < bit → is_one (word_at fill words (start / 64)) i ≡ false) → IsFirst fill words start (start / 64 * 64 + bit)
-first_in fill words start bit h from one below = record {
-  from = omega (arith, from);
-  one =
-      let k = start / 64 * 64 + bit in
-      let d : k / 64 ≡ start / 64 = omega (arith, h) in
-      let m : k % 64 ≡ bit = omega (arith, h) in
-      (λ i. is_one (word_at fill words (d i)) (m i)) ∙ one;
-  below = λ i p q.
-      let d : i / 64 ≡ start / 64 = omega (arith, p, q, h) in
-      ap (λ j. is_one (word_at fill words j) (i % 64)) d ∙ below (i % 64) (omega (arith, p, d)) (omega (arith, q, d));
 }
 
 -- the windows of a list that are still to be copied

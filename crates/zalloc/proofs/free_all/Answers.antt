@@ -1,4 +1,4 @@
-use Rattle.std.proofs.Common.{◌/◌, ◌∙◌, refl, sym, arith}
+use Rattle.std.proofs.Common.{◌/◌, ◌∙◌, refl, arith}
 use Rattle.zalloc.proofs.Freed.{freed_either, freed_apart, freed_below}
 use Rattle.zalloc.proofs.free_all.Goals as goal
 

@@ -1,4 +1,4 @@
-use Rattle.std.proofs.Common.{◌≡◌, ◌∙◌, sym, ap, arith, replicate}
+use Rattle.std.proofs.Common.{◌≡◌, ◌∙◌, sym, ap, replicate}
 use Rattle.std.specs.Prelude.{count_by}
 use Rattle.zalloc.specs.declared.BlockState.TheVariants.{Free}
 use Rattle.zalloc.specs.States.{is_free, is_waiting}

@@ -1,11 +1,10 @@
-use Rattle.std.proofs.Common.{◌≡◌, ◌+◌, ◌≤◌, false, refl, ◌∙◌, sym, ap, arith, rules, subst}
+use Rattle.std.proofs.Common.{◌+◌, ◌≤◌, refl, ◌∙◌, sym, ap, arith, rules}
 use Rattle.std.specs.Prelude.{slice_get, slice_set, count_by}
 use Rattle.zalloc.specs.declared.BlockState.TheVariants.{Free, Allocated, Waiting}
 use Rattle.zalloc.specs.States.{is_free, is_waiting}
-use Rattle.zalloc.specs.Sets.{is_held}
 use Rattle.zalloc.specs.Allocator.{states_from}
 use Rattle.zalloc.proofs.Counting.{count_set}
-use Rattle.zalloc.proofs.States.{states_len, within_states, allocated_read, let_wait, wait_apart, let_free, free_apart, room_for}
+use Rattle.zalloc.proofs.States.{states_len, within_states, let_wait, wait_apart, let_free, free_apart, room_for}
 use Rattle.zalloc.proofs.Allocator.release.Goals as goal
 
 pub insert-requires-clause-within : goal.insert-requires-clause-within

@@ -1,11 +1,10 @@
-use Rattle.std.proofs.Common.{◌≡◌, ◌+◌, ◌≤◌, ◌∙◌, sym, ap, arith, rules, subst, true}
+use Rattle.std.proofs.Common.{◌∙◌, sym, ap, arith}
 use Rattle.std.specs.Prelude.{slice_get, slice_set, count_by}
 use Rattle.zalloc.specs.declared.BlockState.TheVariants.{Free, Allocated}
 use Rattle.zalloc.specs.States.{is_free, is_waiting}
-use Rattle.zalloc.specs.Sets.{is_held}
 use Rattle.zalloc.specs.Allocator.{states_from}
 use Rattle.zalloc.proofs.Counting.{count_set, free_to_take}
-use Rattle.zalloc.proofs.States.{within_states, free_read, taken, still_apart}
+use Rattle.zalloc.proofs.States.{within_states, taken, still_apart}
 use Rattle.zalloc.proofs.Allocator.take.Goals as goal
 
 pub remove-requires-clause-within : goal.remove-requires-clause-within
