@@ -1,4 +1,4 @@
-use Rattle.std.proofs.Common.{◌≡◌, ◌+◌, suc, ◌*◌, ◌-◌, ◌^◌, ◌≤◌, [], length, Some, None, true, sym, ap, subst, ◌∙◌, arith, Option, List}
+use Rattle.std.proofs.Common.{◌≡◌, ◌+◌, suc, ◌*◌, ◌-◌, ◌^◌, ◌≤◌, [], length, Some, true, sym, ap, subst, ◌∙◌, arith, Option, List}
 use Rattle.base.specs.Counting.{counted}
 use Rattle.base.specs.declared.number.Dead.{Dead}
 use Rattle.node.specs.Entries.{key_at}

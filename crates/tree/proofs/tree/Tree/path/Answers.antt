@@ -1,5 +1,5 @@
 -- The blocks on a path, by what the root's part has below it.
-use Rattle.std.proofs.Common.{◌≡◌, ◌-◌, ◌/◌, ◌^◌, None, sym, ap, ◌∙◌, arith}
+use Rattle.std.proofs.Common.{◌-◌, ◌/◌, ◌^◌, None, sym, ap, ◌∙◌, arith}
 use Rattle.std.proofs.lemmas.List.{get_or-replicate}
 use Rattle.std.proofs.Math.Nat.{div-one}
 use Rattle.std.specs.Option.{option_map}
