@@ -1,10 +1,10 @@
 //! What threads do at once: callers, a caller of batches, readers of views, a syncer and a destroyer, each with a fixed number of turns.
-use crate::rig::{Turns, next, one_of, request_at_last};
+use crate::rig::{next, one_of, request_at_last};
 use base::name::Target;
 use base::refusal::Refusal;
 use base::text::Bytes;
 use model::request::Request;
-use session::{ClosedView, OpenedView, Opening, Receipt, Seat, Session, View};
+use session::{ClosedView, OpenedView, Opening, Receipt, Seat, Session, Turns, View};
 use std::alloc::Global;
 use std::process::Abort;
 use std::sync::Wait;

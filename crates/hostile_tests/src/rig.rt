@@ -1,9 +1,9 @@
-//! What the tests share: requests by their lines, a gate, and what looks random.
+//! What the tests share: requests by their lines, and what looks random.
 use base::refusal::Refusal;
 use model::reply::Reply;
 use model::request::Request;
 use script::run::{Caller, answer_line};
-use session::{Gate, Receipt};
+use session::Receipt;
 use std::alloc::Global;
 use std::process::Abort;
 
@@ -48,37 +48,6 @@ pub fn is_out_of_memory(receipt: &Receipt) -> bool {
     match receipt.entry.reply.other() {
         Some(reply) => lacks_memory(reply),
         None => false,
-    }
-}
-
-/// So many turns, and then no more.
-#[derive(Drop)]
-pub struct Turns {
-    turns: u64,
-    is_stopped: bool,
-}
-
-impl Turns {
-    pub fn new(turns: u64) -> Turns {
-        Turns {
-            turns,
-            is_stopped: false,
-        }
-    }
-}
-
-impl Gate for Turns {
-    ghost left = { λ g. g.turns };
-
-    ghost stopped = { λ g. g.is_stopped };
-
-    fn turn(&mut self) -> bool {
-        if self.turns == 0 || self.is_stopped {
-            self.is_stopped = true;
-            return false;
-        }
-        self.turns -= 1;
-        true
     }
 }
 

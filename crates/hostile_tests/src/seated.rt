@@ -1,10 +1,10 @@
 //! A seat that is asked lines, as a pool is: by calls or by batches, by its views and its workers.
-use crate::rig::{Turns, is_out_of_memory};
+use crate::rig::is_out_of_memory;
 use crate::ways::{Ask, Told};
 use base::name::Target;
 use base::refusal::Refusal;
 use model::request::Request;
-use session::{ClosedView, OpenedView, Opening, Receipt, Seat, Session, View};
+use session::{ClosedView, OpenedView, Opening, Receipt, Seat, Session, Turns, View};
 use std::alloc::Global;
 use std::sync::Wait;
 

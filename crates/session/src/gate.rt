@@ -18,3 +18,38 @@ pub trait Gate {
         ensures stands { stopped self.old ≡ true → result ≡ false }
         ensures few { left self.old < 2 ^ 64 };
 }
+
+/// A gate of so many turns: it says yes so often, and from then on no (profile). A batch of `n` requests that is not to stop early asks for
+/// `n - 1`, and a worker asks for one before each of its requests.
+#[derive(Drop)]
+pub struct Turns {
+    turns: u64,
+    is_stopped: bool,
+}
+
+impl Turns {
+    /// A gate with so many turns. Constant time, as each of them is.
+    pub fn new(turns: u64) -> Turns
+        ensures { result ≡ record { turns = turns; is_stopped = false } }
+    {
+        Turns {
+            turns,
+            is_stopped: false,
+        }
+    }
+}
+
+impl Gate for Turns {
+    ghost left = { λ g. g.turns };
+
+    ghost stopped = { λ g. g.is_stopped };
+
+    fn turn(&mut self) -> bool {
+        if self.turns == 0 || self.is_stopped {
+            self.is_stopped = true;
+            return false;
+        }
+        self.turns -= 1;
+        true
+    }
+}

@@ -15,6 +15,6 @@ pub use crate::book::{
     Book, CALL_LIMIT, Call, Closed, Entered, Opening, Pool, Receipt, SEAT_LIMIT, Seat, enter,
     enter_call,
 };
-pub use gate::Gate;
+pub use gate::{Gate, Turns};
 pub use shared::Session;
 pub use view::{ClosedView, OpenedView, View};

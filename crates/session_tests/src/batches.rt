@@ -2,12 +2,12 @@
 ghost use Rattle.std.specs.Prelude.{◌≡◌};
 
 use crate::rig::{
-    Turns, Wanted, closes, finds_no_room, gate_of, is_receipt, opened, read_of, runs, seat_of,
+    Wanted, closes, finds_no_room, is_receipt, opened, read_of, runs, seat_of,
     write_of,
 };
 use base::refusal::Refusal;
 use model::request::Request;
-use session::{Opening, Pool, Receipt, Seat, Session};
+use session::{Opening, Pool, Receipt, Seat, Session, Turns};
 use std::alloc::Global;
 use std::marker::Brand;
 use std::process::Abort;
@@ -49,8 +49,8 @@ fn two_and_three_run<K: Opening, R: Wait + Abort>(
     session: &Session<K>,
     seat: &mut Seat<K>,
 ) -> bool {
-    let mut one = gate_of(1);
-    let mut nine = gate_of(9);
+    let mut one = Turns::new(1);
+    let mut nine = Turns::new(9);
     three_run(rt, alloc, session, seat, &mut one, &[0, 1])
         && one.stopped
         && three_run(rt, alloc, session, seat, &mut nine, &[2, 3, 4])
@@ -81,7 +81,7 @@ fn nothing_runs<K: Opening, R: Wait + Abort>(
     session: &Session<K>,
     seat: &mut Seat<K>,
 ) -> bool {
-    let mut gate = gate_of(1);
+    let mut gate = Turns::new(1);
     let receipts = session
         .batch(alloc, rt, seat, Vec::new(alloc), &mut gate)
         .expect(rt, "nothing to refuse");

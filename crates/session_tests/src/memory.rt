@@ -2,9 +2,9 @@
 ghost use Rattle.std.specs.Prelude.{◌≡◌};
 
 use crate::batches::three_writes;
-use crate::rig::{closes_with, gate_of, write_of};
+use crate::rig::{closes_with, write_of};
 use base::refusal::Refusal;
-use session::{Book, Opening, Pool, Receipt, Seat, Session};
+use session::{Book, Opening, Pool, Receipt, Seat, Session, Turns};
 use std::alloc::Global;
 use std::marker::Brand;
 use std::process::Abort;
@@ -83,7 +83,7 @@ fn batch_that_ran<K: Opening, R: Wait + Abort>(
     let Ok(writes) = three_writes(alloc) else {
         return 0;
     };
-    match session.batch(alloc, rt, seat, writes, &mut gate_of(9)) {
+    match session.batch(alloc, rt, seat, writes, &mut Turns::new(9)) {
         Ok(receipts) => receipts.len(),
         Err(why) => {
             assert!(rt; why == Refusal::NoMemory);

@@ -1,4 +1,4 @@
-//! What the tests share: requests, a gate, and sessions that are asked.
+//! What the tests share: requests, and sessions that are asked.
 ghost use Rattle.std.specs.Prelude.{◌≡◌};
 
 use base::data::Data;
@@ -7,39 +7,10 @@ use base::refusal::Refusal;
 use model::entry::KeptReply;
 use model::reply::Reply;
 use model::request::{Property, Request};
-use session::{Book, Gate, Opening, Pool, Receipt, Seat, Session};
+use session::{Book, Opening, Pool, Receipt, Seat, Session};
 use std::alloc::Global;
 use std::process::Abort;
 use std::sync::Wait;
-
-/// So many turns, and then no more.
-#[derive(Drop)]
-pub struct Turns {
-    pub turns: u64,
-    pub stopped: bool,
-}
-
-impl Gate for Turns {
-    ghost left = { λ g. g.turns };
-
-    ghost stopped = { λ g. g.stopped };
-
-    fn turn(&mut self) -> bool {
-        if self.turns == 0 || self.stopped {
-            self.stopped = true;
-            return false;
-        }
-        self.turns -= 1;
-        true
-    }
-}
-
-pub fn gate_of(turns: u64) -> Turns {
-    Turns {
-        turns,
-        stopped: false,
-    }
-}
 
 pub fn write_of(alloc: Global, object: u32, block: u32, byte: u8) -> Result<Request, Refusal> {
     write_to(alloc, b"p", object, block, byte)

@@ -8,7 +8,7 @@ use model::reply::Reply;
 use model::request::Request;
 use model::snap_names::SnapNames;
 use session::{
-    Book, Closed, ClosedView, Gate, OpenedView, Opening, Pool, Receipt, Seat, Session, View,
+    Book, Closed, ClosedView, Gate, OpenedView, Opening, Pool, Receipt, Seat, Session, Turns, View,
 };
 use std::alloc::Global;
 use std::marker::Brand;
@@ -408,7 +408,7 @@ fn runs_nothing<K: Opening, R: Wait + Abort>(
     let read = read_of(alloc, 0, 0).expect(rt, "memory");
     let batch = vec![in alloc; read, Request::CloseView { view: 1 }].expect(rt, "memory");
     let batched = session
-        .batch(alloc, rt, seat, batch, &mut crate::rig::gate_of(9))
+        .batch(alloc, rt, seat, batch, &mut Turns::new(9))
         .err();
     opened == Some(Refusal::NoView)
         && closed == Some(Refusal::NoView)

@@ -2,13 +2,13 @@
 ghost use Rattle.std.specs.Prelude.{◌≡◌};
 
 use crate::memory::closes_unless_refused;
-use crate::rig::{gate_of, opened, seat_of, write_to};
+use crate::rig::{opened, seat_of, write_to};
 use base::name::{DsName, Target};
 use base::refusal::Refusal;
 use model::entry::Entry;
 use model::reply::Reply;
 use model::request::Request;
-use session::{Book, Opening, Pool, Seat, Session};
+use session::{Book, Opening, Pool, Seat, Session, Turns};
 use std::alloc::Global;
 use std::marker::Brand;
 use std::process::Abort;
@@ -85,7 +85,7 @@ fn syncs<K: Opening, R: Wait>(
     turns: u64,
     wanted: (u64, Option<Refusal>),
 ) -> bool {
-    session.run_syncer(alloc, rt, seat, &mut gate_of(turns)) == wanted
+    session.run_syncer(alloc, rt, seat, &mut Turns::new(turns)) == wanted
 }
 
 // The same of the destroyer, with slices of four blocks.
@@ -97,7 +97,7 @@ fn slices<K: Opening, R: Wait>(
     turns: u64,
     wanted: (u64, Option<Refusal>),
 ) -> bool {
-    session.run_destroyer(alloc, rt, seat, 4, &mut gate_of(turns)) == wanted
+    session.run_destroyer(alloc, rt, seat, 4, &mut Turns::new(turns)) == wanted
 }
 
 // One sync has room, and then neither worker finds any.
@@ -169,8 +169,8 @@ fn ends_where_refused<K: Opening, R: Wait + Abort>(rt: &R, alloc: Global, pool: 
         return;
     };
     let called = leaves_six_blocks(rt, alloc, &session, &mut seat);
-    let sliced = session.run_destroyer(alloc, rt, &mut seat, 4, &mut gate_of(3));
-    let synced = session.run_syncer(alloc, rt, &mut seat, &mut gate_of(3));
+    let sliced = session.run_destroyer(alloc, rt, &mut seat, 4, &mut Turns::new(3));
+    let synced = session.run_syncer(alloc, rt, &mut seat, &mut Turns::new(3));
     let ran = called.saturating_add((sliced.0.saturating_add(synced.0)) as usize);
     let closed = closes_unless_refused(alloc, session.end(), seat, ran);
     assert!(rt; ended_well(sliced) && ended_well(synced) && closed);

@@ -1,6 +1,7 @@
 //! Callers of a session.
 ghost use Rattle.std.specs.Prelude.{◌≡◌};
 
+use crate::batches::batched;
 use crate::writes::write_of;
 use base::refusal::Refusal;
 use model::reply::Reply;
@@ -10,13 +11,24 @@ use std::mem;
 use std::sync::Wait;
 use std::thread::{Threads, join};
 
-/// How many of so many writes a session has done, for one caller or for four. The session isn't taken apart, since the program ends.
+/// Who calls a session.
+#[derive(Clone, Copy)]
+pub enum Callers {
+    /// One, each write a call.
+    One,
+    /// Four in threads of their own, each write a call.
+    Four,
+    /// Four in threads of their own, sixteen writes a batch.
+    FourBatched,
+}
+
+/// How many of so many writes a session has done. The session isn't taken apart, since the program ends.
 pub fn called<K: Opening + Send + Sync, R: Threads + Wait + Sync>(
     rt: &R,
     alloc: Global,
     pool: Pool,
     calls: u32,
-    four: bool,
+    callers: Callers,
 ) -> Result<u32, Refusal>
     requires opening { pool.state ≡ K.opening }
     requires limit { calls ≡ K.limit }
@@ -28,10 +40,10 @@ pub fn called<K: Opening + Send + Sync, R: Threads + Wait + Sync>(
             return Err(refusal);
         }
     };
-    let done = if four {
-        by_four(rt, alloc, &session, calls)
-    } else {
-        by_one(rt, alloc, &session, 0, 1, calls)
+    let done = match callers {
+        Callers::One => by_one(rt, alloc, &session, 0, 1, calls),
+        Callers::Four => by_four(rt, alloc, &session, calls, false),
+        Callers::FourBatched => by_four(rt, alloc, &session, calls, true),
     };
     mem::forget(session);
     done
@@ -43,11 +55,12 @@ fn by_four<K: Opening + Send + Sync, R: Threads + Wait + Sync>(
     alloc: Global,
     session: &Session<K>,
     calls: u32,
+    in_batches: bool,
 ) -> Result<u32, Refusal> {
     let (low, high) = join(
         rt,
-        || by_two(rt, alloc, session, 0, calls),
-        || by_two(rt, alloc, session, 2, calls),
+        || by_two(rt, alloc, session, 0, calls, in_batches),
+        || by_two(rt, alloc, session, 2, calls, in_batches),
     );
     Ok(low?.saturating_add(high?))
 }
@@ -58,14 +71,30 @@ fn by_two<K: Opening + Send + Sync, R: Threads + Wait + Sync>(
     session: &Session<K>,
     first: u32,
     calls: u32,
+    in_batches: bool,
 ) -> Result<u32, Refusal> {
     let next = first.saturating_add(1);
     let (one, other) = join(
         rt,
-        || by_one(rt, alloc, session, first, 4, calls),
-        || by_one(rt, alloc, session, next, 4, calls),
+        || one_of_four(rt, alloc, session, first, calls, in_batches),
+        || one_of_four(rt, alloc, session, next, calls, in_batches),
     );
     Ok(one?.saturating_add(other?))
+}
+
+fn one_of_four<K: Opening, R: Wait>(
+    rt: &R,
+    alloc: Global,
+    session: &Session<K>,
+    first: u32,
+    calls: u32,
+    in_batches: bool,
+) -> Result<u32, Refusal> {
+    if in_batches {
+        batched(rt, alloc, session, first, 4, calls)
+    } else {
+        by_one(rt, alloc, session, first, 4, calls)
+    }
 }
 
 /// A caller, of every `step`th write from one on.

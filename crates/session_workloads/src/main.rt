@@ -1,13 +1,16 @@
 //! Work for the benchmark of sessions: `session_workloads WHO CALLS` writes so many blocks of 512 bytes to a fresh pool, and prints how
-//! many writes were done. WHO is `apply` (the pool alone), `one` (one caller of a session) or `four` (four callers in threads of their
-//! own). With `views` or `beside` for WHO a snapshot of 100,000 blocks is read so often through a view, by four threads, alone or beside
-//! a fifth that writes as long as they read. Status 2 is a bad command line, 3 want of memory or a failed write.
+//! many writes were done. WHO is `apply` (the pool alone), `one` (one caller of a session), `four` (four callers in threads of their own)
+//! or `batches` (these four, sixteen writes a batch). With `views` or `beside` for WHO a snapshot of 100,000 blocks is read so often
+//! through a view, by four threads, alone or beside a fifth that writes as long as they read. Status 2 is a bad command line, 3 want of
+//! memory or a failed write.
 #![tactic(auto)]
 
+mod batches;
 mod callers;
 mod viewers;
 mod writes;
 
+use crate::callers::Callers;
 use base::refusal::Refusal;
 use session::Pool;
 use std::alloc::Global;
@@ -24,7 +27,7 @@ const BLOCKS: u32 = 4_194_304;
 #[derive(Clone, Copy)]
 enum Who {
     Apply,
-    Session { four: bool },
+    Session(Callers),
     Viewers { beside: bool },
 }
 
@@ -32,8 +35,9 @@ impl Who {
     fn named(name: &str) -> Option<Who> {
         match name {
             "apply" => Some(Who::Apply),
-            "one" => Some(Who::Session { four: false }),
-            "four" => Some(Who::Session { four: true }),
+            "one" => Some(Who::Session(Callers::One)),
+            "four" => Some(Who::Session(Callers::Four)),
+            "batches" => Some(Who::Session(Callers::FourBatched)),
             "views" => Some(Who::Viewers { beside: false }),
             "beside" => Some(Who::Viewers { beside: true }),
             _ => None,
@@ -51,7 +55,7 @@ fn work<R: Threads + Wait + Sync>(
     let pool = Pool::create(alloc, 1, BLOCKS)?;
     match who {
         Who::Apply => writes::applied(alloc, pool, calls),
-        Who::Session { four } => callers::called::<Brand, _>(rt, alloc, pool, calls, four),
+        Who::Session(callers) => callers::called::<Brand, _>(rt, alloc, pool, calls, callers),
         Who::Viewers { beside } => viewers::viewed::<Brand, _>(rt, alloc, pool, calls, beside),
     }
 }
