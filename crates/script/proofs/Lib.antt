@@ -1,4 +1,5 @@
 pub mod LinesLemmas
+pub mod Joined
 pub mod WordsLemmas
 pub mod RunLemmas
 pub mod WorkedProofs

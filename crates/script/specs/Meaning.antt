@@ -1,5 +1,5 @@
 -- What a line asks for.
-use Rattle.std.specs.Prelude.{ℕ, ◌==◌, nat_lt, Bool, false, List, [], ◌∷◌, Option, Some, None, length, if◌then◌else◌, codes}
+use Rattle.std.specs.Prelude.{ℕ, ◌==◌, ◌&&◌, nat_lt, Bool, false, List, [], ◌∷◌, Option, Some, None, length, if◌then◌else◌, codes}
 use Rattle.std.specs.List.{list_all, list_any}
 use Rattle.std.specs.Option.{option_map, option_and_then}
 use Rattle.std.specs.Str.{bytes_eq}
@@ -239,7 +239,7 @@ words_meaning (command ∷ operands) = command_of command operands
 unfoldable pub request_of : List ℕ → Meaning
 request_of line =
     if nat_lt line_limit (length line) then Faulty BadLine
-    else if list_all is_printable line then (if list_all is_word (words_of line) then words_meaning (words_of line) else Faulty BadLine)
+    else if list_all is_printable line && list_all is_word (words_of line) then words_meaning (words_of line)
     else Faulty BadLine
 
 -- a line; an empty one and one that begins with `#` have no reply (profile)

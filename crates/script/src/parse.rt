@@ -15,7 +15,7 @@ use crate::settings::set;
 use crate::space::{get, would_free};
 use crate::streams::{receive, send};
 use crate::words::{
-    four, has_only_words, is_all_printable, leading_option, next_word, one, three, two,
+    four, has_only_words, leading_option, next_word, one, three, two,
 };
 use base::data::Data;
 use base::name::{DsName, MarkName, SnapName, Tag, Target};
@@ -30,9 +30,6 @@ pub(crate) fn request_at(alloc: Global, line: &[u8]) -> Result<Request, Refusal>
     ensures { Means result (request_of line.now) }
 {
     if line.len() > LINE_LIMIT {
-        return Err(Refusal::BadLine);
-    }
-    if !is_all_printable(line) {
         return Err(Refusal::BadLine);
     }
     if !has_only_words(line) {
