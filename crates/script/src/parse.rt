@@ -14,9 +14,7 @@ use crate::lines::LINE_LIMIT;
 use crate::settings::set;
 use crate::space::{get, would_free};
 use crate::streams::{receive, send};
-use crate::words::{
-    four, has_only_words, leading_option, next_word, one, three, two,
-};
+use crate::words::{four, has_only_words, leading_option, next_word, one, three, two};
 use base::data::Data;
 use base::name::{DsName, MarkName, SnapName, Tag, Target};
 use base::refusal::Refusal;

@@ -3,7 +3,7 @@ use Rattle.script.proofs.Joined.{joined_words, joined_next, joined_end}
 use Rattle.script.proofs.words.has_only_words.Goals as goal
 
 pub loop-byte-init : goal.loop-byte-init
-loop-byte-init c = record { got = refl; }
+loop-byte-init c = record { got = refl }
 
 pub loop-byte-preserved : goal.loop-byte-preserved
 loop-byte-preserved c = record {

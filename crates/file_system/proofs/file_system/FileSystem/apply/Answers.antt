@@ -4,7 +4,8 @@ use Rattle.std.specs.List.{filter}
 use Rattle.base.specs.Surveys.{dead_block}
 use Rattle.base.specs.declared.number.Dead.{Dead}
 use Rattle.file_system.specs.Writes.{newest_group}
-use Rattle.file_system.proofs.Releases.{retained, map_filter}
+use Rattle.file_system.proofs.Releases.{map_filter}
+use Rattle.std.proofs.lemmas.Fn.{filter_same}
 use Rattle.std.specs.Arc.{arc_value}
 use Rattle.std.specs.FinSet.{difference}
 use Rattle.std.specs.Option.{option_map}
@@ -44,7 +45,7 @@ returns-clause-ok c =
     let newest = newest_group (origin_group c.args.self.now.system.origin) c.args.self.now.system.snaps in
     let young : c.young_from-young.result.0 ≡ max c.args.synced.0 (newest + 1) = c.young_from-young.ensures ∙ ap (λ n. max c.args.synced.0 (n + 1)) c.newest_group-newest.ensures in
     let done = c.in_ok-changed.changed in
-    let kept : c.retain.new.self.items ≡ filter (λ (d : Dead). nat_lt c.newest_group-newest.result.0 d.birth.0) done.released.items = retained _ (λ (d : Dead). nat_lt c.newest_group-newest.result.0 d.birth.0) _ (λ x b g y k. search rules) _ _ c.retain.ensures.filtered in
+    let kept : c.retain.new.self.items ≡ filter (λ (d : Dead). nat_lt c.newest_group-newest.result.0 d.birth.0) done.released.items = filter_same _ (λ (d : Dead). nat_lt c.newest_group-newest.result.0 d.birth.0) _ (λ x b g k. search rules) _ _ c.retain.ensures.filtered in
     let asked : AllowsChange c.self.inside.live c.args.updates.now c.args.group.0 c.young_from-young.result.0 c.args.allocator.now =
     subst (λ (r : Row). AllowsChange r.system.live c.args.updates.now c.args.group.0 c.young_from-young.result.0 c.args.allocator.now) (sym c.self.view_is)
     (subst (λ y. AllowsChange c.args.self.now.system.live c.args.updates.now c.args.group.0 y c.args.allocator.now) (sym young) c.requires.allowed.asks) in
@@ -101,7 +102,7 @@ rest_of-requires-clause-own c =
     let many = own_many below base snaps m lined (changes_of c.args.updates.now) c.young_from-young.result.0 es c.in_ok-draft.ensures.released in
     let nodes = c.node_count-nodes.ensures.count ∙ sym (count_is m c.node_count-nodes.ensures.unique) in
     let was = c.self.invariant.counted.by_dataset in
-    let low : upto_count c.base_group-base.result.0 c.deref.result.now ≡ upto_count base es = λ i. upto_count (bottom i) (c.deref.ensures i) in
+    let low : upto_count c.base_group-base.result.0 c.deref.result.now ≡ upto_count base es = λ i. upto_count (bottom i) (c.deref.ensures.value i) in
     omega arith
 
 pub rest_of-requires-clause-rising : goal.rest_of-requires-clause-rising
@@ -143,7 +144,7 @@ counts_with-self-inside-requires c =
     c.in_ok-changed.ensures.ok.changed c.young_from-young.result.0 c.args.allocator.now asked c.in_ok-draft.ensures.ok in
     let late : newest_group base snaps < c.young_from-young.result.0 = omega (arith, c.newest_group-newest.ensures) in
     let let_go : map dead_block done.released.items ≡ map dead_block es = ap (map dead_block) c.in_ok-changed.ensures.ok.released in
-    let rest = rest_over es c.self.inside.counts c.node_count-nodes.result _ c.base_group-base.result.0 c.newest_group-newest.result.0 c.in_ok-rest.rest c.deref.ensures c.in_ok-rest.ensures.ok in
+    let rest = rest_over es c.self.inside.counts c.node_count-nodes.result _ c.base_group-base.result.0 c.newest_group-newest.result.0 c.in_ok-rest.rest c.deref.ensures.value c.in_ok-rest.ensures.ok in
     let old_nodes = c.node_count-nodes.ensures.count ∙ sym (count_is m c.node_count-nodes.ensures.unique) in
     let after = own_after m new (changes_of c.args.updates.now) c.args.group.0 c.young_from-young.result.0 c.args.allocator.now (change_done m new done) put c.in_ok-draft.ensures.unique refl asked.young es let_go below base snaps lined late in
     let low : upto_count c.base_group-base.result.0 es ≡ upto_count base es = ap (λ n. upto_count n es) bottom in
@@ -201,7 +202,7 @@ invariant_of-self-2 c =
           c.in_ok-changed.ensures.ok.changed c.young_from-young.result.0 c.args.allocator.now asked c.in_ok-draft.ensures.ok in
           let late : newest_group base snaps < c.young_from-young.result.0 = omega (arith, c.newest_group-newest.ensures) in
           let let_go : map dead_block done.released.items ≡ map dead_block es = ap (map dead_block) c.in_ok-changed.ensures.ok.released in
-          let rest = rest_over es c.self.inside.counts c.node_count-nodes.result _ c.base_group-base.result.0 c.newest_group-newest.result.0 c.in_ok-rest.rest c.deref.ensures c.in_ok-rest.ensures.ok in
+          let rest = rest_over es c.self.inside.counts c.node_count-nodes.result _ c.base_group-base.result.0 c.newest_group-newest.result.0 c.in_ok-rest.rest c.deref.ensures.value c.in_ok-rest.ensures.ok in
           let old_nodes = c.node_count-nodes.ensures.count ∙ sym (count_is m c.node_count-nodes.ensures.unique) in
           let after = own_after m new (changes_of c.args.updates.now) c.args.group.0 c.young_from-young.result.0 c.args.allocator.now (change_done m new done) put c.in_ok-draft.ensures.unique refl asked.young es let_go below base snaps lined late in
           let low : upto_count c.base_group-base.result.0 es ≡ upto_count base es = ap (λ n. upto_count n es) bottom in
