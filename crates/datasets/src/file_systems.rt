@@ -182,6 +182,15 @@ impl FileSystems {
         Ok(())
     }
 
+    /// Looks for a name first where the file system of this name stands, as `Table::look_at` says.
+    pub(crate) fn look_at(&mut self, name: &DsName)
+        ensures { self.new ≡ self.old }
+    {
+        if let Ok(place) = place_near(&self.rows, self.near, name.as_bytes()) {
+            self.near = place;
+        }
+    }
+
     /// Promotes the clone of this name, as `Table::promote` says (zfs-promote(8)).
     pub(crate) fn promote(
         &mut self,

@@ -264,6 +264,14 @@ impl Table {
         self.systems.promote(alloc, name, segments)
     }
 
+    /// Looks for a name first where the file system of this name stands, from now on, if there is one: so whatever asks for it next finds it
+    /// at once. The table is the same. It costs the logarithm of the number of file systems.
+    pub fn look_at(&mut self, name: &DsName)
+        ensures { self.new ≡ self.old }
+    {
+        self.systems.look_at(name)
+    }
+
     /// Puts a batch of changes of the live tree of this file system in force at once, where the last sync left group `synced` open:
     /// the answer names the numbers that the new blocks have, and takes none; of the blocks that the tree drops it names those that
     /// no snapshot has. NoDataset exactly where there is no file system of this name; else NoSpace exactly where the Free numbers

@@ -2,8 +2,7 @@
 ghost use Rattle.std.specs.Prelude.{◌≡◌};
 
 use crate::rig::{
-    Wanted, closes, finds_no_room, is_receipt, opened, read_of, runs, seat_of,
-    write_of,
+    Wanted, closes, finds_no_room, is_receipt, opened, read_of, runs, seat_of, write_of,
 };
 use base::refusal::Refusal;
 use model::request::Request;

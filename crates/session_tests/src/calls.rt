@@ -2,8 +2,8 @@
 ghost use Rattle.std.specs.Prelude.{◌≡◌};
 
 use crate::rig::{
-    Wanted, closes, closes_with, finds_no_room, get_of, is_reply, opened, read_of, runs,
-    seat_of, write_of,
+    Wanted, closes, closes_with, finds_no_room, get_of, is_reply, opened, read_of, runs, seat_of,
+    write_of,
 };
 use base::refusal::Refusal;
 use model::request::Request;
@@ -88,7 +88,10 @@ fn has_no_room_for_two<K: Opening, R: Wait + Abort>(
     seat: &mut Seat<K>,
 ) -> bool {
     let two = two_gets(alloc).expect(rt, "memory");
-    session.batch(alloc, rt, seat, two, &mut Turns::new(9)).err() == Some(Refusal::SessionFull)
+    session
+        .batch(alloc, rt, seat, two, &mut Turns::new(9))
+        .err()
+        == Some(Refusal::SessionFull)
 }
 
 fn two_gets(alloc: Global) -> Result<Vec<Request>, Refusal> {
