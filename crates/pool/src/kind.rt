@@ -2,6 +2,7 @@
 ghost use Rattle.std.specs.Prelude.{◌≡◌};
 ghost use Rattle.pool.specs.Kinds.{kind_of};
 
+use base::name::{DsName, Target};
 use model::request::Request;
 
 /// How a request is answered.
@@ -35,5 +36,31 @@ pub(crate) fn kind_of(request: &Request) -> Kind
             Kind::Asking
         }
         _ => Kind::Change,
+    }
+}
+
+/// The name of the file system that a request is to change, or whose snapshot or bookmark it is to; none where it gives no such name first,
+/// or changes nothing. Constant time.
+pub(crate) fn changed_name(request: &Request) -> Option<&DsName> {
+    match request {
+        Request::Write { target, .. }
+        | Request::Punch { target, .. }
+        | Request::FreeObject { target, .. }
+        | Request::Rollback { target, .. }
+        | Request::Clone { target, .. }
+        | Request::Destroy { target, .. }
+        | Request::Hold { target, .. }
+        | Request::Release { target, .. }
+        | Request::Bookmark { target, .. } => Some(file_system_of(target)),
+        Request::Promote { name } | Request::Set { name, .. } => Some(name),
+        _ => None,
+    }
+}
+
+fn file_system_of(target: &Target) -> &DsName {
+    match target {
+        Target::FileSystem(name) => name,
+        Target::Snapshot(name) => &name.member().file_system,
+        Target::Bookmark(name) => &name.member().file_system,
     }
 }

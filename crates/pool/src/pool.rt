@@ -23,7 +23,7 @@ ghost use Rattle.pool.specs.declared.kind.Kind.{Kind};
 
 use crate::effect::Effect;
 use crate::keep::{Keep, Meters};
-use crate::kind::{Kind, kind_of};
+use crate::kind::{Kind, changed_name, kind_of};
 use crate::worlds::World;
 use base::meter::{Meter, SegMeter};
 use base::refusal::Refusal;
@@ -289,6 +289,7 @@ impl Pool {
         ensures keeps { self.new.image.keeps ≡ keeps_after request.now result self.old.image.keeps }
     {
         self.facts();
+        self.look_at(request);
         let mut reply = Reply::Done;
         self.answer(alloc, request, &mut reply);
         self.facts();
@@ -307,6 +308,16 @@ impl Pool {
         ensures moments { (writes : List (ℕ × List ℕ)) → AreOpen self.now.image.kept writes → (i : ℕ) → AllWalk (block_at (images_put self.now.image.bytes (take i writes))) self.now.state.size self.now.state.last }
     {
         let _group = self.present.table.group();
+    }
+
+    // Has the table look first where the file system stands that a request is to change, since what refuses the request, what does it and
+    // what writes its blocks are functions of their own, each of which asks for it by its name. Nothing is changed.
+    fn look_at(&mut self, request: &Request)
+        ensures { self.new ≡ self.old }
+    {
+        if let Some(name) = changed_name(request) {
+            self.present.table.look_at(name);
+        }
     }
 
     // One step: in place, but for what must not be seen half done. The reply comes in the place of Done: it has room for a block's bytes, and
