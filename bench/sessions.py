@@ -1,6 +1,6 @@
 #!/usr/bin/env python3
-"""Times the built `session_workloads`: writes by a pool alone, by one caller of a session, and by four callers in threads; and reads
-through a view by four threads, alone and beside a writer.
+"""Times the built `session_workloads`: writes by a pool alone, by one caller of a session, by four callers in threads, and by
+four in batches of sixteen; and reads through a view by four threads, alone and beside a writer.
 
     python3 bench/sessions.py SESSION_WORKLOADS [--calls N] [--times T]
 
@@ -21,7 +21,7 @@ def main():
     options.add_argument("--times", type=int, default=3)
     options = options.parse_args()
     program = options.session_workloads.resolve()
-    writes = fastest(program, ["apply", "one", "four"], options.calls, options.times)
+    writes = fastest(program, ["apply", "one", "four", "batches"], options.calls, options.times)
     tell(writes, writes["apply"])
     none = fastest(program, ["views"], 0, options.times)["views"]
     reads = fastest(program, ["views", "beside"], options.calls, options.times)

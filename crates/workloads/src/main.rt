@@ -1,8 +1,9 @@
 //! Work for the benchmark that no script asks for: `workloads NAME ROUNDS` does the named work so many times, and prints how many
-//! entries or blocks it has reached. Status 2 is a bad command line, 3 want of memory or a failed write.
+//! entries, blocks or numbers it has reached. Status 2 is a bad command line, 3 want of memory or a failed write.
 #![tactic(auto)]
 
 mod lists;
+mod numbers;
 mod trees;
 
 use base::refusal::Refusal;
@@ -19,6 +20,7 @@ enum Work {
     TakeBetween,
     Batch,
     Walk,
+    TakeAndRelease,
 }
 
 impl Work {
@@ -30,6 +32,7 @@ impl Work {
             "take-between" => Some(Work::TakeBetween),
             "batch" => Some(Work::Batch),
             "walk" => Some(Work::Walk),
+            "take-and-release" => Some(Work::TakeAndRelease),
             _ => None,
         }
     }
@@ -42,6 +45,7 @@ impl Work {
             Work::TakeBetween => lists::take(alloc, rounds, lists::BETWEEN_CUTS),
             Work::Batch => trees::batch(alloc, rounds),
             Work::Walk => trees::walk(alloc, rounds),
+            Work::TakeAndRelease => numbers::take_and_release(alloc, rounds),
         }
     }
 }
