@@ -49,7 +49,7 @@ pub use script::lines::LINE_LIMIT;
 pub use script::run::{Caller, LineFault, ScriptFault, answer_line, run_script};
 pub use session::{
     Book, CALL_LIMIT, Closed, ClosedView, Gate, OpenedView, Opening, Receipt, SEAT_LIMIT, Seat,
-    Session, View,
+    Session, Turns, View,
 };
 pub use stream::{Record, Stream, StreamFault, read_stream, write_stream};
 pub use views::VIEW_LIMIT;
