@@ -27,7 +27,7 @@ overflow_sub-held c =
     let k = c.requires.2 in
     let d = c.used_by_dataset.ensures ∙ dataset_is _ _ _ _ _ k in
     let e = c.used_by_snapshots.ensures ∙ snapshots_is _ _ _ _ _ k in
-    let o = c.count_after-own.ensures ∙ (λ i. count_by (λ d. nat_lt (c.newest_group-before.ensures i) d.birth.0) (c.deref.ensures i)) ∙ own_is _ _ _ _ _ k in
+    let o = c.count_after-own.ensures ∙ (λ i. count_by (λ d. nat_lt (c.newest_group-before.ensures i) d.birth.0) (c.deref.ensures.value i)) ∙ own_is _ _ _ _ _ k in
     let h = own_held _ _ _ _ _ k in
     omega (arith, d, e, o, h, c.from.ensures, c.from-made.ensures, c.in-Ok.ensures)
 
@@ -35,7 +35,7 @@ pub overflow_sub-written : goal.overflow_sub-written
 overflow_sub-written c =
     let k = c.requires.2 in
     let w = c.written.ensures ∙ written_is _ _ _ _ _ k in
-    let o = c.count_after-own.ensures ∙ (λ i. count_by (λ d. nat_lt (c.newest_group-before.ensures i) d.birth.0) (c.deref.ensures i)) ∙ own_is _ _ _ _ _ k in
+    let o = c.count_after-own.ensures ∙ (λ i. count_by (λ d. nat_lt (c.newest_group-before.ensures i) d.birth.0) (c.deref.ensures.value i)) ∙ own_is _ _ _ _ _ k in
     let h = own_written _ _ _ _ _ k in
     omega (arith, w, o, h, c.from-2.ensures, c.from-made.ensures, c.in-Ok.ensures)
 
@@ -44,7 +44,7 @@ overflow_sub-result c =
     let k = c.requires.2 in
     let g = gone_there _ _ _ _ _ k in
     let n = c.node_count.ensures.count ∙ ap (λ (m : Map). map_len m) c.live.ensures in
-    omega (arith, g, n, c.from-3.ensures, c.len.ensures.value, c.from-made.ensures, c.in-Ok.ensures)
+    omega (arith, g, n, c.from-3.ensures, c.len.ensures, c.from-made.ensures, c.in-Ok.ensures)
 
 pub returns-clause-ok : goal.returns-clause-ok
 returns-clause-ok c = λ s ch k.
@@ -56,19 +56,19 @@ returns-clause-ok c = λ s ch k.
     let d = c.used_by_dataset.ensures ∙ dataset_is _ _ _ _ _ k in
     let e = c.used_by_snapshots.ensures ∙ snapshots_is _ _ _ _ _ k in
     let v = c.written.ensures ∙ written_is _ _ _ _ _ k in
-    let o = c.count_after-own.ensures ∙ (λ i. count_by (λ d. nat_lt (c.newest_group-before.ensures i) d.birth.0) (c.deref.ensures i)) ∙ own_is _ _ _ _ _ k in
+    let o = c.count_after-own.ensures ∙ (λ i. count_by (λ d. nat_lt (c.newest_group-before.ensures i) d.birth.0) (c.deref.ensures.value i)) ∙ own_is _ _ _ _ _ k in
     let n = c.node_count.ensures.count ∙ ap (λ (m : Map). map_len m) c.live.ensures in
     let h = here_after _ _ _ _ _ k in
     let r = referenced_after _ _ _ _ _ k in
     let w = c.count_before.ensures
-    ∙ (λ i. count_by (λ d. nat_lt (c.newest_group-before.ensures i) d.birth.0 && nat_lt d.birth.0 c.args.synced.0) (c.deref-2.ensures i)) ∙ waits_is _ _ _ _ _ k in
+    ∙ (λ i. count_by (λ d. nat_lt (c.newest_group-before.ensures i) d.birth.0 && nat_lt d.birth.0 c.args.synced.0) (c.deref-2.ensures.value i)) ∙ waits_is _ _ _ _ _ k in
     let t = waiting_after _ _ _ _ _ k in
     let a = written_after _ _ _ _ _ k in
     record {
       here = omega (arith, kept, d, e, v, o, h, c.from.ensures, c.from-2.ensures, c.from-made.ensures, c.in-Ok.ensures);
       kept = sym kept;
       written = omega (arith, v, o, a, c.from-2.ensures, c.from-made.ensures, c.in-Ok.ensures);
-      referenced = omega (arith, n, r, c.from-3.ensures, c.len.ensures.value, c.from-made.ensures, c.in-Ok.ensures);
+      referenced = omega (arith, n, r, c.from-3.ensures, c.len.ensures, c.from-made.ensures, c.in-Ok.ensures);
       waiting = omega (arith, w, t);
     }
 

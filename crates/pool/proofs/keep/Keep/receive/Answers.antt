@@ -56,6 +56,6 @@ pub returns-clause-performed : goal.returns-clause-performed
 returns-clause-performed c =
     let i = c.in_ok-intake.intake in
     let is = (c.in_ok-intake.ensures.ok (state_in c.args.self.now c.args.world.now) (present (state_in c.args.self.now c.args.world.now) c.args.self.now.numbers.present c.requires.sound _ (sym c.present.ensures) refl refl (sym c.group.ensures) refl (λ no. unlimited c.args.self.now c.args.world.now c.requires (no_ledger c.args.world.now.ledger (sym c.is_some.ensures ∙ no))))) in
-    let told = rw c.deref.ensures at (rw c.member.ensures.value at c.in_ok-blocks.ensures.ok) (intake_present c.args.self.now c.args.world.now c.requires c.args.snapshot.now c.as_slice.result.now c.args.force i is) in
+    let told = rw c.deref.ensures.value at (rw c.member.ensures.value at c.in_ok-blocks.ensures.ok) (intake_present c.args.self.now c.args.world.now c.requires c.args.snapshot.now c.as_slice.result.now c.args.force i is) in
     subst (λ b. IsPerformed (state_in c.args.self.now c.args.world.now) c.args.self.now.numbers.present (record { table = i.to; freeing = i.freeing; ledger = c.recount.new.ledger }) (Receive c.args.snapshot.now b c.args.force) (Ok (Blocks i.done (Each c.in_ok-blocks.blocks)))) c.as_slice.ensures
     (intake_performed c.args.self.now c.args.world.now c.requires c.args.snapshot.now c.as_slice.result.now c.args.force i is c.recount.new.ledger c.recount.ensures c.in_ok-blocks.blocks told)
