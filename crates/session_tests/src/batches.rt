@@ -6,7 +6,7 @@ use crate::rig::{
 };
 use base::refusal::Refusal;
 use model::request::Request;
-use session::{Opening, Pool, Receipt, Seat, Session, Turns};
+use session::{Gate, Opening, Pool, Receipt, Seat, Session, Turns};
 use std::alloc::Global;
 use std::marker::Brand;
 use std::process::Abort;
@@ -51,10 +51,20 @@ fn two_and_three_run<K: Opening, R: Wait + Abort>(
     let mut one = Turns::new(1);
     let mut nine = Turns::new(9);
     three_run(rt, alloc, session, seat, &mut one, &[0, 1])
-        && one.stopped
+        && turns_of_ten(&mut one) == 0
         && three_run(rt, alloc, session, seat, &mut nine, &[2, 3, 4])
-        && nine.turns == 7
-        && !nine.stopped
+        && turns_of_ten(&mut nine) == 7
+}
+
+// How many of ten times a gate says yes.
+fn turns_of_ten(gate: &mut Turns) -> u32 {
+    let mut turns: u32 = 0;
+    for _ in 0..10 {
+        if gate.turn() {
+            turns = turns.saturating_add(1);
+        }
+    }
+    turns
 }
 
 // Whether those of three writes that ran have these numbers.
@@ -84,7 +94,7 @@ fn nothing_runs<K: Opening, R: Wait + Abort>(
     let receipts = session
         .batch(alloc, rt, seat, Vec::new(alloc), &mut gate)
         .expect(rt, "nothing to refuse");
-    receipts.is_empty() && gate.turns == 1 && !gate.stopped
+    receipts.is_empty() && turns_of_ten(&mut gate) == 1
 }
 
 fn have_numbers(receipts: &[Receipt], numbers: &[u64]) -> bool {
