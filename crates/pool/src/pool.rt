@@ -330,7 +330,12 @@ impl Pool {
         ensures keeps { self.new.image.keeps ≡ keeps_after request.now reply.new self.old.image.keeps }
     {
         match kind_of(request) {
-            Kind::Question | Kind::View => self.apart(alloc, request, reply),
+            Kind::Question => {
+                *reply = self
+                    .keep
+                    .asked(alloc, &self.present, request, &mut self.meters)
+            }
+            Kind::View => *reply = self.prepared(alloc, request),
             Kind::Change => in_place(
                 alloc,
                 &mut self.present,
@@ -341,7 +346,7 @@ impl Pool {
             ),
             Kind::Asking => {
                 if self.present.ledger.is_some() {
-                    self.apart(alloc, request, reply);
+                    *reply = self.prepared(alloc, request);
                     return;
                 }
                 in_place(
@@ -356,24 +361,16 @@ impl Pool {
         }
     }
 
-    // One step that isn't done in place: of what only reads, opens a view, or asks limits. It stands apart, since a reply takes room on the
-    // stack, which is filled first.
     #[inline(never)]
-    fn apart(&mut self, alloc: Global, request: &Request, reply: &mut Reply)
-        ensures step { Step self.old.state request.now reply.new self.new.state }
-        ensures metered { IsMetered self.old request.now reply.new self.new }
+    fn prepared(&mut self, alloc: Global, request: &Request) -> Reply
+        ensures step { Step self.old.state request.now result self.new.state }
+        ensures metered { IsMetered self.old request.now result self.new }
         ensures writes { AreWrites self.old.image self.new.image }
-        ensures keeps { self.new.image.keeps ≡ keeps_after request.now reply.new self.old.image.keeps }
+        ensures keeps { self.new.image.keeps ≡ keeps_after request.now result self.old.image.keeps }
     {
-        if let Kind::Question = kind_of(request) {
-            *reply = self
-                .keep
-                .asked(alloc, &self.present, request, &mut self.meters);
-            return;
-        }
-        let (told, ready) = self.prepare(alloc, request);
+        let (reply, ready) = self.prepare(alloc, request);
         self.commit(ready);
-        *reply = told;
+        reply
     }
 
     /// How many nodes of trees and how many segments of dead lists were reached since the pool was made. A count stops at the greatest u64.
