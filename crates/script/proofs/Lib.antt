@@ -8,3 +8,4 @@ pub mod NamesLemmas
 pub mod SnapWords
 pub mod Within
 pub mod PartLemmas
+pub mod Zeros

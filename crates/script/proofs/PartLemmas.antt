@@ -11,7 +11,7 @@ pub record IsWrittenBut (held held' : Option (List ℕ)) (bytes left : List ℕ)
   pub split : bytes ≡ front ++ left
   pub written : Appends held held' (encode_lower front)
 
-encode-append : (t xs ys : List ℕ) → encode_with t (xs ++ ys) ≡ encode_with t xs ++ encode_with t ys
+pub encode-append : (t xs ys : List ℕ) → encode_with t (xs ++ ys) ≡ encode_with t xs ++ encode_with t ys
 unfolding encode_with
 encode-append t [] ys = refl
 encode-append t (x ∷ xs) ys = ap (λ l. slice_index t (x / 16) ∷ slice_index t (x % 16) ∷ l) (encode-append t xs ys)

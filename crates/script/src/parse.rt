@@ -42,25 +42,25 @@ fn command_at(alloc: Global, command: &[u8], operands: Option<&[u8]>) -> Result<
     ensures { Means result (command_of command.now (words_left (option_copied operands.entry))) }
 {
     if command == b"create".as_slice() {
-        create(alloc, operands)
+        return create(alloc, operands);
     } else if command == b"write".as_slice() {
-        write(alloc, operands)
+        return write(alloc, operands);
     } else if command == b"punch".as_slice() {
-        punch(alloc, operands)
+        return punch(alloc, operands);
     } else if command == b"rmobj".as_slice() {
-        free_object(alloc, operands)
+        return free_object(alloc, operands);
     } else if command == b"snapshot".as_slice() {
-        snapshot(alloc, operands)
+        return snapshot(alloc, operands);
     } else if command == b"read".as_slice() {
-        read(alloc, operands)
+        return read(alloc, operands);
     } else if command == b"get".as_slice() {
-        get(alloc, operands)
-    } else {
-        other_command_at(alloc, command, operands)
+        return get(alloc, operands);
     }
+    other_command_at(alloc, command, operands)
 }
 
-// The same of another command than those. They stand apart, since each call takes room on the stack, which is filled first.
+// The same of another command than those. They stand apart, since each call takes room on the stack, which is filled first. Each returns at
+// once: the value of an `else if` is copied out of each one that it stands in.
 #[inline(never)]
 #[tactic(auto, unfolding(crate::specs::Meaning::command_of))]
 fn other_command_at(
@@ -78,46 +78,45 @@ fn other_command_at(
     ensures { Means result (command_of command.now (words_left (option_copied operands.entry))) }
 {
     if command == b"pget".as_slice() {
-        pool_get(operands)
+        return pool_get(operands);
     } else if command == b"list".as_slice() {
-        list(operands)
+        return list(operands);
     } else if command == b"rollback".as_slice() {
-        rollback(alloc, operands)
+        return rollback(alloc, operands);
     } else if command == b"destroy".as_slice() {
-        destroy(alloc, operands)
+        return destroy(alloc, operands);
     } else if command == b"clone".as_slice() {
-        clone(alloc, operands)
+        return clone(alloc, operands);
     } else if command == b"promote".as_slice() {
-        promote(alloc, operands)
+        return promote(alloc, operands);
     } else if command == b"slice".as_slice() {
-        slice(operands)
+        return slice(operands);
     } else if command == b"sync".as_slice() {
-        sync(operands)
+        return sync(operands);
     } else if command == b"abandon".as_slice() {
-        abandon(operands)
+        return abandon(operands);
     } else if command == b"view".as_slice() {
-        open_view(alloc, operands)
+        return open_view(alloc, operands);
     } else if command == b"unview".as_slice() {
-        close_view(operands)
+        return close_view(operands);
     } else if command == b"hold".as_slice() {
-        hold(alloc, operands)
+        return hold(alloc, operands);
     } else if command == b"release".as_slice() {
-        release(alloc, operands)
+        return release(alloc, operands);
     } else if command == b"holds".as_slice() {
-        holds(alloc, operands)
+        return holds(alloc, operands);
     } else if command == b"bookmark".as_slice() {
-        bookmark(alloc, operands)
+        return bookmark(alloc, operands);
     } else if command == b"wouldfree".as_slice() {
-        would_free(alloc, operands)
+        return would_free(alloc, operands);
     } else if command == b"set".as_slice() {
-        set(alloc, operands)
+        return set(alloc, operands);
     } else if command == b"send".as_slice() {
-        send(alloc, operands)
+        return send(alloc, operands);
     } else if command == b"receive".as_slice() {
-        receive(alloc, operands)
-    } else {
-        Err(Refusal::BadLine)
+        return receive(alloc, operands);
     }
+    Err(Refusal::BadLine)
 }
 
 // The name that is the one operand of a request.

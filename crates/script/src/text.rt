@@ -1,5 +1,5 @@
 //! Replies as lines.
-ghost use Rattle.std.specs.Prelude.{◌++◌, ◌∷◌, ◌≤◌, [], Some, OnOk, length};
+ghost use Rattle.std.specs.Prelude.{◌≡◌, ◌-◌, ◌++◌, ◌∷◌, ◌≤◌, [], Some, OnOk, length, drop, replicate};
 ghost use Rattle.std.specs.Fmt.{decimal};
 ghost use Rattle.std.specs.Io.KnownBytes.{Appends};
 ghost use Rattle.model.specs.declared.reply.Reply.{Reply};
@@ -51,14 +51,35 @@ fn write_refusal<W: Write>(writer: &mut W, refusal: Refusal) -> io::Result<()>
     writeln!(writer, "error {number} {name}")
 }
 
+/// The digits of a block of zeros.
+const ZERO_DIGITS: [u8; 1024] = [b'0'; 1024];
+
+/// As many zeros as are looked for at once.
+const ZEROS: [u8; 64] = [0; 64];
+
+// Behind which byte of a block there are zeros alone: a multiple of 64. It looks from the end on, 64 bytes at a time.
+fn end_of(bytes: &[u8; 512]) -> usize
+    ensures within { result ≤ 512 }
+    ensures zeros { drop result bytes.now ≡ replicate (512 - result) 0 }
+{
+    for back in 0..8 {
+        let end = 512 - 64 * back;
+        if bytes[end - 64..end] != ZEROS[..] {
+            return end;
+        }
+    }
+    0
+}
+
+// A block's line. A block often ends in zeros, whose digits are there before. It stands apart, since its digits take room on the stack.
 #[inline(never)]
 fn write_block<W: Write>(writer: &mut W, bytes: &[u8; 512]) -> io::Result<()>
     ensures { OnOk result (Appends (W.contents writer.old) (W.contents writer.new) (data_text (Some bytes.now) ++ 10 ∷ [])) }
 {
-    let mut text = [0u8; 1025];
-    let _ = hex::encode_to_slice(bytes.as_slice(), &mut text[..1024]);
-    text[1024] = b'\n';
-    writer.write_all(&text)
+    let end = end_of(bytes);
+    write_part(writer, &bytes[..end])?;
+    writer.write_all(&ZERO_DIGITS[2 * end..])?;
+    writer.write_all(b"\n")
 }
 
 fn write_truth<W: Write>(writer: &mut W, is_so: bool) -> io::Result<()>
