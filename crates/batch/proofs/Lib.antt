@@ -17,5 +17,6 @@ pub mod Filled
 pub mod Owned
 pub mod Batch
 pub mod OneLeaf
+pub mod OneWrite
 pub mod Prepare
 pub mod Forecasts

@@ -160,12 +160,12 @@ module _ (s : ℕ → Said) (leaf : ℕ) (one : IsOneLeaf s leaf true) where
   on_leaf j e = let d : leaf / 16 ^ 0 ≡ leaf = omega arith in ap s (e ∙ d) ∙ (one.written refl).1
 
   -- the place below
-  next_index : (l j : ℕ) → j ≡ leaf / 16 ^ suc l → 16 * j + (leaf / 16 ^ l) % 16 ≡ leaf / 16 ^ l
+  pub next_index : (l j : ℕ) → j ≡ leaf / 16 ^ suc l → 16 * j + (leaf / 16 ^ l) % 16 ≡ leaf / 16 ^ l
   next_index l j e =
       let up : (leaf / 16 ^ l) / 16 ≡ leaf / 16 ^ suc l = high_digits leaf l 1 (suc l) (let s : l + 1 ≡ suc l = omega arith in s) in
       omega (arith, e, up)
 
-  on_touched : (l g j : ℕ) (o : Option Part) → j ≡ leaf / 16 ^ l → IsKid l g o → touched s l j o ≡ true
+  pub on_touched : (l g j : ℕ) (o : Option Part) → j ≡ leaf / 16 ^ l → IsKid l g o → touched s l j o ≡ true
   on_touched zero g j o e k = touched_at_leaf s j o ∙ ap (λ w. leaf_touched w o) (on_leaf j e)
   on_touched (suc l) g j o e k =
       let kids = kids_of l g o k in
@@ -174,7 +174,7 @@ module _ (s : ℕ → Said) (leaf : ℕ) (one : IsOneLeaf s leaf true) where
       ∙ any_at (touched s l) (16 * j) i (places_of o) (let n = kids.0 in omega arith)
       (on_touched l g (16 * j + i) (get_or (places_of o) i None) (next_index l j e) (AreKids-at l g (places_of o) i kids.1))
 
-  on_stays : (l g j : ℕ) (o : Option Part) → j ≡ leaf / 16 ^ l → IsKid l g o → stays s l j o ≡ true
+  pub on_stays : (l g j : ℕ) (o : Option Part) → j ≡ leaf / 16 ^ l → IsKid l g o → stays s l j o ≡ true
   on_stays zero g j o e k = stays_at_leaf s j o ∙ ap (λ w. leaf_stays w o) (on_leaf j e)
   on_stays (suc l) g j o e k =
       let kids = kids_of l g o k in

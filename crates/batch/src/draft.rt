@@ -15,7 +15,7 @@ ghost use Rattle.batch.specs.Updates.{changes_of, IsBatch};
 
 use crate::findings::{Findings, Survey};
 use crate::numbers::{NewBlock, choose, fill, fresh_count};
-use crate::update::{Update, write_count};
+use crate::update::{Update, one_leaf, write_count};
 use base::meter::Meter;
 use base::number::{BlockNo, Dead, Group};
 use base::refusal::Refusal;
@@ -67,7 +67,12 @@ pub(crate) fn findings_of(
         claims: Vec::with_capacity(alloc, room)?,
         released: Vec::new(alloc),
     };
-    let fate = Root::survey(root_of(root), 5, 0, updates, young, &mut findings, meter)?;
+    let root = root_of(root);
+    if let Some((leaf, true)) = one_leaf(updates) {
+        Root::survey_write(root, 5, 0, leaf, young, &mut findings, meter)?;
+        return Ok((findings, true));
+    }
+    let fate = Root::survey(root, 5, 0, updates, young, &mut findings, meter)?;
     Ok((findings, fate.touched))
 }
 

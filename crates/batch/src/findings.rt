@@ -1,11 +1,11 @@
 //! What a batch of changes does to a tree, before any of it is made.
-ghost use Rattle.std.specs.Prelude.{◌≡◌, ℕ, suc, ◌+◌, ◌-◌, ◌*◌, ◌^◌, ◌<◌, ◌≤◌, ◌++◌, ◌⊎◌, IfOk, OnOk, OnErr, IsTrue, Option, Some, None, false, slice_index_or, length, is_some, cond, if◌then◌else◌};
+ghost use Rattle.std.specs.Prelude.{◌≡◌, ℕ, suc, ◌+◌, ◌-◌, ◌*◌, ◌/◌, ◌^◌, ◌<◌, ◌≤◌, ◌++◌, ◌⊎◌, IfOk, OnOk, OnErr, IsTrue, Option, Some, None, true, false, slice_index_or, length, is_some, cond, if◌then◌else◌};
 ghost use Rattle.base.specs.Counting.{counted};
 ghost use Rattle.base.specs.declared.refusal.Refusal.{Refusal};
 ghost use Rattle.node.specs.Kid.{IsSoundKid, places_of};
 ghost use Rattle.node.specs.Node.{inner_part, leaf_part, part_of_node};
 ghost use Rattle.batch.specs.Others.{HasOther};
-ghost use Rattle.batch.specs.Said.{said, AreInOrder};
+ghost use Rattle.batch.specs.Said.{Said, said, AreInOrder, IsOneLeaf};
 ghost use Rattle.batch.specs.Touch.{any_kid, later_first, touched, stays, claims, released, dropped, claim_of, let_go, own_block, young_one};
 
 use crate::update::{Update, Word, is_idle, split_at_leaf, way_of, word_of};
@@ -79,6 +79,24 @@ fn close(
     Ok(())
 }
 
+/// Adds what becomes of a key on the way to a leaf that is written, and of its own block: the key is touched, and stays.
+fn close_written(
+    own: Option<Dead>,
+    key: Key,
+    young: Group,
+    findings: &mut Findings,
+) -> Result<(), Refusal>
+    ensures claims { OnOk result (findings.new.claims.items ≡ findings.old.claims.items ++ claim_of true true key young.0 own) }
+    ensures released { OnOk result (findings.new.released.items ≡ findings.old.released.items ++ let_go true true young.0 own) }
+    ensures err { OnErr result (result ≡ Err Refusal.NoMemory) }
+{
+    let fate = Fate {
+        touched: true,
+        stays: true,
+    };
+    close(own, key, fate, young, findings)
+}
+
 /// The block of a part that may be absent. A node that is there is counted.
 #[tactic(auto, unfolding(base::specs::Counting::counted, base::specs::Counting::most))]
 fn block_of<C: Level>(old: Option<&C>, meter: &mut Meter) -> Option<Dead>
@@ -143,6 +161,28 @@ pub trait Survey: Level {
         ensures metered { OnOk result (counted meter.old (length (dropped (said updates.now) young.0 Self.height index (part_of_node Self.part old.entry))) ≤ meter.new) }
         ensures never_lower { meter.old ≤ meter.new }
         ensures err { OnErr result (result ≡ Err Refusal.NoMemory) };
+
+    /// Adds to the findings what the write of one leaf alone does to the part with an index among those of its level, which covers that
+    /// leaf: the part is touched and stays, and so does each below it on the way. It looks at no other part, so at one a level. The meter
+    /// rises by at least one for each block whose key is touched.
+    fn survey_write(
+        old: Option<&Self>,
+        level: u8,
+        index: u32,
+        leaf: u32,
+        young: Group,
+        findings: &mut Findings,
+        meter: &mut Meter,
+    ) -> Result<(), Refusal>
+        requires level { level ≡ Self.height }
+        requires low { level ≤ 5 }
+        requires way { index ≡ leaf / 16 ^ level }
+        requires sound { IsSoundKid Self.height (part_of_node Self.part old) }
+        ensures claims { OnOk result ((s : ℕ → Said) → IsOneLeaf s leaf true → findings.new.claims.items ≡ findings.old.claims.items ++ claims s young.0 Self.height index (part_of_node Self.part old.entry)) }
+        ensures released { OnOk result ((s : ℕ → Said) → IsOneLeaf s leaf true → findings.new.released.items ≡ findings.old.released.items ++ released s young.0 Self.height index (part_of_node Self.part old.entry)) }
+        ensures metered { OnOk result ((s : ℕ → Said) → IsOneLeaf s leaf true → counted meter.old (length (dropped s young.0 Self.height index (part_of_node Self.part old.entry))) ≤ meter.new) }
+        ensures never_lower { meter.old ≤ meter.new }
+        ensures err { OnErr result (result ≡ Err Refusal.NoMemory) };
 }
 
 /// What becomes of a leaf.
@@ -203,6 +243,20 @@ impl Survey for Leaf {
         let fate = leaf_fate(old, index, updates);
         close(own, Key { level, index }, fate, young, findings)?;
         Ok(fate)
+    }
+
+    fn survey_write(
+        old: Option<&Leaf>,
+        level: u8,
+        index: u32,
+        _leaf: u32,
+        young: Group,
+        findings: &mut Findings,
+        meter: &mut Meter,
+    ) -> Result<(), Refusal> {
+        let own = block_of(old, meter);
+        close_written(own, Key { level, index }, young, findings)?;
+        Ok(())
     }
 }
 
@@ -330,5 +384,23 @@ impl<C: Survey> Survey for Inner<C> {
         let fate = fate_above(below, present);
         close(own, Key { level, index }, fate, young, findings)?;
         Ok(fate)
+    }
+
+    fn survey_write(
+        old: Option<&Inner<C>>,
+        level: u8,
+        index: u32,
+        leaf: u32,
+        young: Group,
+        findings: &mut Findings,
+        meter: &mut Meter,
+    ) -> Result<(), Refusal> {
+        let own = block_of(old, meter);
+        let below = leaf / span(u32::from(level - 1));
+        let place = below % 16;
+        let kid = kid_at(old, place as usize);
+        C::survey_write(kid, level - 1, below, leaf, young, findings, meter)?;
+        close_written(own, Key { level, index }, young, findings)?;
+        Ok(())
     }
 }

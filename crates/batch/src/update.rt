@@ -105,8 +105,9 @@ pub fn write_count(updates: &[Update]) -> usize
 }
 
 /// The one leaf that updates speak of, and whether they write it.
-fn one_leaf(updates: &[Update]) -> Option<(u32, bool)>
+pub(crate) fn one_leaf(updates: &[Update]) -> Option<(u32, bool)>
     ensures one { IfSome result (λ r. IsOneLeaf (said updates.now) r.0 r.1) }
+    ensures within { AreInOrder updates.now → IfSome result (λ r. r.0 < 1048576) }
     ensures none { AreInOrder updates.now → IfNone result ((leaf : ℕ) (writes : Bool) → ¬ (IsOneLeaf (said updates.now) leaf writes)) }
 {
     if updates.len() != 1 {

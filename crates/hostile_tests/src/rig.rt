@@ -16,9 +16,9 @@ struct Keeper {
 impl Caller for Keeper {
     ghost asks = { λ _ _ _ _. Unit {0} };
 
-    fn ask(&mut self, request: Request) -> Option<Reply> {
+    fn ask(&mut self, request: Request, _reply: &mut Reply) -> bool {
         self.request = Some(request);
-        Some(Reply::Done)
+        true
     }
 }
 

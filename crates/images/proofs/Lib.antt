@@ -5,7 +5,9 @@ pub mod Written
 pub mod Opening
 pub mod Walking
 pub mod Touching
+pub mod Standing
 pub mod OnePath
+pub mod Placing
 pub mod MadeBlocks
 pub mod LiveChange
 pub mod LiveTrees

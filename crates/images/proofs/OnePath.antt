@@ -1,6 +1,6 @@
 -- A change of a tree by one update, as the change of one path.
-use Rattle.std.proofs.Common.{◌≡◌, ℕ, ◌+◌, ◌/◌, ◌^◌, ◌<◌, ◌≤◌, Bool, true, false, List, [], ◌∷◌, Option, Some, None, refl, sym, ap, ◌∙◌, ⊎_elim, arith, true≢false}
-use Rattle.std.specs.Prelude.{IfSome, IsSome, is_some}
+use Rattle.std.proofs.Common.{◌≡◌, ℕ, ◌+◌, ◌/◌, ◌^◌, ◌<◌, ◌≤◌, Bool, true, false, List, [], ◌∷◌, Option, Some, None, map, refl, sym, ap, subst, ◌∙◌, ⊎_elim, arith, true≢false}
+use Rattle.std.specs.Prelude.{◌↔◌, IfSome, IsSome, is_some}
 use Rattle.std.specs.Option.{option_map}
 use Rattle.std.specs.FinMap.{get}
 use Rattle.std.proofs.Math.Nat.{div-div-eq-div-mul}
@@ -10,14 +10,20 @@ use Rattle.base.specs.declared.number.Key.{Key}
 use Rattle.base.specs.Key.{covers, parent}
 use Rattle.base.specs.Map.{Map, Cell, Block, IsTree, block_of}
 use Rattle.base.specs.Rewrite.{rewrite, is_touched}
+use Rattle.base.specs.Surveys.{IsIn, IsMadeKey}
+use Rattle.base.proofs.Presence.{same_presence}
 use Rattle.base.proofs.Untouched.{rewrite_keeps, rewrite_makes}
 use Rattle.batch.specs.Updates.{changes_of, first_of, IsBatch}
+use Rattle.batch.proofs.Listing.{in_map, from_map}
+use Rattle.batch.specs.declared.numbers.NewBlock.{NewBlock}
 use Rattle.batch.specs.declared.update.Update.{Update}
 use Rattle.batch.specs.declared.update.Update.TheVariants.{Write, Punch}
+use Rattle.tree.specs.ChangeParts.{made_pair}
 use Rattle.tree.specs.Reading.{key_over}
 use Rattle.world.proofs.lists.Maps.{no_value}
 use Rattle.image.specs.PathWrites.{IsPathChange}
 use Rattle.images.specs.Updates.{top_of, ChangesSome, IsWritten}
+use Rattle.images.specs.Writes.{ArePlaced}
 use Rattle.images.proofs.Touching.{top_covers, touched_near, touched_over, covers_over, gone, leaf_written}
 
 -- what a key at or below that of a punch has
@@ -86,6 +92,57 @@ module _ (n : ℕ) (m new : Map) (tree : IsTree n m) (u : Update) (batch : IsBat
       (λ (over : (top_of u).level ≤ l).
       (rewrite_makes m (changes_of (u ∷ [])) g number (key_over leaf l) x (touched_over n m tree u batch some (key_over leaf l) (eq-eqb _ _ refl) over) (sym (at (key_over leaf l)) ∙ there)).1)
       (cases_lt l (top_of u).level)
+
+  -- what is made stands on the path
+  made_on_path : (k : Key) → IsMadeKey m (changes_of (u ∷ [])) k → k ≡ key_over (first_of u) k.level
+  made_on_path k made =
+      let near = touched_near m u batch k made.0 in
+      let high = shallow_top u batch in
+      ⊎_elim
+      (λ (low : k.level < (top_of u).level).
+      absurd (true≢false (sym made.1 ∙ ap is_some (punched n m tree u batch 0 (λ _. 0) k near.0 (omega (arith, low, high)) low near.1 near.2))))
+      (λ (over : (top_of u).level ≤ k.level).
+      λ i. record { level = k.level; index = sym (eqb-true _ _ (covers_over (top_of u) k near.0 leaf near.2 (top_covers u) over near.1)) i })
+      (cases_lt k.level (top_of u).level)
+
+  -- and what is there on the path is made
+  there_made : (l : ℕ) (x : Cell) → l ≤ 5 → get new (key_over (first_of u) l) ≡ Some x → IsMadeKey m (changes_of (u ∷ [])) (key_over (first_of u) l) × (x.number ≡ number (key_over (first_of u) l)) × (x.birth ≡ g)
+  there_made l x low there =
+      let here : get (rewrite m (changes_of (u ∷ [])) g number) (key_over leaf l) ≡ Some x = sym (at (key_over leaf l)) ∙ there in
+      ⊎_elim
+      (λ (below : l < (top_of u).level). absurd (no_value x (sym (punched n m tree u batch g number (key_over leaf l) leaf low below (eq-eqb _ _ refl) (top_covers u)) ∙ here)))
+      (λ (over : (top_of u).level ≤ l).
+      let touched = touched_over n m tree u batch some (key_over leaf l) (eq-eqb _ _ refl) over in
+      let is_new = rewrite_makes m (changes_of (u ∷ [])) g number (key_over leaf l) x touched here in
+      ((touched, same_presence m (changes_of (u ∷ [])) 0 g (λ _. 0) number (key_over leaf l) ∙ ap is_some here), is_new.0, is_new.1))
+      (cases_lt l (top_of u).level)
+
+  -- so the path has just the new blocks, each at its level
+  pub path_known : (made : List NewBlock) → ((k : Key) (q : ℕ) → IsIn (map made_pair made) (k, q) ↔ (IsMadeKey m (changes_of (u ∷ [])) k × (number k ≡ q))) → (after : ℕ → Option Block) → ArePlaced g made after
+      → (l : ℕ) → l ≤ 5 → after l ≡ option_map block_of (get new (key_over (first_of u) l))
+  path_known made each after placed l low = by_cell (after l) refl (get new (key_over leaf l)) refl
+    where
+      -- a block of the path is that of the key there
+      is_made : (b : Block) → after l ≡ Some b → IsMadeKey m (changes_of (u ∷ [])) (key_over (first_of u) l) × (b ≡ record { number = number (key_over (first_of u) l); birth = g })
+      is_made b e =
+          let x = placed.only l b low e in
+          let a = (each x.0.key x.0.block.0).0 (in_map made_pair made x.0 x.1) in
+          let key : x.0.key ≡ key_over leaf l = made_on_path x.0.key a.0 ∙ ap (key_over leaf) x.2 in
+          (subst (IsMadeKey m (changes_of (u ∷ []))) key a.0, x.3 ∙ ap (λ q. record { number = q; birth = g }) (sym a.1 ∙ ap number key))
+
+      by_cell : (o : Option Block) → after l ≡ o → (p : Option Cell) → get new (key_over (first_of u) l) ≡ p → o ≡ option_map block_of p
+      by_cell None e None f = refl
+      by_cell None e (Some c) f =
+          let there = there_made l c low f in
+          let x = from_map made_pair made (key_over leaf l, number (key_over leaf l)) ((each (key_over leaf l) (number (key_over leaf l))).1 (there.0, refl)) in
+          let level : x.0.key.level ≡ l = ap (λ (p : Key × ℕ). p.0.level) x.2 in
+          absurd (true≢false (sym (placed.each x.0 x.1 (omega (arith, level, low))) ∙ ap (λ j. is_some (after j)) level ∙ ap is_some e))
+      by_cell (Some b) e None f =
+          let there = is_made b e in
+          absurd (true≢false (sym there.0.1 ∙ same_presence m (changes_of (u ∷ [])) 0 g (λ _. 0) number (key_over leaf l) ∙ ap is_some (sym (at (key_over leaf l)) ∙ f)))
+      by_cell (Some b) e (Some c) f =
+          let there = there_made l c low f in
+          ap Some ((is_made b e).1 ∙ (λ i. record { number = sym there.1 i; birth = sym there.2 i }))
 
   pub path_change : (bytes : List ℕ) → IsWritten u bytes → (before after : ℕ → Option Block) → ((l : ℕ) → l ≤ 5 → before l ≡ option_map block_of (get m (key_over (first_of u) l))) → ((l : ℕ) → l ≤ 5 → after l ≡ option_map block_of (get new (key_over (first_of u) l)))
       → IsPathChange m new (first_of u) before after bytes

@@ -8,11 +8,11 @@ ghost use Rattle.image.specs.ImageBlocks.{block_at};
 ghost use Rattle.image.specs.PathWrites.{block_on};
 ghost use Rattle.images.specs.Updates.{IsWritten};
 ghost use Rattle.tree.specs.ChangeParts.{made_pair};
-ghost use Rattle.images.specs.Writes.{writes_in, MayWrite, IsBegun, IsPathOf, IsThere, IsMissing, ArePresent, IsWrittenAs};
+ghost use Rattle.images.specs.Writes.{writes_in, MayWrite, IsBegun, IsPathOf, IsThere, IsMissing, ArePresent, ArePlaced, IsLeftBy};
 
 use base::meter::Meter;
 use base::name::DsName;
-use base::number::BlockNo;
+use base::number::{BlockNo, Group};
 use base::refusal::Refusal;
 use datasets::Table;
 use image::{Image, blocks_of};
@@ -137,24 +137,40 @@ pub fn path_before(
     }
 }
 
-/// What this update of a live tree leaves to be written once it is in force, where this is the path that it was to change. It costs what
-/// `path_before` does.
+// Where these new blocks of a group are, each at its level. It costs their number.
+fn path_of(made: &[NewBlock], group: Group) -> [Option<Root>; 6]
+    ensures { ArePlaced group.0 made.now (block_on result) }
+{
+    let mut path = [None; 6];
+    for new in made {
+        let level = new.key.level as usize;
+        if level < 6 {
+            path[level] = Some(Root {
+                block: new.block,
+                birth: group,
+            });
+        }
+    }
+    path
+}
+
+/// What this update of a live tree leaves to be written once it is in force in this group, where this is the path that it was to change, and
+/// these are the new blocks that it has made. It reaches no node, and costs the new blocks.
 pub fn writes_after(
-    table: &Table,
-    name: &DsName,
+    group: Group,
     update: &Update,
     path: Box<ChangedPath>,
-    meter: &mut Meter,
+    made: &[NewBlock],
 ) -> Writes
     requires of_tree { IsOfTree update.now }
     requires begun { IsBegun update.now path.value }
-    ensures { IsWrittenAs (live_of table.now.file_systems name.now) update.now path.value.before result }
+    ensures { IsLeftBy update.now group.0 made.now path.value.before result }
 {
     if is_missing(&path.before, update) {
         return Writes::Idle;
     }
     let mut path = path;
-    path.after = path_in(table, name, path.leaf, meter);
+    path.after = path_of(made, group);
     Writes::OnPath { path }
 }
 

@@ -1,5 +1,5 @@
 -- Indices of keys, a level at a time.
-use Rattle.std.proofs.Common.{◌≡◌, ◌≢◌, ℕ, ◌+◌, ◌*◌, ◌/◌, ◌%◌, ◌-◌, ◌^◌, ◌<◌, Bool, true, false, refl, sym, ap, ◌∙◌, arith}
+use Rattle.std.proofs.Common.{◌≡◌, ◌≢◌, ℕ, zero, suc, ◌≤◌, ◌+◌, ◌*◌, ◌/◌, ◌%◌, ◌^◌, ◌<◌, Bool, true, false, refl, sym, ap, ◌∙◌, arith}
 use Rattle.std.specs.Prelude.{◌==◌}
 use Rattle.std.proofs.lemmas.Bool.{eqb-true}
 use Rattle.std.proofs.lemmas.Nat.{pow-add}
@@ -35,3 +35,13 @@ low_digits r lv d l e =
 
 pub within_place : (q l : ℕ) → q % 16 ^ l < 16 ^ l
 within_place q l = mod-lt q (span_positive l)
+
+-- a digit of sixteen is four of two
+pub power : (d : ℕ) → d ≤ 5 → 1 * 2 ^ (4 * d) % 4294967296 ≡ 16 ^ d
+power zero h = refl
+power (suc zero) h = refl
+power (suc (suc zero)) h = refl
+power (suc (suc (suc zero))) h = refl
+power (suc (suc (suc (suc zero)))) h = refl
+power (suc (suc (suc (suc (suc zero))))) h = refl
+power (suc (suc (suc (suc (suc (suc d)))))) h = absurd (omega arith)

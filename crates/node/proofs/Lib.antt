@@ -9,4 +9,5 @@ pub mod Steps
 pub mod Reach
 pub mod Leaves
 pub mod Roots
+pub mod Pairs
 pub mod Sameness

@@ -1,6 +1,7 @@
 pub mod Shape
 pub mod Entries
 pub mod Cells
+pub mod Pairs
 pub mod Node
 pub mod Kid
 pub mod Walk

@@ -6,6 +6,7 @@ use Rattle.std.specs.declared.alloc.Global.{Global}
 use Rattle.std.specs.Borrow.{Bor}
 use Rattle.node.specs.declared.leaf.Leaf.{Leaf}
 use Rattle.node.specs.declared.node.Inner.{Inner}
+use Rattle.node.specs.Pairs.{places_in}
 use Rattle.node.specs.Shape.{Part, Forest, done, forest_of}
 
 -- (profile)
@@ -30,7 +31,7 @@ part_of_node part = option_map (λ n. part n.now)
 
 -- (profile)
 abbrev pub inner_part : {C : Type 0} → (C → Part) → Inner C → Part
-inner_part part n = record { cell = record { number = n.block.0; birth = n.birth.0; bytes = [] }; below = forest_of (shared_part part) n.kids }
+inner_part part n = record { cell = record { number = n.block.0; birth = n.birth.0; bytes = [] }; below = forest_of (shared_part part) (places_in n.kids) }
 
 -- (profile)
 abbrev pub Root : Type 0

@@ -7,10 +7,12 @@ ghost use Rattle.base.specs.declared.refusal.Refusal.{Refusal};
 ghost use Rattle.node.specs.Shape.{Part, cell_below, steps_below};
 ghost use Rattle.node.specs.Cells.{cell_of, dead_of};
 ghost use Rattle.node.specs.Kid.{IsSound};
+ghost use Rattle.node.specs.Pairs.{places_in};
 ghost use Rattle.node.specs.Walk.{born_after, part_blocks};
 
 use crate::cell::Cell;
 use crate::leaf::Leaf;
+use crate::pair::{Pair, kid_at, place_count};
 use base::meter::Meter;
 use base::number::{BlockNo, Dead, Group};
 use base::refusal::Refusal;
@@ -64,27 +66,12 @@ pub(crate) fn reach(meter: &mut Meter)
     meter.add_one();
 }
 
-/// The length of an array of sixteen.
-fn sixteen<T>(xs: &[T; 16]) -> u32
-    ensures sixteen { result ≡ 16 }
-    ensures all { length xs.now ≡ 16 }
-{
-    16
-}
-
 /// How many keys a part covers at a level so far below its own.
 pub fn span(depth: u32) -> u32
     requires { depth ≤ 5 }
     ensures { result ≡ 16 ^ depth }
 {
-    match depth {
-        0 => 1,
-        1 => 16,
-        2 => 256,
-        3 => 4096,
-        4 => 65536,
-        _ => 1048576,
-    }
+    1 << (4 * depth)
 }
 
 /// The place below on the way to a key, and the key's index among those that the place covers.
@@ -106,7 +93,7 @@ pub fn step(depth: u32, at: u32) -> (usize, u32)
 pub struct Inner<C> {
     pub block: BlockNo,
     pub birth: Group,
-    pub kids: [Option<Arc<C>>; 16],
+    pub kids: [Pair<C>; 8],
 }
 
 /// The node at the root, at level 5.
@@ -114,7 +101,7 @@ pub type Root = Inner<Inner<Inner<Inner<Inner<Leaf>>>>>;
 
 impl<C> Inner<C> {
     /// An indirect block with what stands at its sixteen places.
-    pub fn new(block: BlockNo, birth: Group, kids: [Option<Arc<C>>; 16]) -> Inner<C>
+    pub fn new(block: BlockNo, birth: Group, kids: [Pair<C>; 8]) -> Inner<C>
         ensures { result ≡ record { block = block; birth = birth; kids = kids } }
     {
         Inner { block, birth, kids }
@@ -123,17 +110,17 @@ impl<C> Inner<C> {
     /// How many places there are below a node.
     pub fn place_count(&self) -> u32
         ensures sixteen { result ≡ 16 }
-        ensures all { length self.now.kids ≡ 16 }
+        ensures all { length (places_in self.now.kids) ≡ 16 }
     {
-        sixteen(&self.kids)
+        place_count(&self.kids)
     }
 
     /// What stands at a place.
     pub fn kid(&self, place: usize) -> Option<&C>
         requires { place < 16 }
-        ensures { option_map (λ k. k.now) result ≡ option_map (λ a. a.value) (slice_index_or self.now.kids place None) }
+        ensures { option_map (λ k. k.now) result ≡ option_map (λ a. a.value) (slice_index_or (places_in self.now.kids) place None) }
     {
-        match &self.kids[place] {
+        match kid_at(&self.kids, place) {
             Some(kid) => Some(&**kid),
             None => None,
         }
@@ -142,12 +129,9 @@ impl<C> Inner<C> {
     /// The owner of what stands at a place.
     pub fn owner(&self, place: usize) -> Option<&Arc<C>>
         requires { place < 16 }
-        ensures { option_map (λ a. a.now) result ≡ slice_index_or self.now.kids place None }
+        ensures { option_map (λ a. a.now) result ≡ slice_index_or (places_in self.now.kids) place None }
     {
-        match &self.kids[place] {
-            Some(kid) => Some(kid),
-            None => None,
-        }
+        kid_at(&self.kids, place)
     }
 }
 
@@ -174,7 +158,7 @@ impl<C: Level> Level for Inner<C> {
             return Some(self.cell());
         }
         let (place, rest) = step(depth, at);
-        match &self.kids[place] {
+        match self.owner(place) {
             Some(kid) => kid.find(depth - 1, rest, meter),
             None => None,
         }
@@ -190,8 +174,8 @@ impl<C: Level> Level for Inner<C> {
             return Ok(());
         }
         out.push(self.block())?;
-        for kid in self.kids.iter() {
-            if let Some(kid) = kid {
+        for place in 0..self.place_count() {
+            if let Some(kid) = self.owner(place as usize) {
                 kid.gather(cut, out, meter)?;
             }
         }

@@ -1,10 +1,12 @@
 //! Whether two parts of a tree are the same.
 ghost use Rattle.std.specs.Prelude.{◌≡◌, ◌↔◌, IsTrue};
-ghost use Rattle.node.specs.Node.{part_of_slot, shared_part};
+ghost use Rattle.node.specs.Node.{part_of_owner, shared_part};
+ghost use Rattle.node.specs.Pairs.{places_in};
 ghost use Rattle.node.specs.Shape.{forest_of};
 
 use crate::leaf::Leaf;
 use crate::node::{Inner, Level};
+use crate::pair::{Pair, kid_at, place_count};
 use std::sync::Arc;
 
 /// A level whose parts can be compared.
@@ -15,8 +17,8 @@ pub trait Same: Level {
 }
 
 /// Whether the same part stands at two places, or none at either.
-pub fn same_kid<C: Same>(one: &Option<Arc<C>>, other: &Option<Arc<C>>) -> bool
-    ensures { IsTrue result ↔ (part_of_slot C.part one.now ≡ part_of_slot C.part other.now) }
+pub fn same_kid<C: Same>(one: Option<&Arc<C>>, other: Option<&Arc<C>>) -> bool
+    ensures { IsTrue result ↔ (part_of_owner C.part one.entry ≡ part_of_owner C.part other.entry) }
 {
     match (one, other) {
         (Some(one), Some(other)) => one.same(other),
@@ -26,11 +28,11 @@ pub fn same_kid<C: Same>(one: &Option<Arc<C>>, other: &Option<Arc<C>>) -> bool
 }
 
 /// Whether the same parts stand at all sixteen places.
-fn same_kids<C: Same>(one: &[Option<Arc<C>>; 16], other: &[Option<Arc<C>>; 16]) -> bool
-    ensures { IsTrue result ↔ (forest_of (shared_part C.part) one.now ≡ forest_of (shared_part C.part) other.now) }
+fn same_kids<C: Same>(one: &[Pair<C>; 8], other: &[Pair<C>; 8]) -> bool
+    ensures { IsTrue result ↔ (forest_of (shared_part C.part) (places_in one.now) ≡ forest_of (shared_part C.part) (places_in other.now)) }
 {
-    for place in 0..16 {
-        if !same_kid(&one[place], &other[place]) {
+    for place in 0..place_count(one) {
+        if !same_kid(kid_at(one, place as usize), kid_at(other, place as usize)) {
             return false;
         }
     }

@@ -38,7 +38,7 @@ use Rattle.steps.proofs.requests.Writing.{IsThere, there_or, allows, written_can
 use Rattle.pool.specs.Asked.{Asks}
 use Rattle.pool.specs.Effects.{MaySettle}
 use Rattle.pool.specs.Images.{LeadsTo}
-use Rattle.images.specs.Writes.{IsPathOf, IsWrittenAs}
+use Rattle.images.specs.Writes.{IsPathOf, IsLeftBy}
 use Rattle.pool.specs.Pools.{IsSound}
 use Rattle.pool.specs.declared.effect.Effect.TheVariants.{Blocks}
 use Rattle.images.specs.declared.writes.Writes.{Writes}
@@ -172,16 +172,16 @@ module _ (s : State) (numbers : List BlockState) (sound : IsSound s numbers) whe
 
       -- what that leaves to be written
       module _ (batch : IsBatch (u ∷ [])) (path : List (Option Root)) (was : IsPathOf (live_of s.now.file_systems name) (first_of u) (block_on path)) (writes : Writes)
-          (written : IsWrittenAs (live_of new.file_systems name) u path writes) where
+          (left : IsLeftBy u s.now.group done.made.items path writes) where
         pub may_settle : MaySettle s.last s.size numbers (Blocks done writes)
         may_settle = (
           release_them s sound.steady numbers sound.states new _ _ can_now,
           take_them s sound.steady numbers sound.states new _ _ can_now,
-          update_may s numbers sound name system.system system.is u batch new done (here (Ok done) applied).ok can_now.steady path was writes written,
+          update_may s numbers sound name system.system system.is u batch new done (here (Ok done) applied).ok can_now.steady path was writes left,
         )
 
         pub leads_now : LeadsTo s (with_datasets s new) writes
-        leads_now = update_leads s numbers sound name system.system system.is u batch new done (here (Ok done) applied).ok can_now.steady path was writes written
+        leads_now = update_leads s numbers sound name system.system system.is u batch new done (here (Ok done) applied).ok can_now.steady path was writes left
 
       pub done_now : (q : Request) → Asks q (OfFileSystem name) (Ok u) → Step s q Done (with_datasets s new)
       done_now q asks =

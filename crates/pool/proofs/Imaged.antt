@@ -155,7 +155,7 @@ synced_by s t q g a b step = by_rule step.follows
     by_rule (out_of_memory h) = let e = h.reply_is in absurd cc
 
 pub keeps_so : (s t : State) (q : Request) (e : Effect) → ¬ (kind_of q ≡ Question) → ¬ (kind_of q ≡ View) → Step s q (reply_of e) t → (n : ℕ) → keeps_of n e ≡ keeps_after q (reply_of e) n
-keeps_so s t q (Synced last viewed) a b step n = ap (λ x. if x then counted n 1 else n) (sym (synced_by s t q last.table.group a b step))
+keeps_so s t q (Synced last viewed) a b step n = ap (λ x. if x then counted n 1 else n) (sym (synced_by s t q last.value.table.group a b step))
 keeps_so s t q (Blocks changed writes) a b step n = refl
 keeps_so s t q Nothing a b step n = refl
 keeps_so s t q (Guids next) a b step n = refl

@@ -1,14 +1,13 @@
 -- What a change of a live map by one update leaves to be written.
-use Rattle.std.proofs.Common.{◌≡◌, ◌≤◌, ◌<◌, ℕ, false, List, [], ◌∷◌, length, Option, Some, None, refl, sym, ap, subst, ◌∙◌, inr, arith, true≢false}
-use Rattle.std.specs.Prelude.{IfSome, is_some, slice_get, slice_index_or}
-use Rattle.std.specs.Option.{option_map, option_map_or}
+use Rattle.std.proofs.Common.{◌≡◌, ◌<◌, ℕ, false, List, [], ◌∷◌, length, Option, Some, None, refl, sym, ap, subst, ◌∙◌, inr, arith}
+use Rattle.std.specs.Prelude.{◌↔◌, IfSome, slice_get}
+use Rattle.std.specs.Option.{option_map_or}
 use Rattle.std.specs.FinMap.{get, insert}
 use Rattle.std.specs.FinMap as finmap
-use Rattle.std.proofs.lemmas.Bool.{eqb-true}
 use Rattle.base.specs.declared.number.Key.{Key}
-use Rattle.base.specs.Key.{first_leaf}
 use Rattle.base.specs.Map.{Map, Cell, Block, IsTree, HasBytes, block_of}
 use Rattle.base.specs.Rewrite.{Changes, is_touched}
+use Rattle.base.specs.Surveys.{IsIn, IsMadeKey}
 use Rattle.base.proofs.Untouched.{rewrite_keeps}
 use Rattle.batch.specs.Updates.{changes_of, first_of, IsBatch}
 use Rattle.batch.specs.declared.update.Update.{Update}
@@ -19,7 +18,6 @@ use Rattle.tree.specs.Asking.{AreAllocated}
 use Rattle.tree.specs.Branch.{child_key}
 use Rattle.tree.specs.Change.{IsChange}
 use Rattle.tree.specs.Reading.{key_over}
-use Rattle.tree.specs.Bytes.{root_block}
 use Rattle.tree.specs.declared.block.Root.{Root}
 use Rattle.tree.specs.declared.change.Changed.{Changed}
 use Rattle.zalloc.specs.declared.BlockState.{BlockState}
@@ -45,7 +43,8 @@ use Rattle.images.specs.Updates.{ChangesSome, IsWritten}
 use Rattle.images.proofs.LiveChange.{put_beside, change_stored, number_open}
 use Rattle.images.proofs.MadeBlocks.{path_made, path_within}
 use Rattle.images.proofs.OnePath.{path_young, path_change}
-use Rattle.images.proofs.Touching.{top_covers, punch_idle}
+use Rattle.images.proofs.Standing.{there_some, missing_none}
+use Rattle.images.proofs.Touching.{punch_idle}
 use Rattle.images.proofs.Walking.{cell_reached}
 use Rattle.images.proofs.Written.{unique_in, rewrite_rises}
 use Rattle.steps.specs.Edits.{datasets_of, with_datasets}
@@ -53,36 +52,12 @@ use Rattle.steps.specs.Steady.{IsSteady}
 use Rattle.steps.proofs.numbers.Known.{states_of}
 use Rattle.steps.proofs.numbers.States.{state_at-now}
 use Rattle.pool.specs.Images.{LeadsTo}
-use Rattle.images.specs.Writes.{MayWrite, IsPathOf, IsThere, IsMissing, IsWrittenAs}
+use Rattle.images.specs.Writes.{MayWrite, IsPathOf, IsThere, IsMissing, IsWrittenAs, IsLeftBy}
 use Rattle.pool.specs.Numbers.{synced_numbers}
 use Rattle.pool.specs.Pools.{IsSound}
 use Rattle.images.specs.declared.writes.Writes.{Writes}
 use Rattle.images.specs.declared.writes.Writes.TheVariants.{Idle, OnPath, Each}
 use Rattle.pool.proofs.Kept.{kept_long, kept_just}
-
--- the key of a punch stands on the path to its first leaf
-over_first : (key : Key) → key_over (first_leaf key) key.level ≡ key
-over_first key = λ i. record { level = key.level; index = eqb-true _ _ (top_covers (Punch key)) i }
-
-on_path : (m : Map) (path : List (Option Root)) (key : Key) → key.level ≤ 5 → IsPathOf m (first_leaf key) (block_on path) → option_map root_block (slice_index_or path key.level None) ≡ option_map block_of (get m key)
-on_path m path key low is = is key.level low ∙ ap (λ k. option_map block_of (get m k)) (over_first key)
-
-some_either : {A B C : Type 0} (f : A → C) (g : B → C) (x : Option A) (y : Option B) → option_map f x ≡ option_map g y → is_some x ≡ is_some y
-some_either f g None None e = refl
-some_either f g None (Some y) e = absurd cc
-some_either f g (Some x) None e = absurd cc
-some_either f g (Some x) (Some y) e = refl
-
-none_of : {A : Type 0} (x : Option A) → is_some x ≡ false → x ≡ None
-none_of None e = refl
-none_of (Some x) e = absurd (true≢false e)
-
-there_some : (m : Map) (path : List (Option Root)) (u : Update) → IsBatch (u ∷ []) → IsPathOf m (first_of u) (block_on path) → IsThere path u → ChangesSome m u
-there_some m path (Write leaf bytes) b is there = tt
-there_some m path (Punch key) b is there = sym (some_either root_block block_of (slice_index_or path key.level None) (get m key) (on_path m path key b.1.level is)) ∙ there
-
-missing_none : (m : Map) (path : List (Option Root)) (key : Key) → IsBatch (Punch key ∷ []) → IsPathOf m (first_leaf key) (block_on path) → slice_index_or path key.level None ≡ None → get m key ≡ None
-missing_none m path key b is none = none_of (get m key) (sym (some_either root_block block_of (slice_index_or path key.level None) (get m key) (on_path m path key b.1.level is)) ∙ ap is_some none)
 
 module _ (s : State) (numbers : List BlockState) (sound : IsSound s numbers) (name : List ℕ) (f : FileSystem) (at : get s.now.file_systems name ≡ Some f) (u : Update) (batch : IsBatch (u ∷ []))
     (new : Datasets) (done : Changed) (has : HasWritten (datasets_of s) new name (changes_of (u ∷ [])) s.last.group numbers done) (after : IsSteady (with_datasets s new))
@@ -116,9 +91,6 @@ module _ (s : State) (numbers : List BlockState) (sound : IsSound s numbers) (na
 
   here : map_of (record s.now { file_systems = new.file_systems; group = new.group }) (Live name) ≡ has.change.new
   here = map_of_live now name (record f { live = m }) here_at
-
-  now_live : live_of new.file_systems name ≡ has.change.new
-  now_live = ap (λ x. option_map_or (λ (f : FileSystem). f.live) x finmap.empty) here_at
 
   beside : AreMapsBeside has.change.new s.now.file_systems new.file_systems
   beside = subst (AreMapsBeside m s.now.file_systems) (sym systems) (put_beside s.now.file_systems name f at m)
@@ -172,7 +144,7 @@ module _ (s : State) (numbers : List BlockState) (sound : IsSound s numbers) (na
 
   -- one path is written
   module _ (leaf : ℕ) (before after_path : List (Option Root)) (bytes : List ℕ)
-      (is : (leaf ≡ first_of u) × (before ≡ path) × IsPathOf (live_of new.file_systems name) leaf (block_on after_path) × IsWritten u bytes × (length bytes ≡ 512) × IsThere path u) where
+      (is : (leaf ≡ first_of u) × (before ≡ path) × IsPathOf has.change.new leaf (block_on after_path) × IsWritten u bytes × (length bytes ≡ 512) × IsThere path u) where
     some : ChangesSome f.live u
     some = there_some f.live path u batch was_live is.5
 
@@ -180,7 +152,7 @@ module _ (s : State) (numbers : List BlockState) (sound : IsSound s numbers) (na
     from_before = subst (λ p. IsPathOf f.live (first_of u) (block_on p)) (sym is.1) was_live
 
     to_after : IsPathOf has.change.new (first_of u) (block_on after_path)
-    to_after = subst (λ y. IsPathOf y (first_of u) (block_on after_path)) now_live (subst (λ n. IsPathOf (live_of new.file_systems name) n (block_on after_path)) is.0 is.2)
+    to_after = subst (λ n. IsPathOf m n (block_on after_path)) is.0 is.2
 
     one_path : IsPathChange f.live has.change.new (first_of u) (block_on before) (block_on after_path) bytes
     one_path = path_change s.size f.live m tree u batch s.now.group change.number change.new_is some bytes is.3 (block_on before) (block_on after_path) from_before to_after
@@ -218,12 +190,22 @@ module _ (s : State) (numbers : List BlockState) (sound : IsSound s numbers) (na
         (rises image stored) stored
 
   -- so may what is left to be written, and it leads there
-  pub update_may : (writes : Writes) → IsWrittenAs (live_of new.file_systems name) u path writes → MayWrite (synced_numbers s.size s.last) writes
-  update_may Idle is = tt
-  update_may (OnPath p) is = path_may p.value.leaf p.value.before p.value.after p.value.bytes (is.0.0, is.1, is.2, is.0.1, is.0.2, is.3)
-  update_may (Each blocks) is = absurd is
+  may_write : (writes : Writes) → IsWrittenAs has.change.new u path writes → MayWrite (synced_numbers s.size s.last) writes
+  may_write Idle is = tt
+  may_write (OnPath p) is = path_may p.value.leaf p.value.before p.value.after p.value.bytes (is.0.0, is.1, is.2, is.0.1, is.0.2, is.3)
+  may_write (Each blocks) is = absurd is
 
-  pub update_leads : (writes : Writes) → IsWrittenAs (live_of new.file_systems name) u path writes → LeadsTo s (with_datasets s new) writes
-  update_leads Idle is = idle_leads is
-  update_leads (OnPath p) is = path_leads p.value.leaf p.value.before p.value.after p.value.bytes (is.0.0, is.1, is.2, is.0.1, is.0.2, is.3)
-  update_leads (Each blocks) is = absurd is
+  leads_to : (writes : Writes) → IsWrittenAs has.change.new u path writes → LeadsTo s (with_datasets s new) writes
+  leads_to Idle is = idle_leads is
+  leads_to (OnPath p) is = path_leads p.value.leaf p.value.before p.value.after p.value.bytes (is.0.0, is.1, is.2, is.0.1, is.0.2, is.3)
+  leads_to (Each blocks) is = absurd is
+
+  module _ (writes : Writes) (left : IsLeftBy u s.now.group done.made.items path writes) where
+    written_as : IsWrittenAs has.change.new u path writes
+    written_as = left s.size f.live m tree (record { number = change.number; new_is = change.new_is; each = subst (λ xs. (k : Key) (n : ℕ) → IsIn xs (k, n) ↔ (IsMadeKey f.live ch k × (change.number k ≡ n))) (sym has.made) change.made }) was_live
+
+    pub update_may : MayWrite (synced_numbers s.size s.last) writes
+    update_may = may_write writes written_as
+
+    pub update_leads : LeadsTo s (with_datasets s new) writes
+    update_leads = leads_to writes written_as

@@ -1,6 +1,6 @@
 -- A sync, the way back to its world, and the end of a view.
 use Rattle.std.proofs.Common.{◌≡◌, ◌<◌, ◌≤◌, ◌^◌, ◌+◌, ◌||◌, ℕ, Bool, List, Option, None, Ok, false, true, length, map, refl, sym, ap, subst, ◌∙◌, arith}
-use Rattle.std.specs.Prelude.{nat_lt, Vec}
+use Rattle.std.specs.Prelude.{nat_lt, Box, Vec}
 use Rattle.std.specs.declared.alloc.Global.{Global}
 use Rattle.std.specs.List.{list_any}
 use Rattle.std.specs.Option.{option_map, is_some}
@@ -77,40 +77,46 @@ module _ (k : Keep) (w : World) (held : IsHeld k w) where
   -- ---- a sync, of a copy of the world
 
   module _ (below : w.table.group < number_limit) (copy : World) (same : copy ≡ w) (last now : Datasets) (last_is : last ≡ record copy.table { group = copy.table.group + 1 })
-      (now_is : now ≡ record w.table { group = w.table.group + 1 }) (viewed : Vec SnapshotId Global)
+      (now_is : now ≡ record w.table { group = w.table.group + 1 }) (kept : Box World Global) (kept_is : kept.value ≡ record copy { table = last }) (viewed : Vec SnapshotId Global)
       (shows : (id : SnapId) → list_any (same_id id) (map snap_id viewed.items) ≡ is_viewed k.views.opened id) where
     next : last ≡ record (datasets_of s) { group = s.now.group + 1 }
     next = last_is ∙ ap (λ (x : World). record x.table { group = x.table.group + 1 }) same
 
+    kept_next : kept.value.table ≡ record (datasets_of s) { group = s.now.group + 1 }
+    kept_next = ap (λ (x : World). x.table) kept_is ∙ next
+
     can : CanSync s last
     can = record { is = next; next = not_last s.now.group below }
 
-    is : synced s last ≡ effected (with_now s (world_in (record w { table = now }))) (Synced (record copy { table = last }) viewed)
-    is = λ i. record s {
+    to_copy : synced s last ≡ record (with_now s (world_in (record w { table = now }))) { last = world_in (record copy { table = last }) }
+    to_copy = λ i. record s {
       now = record (world_of ((next ∙ sym now_is) i)) { freeing = w.freeing };
       last = record (world_of last) { freeing = (ap (λ (x : World). x.freeing) (sym same)) i };
     }
 
-    left_numbers : map after_group k.numbers.present ≡ synced_numbers s.size (world_in (record copy { table = last }))
+    is : synced s last ≡ effected (with_now s (world_in (record w { table = now }))) (Synced kept viewed)
+    is = to_copy ∙ ap (λ (x : World). record (with_now s (world_in (record w { table = now }))) { last = world_in x }) (sym kept_is)
+
+    left_numbers : map after_group k.numbers.present ≡ synced_numbers s.size (world_in kept.value)
     left_numbers =
         let after = synced s last in
         known_are (reach_of after.now) (reach_of after.last) s.size (map after_group k.numbers.present)
         (states_of after (map after_group k.numbers.present) (sound_synced s k.numbers.present held.sound last can).states)
-        ∙ ap (λ (x : World). synced_numbers s.size (world_in (record x { table = last }))) (sym same)
+        ∙ ap (λ (x : World). synced_numbers s.size (world_in (record x { table = last }))) (sym same) ∙ ap (λ (x : World). synced_numbers s.size (world_in x)) (sym kept_is)
 
-    pub synced_performed : IsPerformed s k.numbers.present (record w { table = now }) Sync (Ok (Synced (record copy { table = last }) viewed))
+    pub synced_performed : IsPerformed s k.numbers.present (record w { table = now }) Sync (Ok (Synced kept viewed))
     synced_performed = (
       record {
-        sound = subst (λ x. IsSound x (numbers_after s.last s.size k.numbers.present (Synced (record copy { table = last }) viewed))) is (sound_synced s k.numbers.present held.sound last can);
+        sound = subst (λ x. IsSound x (numbers_after s.last s.size k.numbers.present (Synced kept viewed))) is (sound_synced s k.numbers.present held.sound last can);
         kept = accounted_next w.table now w.ledger now_is held.now;
         may = record {
-          kept = accounted_next copy.table last copy.ledger last_is (subst (λ (x : World). IsAccounted x.table x.ledger) (sym same) held.now);
-          swept = subst (λ (t : Datasets). IsSweptBut t (map snap_id viewed.items)) (sym next) (swept_but w.table k.views.opened (map snap_id viewed.items) shows (clean k w held));
+          kept = subst (λ (x : World). IsAccounted x.table x.ledger) (sym kept_is) (accounted_next copy.table last copy.ledger last_is (subst (λ (x : World). IsAccounted x.table x.ledger) (sym same) held.now));
+          swept = subst (λ (t : Datasets). IsSweptBut t (map snap_id viewed.items)) (sym kept_next) (swept_but w.table k.views.opened (map snap_id viewed.items) shows (clean k w held));
           states = left_numbers;
         };
         leads = tt;
       },
-      subst (λ g. Step s Sync (Group g) (effected (with_now s (world_in (record w { table = now }))) (Synced (record copy { table = last }) viewed))) (sym (ap (λ (t : Datasets). t.group) next))
+      subst (λ g. Step s Sync (Group g) (effected (with_now s (world_in (record w { table = now }))) (Synced kept viewed))) (sym (ap (λ (t : Datasets). t.group) kept_next))
           (subst (Step s Sync (Group (s.now.group + 1))) is (sync_done s held.sound.steady last can)),
     )
 

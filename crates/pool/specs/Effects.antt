@@ -35,7 +35,7 @@ effected s Nothing = s
 effected s (Guids next) = record s { next_guid = next }
 effected s (Blocks done writes) = s
 effected s (Taken taken) = s
-effected s (Synced last viewed) = record s { last = world_in last }
+effected s (Synced last viewed) = record s { last = world_in last.value }
 effected s Abandoned = s
 effected s (Closed number) = closed s number
 
@@ -66,14 +66,14 @@ MaySettle last size numbers (Blocks done writes) =
     × AllFree (releases last.group numbers (map dead_block done.released.items)) (map (λ n. n.0) done.taken.items)
     × MayWrite (synced_numbers size last) writes
 MaySettle last size numbers (Taken taken) = AllAllocated last.group numbers (map dead_block taken.items)
-MaySettle last size numbers (Synced to viewed) = CanBeLast size numbers to viewed.items
+MaySettle last size numbers (Synced to viewed) = CanBeLast size numbers to.value viewed.items
 MaySettle last size numbers Abandoned = Unit {0}
 MaySettle last size numbers (Closed number) = Unit {0}
 
 -- the image of a pool of so many blocks once it is done (profile)
 abbrev pub image_after : ℕ → ShownImage → Effect → ShownImage
 image_after size i (Blocks done writes) = record i { bytes = images_put i.bytes (writes_in (block_at i.bytes) writes) }
-image_after size i (Synced to viewed) = record i { kept = synced_numbers size (world_in to); keeps = counted i.keeps 1 }
+image_after size i (Synced to viewed) = record i { kept = synced_numbers size (world_in to.value); keeps = counted i.keeps 1 }
 image_after size i Nothing = i
 image_after size i (Guids next) = i
 image_after size i (Taken taken) = i
@@ -101,7 +101,7 @@ reply_of Nothing = Done
 reply_of (Guids next) = Done
 reply_of (Blocks done writes) = Done
 reply_of (Taken taken) = Count (length taken.items)
-reply_of (Synced last viewed) = Group last.table.group
+reply_of (Synced last viewed) = Group last.value.table.group
 reply_of Abandoned = Done
 reply_of (Closed number) = Done
 

@@ -43,6 +43,7 @@ impl Keep {
             Ok(update) => update,
             Err(refusal) => return Err(self.outside_the_limits(world, name, refusal)),
         };
+        let group = world.table.group();
         let synced = self.last.table.group();
         let outlook = ask_change(
             &mut world.ledger,
@@ -65,7 +66,7 @@ impl Keep {
             &mut meters.segments,
         )?;
         settle(&mut world.ledger, &world.table, name, outlook);
-        let writes = writes_after(&world.table, name, &update, path, &mut meters.blocks);
+        let writes = writes_after(group, &update, path, &done.made);
         Ok(Effect::Blocks { done, writes })
     }
 

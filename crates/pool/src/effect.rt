@@ -29,9 +29,9 @@ pub(crate) enum Effect {
         taken: Vec<Dead>,
     },
     /// The world is synced: this is the last synced one now, the open views show these snapshots, what waits is free, and the image keeps the
-    /// states that the numbers have then.
+    /// states that the numbers have then. It stands in memory of its own, so that a move of an effect doesn't copy it.
     Synced {
-        last: World,
+        last: Box<World>,
         viewed: Vec<SnapshotId>,
     },
     /// The world is the last synced one again: each number has the state that it had then.

@@ -98,7 +98,7 @@ impl Keep {
                 release_all(&mut self.numbers, &taken, self.last.table.group());
             }
             Effect::Synced { last, viewed } => {
-                self.last = last;
+                self.last = Box::into_inner(last);
                 self.viewed = viewed;
                 self.image.keep_synced(&mut self.numbers);
             }

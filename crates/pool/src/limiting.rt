@@ -58,18 +58,19 @@ impl Keep {
         over(&mut world.ledger, &world.table, space)
     }
 
-    /// The reply to a request that only reads. It costs what `steps::answer` does.
+    /// Puts the reply to a request that only reads in the place of what stands there. It costs what `steps::answer` does.
     pub(crate) fn asked(
         &self,
         alloc: Global,
         world: &World,
         request: &Request,
         meters: &mut Meters,
-    ) -> Reply
+        reply: &mut Reply,
+    )
         requires held { IsHeld self.now world.now }
         requires question { kind_of request.now ≡ Kind.Question }
-        ensures step { Step (state_in self.now world.now) request.now result (state_in self.now world.now) }
-        ensures metered { IsMetered (shown_in self.now world.now meters.old) request.now result (shown_in self.now world.now meters.new) }
+        ensures step { Step (state_in self.now world.now) request.now reply.new (state_in self.now world.now) }
+        ensures metered { IsMetered (shown_in self.now world.now meters.old) request.now reply.new (shown_in self.now world.now meters.new) }
     {
         let space = self.space(world.freeing.len());
         answer(
@@ -81,6 +82,7 @@ impl Keep {
             request,
             &mut meters.blocks,
             &mut meters.segments,
+            reply,
         )
     }
 

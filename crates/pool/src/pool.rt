@@ -194,9 +194,8 @@ impl Pool {
     {
         match kind_of(request) {
             Kind::Question => {
-                let reply = self
-                    .keep
-                    .asked(alloc, &self.present, request, &mut self.meters);
+                let mut reply = Reply::Done;
+                self.keep.asked(alloc, &self.present, request, &mut self.meters, &mut reply);
                 (reply, Plan::Nothing)
             }
             Kind::View => self.viewed(alloc, request),
@@ -289,7 +288,6 @@ impl Pool {
         ensures keeps { self.new.image.keeps ≡ keeps_after request.now result self.old.image.keeps }
     {
         self.facts();
-        self.look_at(request);
         let mut reply = Reply::Done;
         self.answer(alloc, request, &mut reply);
         self.facts();
@@ -320,9 +318,21 @@ impl Pool {
         }
     }
 
-    // One step: in place, but for what must not be seen half done. The reply comes in the place of Done: it has room for a block's bytes, and
-    // few replies are moved so.
-    fn answer(&mut self, alloc: Global, request: &Request, reply: &mut Reply)
+    /// One step, as `apply` takes it and at its cost, whose reply comes in the place of Done: a reply has room for a block's bytes, and who
+    /// asks again and again spares its moves.
+    pub fn answer(&mut self, alloc: Global, request: &Request, reply: &mut Reply)
+        requires { reply.old ≡ Reply.Done }
+        ensures step { Step self.old.state request.now reply.new self.new.state }
+        ensures metered { IsMetered self.old request.now reply.new self.new }
+        ensures writes { AreWrites self.old.image self.new.image }
+        ensures keeps { self.new.image.keeps ≡ keeps_after request.now reply.new self.old.image.keeps }
+    {
+        self.look_at(request);
+        self.take(alloc, request, reply);
+    }
+
+    // The step itself: in place, but for what must not be seen half done.
+    fn take(&mut self, alloc: Global, request: &Request, reply: &mut Reply)
         requires { reply.old ≡ Reply.Done }
         ensures step { Step self.old.state request.now reply.new self.new.state }
         ensures metered { IsMetered self.old request.now reply.new self.new }
@@ -331,9 +341,8 @@ impl Pool {
     {
         match kind_of(request) {
             Kind::Question => {
-                *reply = self
-                    .keep
-                    .asked(alloc, &self.present, request, &mut self.meters)
+                self.keep
+                    .asked(alloc, &self.present, request, &mut self.meters, reply)
             }
             Kind::View => *reply = self.prepared(alloc, request),
             Kind::Change => in_place(

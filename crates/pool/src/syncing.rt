@@ -18,8 +18,8 @@ use steps::renew;
 const LAST_GROUP: u64 = 9223372036854775807;
 
 impl Keep {
-    /// Closes the open group: a copy of the world in its next group is to be the last synced one. At `Err` the world is as it was. It costs
-    /// what `World::copy` does, and the number of open views.
+    /// Closes the open group: a copy of the world in its next group is to be the last synced one. NoMemory where there is none for it, and the
+    /// world is as it was at each `Err`. It costs what `World::copy` does, and the number of open views.
     pub(crate) fn sync(&self, alloc: Global, world: &mut World) -> Result<Effect, Refusal>
         requires { IsHeld self.now world.old }
         ensures performed { IsPerformed (state_in self.now world.old) self.now.numbers.present world.new Request.Sync result }
@@ -31,8 +31,9 @@ impl Keep {
         let viewed = self.views.viewed(alloc)?;
         let mut last = world.copy()?;
         last.table.close_group();
+        let kept = Box::new(alloc, last)?;
         world.table.close_group();
-        Ok(Effect::Synced { last, viewed })
+        Ok(Effect::Synced { last: kept, viewed })
     }
 
     /// Puts the last synced datasets in the place of those of this world, with what was to be freed then, and lets the snapshots go that only

@@ -73,10 +73,10 @@ struct Asked {
 impl Caller for Asked {
     ghost asks = { λ _ _ _ _. Unit {0} };
 
-    fn ask(&mut self, request: Request) -> Option<Reply> {
-        let reply = self.pool.apply(self.alloc, &request);
+    fn ask(&mut self, request: Request, reply: &mut Reply) -> bool {
+        self.pool.answer(self.alloc, &request, reply);
         drop(request);
-        Some(reply)
+        true
     }
 }
 

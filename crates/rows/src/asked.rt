@@ -81,12 +81,12 @@ fn reply_in_two(alloc: Global, pool: &mut Pool, request: &Request) -> Reply {
 impl Caller for Asked {
     ghost asks = { λ _ _ _ _. Unit {0} };
 
-    fn ask(&mut self, request: Request) -> Option<Reply> {
-        let reply = match self.way {
-            Way::AtOnce => self.pool.apply(self.alloc, &request),
-            Way::InTwo => reply_in_two(self.alloc, &mut self.pool, &request),
-        };
+    fn ask(&mut self, request: Request, reply: &mut Reply) -> bool {
+        match self.way {
+            Way::AtOnce => self.pool.answer(self.alloc, &request, reply),
+            Way::InTwo => *reply = reply_in_two(self.alloc, &mut self.pool, &request),
+        }
         drop(request);
-        Some(reply)
+        true
     }
 }

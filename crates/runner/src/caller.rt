@@ -34,9 +34,9 @@ impl Model for PoolCaller {
 impl Caller for PoolCaller {
     ghost asks = { Serves };
 
-    fn ask(&mut self, request: Request) -> Option<Reply> {
-        let reply = self.pool.apply(self.alloc, &request);
+    fn ask(&mut self, request: Request, reply: &mut Reply) -> bool {
+        self.pool.answer(self.alloc, &request, reply);
         drop(request);
-        Some(reply)
+        true
     }
 }

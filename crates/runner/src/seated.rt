@@ -49,7 +49,22 @@ impl<'t, 's, K: Opening, T: Wait> Model for Seated<'t, 's, K, T> {
 impl<K: Opening, T: Wait> Caller for Seated<'_, '_, K, T> {
     ghost asks = { Gains };
 
-    fn ask(&mut self, request: Request) -> Option<Reply> {
+    fn ask(&mut self, request: Request, reply: &mut Reply) -> bool {
+        match self.asked(request) {
+            Some(told) => {
+                *reply = told;
+                true
+            }
+            None => false,
+        }
+    }
+}
+
+impl<K: Opening, T: Wait> Seated<'_, '_, K, T> {
+    // Asks for anything, and gives its reply; None only where there is no memory for a copy of it.
+    fn asked(&mut self, request: Request) -> Option<Reply>
+        ensures { Gains self.old request result self.new }
+    {
         self.shared.lines.ask(self.rt);
         match request {
             Request::OpenView { target } => self.open(target),
@@ -57,9 +72,7 @@ impl<K: Opening, T: Wait> Caller for Seated<'_, '_, K, T> {
             request => self.call(request),
         }
     }
-}
 
-impl<K: Opening, T: Wait> Seated<'_, '_, K, T> {
     // Asks for what neither opens nor closes a view.
     fn call(&mut self, request: Request) -> Option<Reply>
         requires { is_of_views request ≡ false }

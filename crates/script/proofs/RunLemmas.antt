@@ -1,12 +1,13 @@
 -- Lemmas on runs of scripts.
 use Rattle.std.proofs.Common.{◌≡◌, ◌≢◌, ℕ, suc, ◌+◌, ◌<◌, ◌≤◌, Bool, true, false, List, [], ◌∷◌, ◌++◌, Option, None, Some, cond, length, take, eqb, refl, sym, ap, subst, ◌∙◌, inl, inr, arith, append_assoc, append-nil, take_all, length-take, true≢false, add-one, ◌⊎◌}
 use Rattle.std.proofs.lemmas.Bool.{cases_lt, lt-ltb}
-use Rattle.std.proofs.Common.{MatchBool, ◌&&◌, ◌||◌, IsTrue, IfOk, IfErr, Result, Ok, Err}
+use Rattle.std.proofs.Common.{MatchBool, ◌&&◌, ◌||◌, IsTrue, IfOk, IfErr, OnOk, Result, Ok, Err}
 use Rattle.std.specs.Io.KnownBytes.{Keeps, Appends}
 use Rattle.std.proofs.KnownBytes.{Appends-trans, Appends-kept}
 use Rattle.base.specs.Failing.{HasRisen}
 use Rattle.base.specs.declared.refusal.Refusal.{Refusal}
 use Rattle.base.specs.declared.refusal.Refusal.TheVariants.{BadLine, NoMemory as WantsMemory}
+use Rattle.model.specs.declared.request.Request.{Request}
 use Rattle.model.specs.declared.reply.Reply.{Reply}
 use Rattle.model.specs.declared.reply.Reply.TheVariants.{Refused}
 use Rattle.script.specs.declared.run.LineFault.{LineFault}
@@ -16,7 +17,7 @@ use Rattle.script.specs.Text.{line_of}
 use Rattle.script.specs.declared.run.ScriptFault.{ScriptFault}
 use Rattle.script.specs.declared.run.ScriptFault.TheVariants.{NoMemory}
 use Rattle.script.specs.Lines.{lines, kept_of, line_limit, GivesLine, GivesNone, HasMore, HasNoFeed}
-use Rattle.script.specs.Meaning.{Meaning, Silent, Faulty, meaning, request_of}
+use Rattle.script.specs.Meaning.{Meaning, Silent, Faulty, Asks, meaning, request_of}
 use Rattle.script.specs.Run.{Relation, is_refusal, output_of, Answers, IsUnanswered, Stops, IsRun, HasRun, HasBegun, IsFaultOf, HasFailed}
 use Rattle.script.proofs.LinesLemmas.{lines-nil, lines-last}
 
@@ -86,6 +87,15 @@ served-fault asks m refusal held held' s (Ok b) (inr e) ok none err =
 served-fault asks m refusal held held' s (Err LacksMemory) why ok none err = (tt, (err refl, inl refl))
 served-fault asks m refusal held held' s (Err Unwritten) (inl e) ok none err = absurd (unwritten≢ (none e))
 served-fault asks m refusal held held' s (Err Unwritten) (inr e) ok none err = (tt, (Refused refusal, subst (λ w. Answers asks w s (Some (Refused refusal)) s) (sym e) (refl, refl)))
+
+-- a request that has this reply, which is written or not
+pub served-reply : {C : Type 0} (asks : Relation C) (request : Request) (reply : Reply) (held held' : Option (List ℕ)) (s t : C) (r : Result Bool LineFault)
+    → asks s request (Some reply) t → OnOk r (Appends held held' (line_of reply)) → IfOk r (λ refused. refused ≡ is_refusal (Some reply)) → IfErr r (λ fault. fault ≡ Unwritten)
+    → IfOk r (IsServed asks (Asks request) held held' s t) × IfErr r (IsUnserved asks (Asks request) held held' s t)
+served-reply asks request reply held held' s t (Ok refused) told written kind fault =
+    (record { reply = Some reply; answered = (reply, refl, told); written = written; kind = kind }, tt)
+served-reply asks request reply held held' s t (Err f) told written kind fault =
+    (tt, subst (IsUnserved asks (Asks request) held held' s t) (sym fault) (reply, (reply, refl, told)))
 
 -- of two that are not refused with stop
 goes_both : (a b stop : Bool) → (a && stop) ≡ false → (b && stop) ≡ false → ((a || b) && stop) ≡ false

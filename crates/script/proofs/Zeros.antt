@@ -1,32 +1,42 @@
 -- The digits of a block that ends in zeros.
-use Rattle.std.proofs.Common.{◌≡◌, ℕ, zero, suc, ◌+◌, ◌-◌, ◌*◌, ◌<◌, ◌≤◌, ◌==◌, Bool, true, false, Option, List, [], ◌∷◌, ◌++◌, take, drop, replicate, refl, sym, ap, subst, ◌∙◌, arith}
-use Rattle.std.specs.Prelude.{not, slice_range}
-use Rattle.std.specs.Cmp.Lexicographic.{pointwise, bytes_decides}
+use Rattle.std.proofs.Common.{◌≡◌, ℕ, zero, suc, ◌+◌, ◌-◌, ◌*◌, ◌<◌, ◌≤◌, ◌==◌, ◌&&◌, Bool, true, false, Option, List, [], ◌∷◌, ◌++◌, length, take, drop, replicate, refl, sym, ap, subst, ◌∙◌, length-take, length-drop, slice_index_or, eqb-true, true≢false, arith}
+use Rattle.std.specs.Prelude.{slice_range}
+use Rattle.std.specs.List.{list_all}
 use Rattle.std.specs.Io.KnownBytes.{Appends}
 use Rattle.std.proofs.KnownBytes.{Appends-trans}
+use Rattle.std.proofs.lemmas.List.Folds.{list_all_more}
 use Rattle.std.proofs.lemmas.List.{take-append-drop, drop-drop, drop-replicate, take_all, length-replicate}
 use lib.ListN.{replicate-append-replicate}
 use Rattle.hex.specs.Hex.{encode_with, encode_lower, lower_digits}
 use Rattle.script.proofs.PartLemmas.{encode-append}
 
-not_false : (b : Bool) → false ≡ not b → b ≡ true
-not_false true e = refl
-not_false false e = e
+both_true : (x y : Bool) → (x && y) ≡ true → (x ≡ true) × (y ≡ true)
+both_true true y e = (refl, e)
+both_true false y e = absurd (true≢false (sym e))
+
+zeros_alone : (l : List ℕ) → list_all (λ b. b == 0) l ≡ true → l ≡ replicate (length l) 0
+zeros_alone [] e = refl
+zeros_alone (b ∷ l) e =
+    let h = both_true (b == 0) (list_all (λ k. k == 0) l) e in
+    let first : b ≡ 0 = eqb-true b 0 h.0 in
+    let rest : l ≡ replicate (length l) 0 = zeros_alone l h.1 in
+    λ i. first i ∷ rest i
+
+-- one more byte is looked at
+pub zeros_next : (are : Bool) (l : List ℕ) (i : ℕ) → i < length l → are ≡ list_all (λ b. b == 0) (take i l) → (are && (slice_index_or l i 0 == 0)) ≡ list_all (λ b. b == 0) (take (i + 1) l)
+zeros_next are l i within e = ap (λ x. x && (slice_index_or l i 0 == 0)) e ∙ sym (list_all_more (λ b. b == 0) l i 0 within)
 
 -- so many zeros more
-more_zeros : (l : List ℕ) (n at next rest : ℕ) → at + n ≡ next → false ≡ not (pointwise ◌==◌ (slice_range l at next) (replicate n 0)) → drop next l ≡ replicate rest 0 → drop at l ≡ replicate (n + rest) 0
-more_zeros l n at next rest to e before =
-    let wide : n ≡ next - at = omega (arith, to) in
-    let part : take n (drop at l) ≡ replicate n 0 = ap (λ k. take k (drop at l)) wide ∙ (bytes_decides _ _).0 (not_false _ e) in
-    let after : drop n (drop at l) ≡ replicate rest 0 = drop-drop n at l ∙ ap (λ k. drop k l) to ∙ before in
-    sym (take-append-drop n (drop at l)) ∙ (λ i. part i ++ after i) ∙ replicate-append-replicate n rest 0
-
-pub zeros_before : (l : List ℕ) (back : ℕ) → back < 8 → false ≡ not (pointwise ◌==◌ (slice_range l (512 - 64 * back - 64) (512 - 64 * back)) (replicate 64 0)) → drop (512 - 64 * back) l ≡ replicate (64 * back) 0
-    → drop (512 - 64 * (back + 1)) l ≡ replicate (64 * (back + 1)) 0
-zeros_before l back few e before =
-    let here : 512 - 64 * (back + 1) ≡ 512 - 64 * back - 64 = omega (arith, few) in
-    let all : 64 + 64 * back ≡ 64 * (back + 1) = omega arith in
-    ap (λ k. drop k l) here ∙ more_zeros l 64 (512 - 64 * back - 64) (512 - 64 * back) (64 * back) (omega (arith, few)) e before ∙ ap (λ k. replicate k 0) all
+pub more_zeros : (l : List ℕ) (at next : ℕ) → length l ≡ 512 → at ≤ next → next ≤ 512 → list_all (λ b. b == 0) (slice_range l at next) ≡ true → drop next l ≡ replicate (512 - next) 0
+    → drop at l ≡ replicate (512 - at) 0
+more_zeros l at next long low high e before =
+    let n = next - at in
+    let to : at + n ≡ next = omega (arith, low) in
+    let wide : length (slice_range l at next) ≡ n = omega (arith, length-take n (drop at l), length-drop at l) in
+    let part : take n (drop at l) ≡ replicate n 0 = zeros_alone (slice_range l at next) e ∙ ap (λ k. replicate k 0) wide in
+    let after : drop n (drop at l) ≡ replicate (512 - next) 0 = drop-drop n at l ∙ ap (λ k. drop k l) to ∙ before in
+    let all : n + (512 - next) ≡ 512 - at = omega (arith, low, high) in
+    sym (take-append-drop n (drop at l)) ∙ (λ i. part i ++ after i) ∙ replicate-append-replicate n (512 - next) 0 ∙ ap (λ k. replicate k 0) all
 
 encode_zeros : (n : ℕ) → encode_lower (replicate n 0) ≡ replicate (2 * n) 48
 unfolding encode_with

@@ -1,5 +1,5 @@
 //! Runs of scripts.
-ghost use Rattle.std.specs.Prelude.{◌≡◌, ◌&&◌, ◌||◌, ◌⊎◌, [], false, Option, Some, Err, IsTrue, IfOk, IfErr, OnOk};
+ghost use Rattle.std.specs.Prelude.{◌≡◌, ◌&&◌, ◌||◌, ◌⊎◌, [], false, Option, Some, None, Err, IsTrue, IfOk, IfErr, OnOk, if◌then◌else◌};
 ghost use Rattle.base.specs.Failing.{HasRisen};
 ghost use Rattle.base.specs.declared.refusal.Refusal.{Refusal};
 ghost use Rattle.script.specs.Lines.{lines, HasNoFeed};
@@ -26,9 +26,10 @@ use thiserror::Error;
 pub trait Caller {
     ghost asks: { Self → Request → Option Reply → Self → Type 0 };
 
-    /// The reply to a request; None only where there is no memory for a copy of the reply.
-    fn ask(&mut self, request: Request) -> Option<Reply>
-        ensures { asks self.old request result self.new };
+    /// Puts the reply to a request in the place of Done. False only where there is no memory for a copy of the reply.
+    fn ask(&mut self, request: Request, reply: &mut Reply) -> bool
+        requires { reply.old ≡ Reply.Done }
+        ensures { asks self.old request (if result then Some reply.new else None) self.new };
 }
 
 /// Why a run of a script ended before the script did.
@@ -207,9 +208,11 @@ fn serve<C: Caller, W: Write>(
     ensures ok { IfOk result (λ refused. IsServed C.asks (Asks request) (W.contents writer.old) (W.contents writer.new) caller.old caller.new refused) }
     ensures err { IfErr result (λ fault. IsUnserved C.asks (Asks request) (W.contents writer.old) (W.contents writer.new) caller.old caller.new fault) }
 {
-    match &caller.ask(request) {
-        Some(reply) => report(writer, reply),
-        None => Err(LineFault::NoMemory),
+    let mut reply = Reply::Done;
+    if caller.ask(request, &mut reply) {
+        report(writer, &reply)
+    } else {
+        Err(LineFault::NoMemory)
     }
 }
 

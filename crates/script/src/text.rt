@@ -1,5 +1,6 @@
 //! Replies as lines.
-ghost use Rattle.std.specs.Prelude.{◌≡◌, ◌-◌, ◌++◌, ◌∷◌, ◌≤◌, [], Some, OnOk, length, drop, replicate};
+ghost use Rattle.std.specs.Prelude.{◌≡◌, ◌==◌, ◌-◌, ◌++◌, ◌∷◌, ◌<◌, ◌≤◌, [], Some, OnOk, length, drop, replicate};
+ghost use Rattle.std.specs.List.{list_all};
 ghost use Rattle.std.specs.Fmt.{decimal};
 ghost use Rattle.std.specs.Io.KnownBytes.{Appends};
 ghost use Rattle.model.specs.declared.reply.Reply.{Reply};
@@ -54,21 +55,39 @@ fn write_refusal<W: Write>(writer: &mut W, refusal: Refusal) -> io::Result<()>
 /// The digits of a block of zeros.
 const ZERO_DIGITS: [u8; 1024] = [b'0'; 1024];
 
-/// As many zeros as are looked for at once.
-const ZEROS: [u8; 64] = [0; 64];
+// Whether these are zeros alone. It looks at each of them, wherever the first other byte stands, which lets a compiler look at many at a time.
+fn are_zeros(bytes: &[u8]) -> bool
+    ensures { result ≡ list_all (λ b. b == 0) bytes.now }
+{
+    let mut are = true;
+    for byte in bytes {
+        are = are & (*byte == 0);
+    }
+    are
+}
 
-// Behind which byte of a block there are zeros alone: a multiple of 64. It looks from the end on, 64 bytes at a time.
+// Behind which byte there are zeros alone, as there are behind this one: it looks back from there, so many bytes at a time.
+fn end_by(bytes: &[u8; 512], from: usize, step: usize) -> usize
+    requires within { from ≤ 512 }
+    requires steps { 0 < step }
+    requires zeros { drop from bytes.now ≡ replicate (512 - from) 0 }
+    ensures within { result ≤ 512 }
+    ensures zeros { drop result bytes.now ≡ replicate (512 - result) 0 }
+{
+    let mut end = from;
+    while step <= end && are_zeros(&bytes[end - step..end]) {
+        end -= step;
+    }
+    end
+}
+
+// Behind which byte of a block there are zeros alone: a multiple of 8.
 fn end_of(bytes: &[u8; 512]) -> usize
     ensures within { result ≤ 512 }
     ensures zeros { drop result bytes.now ≡ replicate (512 - result) 0 }
 {
-    for back in 0..8 {
-        let end = 512 - 64 * back;
-        if bytes[end - 64..end] != ZEROS[..] {
-            return end;
-        }
-    }
-    0
+    let end = end_by(bytes, 512, 64);
+    end_by(bytes, end, 8)
 }
 
 // A block's line. A block often ends in zeros, whose digits are there before. It stands apart, since its digits take room on the stack.

@@ -22,8 +22,8 @@ use model::request::Request;
 use std::alloc::Global;
 use zalloc::Counts;
 
-/// The reply to a request that only reads, where a pool has these datasets, this beside them, and so many blocks in each state: that of the
-/// definition. The refusals are those of the request, or NoMemory where it takes memory and there is none. A read costs the path, and takes no
+/// Puts the reply to a request that only reads in the place of what stands there, where a pool has these datasets, this beside them, and so
+/// many blocks in each state: that of the definition. The refusals are those of the request, or NoMemory where it takes memory and there is none. A read costs the path, and takes no
 /// memory. A list and the tags of a snapshot cost the names. A property is known once its name is found, but: an origin costs what a promote
 /// finds it by, a snapshot's clones their names, what a file system or its children use the number of file systems, and what a snapshot uses
 /// what `lookups::space::used_by_snapshot` says. What was written since a snapshot costs what `lookups::space::written_since` says, and what a range of snapshots
@@ -38,36 +38,45 @@ pub fn answer(
     request: &Request,
     meter: &mut Meter,
     segments: &mut SegMeter,
-) -> Reply
+    reply: &mut Reply,
+)
     requires reads { (rule_of request.now None).only_reads ≡ true }
     requires own { IsAccounted table.now ledger.now }
     requires few { set.len (union_of (world_of table.now)) < 2 ^ 32 }
-    ensures step { (s : State) → IsStateWith s table.now space → IsCountOf s counts → Step s request.now result s }
+    ensures step { (s : State) → IsStateWith s table.now space → IsCountOf s counts → Step s request.now reply.new s }
     ensures nodes { reaches_nodes request.now ≡ false → meter.new ≡ meter.old }
-    ensures segments { HasRead table.now request.now result segments.old segments.new }
+    ensures segments { HasRead table.now request.now reply.new segments.old segments.new }
 {
     match request {
         Request::Read {
             target,
             object,
             block,
-        } => read(table, target, *object, *block, meter),
-        Request::Get { target, property } => get(
-            alloc,
-            ledger,
-            table,
-            space,
-            counts.free,
-            target,
-            *property,
-            segments,
-        ),
-        Request::WrittenSince { target, since } => written_since(table, target, since, segments),
-        Request::WouldFree { name, first, last } => would_free(table, name, first, last, segments),
-        Request::PoolGet { property } => pool_get(table, space, counts, *property),
-        Request::List => list(alloc, table),
-        Request::Holds { target } => holds(alloc, table, target),
-        Request::Send { target, from } => send(alloc, table, target, from.as_ref(), meter),
+        } => read(table, target, *object, *block, meter, reply),
+        Request::Get { target, property } => {
+            *reply = get(
+                alloc,
+                ledger,
+                table,
+                space,
+                counts.free,
+                target,
+                *property,
+                segments,
+            )
+        }
+        Request::WrittenSince { target, since } => {
+            *reply = written_since(table, target, since, segments)
+        }
+        Request::WouldFree { name, first, last } => {
+            *reply = would_free(table, name, first, last, segments)
+        }
+        Request::PoolGet { property } => *reply = pool_get(table, space, counts, *property),
+        Request::List => *reply = list(alloc, table),
+        Request::Holds { target } => *reply = holds(alloc, table, target),
+        Request::Send { target, from } => {
+            *reply = send(alloc, table, target, from.as_ref(), meter)
+        }
         _ => unreachable!(),
     }
 }

@@ -16,22 +16,24 @@ use model::names::Names;
 use model::reply::Reply;
 use std::alloc::Global;
 
-// What a block of a dataset holds.
+// Puts what a block of a dataset holds in the place of what stands there: so its bytes are not moved from function to function.
 pub(crate) fn read(
     table: &Table,
     target: &Target,
     object: u32,
     block: u32,
     meter: &mut Meter,
-) -> Reply
-    ensures { (s : State) → IsSteady s → datasets_of s ≡ table.now → Step s (Request.Read target.now object block) result s }
+    reply: &mut Reply,
+)
+    ensures { (s : State) → IsSteady s → datasets_of s ≡ table.now → Step s (Request.Read target.now object block) reply.new s }
 {
     let Some(tree) = tree_named(table, target) else {
-        return Reply::Refused(Refusal::NoDataset);
+        *reply = Reply::Refused(Refusal::NoDataset);
+        return;
     };
     match tree::objset::read(tree, object, block, meter) {
-        Ok(bytes) => Reply::Data(bytes.copied()),
-        Err(refusal) => Reply::Refused(refusal),
+        Ok(bytes) => *reply = Reply::Data(bytes.copied()),
+        Err(refusal) => *reply = Reply::Refused(refusal),
     }
 }
 

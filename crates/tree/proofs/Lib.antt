@@ -14,3 +14,4 @@ pub mod BranchBlocks
 pub mod Putting
 pub mod Contents
 pub mod Told
+pub mod Sides

@@ -45,3 +45,8 @@ none_made m next = omega arith
 pub made_in_turn : (m now all next at to : ℕ) → counted m (at - next) ≤ now → counted now (to - at) ≤ all → counted m (to - next) ≤ all
 unfolding counted most
 made_in_turn m now all next at to h k = omega (arith, h, k)
+
+-- what has been counted since is counted from before, too
+pub counted_later : (m n k all : ℕ) → m ≤ n → counted n k ≤ all → counted m k ≤ all
+unfolding counted most
+counted_later m n k all h c = omega (arith, h, c)

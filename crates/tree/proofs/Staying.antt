@@ -1,7 +1,7 @@
 -- A node that stays, whatever becomes of the place on the way to one leaf.
 use Rattle.std.proofs.Common.{◌≡◌, ℕ, suc, Bool, true, List, length, get_or, Option, Some, None, refl, ap, subst, ◌∙◌, ◌⊎◌, inl, inr, arith}
-use Rattle.std.specs.Option.{option_map}
-use Rattle.std.specs.Prelude.{is_some, IsTrue}
+use Rattle.std.specs.Option.{option_map, OnSome}
+use Rattle.std.specs.Prelude.{is_some, IsTrue, IfNone, false}
 use Rattle.node.specs.Kid.{IsKid, places, places_of}
 use Rattle.node.specs.Shape.{Part, Forest, forest_of}
 use Rattle.node.proofs.Places.{length-places}
@@ -22,3 +22,12 @@ surely s l g j p writes way f o kids k t e (inr h) =
     let wide : length (places_of (Some o)) ≡ length kids = ap (λ (x : Forest). length (places x)) e ∙ length-places f kids in
     let here : get_or (places_of (Some o)) h.at None ≡ option_map f (get_or kids h.at None) = ap (λ (x : Forest). get_or (places x) h.at None) e ∙ place_at f kids h.at None h.within in
     stays_beside s l g j p writes way (Some o) k h.at t h.other (omega (arith, within, wide)) (ap is_some here ∙ is_some-map f (get_or kids h.at None) ∙ h.there)
+
+-- a part that is there after all, or isn't
+pub if_none : {A : Type 0} (P : Type 0) (o : Option A) → is_some o ≡ false → IfNone o P → P
+if_none P None e h = h
+if_none P (Some x) e h = cc
+
+pub on_some : {A : Type 0} (P : Type 0) (o : Option A) (a : A) → o ≡ Some a → OnSome o P → P
+on_some P None a e h = cc
+on_some P (Some x) a e h = h

@@ -5,6 +5,7 @@ ghost use Rattle.base.specs.Counting.{counted};
 ghost use Rattle.base.specs.Surveys.{AreDifferent};
 ghost use Rattle.node.specs.Kid.{IsSoundKid, places_of};
 ghost use Rattle.node.specs.Node.{inner_part, part_of_owner, part_of_slot};
+ghost use Rattle.node.specs.Pairs.{places_in};
 ghost use Rattle.batch.specs.Said.{said, AreInOrder, IsWay};
 ghost use Rattle.batch.specs.Touch.{any_kid, later_first, touched, stays, dropped};
 ghost use Rattle.batch.specs.Build.{made_keys, parts, rebuilt, number_of, no_block, HasKeys};
@@ -13,7 +14,7 @@ use base::meter::Meter;
 use base::number::{BlockNo, Group};
 use base::refusal::Refusal;
 use batch::{NewBlock, Update, Way, Word, is_idle, split_at_leaf, way_of, word_of};
-use node::{Inner, Leaf, Level, keep, owner_at, owner_count, span};
+use node::{Inner, Leaf, Level, Pair, keep, no_kids, owner_at, owner_count, replace_kid, span};
 use std::alloc::Global;
 use std::sync::Arc;
 
@@ -29,7 +30,7 @@ pub struct Built<C> {
 /// The places of a part after a batch.
 #[derive(Drop)]
 struct BuiltKids<C> {
-    kids: [Option<Arc<C>>; 16],
+    kids: [Pair<C>; 8],
     touched: bool,
     stays: bool,
     next: usize,
@@ -186,7 +187,7 @@ fn build_kids<C: Build>(
     requires sound { IsSoundKid (suc C.height) (part_of_owner (inner_part C.part) old) }
     requires keys { HasKeys made.now next (later_first (made_keys (said updates.now) C.height) first (places_of (part_of_owner (inner_part C.part) old))) }
     requires once { AreDifferent (map (λ b. b.key) made.now) }
-    ensures kids { IfOk result (λ b. map (part_of_slot C.part) b.kids ≡ parts (rebuilt (said updates.now) (number_of made.now) group.0 C.height) first (places_of (part_of_owner (inner_part C.part) old.entry))) }
+    ensures kids { IfOk result (λ b. map (part_of_slot C.part) (places_in b.kids) ≡ parts (rebuilt (said updates.now) (number_of made.now) group.0 C.height) first (places_of (part_of_owner (inner_part C.part) old.entry))) }
     ensures touched { IfOk result (λ b. b.touched ≡ any_kid (touched (said updates.now) C.height) first (places_of (part_of_owner (inner_part C.part) old.entry))) }
     ensures stays { IfOk result (λ b. b.stays ≡ any_kid (stays (said updates.now) C.height) first (places_of (part_of_owner (inner_part C.part) old.entry))) }
     ensures next { IfOk result (λ b. b.next ≡ next + length (later_first (made_keys (said updates.now) C.height) first (places_of (part_of_owner (inner_part C.part) old.entry)))) }
@@ -195,10 +196,7 @@ fn build_kids<C: Build>(
     ensures never_lower { meter.old ≤ meter.new }
     ensures err { OnErr result (result ≡ Err Refusal.NoMemory) }
 {
-    let mut kids = [
-        None, None, None, None, None, None, None, None, None, None, None, None, None, None, None,
-        None,
-    ];
+    let mut kids = no_kids();
     let mut any_touched = false;
     let mut any_stays = false;
     let mut at = next;
@@ -213,7 +211,7 @@ fn build_kids<C: Build>(
         any_touched |= built.touched;
         any_stays |= built.stays;
         at = built.next;
-        kids[place as usize] = built.part;
+        replace_kid(&mut kids, place as usize, built.part);
     }
     Ok(BuiltKids {
         kids,
@@ -256,10 +254,7 @@ fn grow<C: Build>(
     ensures err { OnErr result (result ≡ Err Refusal.NoMemory) }
 {
     reach(meter);
-    let mut kids = [
-        None, None, None, None, None, None, None, None, None, None, None, None, None, None, None,
-        None,
-    ];
+    let mut kids = no_kids();
     let kid = owner_at(old, way.place as usize);
     let built = C::build(
         alloc,
@@ -272,7 +267,7 @@ fn grow<C: Build>(
         next,
         meter,
     )?;
-    kids[way.place as usize] = built.part;
+    replace_kid(&mut kids, way.place as usize, built.part);
     let (block, after) = number_at(made, built.next);
     Ok(Built {
         part: Some(Arc::new(alloc, Inner::new(block, group, kids))?),

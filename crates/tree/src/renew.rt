@@ -1,10 +1,12 @@
 //! The nodes that a batch of changes makes, with those that nobody else has changed where they are.
-ghost use Rattle.std.specs.Prelude.{◌≡◌, suc, ◌+◌, ◌-◌, ◌*◌, ◌^◌, ◌<◌, ◌≤◌, ◌⊎◌, IsTrue, IfOk, OnOk, OnErr, Some, true, length, map};
+ghost use Rattle.std.specs.Prelude.{◌≡◌, suc, ◌+◌, ◌-◌, ◌*◌, ◌^◌, ◌<◌, ◌≤◌, ◌/◌, ◌%◌, ◌⊎◌, IsTrue, IfOk, IfSome, IfNone, OnOk, OnErr, Some, None, true, length, map, slice_index_or, slice_set};
+ghost use Rattle.std.specs.Option.{OnSome};
 ghost use Rattle.base.specs.declared.refusal.Refusal.{Refusal};
 ghost use Rattle.base.specs.Counting.{counted};
 ghost use Rattle.base.specs.Surveys.{AreDifferent};
 ghost use Rattle.node.specs.Kid.{IsSoundKid};
 ghost use Rattle.node.specs.Node.{inner_part, part_of_slot, whole};
+ghost use Rattle.node.specs.Pairs.{left_of, right_of, side_of, places_in};
 ghost use Rattle.batch.specs.Said.{said, AreInOrder, IsWay};
 ghost use Rattle.batch.specs.Touch.{touched, stays, dropped};
 ghost use Rattle.batch.specs.Build.{made_keys, rebuilt, number_of, HasKeys};
@@ -16,60 +18,18 @@ use base::meter::Meter;
 use base::number::Group;
 use base::refusal::Refusal;
 use batch::{NewBlock, Update, Way, Word, way_of, word_of};
-use node::{Inner, Leaf, Level, Root, owner_in};
+use node::{Inner, Leaf, Level, Pair, Root, kid_at, owner_in, replace_kid};
 use std::alloc::Global;
 use std::sync::Arc;
 
-/// Makes the part of a place anew.
-fn replace<C: Build>(
-    slot: &mut Option<Arc<C>>,
-    alloc: Global,
-    level: u8,
-    index: u32,
-    updates: &[Update],
-    group: Group,
-    made: &[NewBlock],
-    next: usize,
-    meter: &mut Meter,
-) -> Result<usize, Refusal>
-    requires level { level ≡ C.height }
-    requires within { (index + 1) * 16 ^ level ≤ 1048576 }
-    requires low { level ≤ 5 }
-    requires order { AreInOrder updates.now }
-    requires sound { IsSoundKid C.height (part_of_slot C.part slot.old) }
-    requires keys { HasKeys made.now next (made_keys (said updates.now) C.height index (part_of_slot C.part slot.old)) }
-    requires once { AreDifferent (map (λ b. b.key) made.now) }
-    ensures part { OnOk result (part_of_slot C.part slot.new ≡ rebuilt (said updates.now) (number_of made.now) group.0 C.height index (part_of_slot C.part slot.old)) }
-    ensures next { IfOk result (λ n. n ≡ next + length (made_keys (said updates.now) C.height index (part_of_slot C.part slot.old))) }
-    ensures metered { OnOk result (counted meter.old (length (dropped (said updates.now) 0 C.height index (part_of_slot C.part slot.old))) ≤ meter.new) }
-    ensures metered_made { IfOk result (λ n. counted meter.old (n - next) ≤ meter.new) }
-    ensures never_lower { meter.old ≤ meter.new }
-    ensures same { OnErr result (part_of_slot C.part slot.new ≡ part_of_slot C.part slot.old) }
-    ensures err { OnErr result (result ≡ Err Refusal.NoMemory) }
-{
-    let built = C::build(
-        alloc,
-        owner_in(slot),
-        level,
-        index,
-        updates,
-        group,
-        made,
-        next,
-        meter,
-    )?;
-    *slot = built.part;
-    Ok(built.next)
-}
-
 /// A level whose parts can be changed where they are.
 pub trait Renew: Build {
-    /// Puts into a place the part with an index among those of its level after a batch that touches it, and answers the place
+    /// Changes a part with an index among those of its level where it is, as a batch that touches it has it, and answers the place
     /// after the numbers used, as `build` does, with the same nodes counted. Where the batch writes or punches one leaf, a node that
-    /// stays is changed where it is, however old, if it has no other owner, and else a copy of it comes to the place and is changed.
-    /// At `Err` the place has the part that it had.
+    /// stays is changed where it is, however old, if it has no other owner, and else a copy of it comes to its owner and is changed.
+    /// None where the part is to be made anew, or goes: it is as it was. So it is at `Err`.
     fn renew(
-        slot: &mut Option<Arc<Self>>,
+        owner: &mut Arc<Self>,
         alloc: Global,
         level: u8,
         index: u32,
@@ -78,27 +38,28 @@ pub trait Renew: Build {
         made: &[NewBlock],
         next: usize,
         meter: &mut Meter,
-    ) -> Result<usize, Refusal>
+    ) -> Result<Option<usize>, Refusal>
         requires level { level ≡ Self.height }
         requires within { (index + 1) * 16 ^ level ≤ 1048576 }
         requires low { level ≤ 5 }
         requires order { AreInOrder updates.now }
-        requires sound { IsSoundKid Self.height (part_of_slot Self.part slot.old) }
-        requires touched { touched (said updates.now) Self.height index (part_of_slot Self.part slot.old) ≡ true }
-        requires keys { HasKeys made.now next (made_keys (said updates.now) Self.height index (part_of_slot Self.part slot.old)) }
+        requires sound { IsSoundKid Self.height (Some (Self.part owner.old.value)) }
+        requires touched { touched (said updates.now) Self.height index (Some (Self.part owner.old.value)) ≡ true }
+        requires keys { HasKeys made.now next (made_keys (said updates.now) Self.height index (Some (Self.part owner.old.value))) }
         requires once { AreDifferent (map (λ b. b.key) made.now) }
-        ensures part { OnOk result (part_of_slot Self.part slot.new ≡ rebuilt (said updates.now) (number_of made.now) group.0 Self.height index (part_of_slot Self.part slot.old)) }
-        ensures next { IfOk result (λ n. n ≡ next + length (made_keys (said updates.now) Self.height index (part_of_slot Self.part slot.old))) }
-        ensures metered { OnOk result (counted meter.old (length (dropped (said updates.now) 0 Self.height index (part_of_slot Self.part slot.old))) ≤ meter.new) }
-        ensures metered_made { IfOk result (λ n. counted meter.old (n - next) ≤ meter.new) }
+        ensures part { IfOk result (λ o. OnSome o (Some (Self.part owner.new.value) ≡ rebuilt (said updates.now) (number_of made.now) group.0 Self.height index (Some (Self.part owner.old.value)))) }
+        ensures next { IfOk result (λ o. IfSome o (λ n. n ≡ next + length (made_keys (said updates.now) Self.height index (Some (Self.part owner.old.value))))) }
+        ensures metered { IfOk result (λ o. OnSome o (counted meter.old (length (dropped (said updates.now) 0 Self.height index (Some (Self.part owner.old.value)))) ≤ meter.new)) }
+        ensures metered_made { IfOk result (λ o. IfSome o (λ n. counted meter.old (n - next) ≤ meter.new)) }
         ensures never_lower { meter.old ≤ meter.new }
-        ensures same { OnErr result (part_of_slot Self.part slot.new ≡ part_of_slot Self.part slot.old) }
+        ensures alike { IfOk result (λ o. IfNone o (Self.part owner.new.value ≡ Self.part owner.old.value)) }
+        ensures same { OnErr result (Self.part owner.new.value ≡ Self.part owner.old.value) }
         ensures err { OnErr result (result ≡ Err Refusal.NoMemory) };
 }
 
 impl Renew for Leaf {
     fn renew(
-        slot: &mut Option<Arc<Leaf>>,
+        owner: &mut Arc<Leaf>,
         alloc: Global,
         level: u8,
         index: u32,
@@ -107,26 +68,24 @@ impl Renew for Leaf {
         made: &[NewBlock],
         next: usize,
         meter: &mut Meter,
-    ) -> Result<usize, Refusal> {
+    ) -> Result<Option<usize>, Refusal> {
         if let Word::Full(bytes) = word_of(updates, index) {
-            if let Some(owner) = slot {
-                if let Some(leaf) = Arc::get_mut(owner) {
-                    reach(meter);
-                    let (block, after) = number_at(made, next);
-                    leaf.block = block;
-                    leaf.birth = group;
-                    leaf.bytes = *bytes;
-                    return Ok(after);
-                }
+            if let Some(leaf) = Arc::get_mut(owner) {
+                reach(meter);
+                let (block, after) = number_at(made, next);
+                leaf.block = block;
+                leaf.birth = group;
+                leaf.bytes = *bytes;
+                return Ok(Some(after));
             }
         }
-        replace(slot, alloc, level, index, updates, group, made, next, meter)
+        Ok(None)
     }
 }
 
 /// Whether a node keeps a part whatever becomes of a punched leaf on this way.
 fn surely_stays<C: Level>(node: &Inner<C>, way: Way) -> bool
-    ensures { IsTrue result → IsTrue way.writes ⊎ HasOther way.place node.now.kids }
+    ensures { IsTrue result → IsTrue way.writes ⊎ HasOther way.place (places_in node.now.kids) }
 {
     if way.writes {
         return true;
@@ -137,6 +96,113 @@ fn surely_stays<C: Level>(node: &Inner<C>, way: Way) -> bool
         }
     }
     false
+}
+
+/// Changes what stands at a place of a pair where it is, as `renew` does: at the left place for an even number. None, with the pair as it
+/// was, where nothing stands there.
+fn renew_side<C: Renew>(
+    pair: &mut Pair<C>,
+    place: usize,
+    alloc: Global,
+    level: u8,
+    index: u32,
+    updates: &[Update],
+    group: Group,
+    made: &[NewBlock],
+    next: usize,
+    meter: &mut Meter,
+) -> Result<Option<usize>, Refusal>
+    requires level { level ≡ C.height }
+    requires within { (index + 1) * 16 ^ level ≤ 1048576 }
+    requires low { level ≤ 5 }
+    requires order { AreInOrder updates.now }
+    requires sound { IsSoundKid C.height (part_of_slot C.part (side_of pair.old (place % 2))) }
+    requires touched { touched (said updates.now) C.height index (part_of_slot C.part (side_of pair.old (place % 2))) ≡ true }
+    requires keys { HasKeys made.now next (made_keys (said updates.now) C.height index (part_of_slot C.part (side_of pair.old (place % 2)))) }
+    requires once { AreDifferent (map (λ b. b.key) made.now) }
+    ensures part { IfOk result (λ o. OnSome o (part_of_slot C.part (side_of pair.new (place % 2)) ≡ rebuilt (said updates.now) (number_of made.now) group.0 C.height index (part_of_slot C.part (side_of pair.old (place % 2))))) }
+    ensures next { IfOk result (λ o. IfSome o (λ n. n ≡ next + length (made_keys (said updates.now) C.height index (part_of_slot C.part (side_of pair.old (place % 2)))))) }
+    ensures metered { IfOk result (λ o. OnSome o (counted meter.old (length (dropped (said updates.now) 0 C.height index (part_of_slot C.part (side_of pair.old (place % 2))))) ≤ meter.new)) }
+    ensures metered_made { IfOk result (λ o. IfSome o (λ n. counted meter.old (n - next) ≤ meter.new)) }
+    ensures never_lower { meter.old ≤ meter.new }
+    ensures alike { IfOk result (λ o. IfNone o (part_of_slot C.part (side_of pair.new (place % 2)) ≡ part_of_slot C.part (side_of pair.old (place % 2)))) }
+    ensures same { OnErr result (part_of_slot C.part (side_of pair.new (place % 2)) ≡ part_of_slot C.part (side_of pair.old (place % 2))) }
+    ensures err { OnErr result (result ≡ Err Refusal.NoMemory) }
+    ensures left { ¬ (place % 2 ≡ 0) → left_of pair.new ≡ left_of pair.old }
+    ensures right { place % 2 ≡ 0 → right_of pair.new ≡ right_of pair.old }
+{
+    match pair {
+        Pair::Neither => Ok(None),
+        Pair::Left(left) => {
+            if place % 2 == 0 {
+                C::renew(left, alloc, level, index, updates, group, made, next, meter)
+            } else {
+                Ok(None)
+            }
+        }
+        Pair::Right(right) => {
+            if place % 2 == 0 {
+                Ok(None)
+            } else {
+                C::renew(
+                    right, alloc, level, index, updates, group, made, next, meter,
+                )
+            }
+        }
+        Pair::Both(left, right) => {
+            if place % 2 == 0 {
+                C::renew(left, alloc, level, index, updates, group, made, next, meter)
+            } else {
+                C::renew(
+                    right, alloc, level, index, updates, group, made, next, meter,
+                )
+            }
+        }
+    }
+}
+
+/// Puts at a place the part after a batch that touches it: changed where it is, where it can be, and else made anew.
+fn renew_kid<C: Renew>(
+    kids: &mut [Pair<C>; 8],
+    place: usize,
+    alloc: Global,
+    level: u8,
+    index: u32,
+    updates: &[Update],
+    group: Group,
+    made: &[NewBlock],
+    next: usize,
+    meter: &mut Meter,
+) -> Result<usize, Refusal>
+    requires place { place < 16 }
+    requires level { level ≡ C.height }
+    requires within { (index + 1) * 16 ^ level ≤ 1048576 }
+    requires low { level ≤ 5 }
+    requires order { AreInOrder updates.now }
+    requires sound { IsSoundKid C.height (part_of_slot C.part (slice_index_or (places_in kids.old) place None)) }
+    requires touched { touched (said updates.now) C.height index (part_of_slot C.part (slice_index_or (places_in kids.old) place None)) ≡ true }
+    requires keys { HasKeys made.now next (made_keys (said updates.now) C.height index (part_of_slot C.part (slice_index_or (places_in kids.old) place None))) }
+    requires once { AreDifferent (map (λ b. b.key) made.now) }
+    ensures part { OnOk result (part_of_slot C.part (slice_index_or (places_in kids.new) place None) ≡ rebuilt (said updates.now) (number_of made.now) group.0 C.height index (part_of_slot C.part (slice_index_or (places_in kids.old) place None))) }
+    ensures next { IfOk result (λ n. n ≡ next + length (made_keys (said updates.now) C.height index (part_of_slot C.part (slice_index_or (places_in kids.old) place None)))) }
+    ensures metered { OnOk result (counted meter.old (length (dropped (said updates.now) 0 C.height index (part_of_slot C.part (slice_index_or (places_in kids.old) place None)))) ≤ meter.new) }
+    ensures metered_made { IfOk result (λ n. counted meter.old (n - next) ≤ meter.new) }
+    ensures never_lower { meter.old ≤ meter.new }
+    ensures same { OnErr result (part_of_slot C.part (slice_index_or (places_in kids.new) place None) ≡ part_of_slot C.part (slice_index_or (places_in kids.old) place None)) }
+    ensures err { OnErr result (result ≡ Err Refusal.NoMemory) }
+    ensures beside { places_in kids.new ≡ slice_set (places_in kids.old) place (slice_index_or (places_in kids.new) place None) }
+{
+    let pair = &mut kids[place / 2];
+    let renewed = renew_side(
+        pair, place, alloc, level, index, updates, group, made, next, meter,
+    )?;
+    if let Some(after) = renewed {
+        return Ok(after);
+    }
+    let old = kid_at(kids, place);
+    let built = C::build(alloc, old, level, index, updates, group, made, next, meter)?;
+    replace_kid(kids, place, built.part);
+    Ok(built.next)
 }
 
 /// Changes a node where it is that stays, and of which one place is on the way to the one leaf that a batch speaks of.
@@ -171,9 +237,9 @@ fn renew_node<C: Renew>(
     ensures err { OnErr result (result ≡ Err Refusal.NoMemory) }
 {
     reach(meter);
-    let kid = &mut node.kids[way.place as usize];
-    let at = C::renew(
-        kid,
+    let at = renew_kid(
+        &mut node.kids,
+        way.place as usize,
         alloc,
         level - 1,
         16 * index + way.place,
@@ -191,7 +257,7 @@ fn renew_node<C: Renew>(
 
 impl<C: Renew> Renew for Inner<C> {
     fn renew(
-        slot: &mut Option<Arc<Inner<C>>>,
+        owner: &mut Arc<Inner<C>>,
         alloc: Global,
         level: u8,
         index: u32,
@@ -200,20 +266,19 @@ impl<C: Renew> Renew for Inner<C> {
         made: &[NewBlock],
         next: usize,
         meter: &mut Meter,
-    ) -> Result<usize, Refusal> {
+    ) -> Result<Option<usize>, Refusal> {
         if let Some(way) = way_of(updates, level, index) {
-            if let Some(owner) = slot {
-                if surely_stays(owner, way) {
-                    own(owner, alloc)?;
-                    if let Some(node) = Arc::get_mut(owner) {
-                        return renew_node(
-                            node, way, alloc, level, index, updates, group, made, next, meter,
-                        );
-                    }
+            if surely_stays(owner, way) {
+                own(owner, alloc)?;
+                if let Some(node) = Arc::get_mut(owner) {
+                    let after = renew_node(
+                        node, way, alloc, level, index, updates, group, made, next, meter,
+                    )?;
+                    return Ok(Some(after));
                 }
             }
         }
-        replace(slot, alloc, level, index, updates, group, made, next, meter)
+        Ok(None)
     }
 }
 
@@ -240,8 +305,17 @@ pub fn renew_root(
     ensures same { OnErr result (whole root.new ≡ whole root.old) }
     ensures err { OnErr result (result ≡ Err Refusal.NoMemory) }
 {
-    if is_touched {
-        Root::renew(root, alloc, 5, 0, updates, group, made, 0, meter)?;
+    if !is_touched {
+        return Ok(());
     }
+    if let Some(owner) = root {
+        let renewed = Root::renew(owner, alloc, 5, 0, updates, group, made, 0, meter)?;
+        if renewed.is_some() {
+            return Ok(());
+        }
+    }
+    let old = owner_in(root);
+    let built = Root::build(alloc, old, 5, 0, updates, group, made, 0, meter)?;
+    *root = built.part;
     Ok(())
 }

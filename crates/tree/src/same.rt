@@ -2,7 +2,7 @@
 ghost use Rattle.std.specs.Prelude.{◌≡◌, ◌↔◌, IsTrue};
 
 use crate::tree::Tree;
-use node::same_kid;
+use node::{owner_in, same_kid};
 
 impl Tree {
     /// Whether the other tree has the same map: the same keys, with the same numbers, births and bytes. It costs the nodes that
@@ -11,7 +11,7 @@ impl Tree {
     pub fn same(&self, other: &Tree) -> bool
         ensures { IsTrue result ↔ (self.now ≡ other.now) }
     {
-        same_kid(&self.root, &other.root)
+        same_kid(owner_in(&self.root), owner_in(&other.root))
     }
 }
 

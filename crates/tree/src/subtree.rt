@@ -14,6 +14,7 @@ ghost use Rattle.tree.specs.Branch.{child_of, child_key, branch_blocks, place_bl
 ghost use Rattle.tree.specs.BranchParts.{branch_at, node_part, node_level, AreBelow, IsSoundBranch};
 ghost use Rattle.node.specs.Kid.{IsSound};
 ghost use Rattle.node.specs.Node.{leaf_part, inner_part, shared_part};
+ghost use Rattle.node.specs.Pairs.{places_in};
 ghost use Rattle.node.specs.Shape.{Part, part_at, forest_of};
 ghost use Rattle.node.specs.Cells.{dead_of};
 
@@ -22,7 +23,7 @@ use crate::tree::Tree;
 use base::meter::Meter;
 use base::number::{Dead, Group, Key};
 use base::refusal::Refusal;
-use node::{Inner, Leaf, Level, Root};
+use node::{Inner, Leaf, Level, Pair, Root, replace_kid};
 use std::marker::Model;
 use std::sync::Arc;
 
@@ -152,16 +153,16 @@ fn put(subtrees: &mut [Option<Subtree>; 16], place: usize, subtree: Subtree)
 }
 
 /// Subtrees of parts that stand side by side, directly below a key.
-fn subtrees_of<C: Top>(kids: [Option<Arc<C>>; 16], key: Key) -> [Option<Subtree>; 16]
+fn subtrees_of<C: Top>(kids: [Pair<C>; 8], key: Key) -> [Option<Subtree>; 16]
     requires key { IsKey key }
     requires level { key.level ≡ suc C.height }
-    requires sound { (i : ℕ) (p : Part) → part_at (forest_of (shared_part C.part) kids) i ≡ Some p → IsSound C.height p }
-    ensures { (i : ℕ) → i < 16 → slice_index_or result i None ≡ option_map (branch_at (child_key key i)) (part_at (forest_of (shared_part C.part) kids) i) }
+    requires sound { (i : ℕ) (p : Part) → part_at (forest_of (shared_part C.part) (places_in kids)) i ≡ Some p → IsSound C.height p }
+    ensures { (i : ℕ) → i < 16 → slice_index_or result i None ≡ option_map (branch_at (child_key key i)) (part_at (forest_of (shared_part C.part) (places_in kids)) i) }
 {
     let mut kids = kids;
     let mut subtrees = no_subtrees();
     for place in 0..16u32 {
-        if let Some(part) = kids[place as usize].take() {
+        if let Some(part) = replace_kid(&mut kids, place as usize, None) {
             let below = Key {
                 level: key.level - 1,
                 index: 16 * key.index + place,

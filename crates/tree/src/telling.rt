@@ -88,7 +88,7 @@ impl<C: Tell> Tell for Inner<C> {
             });
         }
         let (place, rest) = step(depth, at);
-        match &self.kids[place] {
+        match self.owner(place) {
             Some(kid) => kid.tell(level - 1, depth - 1, rest, meter),
             None => None,
         }
@@ -98,7 +98,7 @@ impl<C: Tell> Tell for Inner<C> {
         meter.add_one();
         path[level as usize] = Some(root_at(self.block()));
         let (place, rest) = step(u32::from(level), at);
-        match &self.kids[place] {
+        match self.owner(place) {
             Some(kid) => kid.trace(level - 1, rest, path, meter),
             None => {}
         }

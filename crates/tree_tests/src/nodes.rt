@@ -3,7 +3,10 @@ ghost use Rattle.std.specs.Prelude.{◌<◌, ◌≤◌, ◌^◌};
 
 use crate::ready::meter;
 use base::number::{BlockNo, Group};
-use node::{Inner, Leaf, Level, Same, keep, owner_at, owner_count, owner_in, same_kid, span};
+use node::{
+    Inner, Leaf, Level, Pair, Same, keep, kid_at, no_kids, owner_at, owner_count, owner_in,
+    place_count, replace_kid, same_kid, span,
+};
 use std::alloc::Global;
 use std::process::Abort;
 use std::sync::Arc;
@@ -15,11 +18,8 @@ fn leaf_with(rt: &impl Abort, alloc: Global, byte: u8) -> Arc<Leaf> {
 
 /// A node with such a leaf at place 3, and nothing else.
 fn node_with(rt: &impl Abort, alloc: Global, byte: u8) -> Inner<Leaf> {
-    let mut kids = [
-        None, None, None, None, None, None, None, None, None, None, None, None, None, None, None,
-        None,
-    ];
-    kids[3] = Some(leaf_with(rt, alloc, byte));
+    let mut kids = no_kids();
+    replace_kid(&mut kids, 3, Some(leaf_with(rt, alloc, byte)));
     Inner::new(BlockNo(9), Group(6), kids)
 }
 
@@ -122,11 +122,57 @@ fn places(rt: HostRuntime) {
     assert!(rt; owner_count::<Leaf>(None) == 16);
 }
 
+/// The bytes of the leaves at the first four places, with 0 where there is none.
+fn bytes_at(kids: &[Pair<Leaf>; 8]) -> [u8; 4] {
+    let mut found = [0; 4];
+    for place in 0..4 {
+        if let Some(leaf) = kid_at(kids, place) {
+            found[place] = leaf.bytes[0];
+        }
+    }
+    found
+}
+
+/// Puts a leaf that is filled with a byte at a place, and answers the byte of the one that stood there.
+fn put(
+    rt: &impl Abort,
+    alloc: Global,
+    kids: &mut [Pair<Leaf>; 8],
+    place: usize,
+    byte: u8,
+) -> Option<u8>
+    requires { place < 16 }
+{
+    let gone = replace_kid(kids, place, Some(leaf_with(rt, alloc, byte)));
+    gone.map(|leaf| leaf.bytes[0])
+}
+
+#[test]
+fn pairs(rt: HostRuntime) {
+    let mut kids = no_kids();
+    assert!(rt; bytes_at(&kids) == [0, 0, 0, 0]);
+    assert!(rt; put(&rt, rt.alloc(), &mut kids, 2, 7).is_none() && bytes_at(&kids) == [0, 0, 7, 0]);
+    assert!(rt; put(&rt, rt.alloc(), &mut kids, 3, 8).is_none() && bytes_at(&kids) == [0, 0, 7, 8]);
+    assert!(rt; put(&rt, rt.alloc(), &mut kids, 1, 9).is_none() && bytes_at(&kids) == [0, 9, 7, 8]);
+    assert!(rt;
+        put(&rt, rt.alloc(), &mut kids, 3, 5) == Some(8) && bytes_at(&kids) == [0, 9, 7, 5]
+    );
+    let gone = replace_kid(&mut kids, 2, None);
+    assert!(rt; gone.is_some() && bytes_at(&kids) == [0, 9, 0, 5] && place_count(&kids) == 16);
+    let copy = kids[1].copy().expect(&rt, "memory to share");
+    let same = match copy {
+        Pair::Right(leaf) => leaf.bytes[0] == 5,
+        _ => false,
+    };
+    assert!(rt; same);
+}
+
 /// Whether one more owner of a leaf has the same leaf as a place with this byte.
 fn is_kept_as(rt: &impl Abort, alloc: Global, byte: u8) -> bool {
     let slot = Some(leaf_with(rt, alloc, 7));
     let kept = keep(owner_in(&slot)).expect(rt, "memory to share");
-    same_kid(&kept, &Some(leaf_with(rt, alloc, byte)))
+    let other = Some(leaf_with(rt, alloc, byte));
+    same_kid(owner_in(&kept), owner_in(&other))
 }
 
 /// Whether a node with leaves of sevens is the same as one with leaves of this byte.

@@ -67,7 +67,8 @@ fn changed(alloc: Global, pool: &mut Pool, call: Call) -> Option<Owners>
     ensures some { IfSome result (λ r. IsEntered pool.old.state call.seat call.request r.kept.value r.ours.value r.theirs.value (option_map arc_value r.viewed) pool.new.state) }
     ensures none { IfNone result (pool.new.state ≡ pool.old.state) }
 {
-    let reply = pool.apply(alloc, &call.kept.request);
+    let mut reply = Reply::Done;
+    pool.answer(alloc, &call.kept.request, &mut reply);
     if is_done(&reply) {
         drop(reply);
         let Call { kept, ours, theirs } = call;

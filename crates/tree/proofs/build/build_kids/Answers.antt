@@ -1,8 +1,9 @@
 -- The places are made from the last to the first.
-use Rattle.std.proofs.Common.{◌≡◌, ◌+◌, ◌-◌, ◌^◌, ◌<◌, None, get_or, length, take, refl, sym, ap, subst, ◌∙◌, arith, length-set}
+use Rattle.std.proofs.Common.{◌≡◌, ◌+◌, ◌-◌, ◌^◌, ◌<◌, None, get_or, length, take, drop, map, refl, sym, ap, subst, ◌∙◌, arith, length-set}
 use Rattle.std.proofs.lemmas.List.{take_all}
 use Rattle.node.specs.Kid.{birth_of, places_of}
-use Rattle.node.specs.Node.{inner_part, shared_part, part_of_owner}
+use Rattle.node.specs.Node.{inner_part, shared_part, part_of_owner, part_of_slot}
+use Rattle.node.specs.Pairs.{places_in}
 use Rattle.batch.specs.Said.{said}
 use Rattle.batch.specs.Touch.{any_kid, later_first, touched, stays, dropped}
 use Rattle.batch.specs.Build.{made_keys, parts, rebuilt, number_of, HasKeys}
@@ -30,8 +31,8 @@ loop-back-init g c =
       metered = rw all (omega arith);
       metered_made = none_made _ _;
       never_lower = omega arith;
-      sixteen = refl;
-      parts = sym (drop_past 16 (parts (rebuilt s (number_of c.args.made.now) c.args.group.0 h) c.args.first os) (let n = length-parts (rebuilt s (number_of c.args.made.now) c.args.group.0 h) c.args.first os in omega (arith, n, c.owner_count-back-end.ensures.all)));
+      sixteen = ap length c.no_kids-kids.ensures;
+      parts = ap (λ xs. drop 16 (map (part_of_slot g.C.Level.part) xs)) c.no_kids-kids.ensures ∙ sym (drop_past 16 (parts (rebuilt s (number_of c.args.made.now) c.args.group.0 h) c.args.first os) (let n = length-parts (rebuilt s (number_of c.args.made.now) c.args.group.0 h) c.args.first os in omega (arith, n, c.owner_count-back-end.ensures.all)));
     }
 
 pub overflow_add-index : goal.overflow_add-index
@@ -98,8 +99,8 @@ loop-back-preserved g c =
       metered = meter_back (dropped s 0 h) (dropped mine 0 h) first back os kid _ _ _ _ few n at inv.metered given.metered (dropped_same mine s 0 h i _ kid sound words.0);
       metered_made = made_in_turn _ _ _ _ _ _ inv.metered_made given.metered_made;
       never_lower = omega (arith, inv.never_lower, given.never_lower);
-      sixteen = length-set c.loop-back.kids (15 - back) c.in_ok-built.built.part ∙ inv.sixteen;
-      parts = parts_back (shared_part g.C.Level.part) (rebuilt s number b h) (rebuilt mine number b h) first back os kid _ _ few n at inv.sixteen inv.parts given.part (rebuilt_same mine s number b h i _ kid sound words.0);
+      sixteen = ap length c.replace_kid.ensures.stands ∙ length-set (places_in c.loop-back.kids) (15 - back) c.in_ok-built.built.part ∙ inv.sixteen;
+      parts = ap (λ xs. drop (16 - (back + 1)) (map (part_of_slot g.C.Level.part) xs)) c.replace_kid.ensures.stands ∙ parts_back (shared_part g.C.Level.part) (rebuilt s number b h) (rebuilt mine number b h) first back os kid _ _ few n at inv.sixteen inv.parts given.part (rebuilt_same mine s number b h i _ kid sound words.0);
     }
 
 pub returns-clause-kids : goal.returns-clause-kids

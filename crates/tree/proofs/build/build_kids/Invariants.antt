@@ -3,6 +3,7 @@ use Rattle.std.specs.Prelude.{◌||◌}
 use Rattle.base.specs.Counting.{counted}
 use Rattle.node.specs.Kid.{places_of}
 use Rattle.node.specs.Node.{inner_part, part_of_owner, part_of_slot}
+use Rattle.node.specs.Pairs.{places_in}
 use Rattle.batch.specs.Said.{said, AreInOrder}
 use Rattle.batch.specs.Touch.{any_kid, later_first, touched, stays, dropped}
 use Rattle.batch.specs.Build.{made_keys, parts, rebuilt, number_of, HasKeys}
@@ -23,6 +24,6 @@ invariant-loop-back g l =
       metered : counted l.fn.meter (length (later_first (dropped s 0 h) l.fn.first os)) ≤ counted l.meter (length (later_first (dropped s 0 h) l.fn.first (take (16 - l.back) os)));
       metered_made : counted l.fn.meter (l.at - l.fn.next) ≤ l.meter;
       never_lower : l.fn.meter ≤ l.meter;
-      sixteen : length l.kids ≡ 16;
-      parts : drop (16 - l.back) (map (part_of_slot g.C.Level.part) l.kids) ≡ drop (16 - l.back) (parts (rebuilt s (number_of l.fn.made) l.fn.group.0 h) l.fn.first os);
+      sixteen : length (places_in l.kids) ≡ 16;
+      parts : drop (16 - l.back) (map (part_of_slot g.C.Level.part) (places_in l.kids)) ≡ drop (16 - l.back) (parts (rebuilt s (number_of l.fn.made) l.fn.group.0 h) l.fn.first os);
     }

@@ -1,10 +1,10 @@
-use Rattle.std.proofs.Common.{◌≡◌, ◌+◌, suc, ◌*◌, ◌-◌, ◌^◌, ◌≤◌, [], length, Some, true, sym, ap, subst, ◌∙◌, arith, Option, List}
+use Rattle.std.proofs.Common.{◌≡◌, ◌+◌, suc, set, ◌*◌, ◌-◌, ◌^◌, ◌≤◌, [], length, Some, true, sym, ap, subst, ◌∙◌, arith, Option, List}
 use Rattle.base.specs.Counting.{counted}
 use Rattle.base.specs.declared.number.Dead.{Dead}
 use Rattle.node.specs.Entries.{key_at}
 use Rattle.node.specs.Kid.{birth_of}
 use Rattle.node.specs.Node.{inner_part, shared_part, part_of_owner}
-use Rattle.node.specs.Shape.{Part}
+use Rattle.node.specs.Shape.{Part, forest_of}
 use Rattle.batch.specs.Said.{said, IsWay}
 use Rattle.batch.specs.Touch.{dropped}
 use Rattle.batch.specs.Build.{made_keys, rebuilt, number_of, HasKeys, no_block}
@@ -83,7 +83,9 @@ returns-clause-part g c =
     let lasts = stays_written s h (birth_of o) j p way o c.requires.sound in
     let key = own_key s h (birth_of o) j p true way o c.requires.sound changed lasts c.args.made.now c.args.next c.in_ok-built.built.next _ here c.in_ok-built.ensures.next c.requires.keys in
     let place = key_place c.args.made.now c.in_ok-built.built.next (key_at (suc h) j) [] no_block c.requires.once key in
+    let kids = c.replace_kid.ensures.stands ∙ ap (λ xs. set xs p c.in_ok-built.built.part) c.no_kids-kids.ensures in
     ap Some (ap (inner_part g.C.Level.part) (c.in_ok-new.ensures.ok ∙ c.new.ensures))
+    ∙ ap (λ xs. Some (record { cell = record { number = c.number_at-after.result.0.0; birth = c.args.group.0; bytes = [] }; below = forest_of f xs })) kids
     ∙ node_grown s h (birth_of o) j p true way c.args.group.0 c.number_at-after.result.0.0 (number_of c.args.made.now) f o c.in_ok-built.built.part c.requires.sound changed lasts gone (c.in_ok-built.ensures.part ∙ ap (rebuilt s (number_of c.args.made.now) c.args.group.0 h (16 * j + p)) (c.owner_at-kid.ensures ∙ nothing_at o p gone)) (ap (λ b. b.0) c.number_at-after.ensures.number ∙ place.1)
 
 pub returns-clause-touched : goal.returns-clause-touched

@@ -1,10 +1,12 @@
--- The places so far have the parts of the node.
-use Rattle.std.proofs.Common.{◌≡◌, ℕ, ◌<◌, get_or, length, None}
-use Rattle.node.specs.Node.{part_of_slot}
+-- The pairs so far have the parts that are to come.
+use Rattle.std.proofs.Common.{◌≡◌, ℕ, ◌<◌, get_or, length}
+use Rattle.node.specs.declared.pair.Pair.TheVariants.{Neither}
+use Rattle.node.specs.Node.{shared_part}
+use Rattle.tree.proofs.Sides.{Alike}
 use Rattle.tree.proofs.copy.keep_below.Given as goal
 
-abbrev pub invariant-loop-place : goal.invariant-loop-place
-invariant-loop-place g l = record {
-  sixteen : length l.kids ≡ 16;
-  same : (i : ℕ) → i < l.place → part_of_slot g.C.Level.part (get_or l.kids i None) ≡ part_of_slot g.C.Level.part (get_or l.fn.node.kids i None);
+abbrev pub invariant-loop-at : goal.invariant-loop-at
+invariant-loop-at g l = record {
+  eight : length l.kids ≡ 8;
+  same : (i : ℕ) → i < l.at → Alike (shared_part g.C.Level.part) (get_or l.kids i Neither) (get_or l.fn.from i Neither);
 }

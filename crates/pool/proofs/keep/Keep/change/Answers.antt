@@ -1,8 +1,12 @@
-use Rattle.std.proofs.Common.{◌≡◌, [], ◌∷◌, Result, Ok, Err, inl, sym, subst, ◌∙◌, rules}
+use Rattle.std.proofs.Common.{◌≡◌, ℕ, List, [], ◌∷◌, Option, Result, Ok, Err, inl, sym, subst, ◌∙◌, rules}
 use Rattle.std.specs.Prelude.{IfOk}
 use Rattle.base.specs.declared.refusal.Refusal.{Refusal}
 use Rattle.batch.specs.Updates.{IsBatch}
+use Rattle.batch.specs.declared.numbers.NewBlock.{NewBlock}
 use Rattle.batch.specs.declared.update.Update.{Update}
+use Rattle.tree.specs.declared.block.Root.{Root}
+use Rattle.images.specs.Writes.{IsLeftBy}
+use Rattle.images.specs.declared.writes.Writes.{Writes}
 use Rattle.steps.specs.Edits.{datasets_of, with_datasets}
 use Rattle.steps.specs.Handed.{IsAccounted}
 use Rattle.pool.specs.Pools.{state_in}
@@ -15,6 +19,10 @@ use Rattle.pool.proofs.keep.Keep.change.Goals as goal
 -- the update that is asked for is a batch
 batch_of : (r : Result Update Refusal) (u : Update) → r ≡ Ok u → IfOk r (λ v. IsBatch (v ∷ [])) → IsBatch (u ∷ [])
 batch_of r u is batch = subst (λ x. IfOk x (λ v. IsBatch (v ∷ []))) is batch
+
+-- what is left to be written, by the new blocks that the change tells
+left_by : (u : Update) (path : List (Option Root)) (writes : Writes) (g h : ℕ) → g ≡ h → (made done : List NewBlock) → made ≡ done → IsLeftBy u g made path writes → IsLeftBy u h done path writes
+left_by u path writes g h group made done is left = subst (λ n. IsLeftBy u n done path writes) group (subst (λ bs. IsLeftBy u g bs path writes) is left)
 
 pub path_before-requires : goal.path_before-requires
 path_before-requires c = (batch_of c.args.update c.in-Ok.update c.in-Ok.is c.requires.batch).1
@@ -74,9 +82,9 @@ returns-clause-performed c q asks =
         sound = sound_changed (state_in c.args.self.now c.args.world.now) c.args.self.now.numbers.present c.requires.held.sound c.apply_live.new.self _ _ (can_now (state_in c.args.self.now c.args.world.now) c.args.self.now.numbers.present c.requires.held.sound c.group-synced.result.0 c.group-synced.ensures c.in_ok-name.name.now c.apply_live.new.self c.in-Ok.update c.from_ref.result.now c.from_ref.ensures.value (c.in_ok-outlook.ensures.ok (state_in c.args.self.now c.args.world.now) (state_with (state_in c.args.self.now c.args.world.now) c.args.self.now.numbers.present c.requires.held.sound c.space.result c.space.ensures.size (c.space.ensures.freeing ∙ c.len.ensures) c.space.ensures.waiting) c.group-synced.ensures) c.in_ok-done.done (record { ok = e.ok; room = e.room; no_dataset = e.no_dataset; no_space = e.no_space; only = e.only }));
         kept = c.settle.ensures;
         may = may_settle (state_in c.args.self.now c.args.world.now) c.args.self.now.numbers.present c.requires.held.sound c.group-synced.result.0 c.group-synced.ensures c.in_ok-name.name.now c.apply_live.new.self c.in-Ok.update c.from_ref.result.now c.from_ref.ensures.value (c.in_ok-outlook.ensures.ok (state_in c.args.self.now c.args.world.now) (state_with (state_in c.args.self.now c.args.world.now) c.args.self.now.numbers.present c.requires.held.sound c.space.result c.space.ensures.size (c.space.ensures.freeing ∙ c.len.ensures) c.space.ensures.waiting) c.group-synced.ensures) c.in_ok-done.done (record { ok = e.ok; room = e.room; no_dataset = e.no_dataset; no_space = e.no_space; only = e.only })
-            (batch_of c.args.update c.in-Ok.update c.in-Ok.is c.requires.batch) c.in_ok-path.path.value.before c.in_ok-path.ensures.path c.writes_after-writes.result c.writes_after-writes.ensures;
+            (batch_of c.args.update c.in-Ok.update c.in-Ok.is c.requires.batch) c.in_ok-path.path.value.before c.in_ok-path.ensures.path c.writes_after-writes.result (left_by c.in-Ok.update c.in_ok-path.path.value.before c.writes_after-writes.result c.group-group.result.0 c.args.world.now.table.group c.group-group.ensures c.deref.result.now c.in_ok-done.done.made.items c.deref.ensures.value c.writes_after-writes.ensures);
         leads = leads_now (state_in c.args.self.now c.args.world.now) c.args.self.now.numbers.present c.requires.held.sound c.group-synced.result.0 c.group-synced.ensures c.in_ok-name.name.now c.apply_live.new.self c.in-Ok.update c.from_ref.result.now c.from_ref.ensures.value (c.in_ok-outlook.ensures.ok (state_in c.args.self.now c.args.world.now) (state_with (state_in c.args.self.now c.args.world.now) c.args.self.now.numbers.present c.requires.held.sound c.space.result c.space.ensures.size (c.space.ensures.freeing ∙ c.len.ensures) c.space.ensures.waiting) c.group-synced.ensures) c.in_ok-done.done (record { ok = e.ok; room = e.room; no_dataset = e.no_dataset; no_space = e.no_space; only = e.only })
-            (batch_of c.args.update c.in-Ok.update c.in-Ok.is c.requires.batch) c.in_ok-path.path.value.before c.in_ok-path.ensures.path c.writes_after-writes.result c.writes_after-writes.ensures;
+            (batch_of c.args.update c.in-Ok.update c.in-Ok.is c.requires.batch) c.in_ok-path.path.value.before c.in_ok-path.ensures.path c.writes_after-writes.result (left_by c.in-Ok.update c.in_ok-path.path.value.before c.writes_after-writes.result c.group-group.result.0 c.args.world.now.table.group c.group-group.ensures c.deref.result.now c.in_ok-done.done.made.items c.deref.ensures.value c.writes_after-writes.ensures);
       },
       done_now (state_in c.args.self.now c.args.world.now) c.args.self.now.numbers.present c.requires.held.sound c.group-synced.result.0 c.group-synced.ensures c.in_ok-name.name.now c.apply_live.new.self c.in-Ok.update c.from_ref.result.now c.from_ref.ensures.value (c.in_ok-outlook.ensures.ok (state_in c.args.self.now c.args.world.now) (state_with (state_in c.args.self.now c.args.world.now) c.args.self.now.numbers.present c.requires.held.sound c.space.result c.space.ensures.size (c.space.ensures.freeing ∙ c.len.ensures) c.space.ensures.waiting) c.group-synced.ensures) c.in_ok-done.done (record { ok = e.ok; room = e.room; no_dataset = e.no_dataset; no_space = e.no_space; only = e.only }) q (asks_here q c.args.target.now c.args.update c.in_ok-name.name.now (Ok c.in-Ok.update) c.in_ok-name.ensures.ok c.in-Ok.is asks),
     )

@@ -11,4 +11,4 @@ returns-then-group-ge-LAST_GROUP-clause-performed c = sync_too_many (state_in c.
 pub returns-clause-performed : goal.returns-clause-performed
 returns-clause-performed c =
     synced_performed c.args.self.now c.args.world.now c.requires (subst (λ n. n < number_limit) c.group.ensures c.if-group-ge-LAST_GROUP.false) c.in_ok-last.last c.in_ok-last.ensures.ok
-    c.close_group.new.self c.close_group-2.new.self c.close_group.ensures c.close_group-2.ensures c.in_ok-viewed.viewed c.in_ok-viewed.ensures.ok
+    c.close_group.new.self c.close_group-2.new.self c.close_group.ensures c.close_group-2.ensures c.in_ok-kept.kept c.in_ok-kept.ensures.ok c.in_ok-viewed.viewed c.in_ok-viewed.ensures.ok

@@ -2,6 +2,7 @@ use Rattle.std.proofs.Common.{not, suc, ◌+◌, ◌*◌, [], ◌∷◌, length,
 use Rattle.node.specs.Entries.{key_at}
 use Rattle.node.specs.Kid.{places_of}
 use Rattle.node.specs.Node.{inner_part, shared_part, part_of_owner}
+use Rattle.node.specs.Pairs.{places_in}
 use Rattle.batch.specs.Said.{said}
 use Rattle.batch.specs.Touch.{later_first}
 use Rattle.batch.specs.Build.{made_keys, number_of, HasKeys, no_block}
@@ -142,7 +143,7 @@ returns-clause-part g c =
     let k = subst (λ n. HasKeys c.args.made.now n (key_at (suc h) c.args.index ∷ [])) (sym c.in_ok-below.ensures.next) (key_of_own s h c.args.index o c.args.made.now c.args.next t p c.requires.keys) in
     let w = (key_place c.args.made.now _ (key_at (suc h) c.args.index) [] no_block c.requires.once k).1 in
     ap Some (ap (inner_part g.C.Level.part) (c.in_ok-new.ensures.ok ∙ c.new.ensures))
-    ∙ rebuilt_anew s (number_of c.args.made.now) c.args.group.0 h c.args.index o t p (shared_part g.C.Level.part) c.in_ok-below.below.kids _ (ap (λ b. b.0) c.number_at-after.ensures.number ∙ w) c.in_ok-below.ensures.kids
+    ∙ rebuilt_anew s (number_of c.args.made.now) c.args.group.0 h c.args.index o t p (shared_part g.C.Level.part) (places_in c.in_ok-below.below.kids) _ (ap (λ b. b.0) c.number_at-after.ensures.number ∙ w) c.in_ok-below.ensures.kids
 
 pub returns-clause-touched : goal.returns-clause-touched
 returns-clause-touched g c =

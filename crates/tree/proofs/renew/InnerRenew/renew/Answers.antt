@@ -1,6 +1,7 @@
 use Rattle.std.proofs.Common.{◌≡◌, ◌-◌, suc, true, Option, Some, refl, sym, ap, subst, ◌∙◌, arith}
 use Rattle.node.specs.Kid.{IsSoundKid}
-use Rattle.node.specs.Node.{inner_part, shared_part, part_of_slot}
+use Rattle.node.specs.Node.{inner_part, shared_part}
+use Rattle.node.specs.Pairs.{places_in}
 use Rattle.node.specs.Shape.{Part}
 use Rattle.batch.specs.Said.{said, IsWay}
 use Rattle.batch.specs.Touch.{touched, stays}
@@ -17,18 +18,17 @@ renew_node-requires g c =
     let j = c.args.index in
     let p = c.in-Some.way.place in
     let w = c.in-Some.way.writes in
-    let same : part_of_slot (inner_part g.C.Level.part) c.args.slot.now ≡ Some o =
-    ap (part_of_slot (inner_part g.C.Level.part)) c.in-Some-slot.is ∙ ap (λ p. Some p) (sym c.own.ensures.same) ∙ ap (λ n. Some (inner_part g.C.Level.part n)) (sym c.in-Some-get_mut.ensures.value) in
+    let same : Some (inner_part g.C.Level.part c.args.owner.now.value) ≡ Some o =
+    ap (λ p. Some p) (sym c.own.ensures.same) ∙ ap (λ n. Some (inner_part g.C.Level.part n)) (sym c.in-Some-get_mut.ensures.value) in
     let way : IsWay s h j p w = subst (λ l. IsWay s l j p w) (let e : c.args.level - 1 ≡ h = omega (arith, c.requires.level) in e) c.in-Some.ensures.way in
     let sound : IsSoundKid (suc h) (Some o) = subst (IsSoundKid (suc h)) same c.requires.sound in
     let changed : touched s (suc h) j (Some o) ≡ true = subst (λ (x : Option Part). touched s (suc h) j x ≡ true) same c.requires.touched in
     let keys : HasKeys c.args.made.now c.args.next (made_keys s (suc h) j (Some o)) = subst (λ (x : Option Part). HasKeys c.args.made.now c.args.next (made_keys s (suc h) j x)) same c.requires.keys in
     let before = c.deref.result.now in
     let b = inner_part g.C.Level.part before in
-    let was : part_of_slot (inner_part g.C.Level.part) c.args.slot.now ≡ Some b =
-    ap (part_of_slot (inner_part g.C.Level.part)) c.in-Some-slot.is ∙ ap (λ n. Some (inner_part g.C.Level.part n)) (sym c.deref.ensures) in
+    let was : Some (inner_part g.C.Level.part c.args.owner.now.value) ≡ Some b = ap (λ n. Some (inner_part g.C.Level.part n)) (sym c.deref.ensures) in
     let sound_before : IsSoundKid (suc h) (Some b) = subst (IsSoundKid (suc h)) was c.requires.sound in
     let changed_before : touched s (suc h) j (Some b) ≡ true = subst (λ (x : Option Part). touched s (suc h) j x ≡ true) was c.requires.touched in
-    let lasts_before = surely s h b.cell.birth j p w way (shared_part g.C.Level.part) b before.kids sound_before changed_before refl (c.surely_stays.ensures c.if-surely_stays.true) in
+    let lasts_before = surely s h b.cell.birth j p w way (shared_part g.C.Level.part) b (places_in before.kids) sound_before changed_before refl (c.surely_stays.ensures c.if-surely_stays.true) in
     let lasts : stays s (suc h) j (Some o) ≡ true = subst (λ (x : Option Part). stays s (suc h) j x ≡ true) (sym was ∙ same) lasts_before in
     (omega arith, (way, (c.requires.level, (c.requires.within, (c.requires.low, (c.requires.order, (sound, (changed, (lasts, (keys, c.requires.once))))))))))

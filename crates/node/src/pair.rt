@@ -1,0 +1,134 @@
+//! The places of a node, two by two.
+ghost use Rattle.std.specs.Prelude.{◌≡◌, ◌%◌, ◌<◌, IfOk, OnErr, None, length, replicate, slice_index_or, slice_set};
+ghost use Rattle.std.specs.Option.{option_map};
+ghost use Rattle.base.specs.declared.refusal.Refusal.{Refusal};
+ghost use Rattle.node.specs.Node.{part_of_slot};
+ghost use Rattle.node.specs.Pairs.{left_of, right_of, side_of, places_in};
+
+use crate::node::Level;
+use crate::owner::keep;
+use base::refusal::Refusal;
+use std::mem;
+use std::sync::Arc;
+
+/// What stands at two places side by side. It takes three words, where two places by themselves would take four.
+#[derive(Drop)]
+pub enum Pair<C> {
+    Neither,
+    Left(Arc<C>),
+    Right(Arc<C>),
+    Both(Arc<C>, Arc<C>),
+}
+
+impl<C> Pair<C> {
+    /// The pair with these at its places.
+    fn of(left: Option<Arc<C>>, right: Option<Arc<C>>) -> Pair<C>
+        ensures left { left_of result ≡ left }
+        ensures right { right_of result ≡ right }
+    {
+        match (left, right) {
+            (None, None) => Pair::Neither,
+            (Some(left), None) => Pair::Left(left),
+            (None, Some(right)) => Pair::Right(right),
+            (Some(left), Some(right)) => Pair::Both(left, right),
+        }
+    }
+
+    /// What stands at the two places.
+    fn sides(self) -> (Option<Arc<C>>, Option<Arc<C>>)
+        ensures left { result.0 ≡ left_of self }
+        ensures right { result.1 ≡ right_of self }
+    {
+        match self {
+            Pair::Neither => (None, None),
+            Pair::Left(left) => (Some(left), None),
+            Pair::Right(right) => (None, Some(right)),
+            Pair::Both(left, right) => (Some(left), Some(right)),
+        }
+    }
+
+    /// The owner of what stands at one of the two places: at the left one for an even number.
+    fn side(&self, place: usize) -> Option<&Arc<C>>
+        ensures { option_map (λ a. a.now) result ≡ side_of self.now (place % 2) }
+    {
+        if place % 2 == 0 {
+            match self {
+                Pair::Left(left) => Some(left),
+                Pair::Both(left, _) => Some(left),
+                _ => None,
+            }
+        } else {
+            match self {
+                Pair::Right(right) => Some(right),
+                Pair::Both(_, right) => Some(right),
+                _ => None,
+            }
+        }
+    }
+}
+
+impl<C: Level + Drop> Pair<C> {
+    /// The same again, by one more owner of each. NoMemory where there is none for one.
+    pub fn copy(&self) -> Result<Pair<C>, Refusal>
+        ensures left { IfOk result (λ p. part_of_slot C.part (left_of p) ≡ part_of_slot C.part (left_of self.now)) }
+        ensures right { IfOk result (λ p. part_of_slot C.part (right_of p) ≡ part_of_slot C.part (right_of self.now)) }
+        ensures err { OnErr result (result ≡ Err Refusal.NoMemory) }
+    {
+        let left = keep(self.side(0))?;
+        let right = keep(self.side(1))?;
+        Ok(Pair::of(left, right))
+    }
+}
+
+/// Sixteen places at which nothing stands.
+pub fn no_kids<C>() -> [Pair<C>; 8]
+    ensures { places_in result ≡ replicate 16 None }
+{
+    [
+        Pair::Neither,
+        Pair::Neither,
+        Pair::Neither,
+        Pair::Neither,
+        Pair::Neither,
+        Pair::Neither,
+        Pair::Neither,
+        Pair::Neither,
+    ]
+}
+
+/// How many places eight pairs have.
+pub fn place_count<C>(kids: &[Pair<C>; 8]) -> u32
+    ensures sixteen { result ≡ 16 }
+    ensures all { length (places_in kids.now) ≡ 16 }
+{
+    16
+}
+
+/// The owner of what stands at a place.
+pub fn kid_at<C>(kids: &[Pair<C>; 8], place: usize) -> Option<&Arc<C>>
+    requires { place < 16 }
+    ensures { option_map (λ a. a.now) result ≡ slice_index_or (places_in kids.now) place None }
+{
+    kids[place / 2].side(place)
+}
+
+/// Puts at a place what is to stand there, and answers what stood there.
+pub fn replace_kid<C: Drop>(
+    kids: &mut [Pair<C>; 8],
+    place: usize,
+    kid: Option<Arc<C>>,
+) -> Option<Arc<C>>
+    requires { place < 16 }
+    ensures stood { result ≡ slice_index_or (places_in kids.old) place None }
+    ensures stands { places_in kids.new ≡ slice_set (places_in kids.old) place kid }
+{
+    let pair = mem::replace(&mut kids[place / 2], Pair::Neither);
+    let (left, right) = pair.sides();
+    if place % 2 == 0 {
+        kids[place / 2] = Pair::of(kid, right);
+        left
+    } else {
+        kids[place / 2] = Pair::of(left, kid);
+        right
+    }
+}
