@@ -212,7 +212,6 @@ WRITE = [
     (1, "pool", "Keep::change"),
     (2, "lookups", "live_name: of which file system"),
     (2, "steps", "ask_change: with a ledger only"),
-    (3, "limits", "Ledger::find: the file system"),
     (3, "tree", "Tree::forecast, by batch::forecast_of"),
     (3, "limits", "outlook_of"),
     (3, "limits", "Ledger::over_after"),

@@ -25,6 +25,7 @@ pub mod CloneRanges
 pub mod Listing
 pub mod Ties
 pub mod Promoting
+pub mod Exchanged
 pub mod Labelled
 pub use Rattle.file_system.proofs.Accounts
 pub use Rattle.file_system.proofs.Newest

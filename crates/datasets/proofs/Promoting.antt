@@ -1,6 +1,6 @@
 -- Two rows among others after a promote of the one.
 use Rattle.std.proofs.Common.{option_and_then, ◌≡◌, ◌≢◌, ◌<◌, ◌+◌, ℕ, zero, suc, Bool, true, false, cond, List, [], ◌∷◌, ◌++◌, length, get_or, set, slice_get, map, Option, None, Some, is_some, refl, sym, ap, subst, ◌∙◌, inl, inr, ⊎_elim, arith, length-append, true≢false}
-use Rattle.std.proofs.lemmas.List.{get_or-set_other, length-map, length-set, map-set}
+use Rattle.std.proofs.lemmas.List.{get_or-set_other, length-map, length-set}
 use Rattle.std.proofs.lemmas.Bool.{cases_lt}
 use Rattle.std.proofs.lemmas.Bool.Decides.{nat_tests}
 use Rattle.std.specs.Prelude.{IsTrue, MatchOption, filter, nat_le, nat_lt}
@@ -86,7 +86,7 @@ tied_keep ts us None below keep tie = tie
 tied_keep ts us (Some id) below keep tie = keep id below tie
 
 -- what stands at a place stands there alone
-pub one_there : {A : Type 0} (xs : List A) (i : ℕ) (x y : A) → x ≡ get_or xs i x → y ≡ get_or xs i y → i < length xs → x ≡ y
+one_there : {A : Type 0} (xs : List A) (i : ℕ) (x y : A) → x ≡ get_or xs i x → y ≡ get_or xs i y → i < length xs → x ≡ y
 one_there [] i x y e f lt = absurd (omega arith)
 one_there (z ∷ xs) zero x y e f lt = e ∙ sym f
 one_there (z ∷ xs) (suc i) x y e f lt = one_there xs i x y e f (omega arith)
@@ -107,14 +107,6 @@ snap_there items j b id lt is says =
     by : (o : Option Snap) → find (λ (t : Snap). same_id (id_of t) id) (arc_value b).system.snaps ≡ o → is_some o ≡ true → (t : Snap) × IsIn (arc_value b).system.snaps t × (id_of t ≡ id)
     by None f h = absurd (true≢false (sym h))
     by (Some t) f h = let r = from_find (λ (x : Snap). same_id (id_of x) id) (arc_value b).system.snaps t f in (t, r.0, same_id_is (id_of t) id r.1)
-
--- two rows put in their places, as something of each
-pub two_set : {B : Type 0} (g : Row → B) (items : List (Arc Row Global)) (i j : ℕ) (o cl : Arc Row Global) (d p : Row) → arc_value o ≡ d → arc_value cl ≡ p
-    → map (λ x. g (arc_value x)) (set (set items j o) i cl) ≡ set (set (map (λ x. g (arc_value x)) items) j (g d)) i (g p)
-two_set g items i j o cl d p e f =
-    map-set (λ x. g (arc_value x)) (set items j o) i cl
-    ∙ ap (λ l. set l i (g (arc_value cl))) (map-set (λ x. g (arc_value x)) items j o)
-    ∙ (λ k. set (set (map (λ x. g (arc_value x)) items) j (g (e k))) i (g (f k)))
 
 miss : (p : Snap → Bool) (x : Snap) (ts : List Snap) → cond (p x) (Some x) (find p ts) ≡ None → (p x ≡ false) × (find p ts ≡ None)
 miss p x ts e = by (p x) e
@@ -240,7 +232,7 @@ module _ (items : List (Arc Row Global)) (sorted : IsTrue (is_sorted name_cmp (m
       let group = ap origin_group origin_is in
       absurd (omega (arith, above, group, t_low))
 
-  apart : i ≢ j
+  pub apart : i ≢ j
   apart e = names_differ (ap (λ (r : Row). r.name) (one_there rows i clone owner clone_at (owner_at ∙ ap (λ n. get_or rows n owner) (sym e)) i_within))
 
   -- ---- afterwards

@@ -1,12 +1,13 @@
 -- Promotes among file systems by name.
-use Rattle.std.specs.Prelude.{◌≡◌, ℕ, List, Some}
+use Rattle.std.specs.Prelude.{◌≡◌, ℕ, List, [], Some, slice_index_or, slice_set}
 use Rattle.std.specs.FinMap.{get, insert}
 use Rattle.base.specs.Surveys.{IsIn}
-use Rattle.model.specs.World.{FileSystem, Snap, id_of}
+use Rattle.model.specs.World.{FileSystem, Snap, SnapId, id_of}
 use Rattle.world.specs.Outcomes.{Promotion, snaps_upto, promoted, demoted}
 use Rattle.world.specs.Worlds.{AreRising}
 use Rattle.datasets.specs.Clones.{below_in, AreOnce}
-use Rattle.file_system.specs.Rows.{FileSystems}
+use Rattle.file_system.specs.Promotions.{promoted_row, demoted_row}
+use Rattle.file_system.specs.Rows.{FileSystems, Row, new_row}
 use Rattle.file_system.specs.Splices.{AreAbove}
 
 -- what a promote of the file system of this name is between, among these (zfs-promote(8))
@@ -32,3 +33,12 @@ pub record CanPromoteIn (m : FileSystems) (name : List ℕ) : Type 0 where
 -- the file systems after it (zfs-promote(8))
 abbrev pub promoted_in : FileSystems → List ℕ → Promotion → FileSystems
 promoted_in m name p = insert (insert m p.owner (demoted p)) name (promoted p)
+
+-- the row at place i (profile)
+abbrev pub row_at : List Row → ℕ → Row
+row_at rows i = slice_index_or rows i (new_row [])
+
+-- the rows after a promote of the one at place i, whose origin is this snapshot of the one at place j (zfs-promote(8))
+abbrev pub promoted_at : List Row → ℕ → ℕ → SnapId → List Row
+promoted_at rows i j id =
+    slice_set (slice_set rows j (demoted_row (row_at rows i) (row_at rows j) id)) i (promoted_row (row_at rows i) (row_at rows j) id)

@@ -32,7 +32,8 @@ ghost use Rattle.tree.specs.Updates.{changes_of};
 
 use crate::clones::{CloneIndex, CloneName};
 use crate::place::{gap, place_near};
-use crate::row::{own, owner_place, promoted, put, shared};
+use crate::promote::promote_at;
+use crate::row::{own, owner_place, put, shared};
 use base::limit::Blocks;
 use base::meter::{Meter, SegMeter};
 use base::name::{Component, DsName};
@@ -191,6 +192,11 @@ impl FileSystems {
         }
     }
 
+    /// Where a search looks first, as `Table::near` says.
+    pub(crate) fn near(&self) -> usize {
+        self.near
+    }
+
     /// Promotes the clone of this name, as `Table::promote` says (zfs-promote(8)).
     pub(crate) fn promote(
         &mut self,
@@ -212,17 +218,15 @@ impl FileSystems {
         let Some(other) = owner_place(&self.rows, origin) else {
             unreachable!()
         };
-        let (clone, owner) = promoted(
+        promote_at(
             alloc,
-            &self.rows[place],
-            &self.rows[other],
+            &mut self.rows,
+            place,
+            other,
             origin,
+            &mut self.clones,
             segments,
         )?;
-        self.clones
-            .promote(origin, &self.rows[place], &self.rows[other])?;
-        self.rows[other] = owner;
-        self.rows[place] = clone;
         self.near = place;
         Ok(())
     }

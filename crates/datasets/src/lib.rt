@@ -5,6 +5,7 @@ mod clones;
 mod file_systems;
 mod parent;
 mod place;
+mod promote;
 mod row;
 mod table;
 

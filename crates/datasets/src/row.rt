@@ -9,10 +9,8 @@ ghost use Rattle.model.specs.World.{id_of, same_id};
 ghost use Rattle.model.specs.Ids.{snap_id};
 ghost use Rattle.world.specs.Worlds.{AreRising};
 ghost use Rattle.datasets.specs.Owned.{LendsRow};
-ghost use Rattle.file_system.specs.Promotions.{promoted_row, demoted_row, CanPromote};
 ghost use Rattle.file_system.specs.Rows.{Row};
 
-use base::meter::SegMeter;
 use base::refusal::Refusal;
 use file_system::FileSystem;
 use model::snapshot_id::SnapshotId;
@@ -73,26 +71,6 @@ pub(crate) fn own(row: &mut Arc<FileSystem>, alloc: Global) -> Result<&mut FileS
         Some(file_system) => Ok(file_system),
         None => Err(Refusal::NoMemory),
     }
-}
-
-/// A clone and the file system that has its origin, as rows, after a promote, as `FileSystem::promoted` makes them. It costs the number of
-/// the snapshots of both, and the segments of their dead lists.
-pub(crate) fn promoted(
-    alloc: Global,
-    clone: &FileSystem,
-    owner: &FileSystem,
-    origin: SnapshotId,
-    segments: &mut SegMeter,
-) -> Result<(Arc<FileSystem>, Arc<FileSystem>), Refusal>
-    requires { CanPromote clone.now owner.now (snap_id origin) }
-    ensures promoted { IfOk result (λ both. arc_value both.0 ≡ promoted_row clone.now owner.now (snap_id origin)) }
-    ensures demoted { IfOk result (λ both. arc_value both.1 ≡ demoted_row clone.now owner.now (snap_id origin)) }
-    ensures err { IfErr result (λ e. e ≡ Refusal.NoMemory) }
-{
-    let (clone, owner) = clone.promoted(alloc, owner, origin, segments)?;
-    let clone = Arc::new(alloc, clone)?;
-    let owner = Arc::new(alloc, owner)?;
-    Ok((clone, owner))
 }
 
 /// Where the first row stands that has the snapshot of this identity, or None where no row has it. It costs for each row the logarithm of

@@ -272,6 +272,12 @@ impl Table {
         self.systems.look_at(name)
     }
 
+    /// Where the file system stands that was looked for or changed last, if that is still there: nothing rests on it, and whoever asks looks
+    /// whether it stands there. Constant time.
+    pub fn near(&self) -> usize {
+        self.systems.near()
+    }
+
     /// Puts a batch of changes of the live tree of this file system in force at once, where the last sync left group `synced` open:
     /// the answer names the numbers that the new blocks have, and takes none; of the blocks that the tree drops it names those that
     /// no snapshot has. NoDataset exactly where there is no file system of this name; else NoSpace exactly where the Free numbers

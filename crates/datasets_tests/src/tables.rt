@@ -71,6 +71,25 @@ fn copy_stays_as_it_was(rt: HostRuntime) {
     assert!(rt; is_created && is_as_it_was);
 }
 
+/// Where the table looks first once it was asked to look for this name.
+fn near_after(rt: &impl Abort, alloc: Global, table: &mut Table, bytes: &[u8]) -> usize {
+    let named = name(rt, alloc, bytes);
+    table.look_at(&named);
+    table.near()
+}
+
+/// Each stands at its place in byte order; a name that isn't there leaves the place as it was.
+#[test]
+fn looks_first_where_it_looked_last(rt: HostRuntime) {
+    let alloc = rt.alloc();
+    let mut table = family(&rt, alloc);
+    let first = near_after(&rt, alloc, &mut table, b"p");
+    let third = near_after(&rt, alloc, &mut table, b"p/a-x");
+    let absent = near_after(&rt, alloc, &mut table, b"p/z");
+    drop(table);
+    assert!(rt; first == 0 && third == 2 && absent == 2);
+}
+
 /// Whether memory was all that could be wanting.
 pub fn is_out_of_memory<T: Drop>(refused: Result<T, Refusal>) -> bool {
     match refused {

@@ -1,10 +1,17 @@
 -- A clone, and what it and the file system of its origin are after a promote.
 use Rattle.std.specs.Prelude.{◌≡◌, ℕ, List, Some}
+use Rattle.std.specs.Arc.{arc_value}
+use Rattle.std.specs.Option.{option_map}
+use Rattle.base.specs.Map.{blocks}
 use Rattle.base.specs.Surveys.{IsIn}
 use Rattle.model.specs.World.{FileSystem, Snap, SnapId, id_of, empty_file_system}
 use Rattle.world.specs.Outcomes.{Promotion, snaps_upto, promoted, demoted}
+use Rattle.file_system.specs.Counts.{IsCounted}
+use Rattle.file_system.specs.Dead.{snaps_in, newest_blocks, AreAccounted}
+use Rattle.file_system.specs.Origins.{origin_id, map_below, blocks_below}
 use Rattle.file_system.specs.Rows.{Row}
 use Rattle.file_system.specs.Splices.{AreAbove}
+use Rattle.file_system.specs.declared.promote.Line.{Line}
 
 -- a clone of a snapshot (zfs-clone(8))
 abbrev pub clone_system : Snap → FileSystem
@@ -37,3 +44,18 @@ pub record CanPromote (clone owner : Row) (id : SnapId) : Type 0 where
   pub own : AreAbove clone.below clone.system
   pub others : AreAbove owner.below owner.system
   pub names : (t u : Snap) → IsIn (snaps_upto owner.system id.group) t → IsIn clone.system.snaps u → t.name ≡ u.name → ⊥
+
+-- a row with these snapshots above this origin (zfs-promote(8))
+abbrev pub with_line : Row → Line → Row
+with_line r l = record {
+  name = r.name;
+  system = record r.system { snaps = snaps_in (arc_value l.snapshots); origin = origin_id (option_map arc_value l.origin) };
+  below = map_below (option_map arc_value l.origin);
+}
+
+-- The row can have them: their dead lists are theirs above the origin, what stands before the live map has the blocks of what did, and the
+-- counts are those of the row with them (On-Disk Specification, chapter 4: ds_deadlist_obj; zfsprops(7): usedbydataset, usedbysnapshots)
+pub record IsLineFor (r : Row) (l : Line) : Type 0 where
+  pub accounted : AreAccounted (blocks_below (option_map arc_value l.origin)) (arc_value l.snapshots)
+  pub newest : newest_blocks (blocks_below (option_map arc_value l.origin)) (snaps_in (arc_value l.snapshots)) ≡ newest_blocks (blocks r.below) r.system.snaps
+  pub counted : IsCounted (map_below (option_map arc_value l.origin)) (snaps_in (arc_value l.snapshots)) r.system.live l.counts

@@ -8,10 +8,10 @@ ghost use Rattle.model.specs.Ids.{snap_id};
 ghost use Rattle.snapshots.specs.Index.{AreNamesOnce};
 ghost use Rattle.file_system.specs.Counts.{AreLined};
 ghost use Rattle.file_system.specs.Dead.{snaps_in, newest_blocks, AreAccounted};
-ghost use Rattle.file_system.specs.Origins.{origin_id, map_below, blocks_below, group_below};
-ghost use Rattle.file_system.specs.Promotions.{promoted_row, demoted_row, CanPromote};
+ghost use Rattle.file_system.specs.Origins.{map_below, blocks_below, group_below};
+ghost use Rattle.file_system.specs.Promotions.{promoted_row, demoted_row, with_line, CanPromote, IsLineFor};
 
-use crate::counts::recounted;
+use crate::counts::{UsedBlocks, recounted};
 use crate::file_system::FileSystem;
 use crate::origin::{Origin, copy_of_origin, origin_in};
 use crate::splice::place_of;
@@ -21,6 +21,14 @@ use model::snapshot_id::SnapshotId;
 use snapshots::SnapshotList;
 use std::alloc::Global;
 use std::sync::Arc;
+
+/// What a promote puts into a file system: its snapshots, its origin, where it is a clone then, and what it counts with these.
+#[derive(Drop)]
+pub struct Line {
+    snapshots: Arc<SnapshotList>,
+    origin: Option<Arc<Origin>>,
+    counts: UsedBlocks,
+}
 
 // The first `count` of these snapshots, and the others, where each name is one snapshot's: where there are no others, the first are these
 // by one more owner. NoMemory where there is none for it. It costs what `SnapshotList::split_at` does where there are others, and else constant
@@ -64,65 +72,75 @@ fn appended(
 }
 
 impl FileSystem {
-    /// This file system, whose origin is that snapshot of the other, and the other after a promote (zfs-promote(8)): the first has the
-    /// snapshots of the other up to its origin before its own, and the other's origin; the other has its newer snapshots, and that snapshot
-    /// as its origin. Each keeps its limits and its bookmarks. No block is visited, and each dead list stays as it is, since no dataset has another before
-    /// it; what the live map and the snapshots of each have alone is counted again. NoMemory where there is none for it, or the
-    /// snapshots of one have more blocks than a u64 counts. It costs the number of snapshots of both and the segments of their dead lists,
-    /// for the counts; and where the origin isn't the other's newest snapshot or the first has some, for each snapshot of the smaller part
-    /// the logarithm of their number and at most three chunks of an index.
-    pub fn promoted(
+    /// What a promote puts into this file system, whose origin is that snapshot of the other, and into the other (zfs-promote(8)): the first
+    /// has the snapshots of the other up to its origin before its own, and the other's origin; the other has its newer snapshots, and that
+    /// snapshot as its origin. Each keeps its limits and its bookmarks. Both are as they were until `set_line`. No block is visited, and each
+    /// dead list stays as it is, since no dataset has another before it; what the live map and the snapshots of each have alone is counted
+    /// again. NoMemory where there is none for it, or the snapshots of one have more blocks than a u64 counts. It costs the number of
+    /// snapshots of both and the segments of their dead lists, for the counts; and where the origin isn't the other's newest snapshot or the
+    /// first has some, for each snapshot of the smaller part the logarithm of their number and at most three chunks of an index.
+    pub fn promotion(
         &self,
         alloc: Global,
         owner: &FileSystem,
         origin: SnapshotId,
         segments: &mut SegMeter,
-    ) -> Result<(FileSystem, FileSystem), Refusal>
+    ) -> Result<(Line, Line), Refusal>
         requires { CanPromote self.now owner.now (snap_id origin) }
-        ensures promoted { IfOk result (λ both. both.0 ≡ promoted_row self.now owner.now (snap_id origin)) }
-        ensures demoted { IfOk result (λ both. both.1 ≡ demoted_row self.now owner.now (snap_id origin)) }
+        ensures fits { IfOk result (λ lines. IsLineFor self.now lines.0) }
+        ensures promoted { IfOk result (λ lines. with_line self.now lines.0 ≡ promoted_row self.now owner.now (snap_id origin)) }
+        ensures fits_owner { IfOk result (λ lines. IsLineFor owner.now lines.1) }
+        ensures demoted { IfOk result (λ lines. with_line owner.now lines.1 ≡ demoted_row self.now owner.now (snap_id origin)) }
         ensures err { IfErr result (λ e. e ≡ Refusal.NoMemory) }
     {
         let kept = owner.snapshots.list();
         let (place, _count) = (place_of(kept, origin.group), kept.len());
         let (older, newer) = parted(alloc, &owner.snapshots, place + 1)?;
         let all = appended(alloc, older, &self.snapshots)?;
-        let clone = self.with_line(all, &owner.origin, segments)?;
-        let rest = owner.with_line(newer, &self.origin, segments)?;
+        let clone = self.line(all, &owner.origin, segments)?;
+        let rest = owner.line(newer, &self.origin, segments)?;
         Ok((clone, rest))
     }
 
-    // This file system with these snapshots above this origin, of which the newest has the blocks that its newest snapshot has. NoMemory
-    // where there is none for it, or they have more blocks than a u64 counts. It costs the number of these snapshots, and the segments of
-    // all their dead lists and of its own.
-    fn with_line(
+    /// From now on it has these snapshots above this origin, as `promotion` made them for it. Constant time, and it costs what the drop of
+    /// those before costs where they have no other owner.
+    pub fn set_line(&mut self, line: Line)
+        requires { IsLineFor self.old line }
+        ensures { self.new ≡ with_line self.old line }
+    {
+        self.snapshots = line.snapshots;
+        self.origin = line.origin;
+        self.counts = line.counts;
+    }
+
+    // These snapshots above this origin, of which the newest has the blocks that its newest snapshot has, with its counts above them.
+    // NoMemory where there is none for it, or they have more blocks than a u64 counts. It costs the number of these snapshots, and the
+    // segments of all their dead lists and of its own.
+    fn line(
         &self,
         snapshots: Arc<SnapshotList>,
         origin: &Option<Arc<Origin>>,
         segments: &mut SegMeter,
-    ) -> Result<FileSystem, Refusal>
+    ) -> Result<Line, Refusal>
         requires accounted { AreAccounted (blocks_below (option_map arc_value origin.now)) (arc_value snapshots) }
         requires line { AreLined (map_below (option_map arc_value origin.now)) (group_below (option_map arc_value origin.now)) (snaps_in (arc_value snapshots)) self.now.system.live }
         requires newest { newest_blocks (blocks_below (option_map arc_value origin.now)) (snaps_in (arc_value snapshots)) ≡ newest_blocks (blocks self.now.below) self.now.system.snaps }
-        ensures name { IfOk result (λ f. f.name ≡ self.now.name) }
-        ensures system { IfOk result (λ f. f.system ≡ record self.now.system { snaps = snaps_in (arc_value snapshots); origin = origin_id (option_map arc_value origin.now) }) }
-        ensures below { IfOk result (λ f. f.below ≡ map_below (option_map arc_value origin.now)) }
+        ensures fits { IfOk result (λ l. IsLineFor self.now l) }
+        ensures snapshots { IfOk result (λ l. arc_value l.snapshots ≡ arc_value snapshots) }
+        ensures origin { IfOk result (λ l. option_map arc_value l.origin ≡ option_map arc_value origin.now) }
         ensures err { IfErr result (λ e. e ≡ Refusal.NoMemory) }
     {
-        let name = Arc::try_clone(&self.name)?;
-        let live = self.live.copy()?;
-        let dead = Arc::try_clone(&self.dead)?;
-        let counts = recounted(snapshots.list(), origin_in(origin), &live, &dead, segments)?;
+        let counts = recounted(
+            snapshots.list(),
+            origin_in(origin),
+            &self.live,
+            &self.dead,
+            segments,
+        )?;
         let origin = copy_of_origin(origin)?;
-        let bookmarks = Arc::try_clone(&self.bookmarks)?;
-        Ok(FileSystem {
-            name,
-            live,
-            dead,
+        Ok(Line {
             snapshots,
             origin,
-            limits: self.limits,
-            bookmarks,
             counts,
         })
     }

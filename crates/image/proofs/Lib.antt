@@ -7,6 +7,7 @@ pub mod Unwritten
 pub mod AfterChange
 pub mod LeafOrder
 pub mod Patches
+pub mod Copies
 pub mod Padded
 pub mod AfterRewrite
 pub mod Moments

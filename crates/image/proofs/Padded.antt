@@ -82,3 +82,10 @@ is_put v w blocks b at bytes there whole within fits put =
   where
     still_whole : (n b m : ℕ) → n % 512 ≡ 0 → m ≡ n + (512 * b + 512 - n) → m % 512 ≡ 0
     still_whole n b m e f = omega (arith, e, f)
+
+-- a block among the bytes that were filled up as far as another one is that of the whole image
+pub block_filled : (n b from : ℕ) (bytes : List ℕ) → length bytes % 512 ≡ 0 → b < n → 512 * from < length (padded (512 * b + 512) bytes)
+    → block_at (padded (512 * b + 512) bytes) from ≡ block_at (padded (512 * n) bytes) from
+block_filled n b from bytes whole there h =
+    sym (block_written (512 * n) (padded (512 * b + 512) bytes) from (omega (arith, whole, h, length-padded_any (512 * b + 512) bytes)))
+    ∙ ap (λ xs. block_at xs from) (padded_further (512 * b + 512) (512 * n) bytes (omega (arith, there)))

@@ -45,6 +45,11 @@ put_in v old bytes at k size same len is fits =
     let long : length (bytes_put v.items at bytes) ≡ length v.items = length-bytes_put v.items bytes at (omega (arith, len, fits)) in
     with_items_is v (put_mid at k old bytes) (ap length put ∙ long ∙ sym v.ok.0) ∙ put
 
+-- a `Vec` whose slice has become other bytes of the same length
+pub put_whole : (v : Vec ℕ Global) (old new bytes : List ℕ) (at : ℕ) → old ≡ v.items → new ≡ bytes_put old at bytes → at + length bytes ≤ length old → (with_items v new).items ≡ bytes_put v.items at bytes
+put_whole v old new bytes at same is fits =
+    with_items_is v new (ap length is ∙ length-bytes_put old bytes at fits ∙ ap length same ∙ sym v.ok.0) ∙ is ∙ ap (λ xs. bytes_put xs at bytes) same
+
 pub map_set : {X Y : Type 0} (f : X → Y) (xs : List X) (i : ℕ) (y : X) → map f (set xs i y) ≡ set (map f xs) i (f y)
 map_set f [] i y = refl
 map_set f (x ∷ xs) zero y = refl

@@ -1,8 +1,8 @@
 //! Bytes of blocks.
-ghost use Rattle.std.specs.Prelude.{◌≡◌, ◌<◌, ◌≤◌, ◌+◌, ◌*◌, ◌-◌, length, map, vec_capacity};
+ghost use Rattle.std.specs.Prelude.{◌≡◌, ◌<◌, ◌≤◌, ◌+◌, ◌*◌, ◌-◌, ◌%◌, ◌⊎◌, ◌++◌, length, map, take, drop, vec_capacity};
 ghost use Rattle.image.specs.ImageBlocks.{pointer_bytes, pointers_bytes, made_bytes, maybe_block, IsOfTree};
 ghost use Rattle.image.specs.BlockWrites.{bytes_put};
-ghost use Rattle.image.specs.Image.{padded};
+ghost use Rattle.image.specs.Image.{padded, blocks_in};
 
 use base::number::BlockNo;
 use byteorder::{BigEndian, ByteOrder};
@@ -76,6 +76,51 @@ pub(crate) fn put_block(written: &mut Vec<u8>, b: BlockNo, block: &Block<'_>)
     let at = 512 * b.0 as usize;
     fill(written, at + 512);
     write_block(&mut written[at..at + 512], block);
+}
+
+/// Copies the first block's bytes of one part to the front of the other.
+fn copy_front(to: &mut [u8], from: &[u8])
+    requires room { 512 ≤ length to.old }
+    requires there { 512 ≤ length from.now }
+    ensures { to.new ≡ take 512 from.now ++ drop 512 to.old }
+{
+    to[..512].copy_from_slice(&from[..512]);
+}
+
+/// Copies a block's bytes from one place to another, in one piece, whichever of the two stands first.
+fn copy_bytes(bytes: &mut [u8], from: usize, to: usize)
+    requires apart { (from + 512 ≤ to) ⊎ (to + 512 ≤ from) }
+    requires there { from + 512 ≤ length bytes.old }
+    requires within { to + 512 ≤ length bytes.old }
+    ensures { bytes.new ≡ bytes_put bytes.old to (take 512 (drop from bytes.old)) }
+{
+    if from < to {
+        let (before, behind) = bytes.split_at_mut(to);
+        copy_front(behind, &before[from..]);
+    } else {
+        let (before, behind) = bytes.split_at_mut(from);
+        copy_front(&mut before[to..], behind);
+    }
+}
+
+/// Writes a block as another one of an image of `count` blocks stands, in the same way.
+pub(crate) fn put_copy(written: &mut Vec<u8>, count: u32, from: BlockNo, b: BlockNo)
+    requires room { 512 * b.0 + 512 ≤ vec_capacity written.old }
+    requires whole { length written.old.items % 512 ≡ 0 }
+    requires within { length written.old.items ≤ 512 * count }
+    requires numbers { (from.0 < count) × (b.0 < count) }
+    requires other { ¬ (from.0 ≡ b.0) }
+    ensures put { written.new.items ≡ bytes_put (padded (512 * b.0 + 512) written.old.items) (512 * b.0) (blocks_in count written.old.items from.0) }
+    ensures capacity { vec_capacity written.old ≤ vec_capacity written.new }
+{
+    let at = 512 * b.0 as usize;
+    let source = 512 * from.0 as usize;
+    fill(written, at + 512);
+    if source < written.len() {
+        copy_bytes(written, source, at);
+    } else {
+        written[at..at + 512].copy_from_slice(&ZEROS);
+    }
 }
 
 /// Writes one of the sixteen pointers of a block, in the same way.

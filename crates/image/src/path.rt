@@ -5,12 +5,11 @@ ghost use Rattle.image.specs.Image.{IsOpen};
 ghost use Rattle.image.specs.ImageBlocks.{block_at, maybe_block, pointers_bytes, made_bytes, IsOfTree};
 ghost use Rattle.image.specs.PathWrites.{block_on, is_same_block, inner_writes, leaf_writes, path_writes, IsPathOpen, AreSourcesApart};
 
-use crate::block_bytes::ZEROS;
+use crate::block_bytes::{ZEROS, put_copy};
 use crate::image::Image;
-use crate::walk::block_of;
 use base::number::BlockNo;
 use node::span;
-use tree::{Block, Root};
+use tree::Root;
 
 /// Whether two roots are the same, or both none.
 fn is_same(one: Option<Root>, other: Option<Root>) -> bool
@@ -28,10 +27,10 @@ impl Image {
     fn copy_block(&mut self, from: BlockNo, to: BlockNo)
         requires open { IsOpen self.old.kept to.0 }
         requires there { from.0 < length self.old.kept }
+        requires other { ¬ (from.0 ≡ to.0) }
         ensures { self.new ≡ record self.old { bytes = bytes_put self.old.bytes (512 * to.0) (block_at self.old.bytes from.0) } }
     {
-        let block = block_of(&self.written, self.blocks, from);
-        self.write(to, &Block::Contents(&block));
+        put_copy(&mut self.written, self.blocks, from, to);
     }
 
     /// Writes what a leaf has, if it is there.

@@ -20,7 +20,7 @@ use crate::account::Account;
 use crate::ledger::Ledger;
 use crate::line::Line;
 use crate::near::Near;
-use crate::place::{parent_place, place_near};
+use crate::place::{parent_place, place_seen};
 use crate::pool_space::Space;
 use base::name::DsName;
 use base::refusal::Refusal;
@@ -145,7 +145,7 @@ fn charge_after(
     ensures err { IfErr result (λ e. (new : World) → IsChanged (world_of table.now) new name.now here referenced → AreQuotasMet (world_of table.now) → IsOverQuota new e) }
 {
     table.facts();
-    let Some(start) = place_near(table, name.as_bytes(), near.last) else {
+    let Some(start) = place_seen(table, name.as_bytes()) else {
         unreachable!()
     };
     let own = amended(&lines[start], here, referenced);
@@ -183,7 +183,7 @@ fn settle_lines(
     ensures modest { All IsModest lines.new }
     ensures little { All (λ l. used_in l ≤ 2 ^ 54) lines.new }
 {
-    let Some(start) = place_near(table, name.as_bytes(), near.last) else {
+    let Some(start) = place_seen(table, name.as_bytes()) else {
         unreachable!()
     };
     let line = amended(&lines[start], here, referenced);

@@ -20,7 +20,7 @@ use crate::charging::{charge_all, refill};
 use crate::line::Line;
 use crate::near::Near;
 use crate::parent::parent_of;
-use crate::place::place_near;
+use crate::place::place_seen;
 use crate::pool_space::Space;
 use base::name::DsName;
 use base::refusal::Refusal;
@@ -91,17 +91,6 @@ impl Ledger {
         refill(&mut self.lines, table.file_systems());
         self.near.fill(table.file_systems());
         charge_all(table, &mut self.lines, &self.near);
-    }
-
-    /// The file system of this name in the table, or none. Where it stands is kept: what is asked of it next looks there first. It costs the
-    /// logarithm of the number of file systems.
-    pub fn find<'a>(&mut self, table: &'a Table, name: &DsName) -> Option<&'a FileSystem>
-        ensures same { self.new ≡ self.old }
-        ensures value { option_copied result ≡ option_map (λ f. row_in table.now.file_systems (name.now, f)) (get table.now.file_systems name.now) }
-    {
-        let place = place_near(table, name.as_bytes(), self.near.last)?;
-        self.near.last = place;
-        Some(&*table.file_systems()[place])
     }
 
     /// The limit that is broken, where the pool has this beside its file systems: Quota, else RefQuota, else NoSpace where the pool has no
@@ -185,7 +174,7 @@ impl Ledger {
         ensures value { IfSome (get table.now.file_systems name.now) (λ f. result.now ≡ line_in (world_of table.now) (name.now, f)) }
         ensures small { IsSmall result.now }
     {
-        let Some(place) = place_near(table, name, self.near.last) else {
+        let Some(place) = place_seen(table, name) else {
             unreachable!()
         };
         &self.lines[place]

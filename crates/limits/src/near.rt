@@ -1,4 +1,4 @@
-//! Where file systems were seen last.
+//! Where the parents of file systems were seen last.
 ghost use Rattle.std.specs.Prelude.{◌≡◌, IfErr};
 ghost use Rattle.base.specs.declared.refusal.Refusal.{Refusal};
 
@@ -8,12 +8,10 @@ use datasets::{FILE_SYSTEM_LIMIT, FileSystem};
 use std::alloc::Global;
 use std::sync::Arc;
 
-/// For each place of a table where the parent of the file system there may stand, and where the one that was found last may stand, which saves
-/// searches. Nothing rests on it: whoever asks looks whether it stands there (profile).
+/// For each place of a table where the parent of the file system there may stand, which saves searches. Nothing rests on it: whoever asks looks whether it stands there (profile).
 #[derive(Drop)]
 pub struct Near {
     parents: Vec<usize>,
-    pub last: usize,
 }
 
 impl Near {
@@ -22,7 +20,7 @@ impl Near {
         ensures err { IfErr result (λ e. e ≡ Refusal.NoMemory) }
     {
         let parents = vec![in alloc; 0; FILE_SYSTEM_LIMIT]?;
-        Ok(Near { parents, last: 0 })
+        Ok(Near { parents })
     }
 
     /// The same places, with room for as many. NoMemory where there is none for them. It costs that room.
@@ -30,10 +28,7 @@ impl Near {
         ensures err { IfErr result (λ e. e ≡ Refusal.NoMemory) }
     {
         let parents = self.parents.clone()?;
-        Ok(Near {
-            parents,
-            last: self.last,
-        })
+        Ok(Near { parents })
     }
 
     /// Where the parent of the file system at that place may stand. Constant time.
@@ -70,7 +65,6 @@ impl Near {
             self.parents[place..].rotate_right(1);
             self.parents[place] = parent;
         }
-        self.last = place;
     }
 
     /// The file system at that place is gone: what stood behind it stands one place before. It costs the number of places.
@@ -83,7 +77,6 @@ impl Near {
         if place < self.parents.len() {
             self.parents[place..].rotate_left(1);
         }
-        self.last = 0;
     }
 
     // Where this name stands among those before a place and above it, or else any place. It costs the levels between.

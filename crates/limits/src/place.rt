@@ -19,9 +19,17 @@ pub fn place_of(table: &Table, name: &[u8]) -> Result<usize, usize>
         .binary_search_by(|file_system| file_system.compare(name))
 }
 
-/// Where the file system of this name stands, or none where it isn't there. It looks at this place first, whatever stands there: where that is
-/// it, it costs the length of the name, and else what `place_of` does.
-pub fn place_near(table: &Table, name: &[u8], near: usize) -> Option<usize>
+/// Where the file system of this name stands, or none where it isn't there. It looks first where the table was asked for a name last: where
+/// that is it, it costs the length of the name, and else what `place_of` does.
+pub fn place_seen(table: &Table, name: &[u8]) -> Option<usize>
+    ensures some { IfSome result (IsAt (entries table.now.file_systems) name.now) }
+    ensures none { IfNone result (get table.now.file_systems name.now ≡ None) }
+{
+    place_near(table, name, table.near())
+}
+
+// The same, but it looks at this place first, whatever stands there.
+fn place_near(table: &Table, name: &[u8], near: usize) -> Option<usize>
     ensures some { IfSome result (IsAt (entries table.now.file_systems) name.now) }
     ensures none { IfNone result (get table.now.file_systems name.now ≡ None) }
 {

@@ -17,7 +17,7 @@ use crate::change::settle_from;
 use crate::ledger::Ledger;
 use crate::line::Line;
 use crate::parent::parent_of;
-use crate::place::{parent_place, place_near, place_of};
+use crate::place::{parent_place, place_of, place_seen};
 use base::name::DsName;
 use datasets::{FileSystem, Table};
 use model::limits::Limits;
@@ -65,7 +65,7 @@ impl Ledger {
         table.facts();
         if self.lines.len() < table.file_systems().len() {
             insert_line(&mut self.lines, place);
-            let parent = parent_place(table, place, self.near.last).unwrap_or(0);
+            let parent = parent_place(table, place, table.near()).unwrap_or(0);
             self.near.open(place, parent);
         }
     }
@@ -85,7 +85,7 @@ impl Ledger {
         let Some(parent) = parent_of(name.as_bytes()) else {
             unreachable!()
         };
-        let Some(place) = place_near(table, parent, self.near.last) else {
+        let Some(place) = place_seen(table, parent) else {
             unreachable!()
         };
         let above = self.lines[place];

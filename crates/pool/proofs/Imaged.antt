@@ -13,9 +13,9 @@ use Rattle.model.specs.State.{State}
 use Rattle.model.specs.Step.{Step, Follows, done, refused, out_of_memory}
 use Rattle.model.specs.requests.{rule_of}
 use Rattle.model.specs.declared.request.Request.{Request}
-use Rattle.model.specs.declared.request.Request.TheVariants.{Create as ToCreate, Write as ToWrite, Punch as ToPunch, FreeObject as ToFreeObject, Snapshot as ToSnapshot, Read as ToRead, Get as ToGet, PoolGet as ToPoolGet, List as ToList, Rollback as ToRollback, Destroy as ToDestroy, Slice as ToSlice, Sync as ToSync, Abandon as ToAbandon, OpenView as ToOpenView, CloseView as ToCloseView, Clone as ToClone, Promote as ToPromote, Hold as ToHold, Release as ToRelease, Holds as ToHolds, Bookmark as ToBookmark, WrittenSince as ToWrittenSince, WouldFree as ToWouldFree, Set as ToSet, Send as ToSend, Receive as ToReceive}
+use Rattle.model.specs.declared.request.Request.TheVariants.{Sync as ToSync}
 use Rattle.model.specs.declared.reply.Reply.{Reply}
-use Rattle.model.specs.declared.reply.Reply.TheVariants.{Done, Refused, Data, Value, Names, Count, Group, Opened, Stream}
+use Rattle.model.specs.declared.reply.Reply.TheVariants.{Group}
 use Rattle.world.specs.Worlds.{Place, InNow, InLast, maps_of_both}
 use Rattle.image.specs.BlockWrites.{bytes_put, images_put, written_pair}
 use Rattle.image.specs.Image.{ShownImage, AreOpen, AreAllOpen}
@@ -36,7 +36,8 @@ use Rattle.pool.specs.declared.effect.Effect.{Effect}
 use Rattle.pool.specs.declared.effect.Effect.TheVariants.{Nothing, Guids, Blocks, Taken, Synced, Abandoned, Closed}
 use Rattle.images.specs.declared.writes.Writes.{Writes}
 use Rattle.images.specs.declared.writes.Writes.TheVariants.{Idle, OnPath, Each}
-use Rattle.pool.specs.declared.kind.Kind.TheVariants.{Question, View}
+use Rattle.pool.specs.declared.kind.Kind.{Kind}
+use Rattle.pool.specs.declared.kind.Kind.TheVariants.{Question, View, Change, Asking}
 use Rattle.pool.specs.declared.worlds.World.{World}
 use Rattle.pool.proofs.Kept.{kept_long}
 
@@ -116,41 +117,23 @@ keeps_are size i (Synced last viewed) = refl
 keeps_are size i Abandoned = refl
 keeps_are size i (Closed number) = refl
 
+is_change : (k : Kind) → ¬ (k ≡ Question) → ¬ (k ≡ View) → (k ≡ Change) ⊎ (k ≡ Asking)
+is_change Question a b = absurd (a refl)
+is_change View a b = absurd (b refl)
+is_change Change a b = inl refl
+is_change Asking a b = inr refl
+
 -- only a sync replies with a group
-grouped : (q : Request) (reading : Option Sending) (s : State) → ¬ (kind_of q ≡ Question) → ¬ (kind_of q ≡ View) → (g : ℕ) → Group g ≡ (rule_of q reading).reply s → is_synced (Group g) q ≡ true
-grouped ToSync reading s a b g e = refl
-grouped (ToCreate name) reading s a b g e = absurd cc
-grouped (ToWrite target object block bytes) reading s a b g e = absurd cc
-grouped (ToPunch target object block) reading s a b g e = absurd cc
-grouped (ToFreeObject target object) reading s a b g e = absurd cc
-grouped (ToSnapshot names recursive) reading s a b g e = absurd cc
-grouped (ToRollback target later) reading s a b g e = absurd cc
-grouped (ToDestroy target recursive defer) reading s a b g e = absurd cc
-grouped (ToSlice count) reading s a b g e = absurd cc
-grouped ToAbandon reading s a b g e = absurd cc
-grouped (ToCloseView view) reading s a b g e = absurd cc
-grouped (ToClone target name) reading s a b g e = absurd cc
-grouped (ToPromote name) reading s a b g e = absurd cc
-grouped (ToHold tag target) reading s a b g e = absurd cc
-grouped (ToRelease tag target) reading s a b g e = absurd cc
-grouped (ToBookmark target mark) reading s a b g e = absurd cc
-grouped (ToSet name limit amount) reading s a b g e = absurd cc
-grouped (ToReceive snapshot bytes force) reading s a b g e = absurd cc
-grouped (ToOpenView target) reading s a b g e = absurd (b refl)
-grouped (ToRead target object block) reading s a b g e = absurd (a refl)
-grouped (ToGet target property) reading s a b g e = absurd (a refl)
-grouped (ToPoolGet property) reading s a b g e = absurd (a refl)
-grouped ToList reading s a b g e = absurd (a refl)
-grouped (ToHolds target) reading s a b g e = absurd (a refl)
-grouped (ToWrittenSince target since) reading s a b g e = absurd (a refl)
-grouped (ToWouldFree name first last) reading s a b g e = absurd (a refl)
-grouped (ToSend target from) reading s a b g e = absurd (a refl)
+grouped : (q : Request) (reading : Option Sending) (s : State) → (kind_of q ≡ Change) ⊎ (kind_of q ≡ Asking) → (g : ℕ) → Group g ≡ (rule_of q reading).reply s → is_synced (Group g) q ≡ true
+grouped ToSync reading s kind g e = refl
+grouped request reading s (inl k) g e = absurd cc
+grouped request reading s (inr k) g e = absurd cc
 
 synced_by : (s t : State) (q : Request) (g : ℕ) → ¬ (kind_of q ≡ Question) → ¬ (kind_of q ≡ View) → Step s q (Group g) t → is_synced (Group g) q ≡ true
 synced_by s t q g a b step = by_rule step.follows
   where
     by_rule : Follows s (rule_of q step.reading) (Group g) t → is_synced (Group g) q ≡ true
-    by_rule (done h) = grouped q step.reading s a b g h.reply_is
+    by_rule (done h) = grouped q step.reading s (is_change (kind_of q) a b) g h.reply_is
     by_rule (refused h) = let e = h.reply_is in absurd cc
     by_rule (out_of_memory h) = let e = h.reply_is in absurd cc
 
@@ -167,43 +150,11 @@ keeps_so s t q (Closed number) a b step n = refl
 no_group : (q : Request) → (kind_of q ≡ Question) ⊎ (kind_of q ≡ View) → (g : ℕ) → is_synced (Group g) q ≡ false
 no_group ToSync (inl k) g = absurd cc
 no_group ToSync (inr k) g = absurd cc
-no_group (ToCreate name) k g = refl
-no_group (ToWrite target object block bytes) k g = refl
-no_group (ToPunch target object block) k g = refl
-no_group (ToFreeObject target object) k g = refl
-no_group (ToSnapshot names recursive) k g = refl
-no_group (ToRollback target later) k g = refl
-no_group (ToDestroy target recursive defer) k g = refl
-no_group (ToSlice count) k g = refl
-no_group ToAbandon k g = refl
-no_group (ToCloseView view) k g = refl
-no_group (ToClone target name) k g = refl
-no_group (ToPromote name) k g = refl
-no_group (ToHold tag target) k g = refl
-no_group (ToRelease tag target) k g = refl
-no_group (ToBookmark target mark) k g = refl
-no_group (ToSet name limit amount) k g = refl
-no_group (ToReceive snapshot bytes force) k g = refl
-no_group (ToOpenView target) k g = refl
-no_group (ToRead target object block) k g = refl
-no_group (ToGet target property) k g = refl
-no_group (ToPoolGet property) k g = refl
-no_group ToList k g = refl
-no_group (ToHolds target) k g = refl
-no_group (ToWrittenSince target since) k g = refl
-no_group (ToWouldFree name first last) k g = refl
-no_group (ToSend target from) k g = refl
+no_group request k g = refl
 
 not_synced : (q : Request) → ((g : ℕ) → is_synced (Group g) q ≡ false) → (r : Reply) → is_synced r q ≡ false
 not_synced q none (Group g) = none g
-not_synced q none Done = refl
-not_synced q none (Refused why) = refl
-not_synced q none (Data bytes) = refl
-not_synced q none (Value value) = refl
-not_synced q none (Names names) = refl
-not_synced q none (Count count) = refl
-not_synced q none (Opened view sight) = refl
-not_synced q none (Stream bytes) = refl
+not_synced q none reply = refl
 
 unchanged : (q : Request) (r : Reply) (n : ℕ) → is_synced r q ≡ false → n ≡ keeps_after q r n
 unchanged q r n e = ap (λ x. if x then counted n 1 else n) (sym e)

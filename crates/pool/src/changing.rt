@@ -46,7 +46,7 @@ impl Keep {
         let group = world.table.group();
         let synced = self.last.table.group();
         let outlook = ask_change(
-            &mut world.ledger,
+            &world.ledger,
             alloc,
             &world.table,
             self.space(world.freeing.len()),

@@ -5,54 +5,23 @@ use Rattle.std.specs.List.{list_any, position, position_or_len, prefix_len}
 use Rattle.std.specs.List.Sorted.{IsPermutation}
 use Rattle.std.proofs.lemmas.List.Sorted.{IsPermutation-refl}
 use Rattle.model.specs.declared.request.Request.{Request}
-use Rattle.model.specs.declared.request.Request.TheVariants.{Create, Write, Punch, FreeObject, Snapshot, Read, Get, PoolGet, List as ToList, Rollback, Destroy, Slice, Sync, Abandon, OpenView, CloseView, Clone, Promote, Hold, Release, Holds, Bookmark, WrittenSince, WouldFree, Set, Send, Receive}
+use Rattle.model.specs.declared.request.Request.TheVariants.{OpenView, CloseView}
 use Rattle.model.specs.declared.reply.Reply.{Reply}
-use Rattle.model.specs.declared.reply.Reply.TheVariants.{Done, Refused, Data, Value, Group, Names, Count, Opened, Stream}
+use Rattle.model.specs.declared.reply.Reply.TheVariants.{Done}
 use Rattle.session.specs.ViewCalls.{is_of_views}
 use Rattle.session.specs.Views.{Viewed}
 use Rattle.runner.specs.Beside.{where_done, opened_by, closed_by}
 
 -- a request that isn't of views opens and closes none
 pub same_held : (q : Request) (r : Reply) (held : List ℕ) → is_of_views q ≡ false → IsPermutation (opened_by q r ++ held) (closed_by q r ++ held)
-same_held (Create name) r held e = IsPermutation-refl held
-same_held (Write target object block bytes) r held e = IsPermutation-refl held
-same_held (Punch target object block) r held e = IsPermutation-refl held
-same_held (FreeObject target object) r held e = IsPermutation-refl held
-same_held (Snapshot names recursive) r held e = IsPermutation-refl held
-same_held (Read target object block) r held e = IsPermutation-refl held
-same_held (Get target property) r held e = IsPermutation-refl held
-same_held (PoolGet property) r held e = IsPermutation-refl held
-same_held ToList r held e = IsPermutation-refl held
-same_held (Rollback target later) r held e = IsPermutation-refl held
-same_held (Destroy target recursive defer) r held e = IsPermutation-refl held
-same_held (Slice count) r held e = IsPermutation-refl held
-same_held Sync r held e = IsPermutation-refl held
-same_held Abandon r held e = IsPermutation-refl held
 same_held (OpenView target) r held e = absurd (cc e)
 same_held (CloseView view) r held e = absurd (cc e)
-same_held (Clone target name) r held e = IsPermutation-refl held
-same_held (Promote name) r held e = IsPermutation-refl held
-same_held (Hold tag target) r held e = IsPermutation-refl held
-same_held (Release tag target) r held e = IsPermutation-refl held
-same_held (Holds target) r held e = IsPermutation-refl held
-same_held (Bookmark target mark) r held e = IsPermutation-refl held
-same_held (WrittenSince target since) r held e = IsPermutation-refl held
-same_held (WouldFree name first last) r held e = IsPermutation-refl held
-same_held (Set name limit amount) r held e = IsPermutation-refl held
-same_held (Send target from) r held e = IsPermutation-refl held
-same_held (Receive snapshot bytes force) r held e = IsPermutation-refl held
+same_held request r held e = IsPermutation-refl held
 
 -- a reply that isn't Done
 pub none_done : (n : ℕ) (r : Reply) → r ≢ Done → where_done n r ≡ []
 none_done n Done e = absurd (e refl)
-none_done n (Refused refusal) e = refl
-none_done n (Data bytes) e = refl
-none_done n (Value v) e = refl
-none_done n (Group group) e = refl
-none_done n (Names names) e = refl
-none_done n (Count count) e = refl
-none_done n (Opened view sight) e = refl
-none_done n (Stream bytes) e = refl
+none_done n reply e = refl
 
 -- the numbers of views that have one
 pub any_number : (vs : List Viewed) (n : ℕ) → list_any (λ k. k == n) (map (λ (v : Viewed). v.number) vs) ≡ list_any (λ (v : Viewed). v.number == n) vs

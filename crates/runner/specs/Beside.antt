@@ -5,9 +5,9 @@ use Rattle.std.specs.List.Sorted.{IsPermutation}
 use Rattle.base.specs.declared.refusal.Refusal.{Refusal}
 use Rattle.base.specs.declared.refusal.Refusal.TheVariants.{NoView}
 use Rattle.model.specs.declared.request.Request.{Request}
-use Rattle.model.specs.declared.request.Request.TheVariants.{Create, Write, Punch, FreeObject, Snapshot, Read, Get, PoolGet, List as ToList, Rollback, Destroy, Slice, Sync, Abandon, OpenView, CloseView, Clone, Promote, Hold, Release, Holds, Bookmark, WrittenSince, WouldFree, Set, Send, Receive}
+use Rattle.model.specs.declared.request.Request.TheVariants.{OpenView, CloseView}
 use Rattle.model.specs.declared.reply.Reply.{Reply}
-use Rattle.model.specs.declared.reply.Reply.TheVariants.{Done, Refused, Data, Value, Group, Names, Count, Opened, Stream}
+use Rattle.model.specs.declared.reply.Reply.TheVariants.{Done, Refused, Opened}
 use Rattle.model.specs.declared.entry.Entry.{Entry}
 use Rattle.model.specs.State.{State}
 use Rattle.session.specs.Handed.{Ran, IsFullOrNoMemory, IsLegal, Placed, Kept, IsAnswered}
@@ -16,87 +16,23 @@ use Rattle.runner.specs.Status.{RanAs}
 
 -- the view that a reply opened (profile)
 abbrev pub where_opened : Reply → List ℕ
-where_opened Done = []
-where_opened (Refused refusal) = []
-where_opened (Data bytes) = []
-where_opened (Value v) = []
-where_opened (Group group) = []
-where_opened (Names names) = []
-where_opened (Count count) = []
 where_opened (Opened view sight) = view ∷ []
-where_opened (Stream bytes) = []
+where_opened reply = []
 
 -- the view, where the reply says that the request was done (profile)
 abbrev pub where_done : ℕ → Reply → List ℕ
 where_done view Done = view ∷ []
-where_done view (Refused refusal) = []
-where_done view (Data bytes) = []
-where_done view (Value v) = []
-where_done view (Group group) = []
-where_done view (Names names) = []
-where_done view (Count count) = []
-where_done view (Opened other sight) = []
-where_done view (Stream bytes) = []
+where_done view reply = []
 
 -- the view that a request opened with this reply (profile)
 abbrev pub opened_by : Request → Reply → List ℕ
-opened_by (Create name) r = []
-opened_by (Write target object block bytes) r = []
-opened_by (Punch target object block) r = []
-opened_by (FreeObject target object) r = []
-opened_by (Snapshot names recursive) r = []
-opened_by (Read target object block) r = []
-opened_by (Get target property) r = []
-opened_by (PoolGet property) r = []
-opened_by ToList r = []
-opened_by (Rollback target later) r = []
-opened_by (Destroy target recursive defer) r = []
-opened_by (Slice count) r = []
-opened_by Sync r = []
-opened_by Abandon r = []
 opened_by (OpenView target) r = where_opened r
-opened_by (CloseView view) r = []
-opened_by (Clone target name) r = []
-opened_by (Promote name) r = []
-opened_by (Hold tag target) r = []
-opened_by (Release tag target) r = []
-opened_by (Holds target) r = []
-opened_by (Bookmark target mark) r = []
-opened_by (WrittenSince target since) r = []
-opened_by (WouldFree name first last) r = []
-opened_by (Set name limit amount) r = []
-opened_by (Send target from) r = []
-opened_by (Receive snapshot bytes force) r = []
+opened_by request r = []
 
 -- the view that a request closed with this reply (profile)
 abbrev pub closed_by : Request → Reply → List ℕ
-closed_by (Create name) r = []
-closed_by (Write target object block bytes) r = []
-closed_by (Punch target object block) r = []
-closed_by (FreeObject target object) r = []
-closed_by (Snapshot names recursive) r = []
-closed_by (Read target object block) r = []
-closed_by (Get target property) r = []
-closed_by (PoolGet property) r = []
-closed_by ToList r = []
-closed_by (Rollback target later) r = []
-closed_by (Destroy target recursive defer) r = []
-closed_by (Slice count) r = []
-closed_by Sync r = []
-closed_by Abandon r = []
-closed_by (OpenView target) r = []
 closed_by (CloseView view) r = where_done view r
-closed_by (Clone target name) r = []
-closed_by (Promote name) r = []
-closed_by (Hold tag target) r = []
-closed_by (Release tag target) r = []
-closed_by (Holds target) r = []
-closed_by (Bookmark target mark) r = []
-closed_by (WrittenSince target since) r = []
-closed_by (WouldFree name first last) r = []
-closed_by (Set name limit amount) r = []
-closed_by (Send target from) r = []
-closed_by (Receive snapshot bytes force) r = []
+closed_by request r = []
 
 -- a request to close a view that the seat doesn't hold (profile)
 abbrev pub IsUnheld : Request → List ℕ → Type 0

@@ -23,7 +23,7 @@ use model::snap_names::SnapNames;
 use std::alloc::Global;
 
 /// Reads the request of a line, or its fault; NoMemory where there is no memory for its name or its bytes.
-#[tactic(auto, unfolding(crate::specs::Meaning::request_of, crate::specs::Meaning::words_meaning, crate::specs::Lines::line_limit))]
+#[tactic(auto, unfolding(crate::specs::Meaning::request_of, crate::specs::Meaning::words_meaning, crate::specs::Meaning::command_of, crate::specs::Lines::line_limit))]
 pub(crate) fn request_at(alloc: Global, line: &[u8]) -> Result<Request, Refusal>
     ensures { Means result (request_of line.now) }
 {
@@ -34,13 +34,6 @@ pub(crate) fn request_at(alloc: Global, line: &[u8]) -> Result<Request, Refusal>
         return Err(Refusal::BadLine);
     }
     let (command, operands) = next_word(line);
-    command_at(alloc, command, operands)
-}
-
-#[tactic(auto, unfolding(crate::specs::Meaning::command_of))]
-fn command_at(alloc: Global, command: &[u8], operands: Option<&[u8]>) -> Result<Request, Refusal>
-    ensures { Means result (command_of command.now (words_left (option_copied operands.entry))) }
-{
     if command == b"create".as_slice() {
         return create(alloc, operands);
     } else if command == b"write".as_slice() {

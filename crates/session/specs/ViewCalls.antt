@@ -2,7 +2,7 @@
 use Rattle.std.specs.Prelude.{◌≡◌, ◌≢◌, Bool, true, false}
 use Rattle.base.specs.declared.name.target.Target.{Target}
 use Rattle.model.specs.declared.request.Request.{Request}
-use Rattle.model.specs.declared.request.Request.TheVariants.{Create, Write, Punch, FreeObject, Snapshot, Read, Get, PoolGet, List, Rollback, Destroy, Slice, Sync, Abandon, OpenView, CloseView, Clone, Promote, Hold, Release, Holds, Bookmark, WrittenSince, WouldFree, Set, Send, Receive}
+use Rattle.model.specs.declared.request.Request.TheVariants.{OpenView, CloseView}
 use Rattle.model.specs.declared.reply.Reply.TheVariants.{Opened as TheOpened, Done}
 use Rattle.session.specs.Entering.{Ran, IsFullOrNoMemory}
 use Rattle.session.specs.Entered.{is_opened}
@@ -15,33 +15,9 @@ use Rattle.session.specs.declared.view.ClosedView.TheVariants as closed
 
 -- the request opens or closes a view (profile)
 abbrev pub is_of_views : Request → Bool
-is_of_views (Create name) = false
-is_of_views (Write target object block bytes) = false
-is_of_views (Punch target object block) = false
-is_of_views (FreeObject target object) = false
-is_of_views (Snapshot names recursive) = false
-is_of_views (Read target object block) = false
-is_of_views (Get target property) = false
-is_of_views (PoolGet property) = false
-is_of_views List = false
-is_of_views (Rollback target later) = false
-is_of_views (Destroy target recursive defer) = false
-is_of_views (Slice count) = false
-is_of_views Sync = false
-is_of_views Abandon = false
 is_of_views (OpenView target) = true
 is_of_views (CloseView view) = true
-is_of_views (Clone target name) = false
-is_of_views (Promote name) = false
-is_of_views (Hold tag target) = false
-is_of_views (Release tag target) = false
-is_of_views (Holds target) = false
-is_of_views (Bookmark target mark) = false
-is_of_views (WrittenSince target since) = false
-is_of_views (WouldFree name first last) = false
-is_of_views (Set name limit amount) = false
-is_of_views (Send target from) = false
-is_of_views (Receive snapshot bytes force) = false
+is_of_views request = false
 
 -- the view is of the name that the request says and shows what the reply says; or the reply opened none (profile)
 abbrev pub IsOpenedBy : {K : Type 0} → Placed → OpenedView K → Type 0

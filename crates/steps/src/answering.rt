@@ -23,12 +23,12 @@ use std::alloc::Global;
 use zalloc::Counts;
 
 /// Puts the reply to a request that only reads in the place of what stands there, where a pool has these datasets, this beside them, and so
-/// many blocks in each state: that of the definition. The refusals are those of the request, or NoMemory where it takes memory and there is none. A read costs the path, and takes no
-/// memory. A list and the tags of a snapshot cost the names. A property is known once its name is found, but: an origin costs what a promote
-/// finds it by, a snapshot's clones their names, what a file system or its children use the number of file systems, and what a snapshot uses
-/// what `lookups::space::used_by_snapshot` says. What was written since a snapshot costs what `lookups::space::written_since` says, and what a range of snapshots
-/// would free what `lookups::space::would_free` does: they visit no block, and take no memory. A send costs what `sends::sources::start_of` and
-/// `sends::stream_bytes` do.
+/// many blocks in each state: that of the definition. The refusals are those of the request, or NoMemory where it takes memory and there is
+/// none. A read costs the path, and takes no memory. A list and the tags of a snapshot cost the names. A property is known once its name is
+/// found, but: an origin costs what a promote finds it by, a snapshot's clones their names, what a file system or its children use the number
+/// of file systems, and what a snapshot uses what `lookups::space::used_by_snapshot` says. What was written since a snapshot costs what
+/// `lookups::space::written_since` says, and what a range of snapshots would free what `lookups::space::would_free` does: they visit no block,
+/// and take no memory. A send costs what `sends::sources::start_of` and `sends::stream_bytes` do.
 pub fn answer(
     alloc: Global,
     ledger: &Option<Ledger>,
@@ -53,30 +53,27 @@ pub fn answer(
             object,
             block,
         } => read(table, target, *object, *block, meter, reply),
-        Request::Get { target, property } => {
-            *reply = get(
-                alloc,
-                ledger,
-                table,
-                space,
-                counts.free,
-                target,
-                *property,
-                segments,
-            )
-        }
+        Request::Get { target, property } => get(
+            alloc,
+            ledger,
+            table,
+            space,
+            counts.free,
+            target,
+            *property,
+            segments,
+            reply,
+        ),
         Request::WrittenSince { target, since } => {
-            *reply = written_since(table, target, since, segments)
+            written_since(table, target, since, segments, reply)
         }
         Request::WouldFree { name, first, last } => {
-            *reply = would_free(table, name, first, last, segments)
+            would_free(table, name, first, last, segments, reply)
         }
-        Request::PoolGet { property } => *reply = pool_get(table, space, counts, *property),
-        Request::List => *reply = list(alloc, table),
-        Request::Holds { target } => *reply = holds(alloc, table, target),
-        Request::Send { target, from } => {
-            *reply = send(alloc, table, target, from.as_ref(), meter)
-        }
+        Request::PoolGet { property } => pool_get(table, space, counts, *property, reply),
+        Request::List => list(alloc, table, reply),
+        Request::Holds { target } => holds(alloc, table, target, reply),
+        Request::Send { target, from } => send(alloc, table, target, from.as_ref(), meter, reply),
         _ => unreachable!(),
     }
 }

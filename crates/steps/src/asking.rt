@@ -19,7 +19,7 @@ ghost use Rattle.steps.specs.Asked.{asked_by_set};
 ghost use Rattle.lookups.specs.Accounted.{IsAccounted};
 ghost use Rattle.steps.specs.Limiting.{IsStateWith, IsNoChange, MayChange, Foretells};
 
-use crate::limiting::{found, refilled};
+use crate::limiting::refilled;
 use base::limit::Blocks;
 use base::meter::Meter;
 use base::name::{DsName, Target};
@@ -40,7 +40,7 @@ use tree::Update;
 /// there is no such file system; else NoMemory where there is none to look ahead. It costs the nodes on the way to the changes, and for each
 /// level of the name the logarithm of the number of file systems; where no file system has a limit, nothing.
 pub fn ask_change(
-    ledger: &mut Option<Ledger>,
+    ledger: &Option<Ledger>,
     alloc: Global,
     table: &Table,
     space: Space,
@@ -50,18 +50,16 @@ pub fn ask_change(
     meter: &mut Meter,
 ) -> Result<Option<Outlook>, Refusal>
     requires batch { IsBatch (update.now ∷ []) }
-    requires own { IsAccounted table.now ledger.old }
+    requires own { IsAccounted table.now ledger.now }
     requires state { (s : State) × IsStateWith s table.now space × (synced.0 ≡ s.last.group) }
-    ensures same { ledger.new ≡ ledger.old }
     ensures ok { (s : State) → IsStateWith s table.now space → synced.0 ≡ s.last.group → OnOk result (MayChange s name.now (changes_of (update.now ∷ []))) }
     ensures foretold { (s : State) → IsStateWith s table.now space → synced.0 ≡ s.last.group → IfOk result (Foretells s name.now (changes_of (update.now ∷ []))) }
     ensures err { (s : State) → IsStateWith s table.now space → synced.0 ≡ s.last.group → IfErr result (IsNoChange s name.now (changes_of (update.now ∷ []))) }
 {
-    let found = found(ledger, table, name);
-    let Some(ledger) = &*ledger else {
+    let Some(ledger) = ledger else {
         return Ok(None);
     };
-    let Some(file_system) = found else {
+    let Some(file_system) = table.find(name) else {
         return Err(Refusal::NoDataset);
     };
     let forecast = file_system.live().forecast(alloc, from_ref(update), meter)?;

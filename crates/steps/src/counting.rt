@@ -36,11 +36,12 @@ pub(crate) fn get(
     target: &Target,
     property: Property,
     segments: &mut SegMeter,
-) -> Reply
+    reply: &mut Reply,
+)
     requires own { IsAccounted table.now ledger.now }
     requires few { set.len (union_of (world_of table.now)) < 2 ^ 32 }
-    ensures step { (s : State) → IsStateWith s table.now space → free ≡ free_of s → Step s (Request.Get target.now property) result s }
-    ensures segments { HasRead table.now (Request.Get target.now property) result segments.old segments.new }
+    ensures step { (s : State) → IsStateWith s table.now space → free ≡ free_of s → Step s (Request.Get target.now property) reply.new s }
+    ensures segments { HasRead table.now (Request.Get target.now property) reply.new segments.old segments.new }
 {
     let room = room_asked(ledger, table, space, free, target, property);
     let value = value_named(
@@ -53,9 +54,9 @@ pub(crate) fn get(
         segments,
     );
     match value {
-        Ok(Some(value)) => Reply::Value(value),
-        Ok(None) => Reply::Refused(Refusal::NoDataset),
-        Err(refusal) => Reply::Refused(refusal),
+        Ok(Some(value)) => *reply = Reply::Value(value),
+        Ok(None) => *reply = Reply::Refused(Refusal::NoDataset),
+        Err(refusal) => *reply = Reply::Refused(refusal),
     }
 }
 
@@ -65,14 +66,15 @@ pub(crate) fn written_since(
     target: &Target,
     since: &SnapName,
     segments: &mut SegMeter,
-) -> Reply
-    ensures step { (s : State) → IsSteady s → datasets_of s ≡ table.now → Step s (Request.WrittenSince target.now since.now) result s }
-    ensures segments { HasRead table.now (Request.WrittenSince target.now since.now) result segments.old segments.new }
+    reply: &mut Reply,
+)
+    ensures step { (s : State) → IsSteady s → datasets_of s ≡ table.now → Step s (Request.WrittenSince target.now since.now) reply.new s }
+    ensures segments { HasRead table.now (Request.WrittenSince target.now since.now) reply.new segments.old segments.new }
 {
     let written = lookups::space::written_since(table, target, since.member(), segments);
     match written {
-        Ok(blocks) => Reply::Value(in_bytes(blocks)),
-        Err(refusal) => Reply::Refused(refusal),
+        Ok(blocks) => *reply = Reply::Value(in_bytes(blocks)),
+        Err(refusal) => *reply = Reply::Refused(refusal),
     }
 }
 
@@ -83,29 +85,36 @@ pub(crate) fn would_free(
     first: &Component,
     last: &Component,
     segments: &mut SegMeter,
-) -> Reply
+    reply: &mut Reply,
+)
     requires few { set.len (union_of (world_of table.now)) < 2 ^ 32 }
-    ensures step { (s : State) → IsSteady s → datasets_of s ≡ table.now → Step s (Request.WouldFree name.now first.now last.now) result s }
-    ensures segments { HasRead table.now (Request.WouldFree name.now first.now last.now) result segments.old segments.new }
+    ensures step { (s : State) → IsSteady s → datasets_of s ≡ table.now → Step s (Request.WouldFree name.now first.now last.now) reply.new s }
+    ensures segments { HasRead table.now (Request.WouldFree name.now first.now last.now) reply.new segments.old segments.new }
 {
     let freed = lookups::space::would_free(table, name, first, last, segments);
     match freed {
-        Ok(blocks) => Reply::Value(in_bytes(blocks as u32)),
-        Err(refusal) => Reply::Refused(refusal),
+        Ok(blocks) => *reply = Reply::Value(in_bytes(blocks as u32)),
+        Err(refusal) => *reply = Reply::Refused(refusal),
     }
 }
 
 // A property of the pool.
-pub(crate) fn pool_get(table: &Table, space: Space, counts: Counts, property: PoolProperty) -> Reply
-    ensures { (s : State) → IsStateWith s table.now space → IsCountOf s counts → Step s (Request.PoolGet property) result s }
+pub(crate) fn pool_get(
+    table: &Table,
+    space: Space,
+    counts: Counts,
+    property: PoolProperty,
+    reply: &mut Reply,
+)
+    ensures { (s : State) → IsStateWith s table.now space → IsCountOf s counts → Step s (Request.PoolGet property) reply.new s }
 {
     match property {
-        PoolProperty::Size => Reply::Value(in_bytes(space.size)),
-        PoolProperty::Allocated => Reply::Value(in_bytes(counts.allocated)),
-        PoolProperty::Free => Reply::Value(in_bytes(counts.free)),
-        PoolProperty::Freeing => Reply::Value(in_bytes(freeing_in(space))),
-        PoolProperty::Waiting => Reply::Value(in_bytes(counts.waiting)),
-        PoolProperty::Group => Reply::Value(Value::Number(table.group().0)),
+        PoolProperty::Size => *reply = Reply::Value(in_bytes(space.size)),
+        PoolProperty::Allocated => *reply = Reply::Value(in_bytes(counts.allocated)),
+        PoolProperty::Free => *reply = Reply::Value(in_bytes(counts.free)),
+        PoolProperty::Freeing => *reply = Reply::Value(in_bytes(freeing_in(space))),
+        PoolProperty::Waiting => *reply = Reply::Value(in_bytes(counts.waiting)),
+        PoolProperty::Group => *reply = Reply::Value(Value::Number(table.group().0)),
     }
 }
 

@@ -33,22 +33,6 @@ pub(crate) fn refilled(ledger: &mut Ledger, to: &Table, space: Space) -> Option<
     ledger.first_over(space)
 }
 
-// The file system of this name, where a ledger is kept, which then keeps where it stands; or none. It costs the logarithm of the number of
-// file systems.
-pub(crate) fn found<'a>(
-    ledger: &mut Option<Ledger>,
-    table: &'a Table,
-    name: &DsName,
-) -> Option<&'a FileSystem>
-    ensures same { ledger.new ≡ ledger.old }
-    ensures found { IsSome ledger.new → option_copied result ≡ option_map (λ f. row_in table.now.file_systems (name.now, f)) (get table.now.file_systems name.now) }
-{
-    match ledger {
-        Some(ledger) => ledger.find(table, name),
-        None => None,
-    }
-}
-
 /// The ledger becomes that of these datasets, where one is kept. It takes no memory, and costs the number of file systems times its logarithm.
 pub fn renew(ledger: &mut Option<Ledger>, table: &Table)
     requires unlimited { ledger.old ≡ None → IsUnlimited table.now.file_systems }

@@ -38,21 +38,21 @@ pub(crate) fn read(
 }
 
 // The names of all file systems, snapshots and bookmarks.
-pub(crate) fn list(alloc: Global, table: &Table) -> Reply
-    ensures { (s : State) → IsSteady s → datasets_of s ≡ table.now → Step s Request.List result s }
+pub(crate) fn list(alloc: Global, table: &Table, reply: &mut Reply)
+    ensures { (s : State) → IsSteady s → datasets_of s ≡ table.now → Step s Request.List reply.new s }
 {
     match names_of(alloc, table.file_systems()) {
-        Ok(names) => Reply::Names(Names::from(names)),
-        Err(refusal) => Reply::Refused(refusal),
+        Ok(names) => *reply = Reply::Names(Names::from(names)),
+        Err(refusal) => *reply = Reply::Refused(refusal),
     }
 }
 
 // The tags of a snapshot.
-pub(crate) fn holds(alloc: Global, table: &Table, target: &Target) -> Reply
-    ensures { (s : State) → IsSteady s → datasets_of s ≡ table.now → Step s (Request.Holds target.now) result s }
+pub(crate) fn holds(alloc: Global, table: &Table, target: &Target, reply: &mut Reply)
+    ensures { (s : State) → IsSteady s → datasets_of s ≡ table.now → Step s (Request.Holds target.now) reply.new s }
 {
     match tags_of(alloc, table, target) {
-        Ok(tags) => Reply::Names(Names::from(tags)),
-        Err(refusal) => Reply::Refused(refusal),
+        Ok(tags) => *reply = Reply::Names(Names::from(tags)),
+        Err(refusal) => *reply = Reply::Refused(refusal),
     }
 }

@@ -25,12 +25,16 @@ pub(crate) fn send(
     target: &Target,
     from: Option<&Target>,
     meter: &mut Meter,
-) -> Reply
-    ensures { (s : State) → IsSteady s → datasets_of s ≡ table.now → Step s (Request.Send target.now (option_copied from.entry)) result s }
+    reply: &mut Reply,
+)
+    ensures { (s : State) → IsSteady s → datasets_of s ≡ table.now → Step s (Request.Send target.now (option_copied from.entry)) reply.new s }
 {
     let start = match start_of(table, target, from) {
         Ok(start) => start,
-        Err(refusal) => return Reply::Refused(refusal),
+        Err(refusal) => {
+            *reply = Reply::Refused(refusal);
+            return;
+        }
     };
     let Target::Snapshot(name) = target else {
         unreachable!()
@@ -47,7 +51,7 @@ pub(crate) fn send(
         meter,
     );
     match sent {
-        Ok(bytes) => Reply::Stream(bytes),
-        Err(refusal) => Reply::Refused(refusal),
+        Ok(bytes) => *reply = Reply::Stream(bytes),
+        Err(refusal) => *reply = Reply::Refused(refusal),
     }
 }

@@ -40,24 +40,19 @@ pub(crate) fn entry_of(alloc: Global, pool: &mut Pool, call: Call) -> Option<Own
 fn answers_done(request: &Request) -> bool
     ensures { IsTrue result → AnswersDone request.now }
 {
-    matches!(
+    !matches!(
         request,
-        Request::Create { .. }
-            | Request::Snapshot { .. }
-            | Request::Rollback { .. }
-            | Request::Destroy { .. }
-            | Request::Write { .. }
-            | Request::Punch { .. }
-            | Request::FreeObject { .. }
-            | Request::Clone { .. }
-            | Request::Promote { .. }
-            | Request::Hold { .. }
-            | Request::Release { .. }
-            | Request::Bookmark { .. }
-            | Request::Set { .. }
-            | Request::Receive { .. }
-            | Request::Abandon
-            | Request::CloseView { .. }
+        Request::Read { .. }
+            | Request::Get { .. }
+            | Request::WrittenSince { .. }
+            | Request::WouldFree { .. }
+            | Request::PoolGet { .. }
+            | Request::List
+            | Request::Holds { .. }
+            | Request::Send { .. }
+            | Request::OpenView { .. }
+            | Request::Slice { .. }
+            | Request::Sync
     )
 }
 

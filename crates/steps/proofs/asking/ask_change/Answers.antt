@@ -12,7 +12,7 @@ outlook_of-requires c =
       q.0,
       changes_of (c.args.update.now ∷ []),
       is_ahead q.0 c.args.table.now c.args.space q.1 (omega arith) c.args.name.now
-          c.in-Some-found.file_system.now (ap (λ x. option_copied x) (sym c.in-Some-found.is) ∙ c.found-found.ensures.found (ap is_some c.in-Some.is)) c.live.result.now c.live.ensures (changes_of (c.args.update.now ∷ [])) c.in_ok-forecast.forecast
+          c.in-Some-find.file_system.now c.in-Some-find.ensures c.live.result.now c.live.ensures (changes_of (c.args.update.now ∷ [])) c.in_ok-forecast.forecast
           (subst (λ us. IsForecast c.live.result.now (changes_of us) c.in_ok-forecast.forecast) c.from_ref.ensures.value c.in_ok-forecast.ensures.ok) c.args.synced.0 q.2,
     )
 
@@ -21,7 +21,7 @@ pub overflow_add-asked : goal.overflow_add-asked
 overflow_add-asked c =
     let q = c.requires.state in
     let few = few_more q.0 c.args.table.now c.args.space q.1 (omega arith) c.args.name.now
-    c.in-Some-found.file_system.now (ap (λ x. option_copied x) (sym c.in-Some-found.is) ∙ c.found-found.ensures.found (ap is_some c.in-Some.is)) c.live.result.now c.live.ensures (changes_of (c.args.update.now ∷ [])) c.in_ok-forecast.forecast
+    c.in-Some-find.file_system.now c.in-Some-find.ensures c.live.result.now c.live.ensures (changes_of (c.args.update.now ∷ [])) c.in_ok-forecast.forecast
     (subst (λ us. IsForecast c.live.result.now (changes_of us) c.in_ok-forecast.forecast) c.from_ref.ensures.value c.in_ok-forecast.ensures.ok) c.args.synced.0 q.2
     c.in_ok-outlook.outlook c.in_ok-outlook.ensures.ok in
     omega (arith, few)
@@ -29,7 +29,7 @@ overflow_add-asked c =
 pub returns-in-Some-over-clause-err : goal.returns-in-Some-over-clause-err
 returns-in-Some-over-clause-err c s is opened =
     change_over s c.args.table.now c.args.space is (omega arith) c.args.name.now
-    c.in-Some-found.file_system.now (ap (λ x. option_copied x) (sym c.in-Some-found.is) ∙ c.found-found.ensures.found (ap is_some c.in-Some.is)) c.live.result.now c.live.ensures (changes_of (c.args.update.now ∷ [])) c.in_ok-forecast.forecast
+    c.in-Some-find.file_system.now c.in-Some-find.ensures c.live.result.now c.live.ensures (changes_of (c.args.update.now ∷ [])) c.in_ok-forecast.forecast
     (subst (λ us. IsForecast c.live.result.now (changes_of us) c.in_ok-forecast.forecast) c.from_ref.ensures.value c.in_ok-forecast.ensures.ok) c.args.synced.0 opened
     c.in_ok-outlook.outlook c.in_ok-outlook.ensures.ok _ refl refl refl
     (Some c.in-Some-over.refusal) c.in-Some-over.ensures c.in-Some-over.refusal refl
@@ -37,7 +37,7 @@ returns-in-Some-over-clause-err c s is opened =
 pub returns-clause-ok : goal.returns-clause-ok
 returns-clause-ok c s is opened =
     change_fits s c.args.table.now c.args.space is (omega arith) c.args.name.now
-    c.in-Some-found.file_system.now (ap (λ x. option_copied x) (sym c.in-Some-found.is) ∙ c.found-found.ensures.found (ap is_some c.in-Some.is)) c.live.result.now c.live.ensures (changes_of (c.args.update.now ∷ [])) c.in_ok-forecast.forecast
+    c.in-Some-find.file_system.now c.in-Some-find.ensures c.live.result.now c.live.ensures (changes_of (c.args.update.now ∷ [])) c.in_ok-forecast.forecast
     (subst (λ us. IsForecast c.live.result.now (changes_of us) c.in_ok-forecast.forecast) c.from_ref.ensures.value c.in_ok-forecast.ensures.ok) c.args.synced.0 opened
     c.in_ok-outlook.outlook c.in_ok-outlook.ensures.ok _ refl refl refl
     None c.in-None.ensures refl
@@ -45,10 +45,10 @@ returns-clause-ok c s is opened =
 pub returns-clause-foretold : goal.returns-clause-foretold
 returns-clause-foretold c s is opened =
     change_foretold s c.args.table.now c.args.space is (omega arith) c.args.name.now
-    c.in-Some-found.file_system.now (ap (λ x. option_copied x) (sym c.in-Some-found.is) ∙ c.found-found.ensures.found (ap is_some c.in-Some.is)) c.live.result.now c.live.ensures (changes_of (c.args.update.now ∷ [])) c.in_ok-forecast.forecast
+    c.in-Some-find.file_system.now c.in-Some-find.ensures c.live.result.now c.live.ensures (changes_of (c.args.update.now ∷ [])) c.in_ok-forecast.forecast
     (subst (λ us. IsForecast c.live.result.now (changes_of us) c.in_ok-forecast.forecast) c.from_ref.ensures.value c.in_ok-forecast.ensures.ok) c.args.synced.0 opened
     c.in_ok-outlook.outlook c.in_ok-outlook.ensures.ok c.in_ok-outlook.ensures.small
 
 -- where nothing is kept, no file system has a limit
 pub returns-in_default-clause-ok : goal.returns-in_default-clause-ok
-returns-in_default-clause-ok c s is opened = inl (bare_in s c.args.table.now c.args.space is (nothing_kept c.args.table.now c.args.ledger.now c.requires.own (sym c.found-found.ensures.same ∙ c.in_default.is)))
+returns-in_default-clause-ok c s is opened = inl (bare_in s c.args.table.now c.args.space is (nothing_kept c.args.table.now c.args.ledger.now c.requires.own c.in_default.is))

@@ -38,15 +38,15 @@ unreachable-requires c =
     (λ same. c.if-len-file_systems.false (omega (arith, o, k, same)))
     (ap parent_name (sym c.as_bytes.ensures) ∙ sym c.parent_of.ensures ∙ ap (λ x. option_copied x) c.in_default.is)
 
-pub unreachable-requires-in_default-place_near : goal.unreachable-requires-in_default-place_near
-unreachable-requires-in_default-place_near c =
+pub unreachable-requires-in_default-place_seen : goal.unreachable-requires-in_default-place_seen
+unreachable-requires-in_default-place_seen c =
     let own = c.requires.own in
     let o = c.self.inside.lines.ok.0 in
     let k = rows_count c.args.table.now.file_systems c.file_systems.result.now c.file_systems.ensures in
     parent_left own.0 (world_of c.args.table.now) own.1 c.args.name.now own.3 c.self.inside.lines.items (c.self.view_is ∙ own.2) c.args.gap c.requires.gone
     (λ same. c.if-len-file_systems.false (omega (arith, o, k, same))) c.in-Some.parent.now
     (ap parent_name (sym c.as_bytes.ensures) ∙ sym c.parent_of.ensures ∙ ap (λ x. option_copied x) c.in-Some.is)
-    c.in_default-place_near.ensures.none
+    c.in_default-place_seen.ensures.none
 
 pub index-above-requires : goal.index-above-requires
 index-above-requires c =
@@ -54,7 +54,7 @@ index-above-requires c =
     let o = c.self.inside.lines.ok.0 in
     let k = rows_count c.args.table.now.file_systems c.file_systems.result.now c.file_systems.ensures in
     let l = long_left own.0 (world_of c.args.table.now) own.1 c.args.name.now own.3 c.self.inside.lines.items (c.self.view_is ∙ own.2) c.args.gap c.requires.gone
-    (λ same. c.if-len-file_systems.false (omega (arith, o, k, same))) c.in-Some.parent.now c.in-Some-place_near.place c.in-Some-place_near.ensures.some in
+    (λ same. c.if-len-file_systems.false (omega (arith, o, k, same))) c.in-Some.parent.now c.in-Some-place_seen.place c.in-Some-place_seen.ensures.some in
     let r = c.remove-gone.ensures.len in
     omega (arith, l, r, o)
 
@@ -75,7 +75,7 @@ overflow_sub-line c =
     let l = charged_low own.0 (world_of c.args.table.now) own.1 c.args.name.now own.3 c.self.inside.lines.items (c.self.view_is ∙ own.2) c.args.gap c.requires.gone
     (λ same. c.if-len-file_systems.false (omega (arith, o, k, same))) c.in-Some.parent.now
     (ap parent_name (sym c.as_bytes.ensures) ∙ sym c.parent_of.ensures ∙ ap (λ x. option_copied x) c.in-Some.is)
-    c.in-Some-place_near.place c.in-Some-place_near.ensures.some c.remove-gone.new.self.items c.remove-gone.ensures.items c.remove-gone.result c.remove-gone.ensures.value
+    c.in-Some-place_seen.place c.in-Some-place_seen.ensures.some c.remove-gone.new.self.items c.remove-gone.ensures.items c.remove-gone.result c.remove-gone.ensures.value
     c.index-above.result.now c.index-above.ensures in
     let v = c.charge.ensures.value in
     omega (arith, l, v)
@@ -97,11 +97,11 @@ settle_at-requires-clause-can c =
     let named = ap parent_name (sym c.as_bytes.ensures) ∙ sym c.parent_of.ensures ∙ ap (λ x. option_copied x) c.in-Some.is in
     can_leave own.0 (world_of c.args.table.now) own.1 c.args.name.now own.3 c.self.inside.lines.items (c.self.view_is ∙ own.2) c.args.gap c.requires.gone
     other c.in-Some.parent.now named
-    c.in-Some-place_near.place c.in-Some-place_near.ensures.some c.remove-gone.new.self.items c.remove-gone.ensures.items c.remove-gone.result c.remove-gone.ensures.value
+    c.in-Some-place_seen.place c.in-Some-place_seen.ensures.some c.remove-gone.new.self.items c.remove-gone.ensures.items c.remove-gone.result c.remove-gone.ensures.value
     c.index-above.result.now c.index-above.ensures c.charge.result c.charge.ensures.value (subst (All IsModest) (c.self.view_is ∙ own.2) c.self.invariant.1)
-    (subst IsModest (sym c.index-above.ensures) (modest c.in-Some-place_near.place c.index-above.result.now
+    (subst IsModest (sym c.index-above.ensures) (modest c.in-Some-place_seen.place c.index-above.result.now
     (rest_long own.0 (world_of c.args.table.now) own.1 c.args.name.now own.3 c.self.inside.lines.items (c.self.view_is ∙ own.2) c.args.gap c.requires.gone
-    other c.in-Some.parent.now named c.in-Some-place_near.place c.in-Some-place_near.ensures.some c.remove-gone.new.self.items c.remove-gone.ensures.items c.remove-gone.result c.remove-gone.ensures.value
+    other c.in-Some.parent.now named c.in-Some-place_seen.place c.in-Some-place_seen.ensures.some c.remove-gone.new.self.items c.remove-gone.ensures.items c.remove-gone.result c.remove-gone.ensures.value
     c.index-above.result.now c.index-above.ensures)))
 
 pub settle_at-requires-clause-little : goal.settle_at-requires-clause-little
@@ -112,7 +112,7 @@ settle_at-requires-clause-little c =
     rest_little own.0 (world_of c.args.table.now) own.1 c.args.name.now own.3 c.self.inside.lines.items (c.self.view_is ∙ own.2) c.args.gap c.requires.gone
     (λ same. c.if-len-file_systems.false (omega (arith, o, k, same))) c.in-Some.parent.now
     (ap parent_name (sym c.as_bytes.ensures) ∙ sym c.parent_of.ensures ∙ ap (λ x. option_copied x) c.in-Some.is)
-    c.in-Some-place_near.place c.in-Some-place_near.ensures.some c.remove-gone.new.self.items c.remove-gone.ensures.items c.remove-gone.result c.remove-gone.ensures.value
+    c.in-Some-place_seen.place c.in-Some-place_seen.ensures.some c.remove-gone.new.self.items c.remove-gone.ensures.items c.remove-gone.result c.remove-gone.ensures.value
     c.index-above.result.now c.index-above.ensures c.charge.result c.charge.ensures.value (subst (All IsModest) (c.self.view_is ∙ own.2) c.self.invariant.1)
 
 pub returns : goal.returns
@@ -124,5 +124,5 @@ returns c =
     (leave_behind own.0 (world_of c.args.table.now) own.1 c.args.name.now own.3 c.self.inside.lines.items (c.self.view_is ∙ own.2) c.args.gap c.requires.gone
     (λ same. c.if-len-file_systems.false (omega (arith, o, k, same))) c.in-Some.parent.now
     (ap parent_name (sym c.as_bytes.ensures) ∙ sym c.parent_of.ensures ∙ ap (λ x. option_copied x) c.in-Some.is)
-    c.in-Some-place_near.place c.in-Some-place_near.ensures.some c.remove-gone.new.self.items c.remove-gone.ensures.items c.remove-gone.result c.remove-gone.ensures.value
+    c.in-Some-place_seen.place c.in-Some-place_seen.ensures.some c.remove-gone.new.self.items c.remove-gone.ensures.items c.remove-gone.result c.remove-gone.ensures.value
     c.index-above.result.now c.index-above.ensures c.charge.result c.charge.ensures.value)

@@ -63,12 +63,12 @@ returns-in_err-done-clause-performed c q asks =
 pub settle-requires-clause-before : goal.settle-requires-clause-before
 settle-requires-clause-before c =
     let e = rw c.present.ensures at c.in_ok-done.ensures in
-    (datasets_of (state_in c.args.self.now c.args.world.now), settles_now (state_in c.args.self.now c.args.world.now) c.args.self.now.numbers.present c.requires.held.sound c.group-synced.result.0 c.group-synced.ensures c.in_ok-name.name.now c.apply_live.new.self c.in-Ok.update c.from_ref.result.now c.from_ref.ensures.value (c.in_ok-outlook.ensures.ok (state_in c.args.self.now c.args.world.now) (state_with (state_in c.args.self.now c.args.world.now) c.args.self.now.numbers.present c.requires.held.sound c.space.result c.space.ensures.size (c.space.ensures.freeing ∙ c.len.ensures) c.space.ensures.waiting) c.group-synced.ensures) c.in_ok-done.done (record { ok = e.ok; room = e.room; no_dataset = e.no_dataset; no_space = e.no_space; only = e.only }) c.ask_change.new.ledger (subst (IsAccounted (datasets_of (state_in c.args.self.now c.args.world.now))) (sym c.ask_change.ensures.same) c.requires.held.now) c.in_ok-outlook.outlook (c.in_ok-outlook.ensures.foretold (state_in c.args.self.now c.args.world.now) (state_with (state_in c.args.self.now c.args.world.now) c.args.self.now.numbers.present c.requires.held.sound c.space.result c.space.ensures.size (c.space.ensures.freeing ∙ c.len.ensures) c.space.ensures.waiting) c.group-synced.ensures))
+    (datasets_of (state_in c.args.self.now c.args.world.now), settles_now (state_in c.args.self.now c.args.world.now) c.args.self.now.numbers.present c.requires.held.sound c.group-synced.result.0 c.group-synced.ensures c.in_ok-name.name.now c.apply_live.new.self c.in-Ok.update c.from_ref.result.now c.from_ref.ensures.value (c.in_ok-outlook.ensures.ok (state_in c.args.self.now c.args.world.now) (state_with (state_in c.args.self.now c.args.world.now) c.args.self.now.numbers.present c.requires.held.sound c.space.result c.space.ensures.size (c.space.ensures.freeing ∙ c.len.ensures) c.space.ensures.waiting) c.group-synced.ensures) c.in_ok-done.done (record { ok = e.ok; room = e.room; no_dataset = e.no_dataset; no_space = e.no_space; only = e.only }) c.args.world.now.ledger c.requires.held.now c.in_ok-outlook.outlook (c.in_ok-outlook.ensures.foretold (state_in c.args.self.now c.args.world.now) (state_with (state_in c.args.self.now c.args.world.now) c.args.self.now.numbers.present c.requires.held.sound c.space.result c.space.ensures.size (c.space.ensures.freeing ∙ c.len.ensures) c.space.ensures.waiting) c.group-synced.ensures))
 
 pub settle-requires-clause-unlimited : goal.settle-requires-clause-unlimited
 settle-requires-clause-unlimited c none =
     let e = rw c.present.ensures at c.in_ok-done.ensures in
-    stays_now (state_in c.args.self.now c.args.world.now) c.args.self.now.numbers.present c.requires.held.sound c.group-synced.result.0 c.group-synced.ensures c.in_ok-name.name.now c.apply_live.new.self c.in-Ok.update c.from_ref.result.now c.from_ref.ensures.value (c.in_ok-outlook.ensures.ok (state_in c.args.self.now c.args.world.now) (state_with (state_in c.args.self.now c.args.world.now) c.args.self.now.numbers.present c.requires.held.sound c.space.result c.space.ensures.size (c.space.ensures.freeing ∙ c.len.ensures) c.space.ensures.waiting) c.group-synced.ensures) c.in_ok-done.done (record { ok = e.ok; room = e.room; no_dataset = e.no_dataset; no_space = e.no_space; only = e.only }) (unlimited c.args.self.now c.args.world.now c.requires.held (sym c.ask_change.ensures.same ∙ none))
+    stays_now (state_in c.args.self.now c.args.world.now) c.args.self.now.numbers.present c.requires.held.sound c.group-synced.result.0 c.group-synced.ensures c.in_ok-name.name.now c.apply_live.new.self c.in-Ok.update c.from_ref.result.now c.from_ref.ensures.value (c.in_ok-outlook.ensures.ok (state_in c.args.self.now c.args.world.now) (state_with (state_in c.args.self.now c.args.world.now) c.args.self.now.numbers.present c.requires.held.sound c.space.result c.space.ensures.size (c.space.ensures.freeing ∙ c.len.ensures) c.space.ensures.waiting) c.group-synced.ensures) c.in_ok-done.done (record { ok = e.ok; room = e.room; no_dataset = e.no_dataset; no_space = e.no_space; only = e.only }) (unlimited c.args.self.now c.args.world.now c.requires.held none)
 
 pub settle-requires-clause-few : goal.settle-requires-clause-few
 settle-requires-clause-few c =

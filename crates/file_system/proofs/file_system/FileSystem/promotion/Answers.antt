@@ -11,10 +11,10 @@ use Rattle.snapshots.specs.Index.{AreNamesOnce}
 use Rattle.world.specs.Worlds.{AreRising}
 use Rattle.file_system.specs.Dead.{snaps_in, newest_blocks, AreAccounted}
 use Rattle.file_system.specs.Counts.{AreLined}
-use Rattle.file_system.specs.Origins.{origin_group}
+use Rattle.file_system.specs.Origins.{origin_group, origin_id, map_below}
 use Rattle.file_system.specs.Rows.{Row}
 use Rattle.file_system.proofs.Promotions.{owner_rising, owner_once, origin_there, joined_once, joined_accounted, joined_newest, joined_snaps, rest_accounted, rest_newest, rest_snaps, joined_line, rest_line}
-use Rattle.file_system.proofs.file_system.FileSystem.promoted.Goals as goal
+use Rattle.file_system.proofs.file_system.FileSystem.promotion.Goals as goal
 
 -- ---- the origin among the snapshots of its owner
 
@@ -51,8 +51,8 @@ appended-requires c =
     let both : (arc_value c.in_ok-older.older) ++ c.deref-2.result.now ≡ take (suc i) ks ++ cs = λ j. first j ++ c.deref-2.ensures j in
     record { once = subst AreNamesOnce (sym both) (joined_once c.args.self.now c.args.owner.now (snap_id c.args.origin) c.requires ks ks_are cs cs_are i at) }
 
-pub with_line-requires-clause-accounted : goal.with_line-requires-clause-accounted
-with_line-requires-clause-accounted c =
+pub line-requires-clause-accounted : goal.line-requires-clause-accounted
+line-requires-clause-accounted c =
     let ks = arc_value c.owner.inside.snapshots in
     let cs = arc_value c.self.inside.snapshots in
     let i = c.place_of-place.result in
@@ -68,8 +68,8 @@ with_line-requires-clause-accounted c =
     joined_accounted c.args.self.now c.args.owner.now (snap_id c.args.origin) c.requires ks ks_are cs cs_are i at owned own in
     subst (λ (r : Row). AreAccounted (blocks r.below) (arc_value c.in_ok-all.all)) (sym c.owner.view_is) (subst (AreAccounted (blocks c.args.owner.now.below)) (sym all) done)
 
-pub with_line-requires-clause-newest : goal.with_line-requires-clause-newest
-with_line-requires-clause-newest c =
+pub line-requires-clause-newest : goal.line-requires-clause-newest
+line-requires-clause-newest c =
     let ks = arc_value c.owner.inside.snapshots in
     let cs = arc_value c.self.inside.snapshots in
     let i = c.place_of-place.result in
@@ -83,8 +83,8 @@ with_line-requires-clause-newest c =
     ∙ ap (λ l. newest_blocks (blocks c.args.owner.now.below) (snaps_in l)) all
     ∙ joined_newest c.args.self.now c.args.owner.now (snap_id c.args.origin) c.requires ks ks_are cs cs_are i at
 
-pub with_line-requires-2-clause-accounted : goal.with_line-requires-2-clause-accounted
-with_line-requires-2-clause-accounted c =
+pub line-requires-2-clause-accounted : goal.line-requires-2-clause-accounted
+line-requires-2-clause-accounted c =
     let ks = arc_value c.owner.inside.snapshots in
     let cs = arc_value c.self.inside.snapshots in
     let i = c.place_of-place.result in
@@ -98,8 +98,8 @@ with_line-requires-2-clause-accounted c =
     rest_accounted c.args.self.now c.args.owner.now (snap_id c.args.origin) c.requires ks ks_are cs cs_are i at owned in
     subst (λ (r : Row). AreAccounted (blocks r.below) (arc_value c.in_ok-older.newer)) (sym c.self.view_is) (subst (AreAccounted (blocks c.args.self.now.below)) (sym rest) done)
 
-pub with_line-requires-2-clause-newest : goal.with_line-requires-2-clause-newest
-with_line-requires-2-clause-newest c =
+pub line-requires-2-clause-newest : goal.line-requires-2-clause-newest
+line-requires-2-clause-newest c =
     let ks = arc_value c.owner.inside.snapshots in
     let cs = arc_value c.self.inside.snapshots in
     let i = c.place_of-place.result in
@@ -114,8 +114,8 @@ with_line-requires-2-clause-newest c =
 
 -- ---- their lines
 
-pub with_line-requires-clause-line : goal.with_line-requires-clause-line
-with_line-requires-clause-line c =
+pub line-requires-clause-line : goal.line-requires-clause-line
+line-requires-clause-line c =
     let ks = arc_value c.owner.inside.snapshots in
     let cs = arc_value c.self.inside.snapshots in
     let i = c.place_of-place.result in
@@ -129,8 +129,8 @@ with_line-requires-clause-line c =
     (subst (λ l. AreLined c.args.owner.now.below (origin_group c.args.owner.now.system.origin) (snaps_in l) c.args.self.now.system.live) (sym all)
     (joined_line c.args.self.now c.args.owner.now (snap_id c.args.origin) c.requires ks ks_are cs cs_are i at))
 
-pub with_line-requires-2-clause-line : goal.with_line-requires-2-clause-line
-with_line-requires-2-clause-line c =
+pub line-requires-2-clause-line : goal.line-requires-2-clause-line
+line-requires-2-clause-line c =
     let ks = arc_value c.owner.inside.snapshots in
     let cs = arc_value c.self.inside.snapshots in
     let i = c.place_of-place.result in
@@ -156,11 +156,11 @@ returns-clause-promoted c =
     let at : option_map (λ (k : Kept). k.snapshot.group) (slice_get ks i) ≡ Some c.args.origin.group.0 = ap (λ l. option_map (λ (k : Kept). k.snapshot.group) (slice_get l i)) (sym kept) ∙ c.place_of-place.ensures.is in
     let first : (arc_value c.in_ok-older.older) ≡ take (suc i) ks = c.in_ok-older.ensures.first ∙ ap (λ n. take n ks) (add-one i) in
     let all : (arc_value c.in_ok-all.all) ≡ take (suc i) ks ++ cs = c.in_ok-all.ensures.ok ∙ (λ j. first j ++ c.deref-2.ensures j) in
-    let snaps = ap snaps_in all ∙ joined_snaps c.args.self.now c.args.owner.now (snap_id c.args.origin) c.requires ks ks_are cs cs_are i at in
-    let origin = ap (λ (r : Row). r.system.origin) c.owner.view_is in
-    let system = c.in_ok-clone.ensures.system ∙ (λ j. record c.args.self.now.system { snaps = snaps j; origin = origin j }) in
-    let below = c.in_ok-clone.ensures.below ∙ ap (λ (r : Row). r.below) c.owner.view_is in
-    λ j. record { name = c.in_ok-clone.ensures.name j; system = system j; below = below j }
+    let line_is = c.in_ok-clone.ensures.origin in
+    let snaps = ap snaps_in (c.in_ok-clone.ensures.snapshots ∙ all) ∙ joined_snaps c.args.self.now c.args.owner.now (snap_id c.args.origin) c.requires ks ks_are cs cs_are i at in
+    let origin = ap origin_id line_is ∙ ap (λ (r : Row). r.system.origin) c.owner.view_is in
+    let below = ap map_below line_is ∙ ap (λ (r : Row). r.below) c.owner.view_is in
+    λ j. record { name = c.args.self.now.name; system = record c.args.self.now.system { snaps = snaps j; origin = origin j }; below = below j }
 
 pub returns-clause-demoted : goal.returns-clause-demoted
 returns-clause-demoted c =
@@ -172,8 +172,8 @@ returns-clause-demoted c =
     let kept : c.list-kept.result.now ≡ ks = c.list-kept.ensures ∙ c.deref.ensures in
     let at : option_map (λ (k : Kept). k.snapshot.group) (slice_get ks i) ≡ Some c.args.origin.group.0 = ap (λ l. option_map (λ (k : Kept). k.snapshot.group) (slice_get l i)) (sym kept) ∙ c.place_of-place.ensures.is in
     let rest : (arc_value c.in_ok-older.newer) ≡ drop (suc i) ks = c.in_ok-older.ensures.rest ∙ ap (λ n. drop n ks) (add-one i) in
-    let snaps = ap snaps_in rest ∙ rest_snaps c.args.self.now c.args.owner.now (snap_id c.args.origin) c.requires ks ks_are cs cs_are i at in
-    let origin = ap (λ (r : Row). r.system.origin) c.self.view_is ∙ c.requires.is in
-    let system = c.in_ok-rest.ensures.system ∙ (λ j. record c.args.owner.now.system { snaps = snaps j; origin = origin j }) in
-    let below = c.in_ok-rest.ensures.below ∙ ap (λ (r : Row). r.below) c.self.view_is in
-    λ j. record { name = c.in_ok-rest.ensures.name j; system = system j; below = below j }
+    let line_is = c.in_ok-rest.ensures.origin in
+    let snaps = ap snaps_in (c.in_ok-rest.ensures.snapshots ∙ rest) ∙ rest_snaps c.args.self.now c.args.owner.now (snap_id c.args.origin) c.requires ks ks_are cs cs_are i at in
+    let origin = ap origin_id line_is ∙ ap (λ (r : Row). r.system.origin) c.self.view_is ∙ c.requires.is in
+    let below = ap map_below line_is ∙ ap (λ (r : Row). r.below) c.self.view_is in
+    λ j. record { name = c.args.owner.now.name; system = record c.args.owner.now.system { snaps = snaps j; origin = origin j }; below = below j }
