@@ -14,6 +14,10 @@ use base::number::{Dead, Group, Key};
 use base::refusal::Refusal;
 use node::{Inner, Leaf, Level, span};
 
+/// How many keys are on the way to a leaf: its own, and one at each of the five levels above (On-Disk Specification, chapter 3; the number is
+/// profile).
+const WAY: usize = 6;
+
 /// A key that is made, with the block that stays in its place, if one does.
 #[derive(Clone, Copy, Default, PartialEq, Eq, Debug)]
 pub struct Claim {
@@ -90,11 +94,18 @@ fn close_written(
     ensures released { OnOk result (findings.new.released.items ≡ findings.old.released.items ++ let_go true true young.0 own) }
     ensures err { OnErr result (result ≡ Err Refusal.NoMemory) }
 {
-    let fate = Fate {
-        touched: true,
-        stays: true,
-    };
-    close(own, key, fate, young, findings)
+    let kept = if_young(own, young);
+    findings.claims.push(Claim { key, kept })?;
+    if kept.is_some() {
+        return Ok(());
+    }
+    if let Some(dead) = own {
+        if findings.released.is_empty() {
+            findings.released.reserve(WAY)?;
+        }
+        findings.released.push(dead)?;
+    }
+    Ok(())
 }
 
 /// The block of a part that may be absent. A node that is there is counted.

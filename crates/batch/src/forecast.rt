@@ -58,6 +58,7 @@ pub fn forecast_of(
     let (findings, _touched) = findings_of(alloc, root, updates, room, Group(0), meter)?;
     let made = findings.claims.len();
     let mut dropped = findings.released;
+    dropped.reserve(made)?;
     add_kept(&findings.claims, &mut dropped)?;
     Ok(Forecast { dropped, made })
 }

@@ -6,7 +6,6 @@ ghost use Rattle.node.specs.Node.{part_of_slot};
 ghost use Rattle.node.specs.Pairs.{left_of, right_of, side_of, places_in};
 
 use crate::node::Level;
-use crate::owner::keep;
 use base::refusal::Refusal;
 use std::mem;
 use std::sync::Arc;
@@ -74,9 +73,16 @@ impl<C: Level + Drop> Pair<C> {
         ensures right { IfOk result (λ p. part_of_slot C.part (right_of p) ≡ part_of_slot C.part (right_of self.now)) }
         ensures err { OnErr result (result ≡ Err Refusal.NoMemory) }
     {
-        let left = keep(self.side(0))?;
-        let right = keep(self.side(1))?;
-        Ok(Pair::of(left, right))
+        match self {
+            Pair::Neither => Ok(Pair::Neither),
+            Pair::Left(left) => Ok(Pair::Left(Arc::try_clone(left)?)),
+            Pair::Right(right) => Ok(Pair::Right(Arc::try_clone(right)?)),
+            Pair::Both(left, right) => {
+                let left = Arc::try_clone(left)?;
+                let right = Arc::try_clone(right)?;
+                Ok(Pair::Both(left, right))
+            }
+        }
     }
 }
 

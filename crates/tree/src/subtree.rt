@@ -175,6 +175,7 @@ fn subtrees_of<C: Top>(kids: [Pair<C>; 8], key: Key) -> [Option<Subtree>; 16]
 
 /// The subtrees directly below a node: of the parts that it owned, where nobody else owns the node, and else of one more owner of
 /// each. The node comes back where one of these was refused memory.
+#[inline(never)]
 fn subtrees_below<C: Top>(
     node: Arc<Inner<C>>,
     key: Key,

@@ -137,11 +137,15 @@ impl NumberSet {
         ensures kept { IsKept self.new }
         ensures written { IsWritten window word self.old self.new }
     {
-        if self.word(window) == word {
+        let before = self.word(window);
+        if before == word {
+            return;
+        }
+        put_word(&mut self.words, window, word, self.fill);
+        if (before != 0) == (word != 0) {
             return;
         }
         let group = window / WINDOW;
-        put_word(&mut self.words, window, word, self.fill);
         put_bit(&mut self.groups, window, word != 0, self.fill);
         let some = word_at(&self.groups, group, self.fill) != 0;
         put_bit(&mut self.tops, group, some, self.fill);

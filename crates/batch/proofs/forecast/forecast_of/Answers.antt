@@ -21,7 +21,7 @@ pub returns-clause-ok : goal.returns-clause-ok
 returns-clause-ok c =
     let u = c.args.updates.now in
     let claimed = c.in_ok-findings.ensures.claims in
-    let kept = c.in_ok-add_kept.ensures.ok ∙ (λ i. c.in_ok-findings.ensures.released i ++ kept_of ((c.deref.ensures.value ∙ claimed) i)) in
+    let kept = c.in_ok-add_kept.ensures.ok ∙ (λ i. (c.reserve.ensures.items ∙ c.in_ok-findings.ensures.released) i ++ kept_of ((c.deref.ensures.value ∙ claimed) i)) in
     record {
       made = map claim_key (claims (said u) 0 5 0 (whole c.args.root.now));
       survey = subst (λ (ds : List Dead). IsSurvey (map_of (root_forest c.args.root.now)) (changes_of u) (map dead_block ds) (map claim_key (claims (said u) 0 5 0 (whole c.args.root.now)))) (sym kept)
