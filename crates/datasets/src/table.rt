@@ -312,7 +312,7 @@ impl Table {
 
     /// Keeps the live map of this file system as a snapshot, with this name within it, this guid and this creation group, which is
     /// closed (zfs-snapshot(8)). NoMemory where there is none for it, and then the table is as it was. It costs the logarithm of the
-    /// number of file systems; and where another table shares its snapshots, a 32nd of their number.
+    /// number of file systems; and where another table shares its snapshots, a 1,024th of their number.
     pub fn take_snapshot(
         &mut self,
         alloc: Global,
@@ -340,7 +340,7 @@ impl Table {
 
     /// Keeps the live map of this file system as a snapshot of the group that is open, with this name within it and this guid, and
     /// closes that group (zfs-snapshot(8)). NoMemory where there is none for it, and then the table is as it was. It costs the
-    /// logarithm of the number of file systems; and where another table shares its snapshots, a 32nd of their number.
+    /// logarithm of the number of file systems; and where another table shares its snapshots, a 1,024th of their number.
     pub fn keep_live(
         &mut self,
         alloc: Global,

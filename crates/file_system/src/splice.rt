@@ -55,8 +55,7 @@ pub fn kept_of(kept: &SharedList<Kept>, id: SnapshotId) -> Option<&Kept>
     requires { AreRising 0 (snaps_in kept.now) }
     ensures { option_map (λ k. k.snapshot) (option_copied result) ≡ find (λ t. same_id (id_of t) (snap_id id)) (snaps_in kept.now) }
 {
-    let around = kept.around(|kept: &Kept| is_before(kept, id.group));
-    let found = around.at?;
+    let found = kept.first(|kept: &Kept| is_before(kept, id.group))?;
     if found.snapshot.id() == id {
         Some(found)
     } else {

@@ -130,6 +130,12 @@ impl Pair {
         around.before == low.last() && around.at == high.first() && around.after == high.get(1)
     }
 
+    /// Whether the first that isn't below that number is the plain list's, where they rise.
+    fn is_first(&self, n: u32) -> bool {
+        let plain = self.plain.as_slice();
+        self.list.first(|x| *x < n) == plain[plain.partition_point(|x| *x < n)..].first()
+    }
+
     /// Takes out the elements from that index on, if the list is long enough.
     fn split_off(&mut self, alloc: Global, at: usize) -> Result<Pair, AllocError> {
         if at > self.list.len() || at > self.plain.len() {
@@ -259,6 +265,31 @@ fn copies_change_at_each_place(rt: HostRuntime) {
     }
 }
 
+/// Whether lists of more than 4,096 elements, the most that one group of chunks has, agree after each kind of change, and a copy from
+/// before stays as it was.
+fn is_changed_at_length(alloc: Global) -> Result<bool, AllocError> {
+    let mut pair = Pair::new(alloc);
+    pair.push_run(0, 9_000)?;
+    let copy = pair.copy(alloc)?;
+    pair.push_run(7, 70)?;
+    pair.set(alloc, 4_097, 9)?;
+    pair.remove_run(2_000, 130)?;
+    let removed = pair.agrees();
+    pair.turn(alloc, 4_500)?;
+    let turned = pair.agrees();
+    let mut high = pair.split_off(alloc, 1_000)?;
+    let parted = pair.agrees() && high.agrees();
+    high.append(&mut pair)?;
+    high.pop_run(100)?;
+    let ended = high.agrees() && pair.agrees() && copy.agrees();
+    Ok(removed && turned && parted && ended)
+}
+
+#[test]
+fn long_lists_agree(rt: HostRuntime) {
+    assert!(rt; is_changed_at_length(rt.alloc()) == Ok(true));
+}
+
 /// Whether a copy stays as it was while elements are added, to chunks that it has too and to others.
 fn is_pushed_beside_a_copy(alloc: Global, len: u32) -> Result<bool, AllocError> {
     let mut pair = Pair::new(alloc);
@@ -275,7 +306,7 @@ fn is_pushed_beside_a_copy(alloc: Global, len: u32) -> Result<bool, AllocError> 
 
 #[test]
 fn a_copy_stays_beside_pushes(rt: HostRuntime) {
-    for len in [0u32, 1, 62, 63, 64, 65, 127, 128] {
+    for len in [0u32, 1, 62, 63, 64, 65, 127, 128, 4_095, 4_096, 4_097] {
         assert!(rt;
             is_pushed_beside_a_copy(rt.alloc(), len) == Ok(true),
             "{len} elements"
@@ -311,7 +342,7 @@ fn is_parted_everywhere(alloc: Global, len: u32) -> Result<bool, AllocError> {
     pair.push_run(1, len)?;
     pair.remove_run((len / 3) as usize, len / 5)?;
     for n in 0..len.saturating_add(3) {
-        if !pair.is_parted(n) || !pair.is_around(n) {
+        if !pair.is_parted(n) || !pair.is_around(n) || !pair.is_first(n) {
             return Ok(false);
         }
     }
@@ -320,7 +351,7 @@ fn is_parted_everywhere(alloc: Global, len: u32) -> Result<bool, AllocError> {
 
 #[test]
 fn partition_points_are_those_of_a_plain_list(rt: HostRuntime) {
-    for len in [0u32, 1, 2, 64, 65, 130, 400] {
+    for len in [0u32, 1, 2, 64, 65, 130, 400, 4_200] {
         assert!(rt;
             is_parted_everywhere(rt.alloc(), len) == Ok(true),
             "{len} elements"

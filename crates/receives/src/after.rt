@@ -24,7 +24,7 @@ use zalloc::Allocator;
 /// is the sender's, and groups, are profile). The answer names the numbers that the new blocks have, and takes none; of the blocks that the
 /// tree drops it names those that no snapshot has. NoSpace where the Free numbers and those of the dropped young blocks are too few, else
 /// NoMemory where there is none for it, or the snapshots would have more blocks than a u64 counts; then the table is of no use. It costs the
-/// logarithm of the number of file systems, and the change; and where another table shares the snapshots of this one, a 32nd of their number.
+/// logarithm of the number of file systems, and the change; and where another table shares the snapshots of this one, a 1,024th of their number.
 pub fn finish(
     alloc: Global,
     table: &mut Table,

@@ -2,31 +2,31 @@
 use Rattle.std.proofs.Common.{◌≡◌, ℕ, zero, suc, ◌+◌, ◌-◌, ◌<◌, ◌≤◌, List, [], ◌∷◌, ◌++◌, length, take, drop, remove, get_or, set, slice_get, Some, refl, ap, sym, ◌∙◌, arith, append_assoc, add-one}
 use Rattle.std.proofs.lemmas.List.{take-map, drop-map, map-append, take_rest, length-map, set_split, drop_more, take-append-drop, take-append-le, drop-append-le, drop_all, drop_at, append-nil, length-append, length-take-le, length-drop, get_or_default, map-set, take_at, set-append_left, set-append_right}
 use Rattle.std.specs.Prelude.{insert}
-use Rattle.std.proofs.lemmas.Option.{get_or_from_slice_get}
 use Rattle.std.proofs.lemmas.List.Concat.{flat_map-append}
 use Rattle.std.proofs.lemmas.List.Edits.{remove-append_left, remove-append_right, insert_end, insert-append_left, insert-append_right}
 use Rattle.std.proofs.Math.Seq.{take-append-add, drop-append-add}
 use Rattle.std.specs.Global.{Global}
 use Rattle.std.specs.declared.sync.Arc.{Arc}
-use Rattle.shared_list.specs.Elements.{values, elements}
+use Rattle.std.specs.List.{flat_map}
+use Rattle.shared_list.specs.Elements.{values}
 
 -- parts of a mapped list
 pub ruleset mapped = (take-map, drop-map, map-append, take_rest, length-map)
 
 -- the elements of the front and the rest
-pub joined : {X : Type 0} (xs ys : List (Arc (List X) Global)) → elements (xs ++ ys) ≡ elements xs ++ elements ys
-joined xs ys = flat_map-append (λ a. a.value) xs ys
+pub joined : {A X : Type 0} (f : A → List X) (xs ys : List A) → flat_map f (xs ++ ys) ≡ flat_map f xs ++ flat_map f ys
+joined f xs ys = flat_map-append (λ a. (f a)) xs ys
 
 -- the elements are those before a chunk, its own, and those after it
-pub whole : {X : Type 0} (xs : List (Arc (List X) Global)) (k : ℕ) (a : Arc (List X) Global) → k < length xs → a ≡ get_or xs k a → elements xs ≡ elements (take k xs) ++ (a.value ++ elements (drop (suc k) xs))
-whole xs k a h e =
+pub whole : {A X : Type 0} (f : A → List X) (xs : List A) (k : ℕ) (a : A) → k < length xs → a ≡ get_or xs k a → flat_map f xs ≡ flat_map f (take k xs) ++ ((f a) ++ flat_map f (drop (suc k) xs))
+whole f xs k a h e =
     let more : drop k xs ≡ get_or xs k a ∷ drop (suc k) xs = rw (← add-one) (drop_more xs k a h) in
     let d : drop k xs ≡ a ∷ drop (suc k) xs = more ∙ ap (λ b. b ∷ drop (suc k) xs) (sym e) in
-    ap elements (sym (take-append-drop k xs)) ∙ joined (take k xs) (drop k xs) ∙ ap (λ ys. elements (take k xs) ++ elements ys) d
+    ap (flat_map f) (sym (take-append-drop k xs)) ∙ joined f (take k xs) (drop k xs) ∙ ap (λ ys. flat_map f (take k xs) ++ flat_map f ys) d
 
 -- the same where another stands in its place
-pub replaced : {X : Type 0} (xs : List (Arc (List X) Global)) (k : ℕ) (b : Arc (List X) Global) → k < length xs → elements (set xs k b) ≡ elements (take k xs) ++ (b.value ++ elements (drop (suc k) xs))
-replaced xs k b h = ap elements (set_split xs k b h) ∙ joined (take k xs) (b ∷ drop (suc k) xs)
+pub replaced : {A X : Type 0} (f : A → List X) (xs : List A) (k : ℕ) (b : A) → k < length xs → flat_map f (set xs k b) ≡ flat_map f (take k xs) ++ ((f b) ++ flat_map f (drop (suc k) xs))
+replaced f xs k b h = ap (flat_map f) (set_split xs k b h) ∙ joined f (take k xs) (b ∷ drop (suc k) xs)
 
 -- an element of the middle part of a list
 get_right : {X : Type 0} (low ys : List X) (i j : ℕ) → i ≡ length low + j → slice_get (low ++ ys) i ≡ slice_get ys j
@@ -38,21 +38,6 @@ get_left : {X : Type 0} (mid high : List X) (j : ℕ) → j < length mid → sli
 get_left [] high j h = absurd (omega arith)
 get_left (x ∷ mid) high zero h = refl
 get_left (x ∷ mid) high (suc j) h = get_left mid high j (omega arith)
-
-pub got : {X : Type 0} (all low mid high : List X) (i j : ℕ) (x : X) → all ≡ low ++ (mid ++ high) → i ≡ length low + j → j < length mid → slice_get mid j ≡ Some x → Some x ≡ slice_get all i
-got all low mid high i j x e at h is = rw e (sym is ∙ sym (get_left mid high j h) ∙ sym (get_right low (mid ++ high) i j at))
-
--- the last element is the last of the last chunk
-pub got_last : {X : Type 0} (xs : List (Arc (List X) Global)) (k j : ℕ) (a : Arc (List X) Global) (x : X) → k + 1 ≡ length xs → slice_get xs k ≡ Some a → j + 1 ≡ length a.value → slice_get a.value j ≡ Some x → Some x ≡ slice_get (elements xs) (length (elements xs) - 1)
-got_last xs k j a x n read m is =
-    let w = whole xs k a (omega arith) (sym (get_or_from_slice_get xs k a a read)) in
-    let none : drop (suc k) xs ≡ [] = drop_all (suc k) xs (omega arith) in
-    let empty : length (elements (drop (suc k) xs)) ≡ 0 = ap (λ ys. length (elements ys)) none in
-    let parts = length-append (elements (take k xs)) (a.value ++ elements (drop (suc k) xs)) in
-    let mid = length-append a.value (elements (drop (suc k) xs)) in
-    let len : length (elements xs) ≡ length (elements (take k xs)) + (length a.value + length (elements (drop (suc k) xs))) = ap length w ∙ parts ∙ ap (λ n. length (elements (take k xs)) + n) mid in
-    let at : length (elements xs) - 1 ≡ length (elements (take k xs)) + j = omega (arith, len, empty, m) in
-    got (elements xs) (elements (take k xs)) a.value (elements (drop (suc k) xs)) (length (elements xs) - 1) j x w at (omega arith) is
 
 -- what is before it, and from it on
 pub taken : {X : Type 0} (all low mid high : List X) (i j : ℕ) → all ≡ low ++ (mid ++ high) → i ≡ length low + j → j < length mid → take i all ≡ low ++ take j mid
@@ -79,45 +64,45 @@ gone_one (x ∷ (y ∷ mid)) j n h = absurd (omega arith)
 gone_one [] j n h = absurd (omega arith)
 
 -- more elements in the last chunk
-pub added : {X : Type 0} (xs : List (Arc (List X) Global)) (k : ℕ) (a b : Arc (List X) Global) (ys : List X) → k + 1 ≡ length xs → a ≡ get_or xs k a → b.value ≡ a.value ++ ys → elements (set xs k b) ≡ elements xs ++ ys
-added xs k a b ys n e v =
+pub added : {A X : Type 0} (f : A → List X) (xs : List A) (k : ℕ) (a b : A) (ys : List X) → k + 1 ≡ length xs → a ≡ get_or xs k a → (f b) ≡ (f a) ++ ys → flat_map f (set xs k b) ≡ flat_map f xs ++ ys
+added f xs k a b ys n e v =
     let none : drop (suc k) xs ≡ [] = drop_all (suc k) xs (omega arith) in
-    let r = replaced xs k b (omega arith) in
-    let w = whole xs k a (omega arith) e in
-    let empty : elements (drop (suc k) xs) ≡ [] = ap elements none in
-    let r' : elements (set xs k b) ≡ elements (take k xs) ++ (b.value ++ []) = rw empty at r in
-    let w' : elements xs ≡ elements (take k xs) ++ (a.value ++ []) = rw empty at w in
+    let r = replaced f xs k b (omega arith) in
+    let w = whole f xs k a (omega arith) e in
+    let empty : flat_map f (drop (suc k) xs) ≡ [] = ap (flat_map f) none in
+    let r' : flat_map f (set xs k b) ≡ flat_map f (take k xs) ++ ((f b) ++ []) = rw empty at r in
+    let w' : flat_map f xs ≡ flat_map f (take k xs) ++ ((f a) ++ []) = rw empty at w in
     rw (r', w', v) (simp (append-nil, append_assoc))
 
 -- one chunk in the place of two
-met_next : {X : Type 0} (xs : List (Arc (List X) Global)) (j : ℕ) (a b w : Arc (List X) Global) → suc j < length xs → a ≡ get_or xs j a → b ≡ get_or xs (suc j) b → w.value ≡ a.value ++ b.value → elements (remove (set xs j w) (suc j)) ≡ elements xs
-met_next [] j a b w h ea eb v = absurd (omega arith)
-met_next (x ∷ []) j a b w h ea eb v = absurd (omega arith)
-met_next (x ∷ (y ∷ xs)) zero a b w h ea eb v =
-    let s = append_assoc a.value b.value (elements xs) in
-    ap (λ ys. ys ++ elements xs) v ∙ s ∙ ap (λ c. c.value ++ (b.value ++ elements xs)) ea ∙ ap (λ c. x.value ++ (c.value ++ elements xs)) eb
-met_next (x ∷ (y ∷ xs)) (suc j) a b w h ea eb v = ap (λ ys. x.value ++ ys) (met_next (y ∷ xs) j a b w (omega arith) ea eb v)
+met_next : {A X : Type 0} (f : A → List X) (xs : List A) (j : ℕ) (a b w : A) → suc j < length xs → a ≡ get_or xs j a → b ≡ get_or xs (suc j) b → (f w) ≡ (f a) ++ (f b) → flat_map f (remove (set xs j w) (suc j)) ≡ flat_map f xs
+met_next f [] j a b w h ea eb v = absurd (omega arith)
+met_next f (x ∷ []) j a b w h ea eb v = absurd (omega arith)
+met_next f (x ∷ (y ∷ xs)) zero a b w h ea eb v =
+    let s = append_assoc (f a) (f b) (flat_map f xs) in
+    ap (λ ys. ys ++ flat_map f xs) v ∙ s ∙ ap (λ c. (f c) ++ ((f b) ++ flat_map f xs)) ea ∙ ap (λ c. (f x) ++ ((f c) ++ flat_map f xs)) eb
+met_next f (x ∷ (y ∷ xs)) (suc j) a b w h ea eb v = ap (λ ys. (f x) ++ ys) (met_next f (y ∷ xs) j a b w (omega arith) ea eb v)
 
-pub met : {X : Type 0} (xs : List (Arc (List X) Global)) (j k : ℕ) (a b w : Arc (List X) Global) → k ≡ suc j → k < length xs → a ≡ get_or xs j a → b ≡ get_or xs k b → w.value ≡ a.value ++ b.value → elements (remove (set xs j w) k) ≡ elements xs
-met xs j k a b w e h ea eb v =
+pub met : {A X : Type 0} (f : A → List X) (xs : List A) (j k : ℕ) (a b w : A) → k ≡ suc j → k < length xs → a ≡ get_or xs j a → b ≡ get_or xs k b → (f w) ≡ (f a) ++ (f b) → flat_map f (remove (set xs j w) k) ≡ flat_map f xs
+met f xs j k a b w e h ea eb v =
     let eb' : b ≡ get_or xs (suc j) b = rw e at eb in
-    rw e (met_next xs j a b w (omega arith) ea eb' v)
+    rw e (met_next f xs j a b w (omega arith) ea eb' v)
 
 -- the elements from a chunk on
-pub cut_between : {X : Type 0} (xs : List (Arc (List X) Global)) (k i : ℕ) → i ≡ length (elements (take k xs)) → drop i (elements xs) ≡ elements (drop k xs)
-cut_between xs k i e =
-    let parts : elements xs ≡ elements (take k xs) ++ elements (drop k xs) = ap elements (sym (take-append-drop k xs)) ∙ joined (take k xs) (drop k xs) in
-    rw parts (drop_at (elements (take k xs)) (elements (drop k xs)) i (sym e))
+pub cut_between : {A X : Type 0} (f : A → List X) (xs : List A) (k i : ℕ) → i ≡ length (flat_map f (take k xs)) → drop i (flat_map f xs) ≡ flat_map f (drop k xs)
+cut_between f xs k i e =
+    let parts : flat_map f xs ≡ flat_map f (take k xs) ++ flat_map f (drop k xs) = ap (flat_map f) (sym (take-append-drop k xs)) ∙ joined f (take k xs) (drop k xs) in
+    rw parts (drop_at (flat_map f (take k xs)) (flat_map f (drop k xs)) i (sym e))
 
 -- a chunk behind others
-pub ended : {X : Type 0} (xs : List (Arc (List X) Global)) (b : Arc (List X) Global) → elements (xs ++ b ∷ []) ≡ elements xs ++ b.value
-ended xs b = joined xs (b ∷ []) ∙ ap (λ ys. elements xs ++ ys) (append-nil b.value)
+pub ended : {A X : Type 0} (f : A → List X) (xs : List A) (b : A) → flat_map f (xs ++ b ∷ []) ≡ flat_map f xs ++ (f b)
+ended f xs b = joined f xs (b ∷ []) ∙ ap (λ ys. flat_map f xs ++ ys) (append-nil (f b))
 
 -- another first chunk from a chunk on
-pub begun : {X : Type 0} (xs : List (Arc (List X) Global)) (k : ℕ) (b : Arc (List X) Global) → k < length xs → elements (set (drop k xs) 0 b) ≡ b.value ++ elements (drop (suc k) xs)
-begun [] k b h = absurd (omega arith)
-begun (x ∷ xs) zero b h = refl
-begun (x ∷ xs) (suc k) b h = begun xs k b (omega arith)
+pub begun : {A X : Type 0} (f : A → List X) (xs : List A) (k : ℕ) (b : A) → k < length xs → flat_map f (set (drop k xs) 0 b) ≡ (f b) ++ flat_map f (drop (suc k) xs)
+begun f [] k b h = absurd (omega arith)
+begun f (x ∷ xs) zero b h = refl
+begun f (x ∷ xs) (suc k) b h = begun f xs k b (omega arith)
 
 -- what items with one more own
 pub inserted : {X : Type 0} (xs : List (Arc X Global)) (i : ℕ) (x : Arc X Global) → values (insert xs i x) ≡ insert (values xs) i x.value
@@ -130,13 +115,13 @@ put_together xs a b d i x front one rest =
     rw (rest, more, front) (simp (append_assoc, take-map, drop-map))
 
 -- one more element at the end of the last chunk
-pub added_one : {X : Type 0} (xs : List (Arc (List X) Global)) (k n : ℕ) (a b : Arc (List X) Global) (y : X) → k + 1 ≡ length xs → a ≡ get_or xs k a → n ≡ length a.value → b.value ≡ insert a.value n y → elements (set xs k b) ≡ elements xs ++ y ∷ []
-added_one xs k n a b y last read m put =
-    added xs k a b (y ∷ []) last read (put ∙ ap (λ i. insert a.value i y) m ∙ insert_end a.value y)
+pub added_one : {A X : Type 0} (f : A → List X) (xs : List A) (k n : ℕ) (a b : A) (y : X) → k + 1 ≡ length xs → a ≡ get_or xs k a → n ≡ length (f a) → (f b) ≡ insert (f a) n y → flat_map f (set xs k b) ≡ flat_map f xs ++ y ∷ []
+added_one f xs k n a b y last read m put =
+    added f xs k a b (y ∷ []) last read (put ∙ ap (λ i. insert (f a) i y) m ∙ insert_end (f a) y)
 
 -- other elements of the same values
-pub kept : {X : Type 0} (xs : List (Arc (List X) Global)) (k : ℕ) (a b : Arc (List X) Global) → k < length xs → a ≡ get_or xs k a → b.value ≡ a.value → elements (set xs k b) ≡ elements xs
-kept xs k a b h read same = replaced xs k b h ∙ ap (λ v. elements (take k xs) ++ (v ++ elements (drop (suc k) xs))) same ∙ sym (whole xs k a h read)
+pub kept : {A X : Type 0} (f : A → List X) (xs : List A) (k : ℕ) (a b : A) → k < length xs → a ≡ get_or xs k a → (f b) ≡ (f a) → flat_map f (set xs k b) ≡ flat_map f xs
+kept f xs k a b h read same = replaced f xs k b h ∙ ap (λ v. flat_map f (take k xs) ++ (v ++ flat_map f (drop (suc k) xs))) same ∙ sym (whole f xs k a h read)
 
 -- two reads of one chunk
 pub read_same : {X : Type 0} (xs : List X) (k : ℕ) (a b : X) → k < length xs → a ≡ get_or xs k a → b ≡ get_or xs k b → a ≡ b
@@ -150,26 +135,26 @@ inserted_between all low mid high i y e h =
     rw e (insert-append_right low (mid ++ high) (length low) (length low + i) y refl beyond ∙ ap (λ j. low ++ insert (mid ++ high) j y) rest ∙ ap (λ ys. low ++ ys) (insert-append_left mid high i y h))
 
 -- one more element in a chunk
-pub put_within : {X : Type 0} (xs : List (Arc (List X) Global)) (k i : ℕ) (a b : Arc (List X) Global) (y : X) → k < length xs → a ≡ get_or xs k a → i ≤ length a.value → b.value ≡ insert a.value i y → elements (set xs k b) ≡ insert (elements xs) (length (elements (take k xs)) + i) y
-put_within xs k i a b y h read within put =
-    replaced xs k b h
-    ∙ ap (λ v. elements (take k xs) ++ (v ++ elements (drop (suc k) xs))) put
-    ∙ sym (inserted_between (elements xs) (elements (take k xs)) a.value (elements (drop (suc k) xs)) i y (whole xs k a h read) within)
+pub put_within : {A X : Type 0} (f : A → List X) (xs : List A) (k i : ℕ) (a b : A) (y : X) → k < length xs → a ≡ get_or xs k a → i ≤ length (f a) → (f b) ≡ insert (f a) i y → flat_map f (set xs k b) ≡ insert (flat_map f xs) (length (flat_map f (take k xs)) + i) y
+put_within f xs k i a b y h read within put =
+    replaced f xs k b h
+    ∙ ap (λ v. flat_map f (take k xs) ++ (v ++ flat_map f (drop (suc k) xs))) put
+    ∙ sym (inserted_between (flat_map f xs) (flat_map f (take k xs)) (f a) (flat_map f (drop (suc k) xs)) i y (whole f xs k a h read) within)
 
 -- two chunks in the place of one
-two_for_one : {X : Type 0} (xs : List (Arc (List X) Global)) (k : ℕ) (low high : Arc (List X) Global) → k < length xs → elements (set (insert xs (suc k) high) k low) ≡ elements (take k xs) ++ ((low.value ++ high.value) ++ elements (drop (suc k) xs))
-two_for_one [] k low high h = absurd (omega arith)
-two_for_one (x ∷ xs) zero low high h = sym (append_assoc low.value high.value (elements xs))
-two_for_one (x ∷ xs) (suc k) low high h =
-    ap (λ ys. x.value ++ ys) (two_for_one xs k low high (omega arith))
-    ∙ sym (append_assoc x.value (elements (take k xs)) ((low.value ++ high.value) ++ elements (drop (suc k) xs)))
+two_for_one : {A X : Type 0} (f : A → List X) (xs : List A) (k : ℕ) (low high : A) → k < length xs → flat_map f (set (insert xs (suc k) high) k low) ≡ flat_map f (take k xs) ++ ((f low ++ f high) ++ flat_map f (drop (suc k) xs))
+two_for_one f [] k low high h = absurd (omega arith)
+two_for_one f (x ∷ xs) zero low high h = sym (append_assoc (f low) (f high) (flat_map f xs))
+two_for_one f (x ∷ xs) (suc k) low high h =
+    ap (λ ys. (f x) ++ ys) (two_for_one f xs k low high (omega arith))
+    ∙ sym (append_assoc (f x) (flat_map f (take k xs)) ((f low ++ f high) ++ flat_map f (drop (suc k) xs)))
 
-pub split_within : {X : Type 0} (xs : List (Arc (List X) Global)) (k n i : ℕ) (a low high : Arc (List X) Global) (y : X) → n ≡ suc k → k < length xs → a ≡ get_or xs k a → i ≤ length a.value → low.value ++ high.value ≡ insert a.value i y → elements (set (insert xs n high) k low) ≡ insert (elements xs) (length (elements (take k xs)) + i) y
-split_within xs k n i a low high y next h read within put =
-    ap (λ m. elements (set (insert xs m high) k low)) next
-    ∙ two_for_one xs k low high h
-    ∙ ap (λ v. elements (take k xs) ++ (v ++ elements (drop (suc k) xs))) put
-    ∙ sym (inserted_between (elements xs) (elements (take k xs)) a.value (elements (drop (suc k) xs)) i y (whole xs k a h read) within)
+pub split_within : {A X : Type 0} (f : A → List X) (xs : List A) (k n i : ℕ) (a low high : A) (y : X) → n ≡ suc k → k < length xs → a ≡ get_or xs k a → i ≤ length (f a) → f low ++ f high ≡ insert (f a) i y → flat_map f (set (insert xs n high) k low) ≡ insert (flat_map f xs) (length (flat_map f (take k xs)) + i) y
+split_within f xs k n i a low high y next h read within put =
+    ap (λ m. flat_map f (set (insert xs m high) k low)) next
+    ∙ two_for_one f xs k low high h
+    ∙ ap (λ v. flat_map f (take k xs) ++ (v ++ flat_map f (drop (suc k) xs))) put
+    ∙ sym (inserted_between (flat_map f xs) (flat_map f (take k xs)) (f a) (flat_map f (drop (suc k) xs)) i y (whole f xs k a h read) within)
 
 -- one more element in either part of a list
 module _ {X : Type 0} (s low high : List X) (n i : ℕ) (y : X) (front : low ≡ take n s) (back : high ≡ drop n s) (within : n ≤ length s) where
@@ -198,30 +183,35 @@ set_between all low mid high i y e h =
     rw e (set-append_right low (mid ++ high) (length low) (length low + i) y refl beyond ∙ ap (λ j. low ++ set (mid ++ high) j y) rest ∙ ap (λ ys. low ++ ys) (set-append_left mid high i y h))
 
 -- another element in a chunk
-pub set_within : {X : Type 0} (xs : List (Arc (List X) Global)) (k i : ℕ) (a b : Arc (List X) Global) (y : X) → k < length xs → a ≡ get_or xs k a → i < length a.value → b.value ≡ set a.value i y → elements (set xs k b) ≡ set (elements xs) (length (elements (take k xs)) + i) y
-set_within xs k i a b y h read within put =
-    replaced xs k b h
-    ∙ ap (λ v. elements (take k xs) ++ (v ++ elements (drop (suc k) xs))) put
-    ∙ sym (set_between (elements xs) (elements (take k xs)) a.value (elements (drop (suc k) xs)) i y (whole xs k a h read) within)
+pub set_within : {A X : Type 0} (f : A → List X) (xs : List A) (k i : ℕ) (a b : A) (y : X) → k < length xs → a ≡ get_or xs k a → i < length (f a) → (f b) ≡ set (f a) i y → flat_map f (set xs k b) ≡ set (flat_map f xs) (length (flat_map f (take k xs)) + i) y
+set_within f xs k i a b y h read within put =
+    replaced f xs k b h
+    ∙ ap (λ v. flat_map f (take k xs) ++ (v ++ flat_map f (drop (suc k) xs))) put
+    ∙ sym (set_between (flat_map f xs) (flat_map f (take k xs)) (f a) (flat_map f (drop (suc k) xs)) i y (whole f xs k a h read) within)
 
 -- a chunk without one of its elements
-pub gone_within : {X : Type 0} (xs : List (Arc (List X) Global)) (k i : ℕ) (a b : Arc (List X) Global) → k < length xs → a ≡ get_or xs k a → i < length a.value → b.value ≡ remove a.value i → elements (set xs k b) ≡ remove (elements xs) (length (elements (take k xs)) + i)
-gone_within xs k i a b h read within rest =
-    replaced xs k b h
-    ∙ ap (λ v. elements (take k xs) ++ (v ++ elements (drop (suc k) xs))) rest
-    ∙ sym (gone (elements xs) (elements (take k xs)) a.value (elements (drop (suc k) xs)) (length (elements (take k xs)) + i) i (whole xs k a h read) refl within)
+pub gone_within : {A X : Type 0} (f : A → List X) (xs : List A) (k i : ℕ) (a b : A) → k < length xs → a ≡ get_or xs k a → i < length (f a) → (f b) ≡ remove (f a) i → flat_map f (set xs k b) ≡ remove (flat_map f xs) (length (flat_map f (take k xs)) + i)
+gone_within f xs k i a b h read within rest =
+    replaced f xs k b h
+    ∙ ap (λ v. flat_map f (take k xs) ++ (v ++ flat_map f (drop (suc k) xs))) rest
+    ∙ sym (gone (flat_map f xs) (flat_map f (take k xs)) (f a) (flat_map f (drop (suc k) xs)) (length (flat_map f (take k xs)) + i) i (whole f xs k a h read) refl within)
 
 -- without a chunk of one
-pub gone_whole : {X : Type 0} (xs : List (Arc (List X) Global)) (k i : ℕ) (a : Arc (List X) Global) → k < length xs → a ≡ get_or xs k a → i < length a.value → length a.value ≡ 1 → elements (remove xs k) ≡ remove (elements xs) (length (elements (take k xs)) + i)
-gone_whole xs k i a h read within one =
-    joined (take k xs) (drop (suc k) xs)
-    ∙ ap (λ v. elements (take k xs) ++ (v ++ elements (drop (suc k) xs))) (sym (gone_one a.value i one within))
-    ∙ sym (gone (elements xs) (elements (take k xs)) a.value (elements (drop (suc k) xs)) (length (elements (take k xs)) + i) i (whole xs k a h read) refl within)
+pub gone_whole : {A X : Type 0} (f : A → List X) (xs : List A) (k i : ℕ) (a : A) → k < length xs → a ≡ get_or xs k a → i < length (f a) → length (f a) ≡ 1 → flat_map f (remove xs k) ≡ remove (flat_map f xs) (length (flat_map f (take k xs)) + i)
+gone_whole f xs k i a h read within one =
+    joined f (take k xs) (drop (suc k) xs)
+    ∙ ap (λ v. flat_map f (take k xs) ++ (v ++ flat_map f (drop (suc k) xs))) (sym (gone_one (f a) i one within))
+    ∙ sym (gone (flat_map f xs) (flat_map f (take k xs)) (f a) (flat_map f (drop (suc k) xs)) (length (flat_map f (take k xs)) + i) i (whole f xs k a h read) refl within)
 
 -- the element at a place
-pub got_within : {X : Type 0} (xs : List (Arc (List X) Global)) (k i : ℕ) (a : Arc (List X) Global) (y : X) → k < length xs → a ≡ get_or xs k a → i < length a.value → slice_get a.value i ≡ Some y → slice_get (elements xs) (length (elements (take k xs)) + i) ≡ Some y
-got_within xs k i a y h read within is =
-    sym (got (elements xs) (elements (take k xs)) a.value (elements (drop (suc k) xs)) (length (elements (take k xs)) + i) i y (whole xs k a h read) refl within is)
+pub at_within : {A X : Type 0} (f : A → List X) (xs : List A) (k i : ℕ) (a : A) → k < length xs → a ≡ get_or xs k a → i < length (f a) → slice_get (flat_map f xs) (length (flat_map f (take k xs)) + i) ≡ slice_get (f a) i
+at_within f xs k i a h read within =
+    let low = flat_map f (take k xs) in
+    let high = flat_map f (drop (suc k) xs) in
+    ap (λ ys. slice_get ys (length low + i)) (whole f xs k a h read) ∙ get_right low (f a ++ high) (length low + i) i refl ∙ get_left (f a) high i within
+
+pub got_within : {A X : Type 0} (f : A → List X) (xs : List A) (k i : ℕ) (a : A) (y : X) → k < length xs → a ≡ get_or xs k a → i < length (f a) → slice_get (f a) i ≡ Some y → slice_get (flat_map f xs) (length (flat_map f (take k xs)) + i) ≡ Some y
+got_within f xs k i a y h read within is = at_within f xs k i a h read within ∙ is
 
 -- what items own, by index
 pub set_values : {X : Type 0} (xs : List (Arc X Global)) (i : ℕ) (x : Arc X Global) → values (set xs i x) ≡ set (values xs) i x.value
@@ -236,10 +226,10 @@ got_value (x ∷ xs) zero a h e = ap (λ (b : Arc _ Global). Some b.value) (sym 
 got_value (x ∷ xs) (suc i) a h e = got_value xs i a (omega arith) e
 
 -- the elements before a chunk
-pub taken_between : {X : Type 0} (xs : List (Arc (List X) Global)) (k i : ℕ) → i ≡ length (elements (take k xs)) → take i (elements xs) ≡ elements (take k xs)
-taken_between xs k i e =
-    let parts : elements xs ≡ elements (take k xs) ++ elements (drop k xs) = ap elements (sym (take-append-drop k xs)) ∙ joined (take k xs) (drop k xs) in
-    rw parts (take_at (elements (take k xs)) (elements (drop k xs)) i (sym e))
+pub taken_between : {A X : Type 0} (f : A → List X) (xs : List A) (k i : ℕ) → i ≡ length (flat_map f (take k xs)) → take i (flat_map f xs) ≡ flat_map f (take k xs)
+taken_between f xs k i e =
+    let parts : flat_map f xs ≡ flat_map f (take k xs) ++ flat_map f (drop k xs) = ap (flat_map f) (sym (take-append-drop k xs)) ∙ joined f (take k xs) (drop k xs) in
+    rw parts (take_at (flat_map f (take k xs)) (flat_map f (drop k xs)) i (sym e))
 
 -- a list is what the removal of its last element leaves, and that
 pub popped : {X : Type 0} (all : List X) (i : ℕ) (y : X) → length all ≡ i + 1 → slice_get all i ≡ Some y → all ≡ remove all i ++ y ∷ []
@@ -247,3 +237,15 @@ popped [] i y n e = absurd (omega arith)
 popped (x ∷ []) zero y n e = let same : x ≡ y = cc in ap (λ z. z ∷ []) same
 popped (x ∷ (z ∷ zs)) zero y n e = absurd (omega arith)
 popped (x ∷ xs) (suc i) y n e = ap (λ ys. x ∷ ys) (popped xs i y (omega arith) e)
+
+-- another owner of the same value
+pub kept_values : {X : Type 0} (xs : List (Arc X Global)) (i : ℕ) (a b : Arc X Global) → i < length xs → a ≡ get_or xs i a → b.value ≡ a.value → values (set xs i b) ≡ values xs
+kept_values [] i a b h read same = absurd (omega arith)
+kept_values (x ∷ xs) zero a b h read same = ap (λ v. v ∷ values xs) (same ∙ ap (λ c. c.value) read)
+kept_values (x ∷ xs) (suc i) a b h read same = ap (λ vs. x.value ∷ vs) (kept_values xs i a b (omega arith) read same)
+
+-- there is an element at each index below the length
+pub is_there : {X : Type 0} (xs : List X) (i : ℕ) → i < length xs → (x : X) × (slice_get xs i ≡ Some x)
+is_there [] i h = absurd (omega arith)
+is_there (x ∷ xs) zero h = (x, refl)
+is_there (x ∷ xs) (suc i) h = is_there xs i (omega arith)

@@ -1,20 +1,22 @@
 -- The place of the first element that a test doesn't pass, among chunks.
 use Rattle.std.proofs.Common.{◌≡◌, ℕ, zero, suc, ◌+◌, ◌-◌, ◌<◌, ◌≤◌, Bool, true, false, List, [], ◌∷◌, ◌++◌, length, take, drop, get_or, slice_get, Some, refl, sym, ap, ◌∙◌, arith, true≢false, inl, inr}
 use Rattle.std.proofs.lemmas.Bool.{cases_lt}
-use Rattle.std.proofs.lemmas.List.{take_all, length-map, length-append, length-take-le, get_or_default, get_or_append_left, get_or-append-add, get_or-take, get_or-map}
+use Rattle.std.proofs.lemmas.List.{take_all, length-map, length-append, length-drop, length-take-le, get_or_default, get_or_append_left, get_or-append-add, get_or-take, get_or-map}
+use Rattle.std.proofs.lemmas.Option.{get_or_from_slice_get}
 use Rattle.std.specs.List.Sorted.{IsPartitionedBy, IsPartitionPoint}
+use Rattle.std.specs.List.{flat_map}
 use Rattle.std.specs.Fn.{Called, AlwaysReturns}
 use Rattle.std.specs.Global.{Global}
 use Rattle.std.specs.declared.sync.Arc.{Arc}
 use denote.Param.Members.{Mut}
-use Rattle.shared_list.specs.Elements.{values, elements}
+use Rattle.shared_list.specs.Elements.{values}
 use Rattle.shared_list.specs.Places.{ends}
 use Rattle.shared_list.proofs.Chunks.{whole}
 
 -- the chunk before place low ends with an element that passes, and that at place high with one that doesn't
-pub record IsCut {X : Type 0} (p : X → Bool) (xs : List (Arc (List X) Global)) (low high : ℕ) : Type 0 where
-  pub before : (j : ℕ) (a : Arc (List X) Global) → low ≡ suc j → ends p (get_or xs j a).value ≡ true
-  pub after : (a : Arc (List X) Global) → high < length xs → ends p (get_or xs high a).value ≡ false
+pub record IsCut {A X : Type 0} (f : A → List X) (p : X → Bool) (xs : List A) (low high : ℕ) : Type 0 where
+  pub before : (j : ℕ) (a : A) → low ≡ suc j → ends p (f (get_or xs j a)) ≡ true
+  pub after : (a : A) → high < length xs → ends p (f (get_or xs high a)) ≡ false
 
 -- one call of a test
 pub answered : {F A R : Type 0} (g : Mut F A R) (P : A → R → Type 0) (f : F) (a : A) (r : R) (f' : F) → Called g f a r f' → AlwaysReturns g P f → P a r
@@ -70,93 +72,108 @@ ends_some p [] e = absurd (true≢false (sym e))
 ends_some p (x ∷ xs) e = omega arith
 
 -- an element of a chunk, among all
-element : {X : Type 0} (xs : List (Arc (List X) Global)) (k i : ℕ) (a : Arc (List X) Global) (d : X) → k < length xs → a ≡ get_or xs k a → i < length a.value → get_or (elements xs) (length (elements (take k xs)) + i) d ≡ get_or a.value i d
-element xs k i a d h read within =
-    ap (λ ys. get_or ys (length (elements (take k xs)) + i) d) (whole xs k a h read)
-    ∙ get_or-append-add (elements (take k xs)) (a.value ++ elements (drop (suc k) xs)) i d
-    ∙ get_or_append_left a.value (elements (drop (suc k) xs)) d i within
+element : {A X : Type 0} (f : A → List X) (xs : List A) (k i : ℕ) (a : A) (d : X) → k < length xs → a ≡ get_or xs k a → i < length (f a) → get_or (flat_map f xs) (length (flat_map f (take k xs)) + i) d ≡ get_or (f a) i d
+element f xs k i a d h read within =
+    ap (λ ys. get_or ys (length (flat_map f (take k xs)) + i) d) (whole f xs k a h read)
+    ∙ get_or-append-add (flat_map f (take k xs)) ((f a) ++ flat_map f (drop (suc k) xs)) i d
+    ∙ get_or_append_left (f a) (flat_map f (drop (suc k) xs)) d i within
 
-pub long : {X : Type 0} (xs : List (Arc (List X) Global)) (k : ℕ) (a : Arc (List X) Global) → k < length xs → a ≡ get_or xs k a → length (elements (take k xs)) + length a.value ≤ length (elements xs)
-long xs k a h read = omega (arith, ap length (whole xs k a h read), length-append (elements (take k xs)) (a.value ++ elements (drop (suc k) xs)), length-append a.value (elements (drop (suc k) xs)))
+pub long : {A X : Type 0} (f : A → List X) (xs : List A) (k : ℕ) (a : A) → k < length xs → a ≡ get_or xs k a → length (flat_map f (take k xs)) + length (f a) ≤ length (flat_map f xs)
+long f xs k a h read = omega (arith, ap length (whole f xs k a h read), length-append (flat_map f (take k xs)) ((f a) ++ flat_map f (drop (suc k) xs)), length-append (f a) (flat_map f (drop (suc k) xs)))
 
-pub inside : {X : Type 0} (xs : List (Arc (List X) Global)) (k i : ℕ) → k < length xs → ((a : Arc (List X) Global) → i < length (get_or xs k a).value) → length (elements (take k xs)) + i < length (elements xs)
-inside [] k i h within = absurd (omega arith)
-inside (x ∷ xs) k i h within =
+pub inside : {A X : Type 0} (f : A → List X) (xs : List A) (k i : ℕ) → k < length xs → ((a : A) → i < length (f (get_or xs k a))) → length (flat_map f (take k xs)) + i < length (flat_map f xs)
+inside f [] k i h within = absurd (omega arith)
+inside f (x ∷ xs) k i h within =
     let a = get_or (x ∷ xs) k x in
-    omega (arith, long (x ∷ xs) k a h (get_or_default (x ∷ xs) k x a h), within x)
+    omega (arith, long f (x ∷ xs) k a h (get_or_default (x ∷ xs) k x a h), within x)
 
-taken_more : {X : Type 0} (xs : List (Arc (List X) Global)) (j : ℕ) (a : Arc (List X) Global) → j < length xs → a ≡ get_or xs j a → length (elements (take (suc j) xs)) ≡ length (elements (take j xs)) + length a.value
-taken_more [] j a h read = absurd (omega arith)
-taken_more (x ∷ xs) zero a h read = length-append x.value [] ∙ ap (λ (b : Arc _ Global). length b.value + 0) (sym read) ∙ omega arith
-taken_more (x ∷ xs) (suc j) a h read =
-    let rest = taken_more xs j a (omega arith) read in
-    omega (arith, rest, length-append x.value (elements (take (suc j) xs)), length-append x.value (elements (take j xs)))
+pub taken_more : {A X : Type 0} (f : A → List X) (xs : List A) (j : ℕ) (a : A) → j < length xs → a ≡ get_or xs j a → length (flat_map f (take (suc j) xs)) ≡ length (flat_map f (take j xs)) + length (f a)
+taken_more f [] j a h read = absurd (omega arith)
+taken_more f (x ∷ xs) zero a h read = length-append (f x) [] ∙ ap (λ b. length (f b) + 0) (sym read) ∙ omega arith
+taken_more f (x ∷ xs) (suc j) a h read =
+    let rest = taken_more f xs j a (omega arith) read in
+    omega (arith, rest, length-append (f x) (flat_map f (take (suc j) xs)), length-append (f x) (flat_map f (take j xs)))
+
+-- where a walk over chunks has come
+pub reached : {X : Type 0} (xs : List X) (k : ℕ) (x : X) (ys : List X) → drop k xs ≡ x ∷ ys → (k < length xs) × (x ≡ get_or xs k x) × (drop (suc k) xs ≡ ys)
+reached [] zero x ys e = cc
+reached [] (suc k) x ys e = cc
+reached (z ∷ xs) zero x ys e = (omega arith, cc, cc)
+reached (z ∷ xs) (suc k) x ys e = let r = reached xs k x ys e in (omega arith, r.1, r.2)
+
+-- a walk that is over
+pub walked : {X : Type 0} (xs : List X) (k : ℕ) → drop k xs ≡ [] → length xs ≤ k
+walked xs k e = omega (arith, ap length e, length-drop k xs)
+
+-- a read of a list, whatever stands for what isn't there
+pub read_of : {X : Type 0} (xs : List X) (k : ℕ) (x : X) → slice_get xs k ≡ Some x → (d : X) → x ≡ get_or xs k d
+read_of xs k x e d = sym (get_or_from_slice_get xs k x d e)
 
 -- the last element before a chunk passes
-before_chunk : {X : Type 0} (p : X → Bool) (xs : List (Arc (List X) Global)) (k : ℕ) → k ≤ length xs → ((j : ℕ) (a : Arc (List X) Global) → k ≡ suc j → ends p (get_or xs j a).value ≡ true) → (j : ℕ) (d : X) → length (elements (take k xs)) ≡ suc j → p (get_or (elements xs) j d) ≡ true
-before_chunk p xs zero le before j d e = absurd (omega arith)
-before_chunk p [] (suc k) le before j d e = absurd (omega arith)
-before_chunk p (x ∷ xs) (suc k) le before j d e =
+before_chunk : {A X : Type 0} (f : A → List X) (p : X → Bool) (xs : List A) (k : ℕ) → k ≤ length xs → ((j : ℕ) (a : A) → k ≡ suc j → ends p (f (get_or xs j a)) ≡ true) → (j : ℕ) (d : X) → length (flat_map f (take k xs)) ≡ suc j → p (get_or (flat_map f xs) j d) ≡ true
+before_chunk f p xs zero le before j d e = absurd (omega arith)
+before_chunk f p [] (suc k) le before j d e = absurd (omega arith)
+before_chunk f p (x ∷ xs) (suc k) le before j d e =
     let all = x ∷ xs in
     let a = get_or all k x in
     let within : k < length all = omega arith in
     let read : a ≡ get_or all k a = get_or_default all k x a within in
     let passes = before k x refl in
-    let some = ends_some p a.value passes in
-    let at : j ≡ length (elements (take k all)) + (length a.value - 1) = omega (arith, taken_more all k a within read) in
-    ap (λ i. p (get_or (elements all) i d)) at ∙ ap p (element all k (length a.value - 1) a d within read (omega arith)) ∙ sym (ends_at p a.value d some) ∙ passes
+    let some = ends_some p (f a) passes in
+    let at : j ≡ length (flat_map f (take k all)) + (length (f a) - 1) = omega (arith, taken_more f all k a within read) in
+    ap (λ i. p (get_or (flat_map f all) i d)) at ∙ ap p (element f all k (length (f a) - 1) a d within read (omega arith)) ∙ sym (ends_at p (f a) d some) ∙ passes
 
 -- where all pass
-pub none_left : {X : Type 0} (p : X → Bool) (xs : List (Arc (List X) Global)) (k : ℕ) → IsPartitionedBy p (elements xs) → k ≡ length xs → IsCut p xs k k → IsPartitionPoint (λ y. p y ≡ true) (λ y. p y ≡ false) (elements xs) (length (elements xs))
-none_left p xs k parts end cut =
-    let all : elements (take k xs) ≡ elements xs = ap elements (take_all k xs (omega arith)) in
-    point_from p (elements xs) (length (elements xs)) parts (omega arith)
-    (λ j d e. before_chunk p xs k (omega arith) cut.before j d (ap length all ∙ e))
+pub none_left : {A X : Type 0} (f : A → List X) (p : X → Bool) (xs : List A) (k : ℕ) → IsPartitionedBy p (flat_map f xs) → k ≡ length xs → IsCut f p xs k k → IsPartitionPoint (λ y. p y ≡ true) (λ y. p y ≡ false) (flat_map f xs) (length (flat_map f xs))
+none_left f p xs k parts end cut =
+    let all : flat_map f (take k xs) ≡ flat_map f xs = ap (flat_map f) (take_all k xs (omega arith)) in
+    point_from p (flat_map f xs) (length (flat_map f xs)) parts (omega arith)
+    (λ j d e. before_chunk f p xs k (omega arith) cut.before j d (ap length all ∙ e))
     (λ lt d. absurd (omega arith))
 
-module _ {X : Type 0} (p : X → Bool) (xs : List (Arc (List X) Global)) (k i n : ℕ) (a : Arc (List X) Global) (parts : IsPartitionedBy p (elements xs))
-    (h : k < length xs) (read : a ≡ get_or xs k a) (last : length a.value ≡ n + 1) where
-  fits : n ≤ length a.value
+module _ {A X : Type 0} (f : A → List X) (p : X → Bool) (xs : List A) (k i n : ℕ) (a : A) (parts : IsPartitionedBy p (flat_map f xs))
+    (h : k < length xs) (read : a ≡ get_or xs k a) (last : length (f a) ≡ n + 1) where
+  fits : n ≤ length (f a)
   fits = omega arith
 
-  short : length (take n a.value) ≡ n
-  short = length-take-le n a.value fits
+  short : length (take n (f a)) ≡ n
+  short = length-take-le n (f a) fits
 
-  inner : (m : ℕ) (d : X) → m < n → get_or (elements xs) (length (elements (take k xs)) + m) d ≡ get_or (take n a.value) m d
-  inner m d lt = element xs k m a d h read (omega arith) ∙ sym (get_or-take n a.value m d lt)
+  inner : (m : ℕ) (d : X) → m < n → get_or (flat_map f xs) (length (flat_map f (take k xs)) + m) d ≡ get_or (take n (f a)) m d
+  inner m d lt = element f xs k m a d h read (omega arith) ∙ sym (get_or-take n (f a) m d lt)
 
   -- the elements of a chunk but the last are partitioned as all are
-  pub parts_within : IsPartitionedBy p (take n a.value)
+  pub parts_within : IsPartitionedBy p (take n (f a))
   parts_within r s d le lt e =
-      let low = length (elements (take k xs)) in
+      let low = length (flat_map f (take k xs)) in
       let hs : s < n = omega (arith, short) in
-      let inside : low + s < length (elements xs) = omega (arith, long xs k a h read) in
+      let inside : low + s < length (flat_map f xs) = omega (arith, long f xs k a h read) in
       let all = parts (low + r) (low + s) d (omega arith) inside (ap p (inner s d hs) ∙ e) in
       sym (ap p (inner r d (omega arith))) ∙ all
 
-  behind : IsCut p xs k k → (i : ℕ) → i ≤ n → ((m : ℕ) (d : X) → m < i → p (get_or (take n a.value) m d) ≡ true) → (j : ℕ) (d : X) → length (elements (take k xs)) + i ≡ suc j → p (get_or (elements xs) j d) ≡ true
-  behind cut zero le all j d e = before_chunk p xs k (omega arith) cut.before j d (omega arith)
+  behind : IsCut f p xs k k → (i : ℕ) → i ≤ n → ((m : ℕ) (d : X) → m < i → p (get_or (take n (f a)) m d) ≡ true) → (j : ℕ) (d : X) → length (flat_map f (take k xs)) + i ≡ suc j → p (get_or (flat_map f xs) j d) ≡ true
+  behind cut zero le all j d e = before_chunk f p xs k (omega arith) cut.before j d (omega arith)
   behind cut (suc m) le all j d e =
-      let at : j ≡ length (elements (take k xs)) + m = omega arith in
-      ap (λ z. p (get_or (elements xs) z d)) at ∙ ap p (inner m d (omega arith)) ∙ all m d (omega arith)
+      let at : j ≡ length (flat_map f (take k xs)) + m = omega arith in
+      ap (λ z. p (get_or (flat_map f xs) z d)) at ∙ ap p (inner m d (omega arith)) ∙ all m d (omega arith)
 
-  last_fails : IsCut p xs k k → (d : X) → p (get_or a.value n d) ≡ false
+  last_fails : IsCut f p xs k k → (d : X) → p (get_or (f a) n d) ≡ false
   last_fails cut d =
-      let at : length a.value - 1 ≡ n = omega arith in
-      ap (λ z. p (get_or a.value z d)) (sym at)
-      ∙ sym (ends_at p a.value d (omega arith))
-      ∙ ap (λ (b : Arc (List X) Global). ends p b.value) read
+      let at : length (f a) - 1 ≡ n = omega arith in
+      ap (λ z. p (get_or (f a) z d)) (sym at)
+      ∙ sym (ends_at p (f a) d (omega arith))
+      ∙ ap (λ b. ends p (f b)) read
       ∙ cut.after a h
 
   -- the point among them is that among all
-  pub placed : (i : ℕ) → IsCut p xs k k → i ≤ n → IsPartitionPoint (λ y. p y ≡ true) (λ y. p y ≡ false) (take n a.value) i → IsPartitionPoint (λ y. p y ≡ true) (λ y. p y ≡ false) (elements xs) (length (elements (take k xs)) + i)
+  pub placed : (i : ℕ) → IsCut f p xs k k → i ≤ n → IsPartitionPoint (λ y. p y ≡ true) (λ y. p y ≡ false) (take n (f a)) i → IsPartitionPoint (λ y. p y ≡ true) (λ y. p y ≡ false) (flat_map f xs) (length (flat_map f (take k xs)) + i)
   placed i cut le point =
-      let low = length (elements (take k xs)) in
-      point_from p (elements xs) (low + i) parts (omega (arith, long xs k a h read))
+      let low = length (flat_map f (take k xs)) in
+      point_from p (flat_map f xs) (low + i) parts (omega (arith, long f xs k a h read))
       (behind cut i le (λ m d lt. point.0 m d (omega arith) lt))
       (λ lt d. elim (cases_lt i n) [
         | inl less ↦ ap p (inner i d less) ∙ point.1 i d (omega arith) (omega (arith, short))
         | inr ge ↦
             let end : i ≡ n = omega arith in
-            ap p (element xs k i a d h read (omega arith)) ∙ ap (λ z. p (get_or a.value z d)) end ∙ last_fails cut d
+            ap p (element f xs k i a d h read (omega arith)) ∙ ap (λ z. p (get_or (f a) z d)) end ∙ last_fails cut d
       ])

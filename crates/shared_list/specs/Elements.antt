@@ -11,3 +11,7 @@ values = map (λ a. a.value)
 -- the elements of shared chunks, one chunk after the other
 abbrev pub elements : {X : Type 0} → List (Arc (List X) Global) → List X
 elements = flat_map (λ a. a.value)
+
+-- the elements of chunks that are seen by their own, one chunk after the other
+abbrev pub flattened : {X : Type 0} → List (List X) → List X
+flattened = flat_map (λ v. v)

@@ -1,5 +1,5 @@
 //! Chunks of a list, which change only where they have one owner.
-ghost use Rattle.std.specs.Prelude.{◌≡◌, ◌+◌, ◌-◌, ◌<◌, ◌≤◌, ◌++◌, ◌∷◌, [], length, take, drop, insert, remove, slice_get, slice_set, IfOk, OnOk, OnErr};
+ghost use Rattle.std.specs.Prelude.{◌≡◌, Some, ◌+◌, ◌-◌, ◌<◌, ◌≤◌, ◌++◌, ◌∷◌, [], length, take, drop, insert, remove, slice_get, slice_set, IfOk, OnOk, OnErr};
 ghost use Rattle.shared_list.specs.Elements.{values};
 
 use std::alloc::{AllocError, Global};
@@ -15,7 +15,7 @@ const HALF: usize = 32;
 /// Some elements, from 1 to `CHUNK`, each of which other chunks may own too.
 #[derive(Drop)]
 pub struct Chunk<T> {
-    items: Vec<Arc<T>>,
+    pub(crate) items: Vec<Arc<T>>,
 }
 
 impl<T> Model for Chunk<T> {

@@ -1,116 +1,126 @@
 //! Edits of the chunks themselves, for what keeps elements in an order of its own and finds their places by it.
-ghost use Rattle.std.specs.Prelude.{◌≡◌, ◌+◌, ◌++◌, ◌∷◌, [], length, take, insert, remove, slice_get, slice_set, IfOk, OnOk, OnErr};
-ghost use Rattle.shared_list.specs.Elements.{elements};
+ghost use Rattle.std.specs.Prelude.{◌≡◌, ◌+◌, ◌-◌, ◌<◌, ◌≤◌, List, Some, ◌++◌, ◌∷◌, [], length, take, drop, insert, remove, slice_get, slice_set, IfOk, OnOk, OnErr};
+ghost use Rattle.shared_list.specs.Elements.{flattened};
 ghost use Rattle.shared_list.specs.Places.{IsPlace, IsItem};
 
-use crate::chunk::{CHUNK, Chunk, put_in, set_in, take_from};
-use std::alloc::{AllocError, Global};
+use crate::change::Change;
+use crate::chunk::{CHUNK, Chunk};
+use crate::place::{Place, place_of};
+use crate::spine::Spine;
+use std::alloc::AllocError;
 use std::sync::Arc;
 
-/// One more owner of each chunk. It costs their number. AllocError where memory is refused.
-pub fn copied<T: Drop>(
-    alloc: Global,
-    chunks: &[Arc<Chunk<T>>],
-) -> Result<Vec<Arc<Chunk<T>>>, AllocError>
-    ensures { IfOk result (λ v. elements v.items ≡ elements chunks.now) }
-{
-    let mut owners = Vec::with_capacity(alloc, chunks.len())?;
-    for chunk in chunks {
-        owners.push(Arc::try_clone(chunk)?)?;
-    }
-    Ok(owners)
-}
-
-/// Puts an element behind the others, into the last chunk, or, where that is full, into another. Constant time, where the last chunk
-/// has no other owner, but for a growth of what holds the pointers; else the last chunk is made anew. AllocError where memory is
-/// refused; then the elements are as they were.
-pub fn push_item<T: Drop>(chunks: &mut Vec<Arc<Chunk<T>>>, item: Arc<T>) -> Result<(), AllocError>
-    ensures ok { OnOk result (elements chunks.new.items ≡ elements chunks.old.items ++ item.value ∷ []) }
-    ensures err { OnErr result (elements chunks.new.items ≡ elements chunks.old.items) }
+/// Puts an element behind the others, into the last chunk, or, where that is full, into another. It costs a walk over the groups, where
+/// the last chunk and its group have no other owner; else these are made anew. AllocError where memory is refused; then the elements are
+/// as they were.
+pub fn push_item<T: Drop>(chunks: &mut Spine<Chunk<T>>, item: Arc<T>) -> Result<(), AllocError>
+    ensures ok { OnOk result (flattened chunks.new ≡ flattened chunks.old ++ item.value ∷ []) }
+    ensures err { OnErr result (flattened chunks.new ≡ flattened chunks.old) }
 {
     let count = chunks.len();
-    if count > 0 && chunks[count - 1].len() < CHUNK {
-        let at = chunks[count - 1].len();
-        put_in(&mut chunks[count - 1], at, item)?;
-        return Ok(());
+    if count > 0 {
+        let at = chunks.at(count - 1).len();
+        if at < CHUNK {
+            chunks.change(count - 1, Change::Put(at, item))?;
+            return Ok(());
+        }
     }
-    let fresh = Chunk::one(*chunks.allocator(), item)?;
-    chunks.push(fresh)?;
-    Ok(())
+    let fresh = Chunk::one(chunks.allocator(), item)?;
+    chunks.push_shared(fresh)
 }
 
-/// Puts an element at that place of that chunk, before what stands there. It costs at most one chunk, and is done in place where that
-/// has no other owner and isn't full; a full one becomes two, which moves the pointers to the chunks behind it. AllocError where
-/// memory is refused; then the elements are as they were.
+/// Puts an element at that place of that chunk, before what stands there. It costs a walk over the groups, and is done in place where the
+/// chunk and its group have no other owner and it isn't full; a full one becomes two, in a copy whose groups that change are made anew.
+/// AllocError where memory is refused; then the elements are as they were.
 pub fn insert_item<T: Drop>(
-    chunks: &mut Vec<Arc<Chunk<T>>>,
+    chunks: &mut Spine<Chunk<T>>,
     k: usize,
     at: usize,
     item: Arc<T>,
 ) -> Result<(), AllocError>
-    requires { IsPlace chunks.old.items k at }
-    ensures ok { OnOk result (elements chunks.new.items ≡ insert (elements chunks.old.items) (length (elements (take k chunks.old.items)) + at) item.value) }
-    ensures err { OnErr result (elements chunks.new.items ≡ elements chunks.old.items) }
+    requires { IsPlace (λ v. v) chunks.old k at }
+    ensures ok { OnOk result (flattened chunks.new ≡ insert (flattened chunks.old) (length (flattened (take k chunks.old)) + at) item.value) }
+    ensures err { OnErr result (flattened chunks.new ≡ flattened chunks.old) }
 {
-    if chunks[k].len() < CHUNK {
-        put_in(&mut chunks[k], at, item)?;
+    if chunks.at(k).len() < CHUNK {
+        chunks.change(k, Change::Put(at, item))?;
         return Ok(());
     }
-    let (low, high) = chunks[k].split_with(at, item)?;
-    chunks.insert(k + 1, high)?;
-    chunks[k] = low;
+    let (low, high) = chunks.at(k).split_with(at, item)?;
+    let both = with_two(chunks, k, low, high)?;
+    *chunks = both;
     Ok(())
 }
 
-/// Puts an element at that place of that chunk, instead of what stands there. It is done in place where the chunk has no other owner,
-/// else the chunk is made anew. AllocError where memory is refused; then the elements are as they were.
+/// A copy with two chunks in the place of one.
+fn with_two<T: Drop>(
+    chunks: &Spine<Chunk<T>>,
+    k: usize,
+    low: Arc<Chunk<T>>,
+    high: Arc<Chunk<T>>,
+) -> Result<Spine<Chunk<T>>, AllocError>
+    requires { k < length chunks.now }
+    ensures { IfOk result (λ s. s ≡ slice_set (insert chunks.now (k + 1) high.value) k low.value) }
+{
+    let mut copy = chunks.copy()?;
+    prove!(k < chunks.len());
+    copy.insert_shared(k + 1, high)?;
+    copy.set_shared(k, low)?;
+    Ok(copy)
+}
+
+/// Puts an element at that place of that chunk, instead of what stands there. It costs a walk over the groups, and is done in place where
+/// the chunk and its group have no other owner; else these are made anew. AllocError where memory is refused; then the elements are as
+/// they were.
 pub fn set_item<T: Drop>(
-    chunks: &mut Vec<Arc<Chunk<T>>>,
+    chunks: &mut Spine<Chunk<T>>,
     k: usize,
     at: usize,
     item: Arc<T>,
 ) -> Result<(), AllocError>
-    requires { IsItem chunks.old.items k at }
-    ensures ok { OnOk result (elements chunks.new.items ≡ slice_set (elements chunks.old.items) (length (elements (take k chunks.old.items)) + at) item.value) }
-    ensures err { OnErr result (elements chunks.new.items ≡ elements chunks.old.items) }
+    requires { IsItem (λ v. v) chunks.old k at }
+    ensures ok { OnOk result (flattened chunks.new ≡ slice_set (flattened chunks.old) (length (flattened (take k chunks.old)) + at) item.value) }
+    ensures err { OnErr result (flattened chunks.new ≡ flattened chunks.old) }
 {
-    set_in(&mut chunks[k], at, item)?;
+    chunks.change(k, Change::Set(at, item))?;
     Ok(())
 }
 
 /// Takes out the element at that place of that chunk, as `remove_item` does, but leaves two neighbours that fit in one chunk as they
-/// are. Constant time in the last chunk, where that has no other owner.
+/// are.
 pub(crate) fn take_item<T: Drop>(
-    chunks: &mut Vec<Arc<Chunk<T>>>,
+    chunks: &mut Spine<Chunk<T>>,
     k: usize,
     at: usize,
 ) -> Result<Arc<T>, AllocError>
-    requires { IsItem chunks.old.items k at }
-    ensures ok { OnOk result (elements chunks.new.items ≡ remove (elements chunks.old.items) (length (elements (take k chunks.old.items)) + at)) }
-    ensures item { IfOk result (λ a. slice_get (elements chunks.old.items) (length (elements (take k chunks.old.items)) + at) ≡ Some a.value) }
-    ensures err { OnErr result (elements chunks.new.items ≡ elements chunks.old.items) }
+    requires { IsItem (λ v. v) chunks.old k at }
+    ensures ok { OnOk result (flattened chunks.new ≡ remove (flattened chunks.old) (length (flattened (take k chunks.old)) + at)) }
+    ensures item { IfOk result (λ a. slice_get (flattened chunks.old) (length (flattened (take k chunks.old)) + at) ≡ Some a.value) }
+    ensures err { OnErr result (flattened chunks.new ≡ flattened chunks.old) }
 {
-    if chunks[k].len() > 1 {
-        let item = take_from(&mut chunks[k], at)?;
+    let chunk = chunks.at(k);
+    let item = chunk.owner(at)?;
+    if chunk.len() > 1 {
+        chunks.change(k, Change::Take(at))?;
         return Ok(item);
     }
-    let item = chunks[k].owner(at)?;
-    let _gone = chunks.remove(k);
+    chunks.remove(k)?;
     Ok(item)
 }
 
-/// Takes out the element at that place of that chunk, and gives it. It costs at most three chunks, and that chunk is changed in place
-/// where it has no other owner; one that is emptied goes, and neighbours that fit in one chunk become one, unless memory for it is
-/// refused, which is no error. AllocError where memory is refused for the removal; then the elements are as they were.
+/// Takes out the element at that place of that chunk, and gives it. It costs a walk over the groups, and is done in place where the chunk
+/// and its group have no other owner; else these are made anew. A chunk that is emptied goes, and neighbours that fit in one chunk become
+/// one, in a copy whose groups that change are made anew, unless memory for it is refused, which is no error. AllocError where memory is
+/// refused for the removal; then the elements are as they were.
 pub fn remove_item<T: Drop>(
-    chunks: &mut Vec<Arc<Chunk<T>>>,
+    chunks: &mut Spine<Chunk<T>>,
     k: usize,
     at: usize,
 ) -> Result<Arc<T>, AllocError>
-    requires { IsItem chunks.old.items k at }
-    ensures ok { OnOk result (elements chunks.new.items ≡ remove (elements chunks.old.items) (length (elements (take k chunks.old.items)) + at)) }
-    ensures item { IfOk result (λ a. slice_get (elements chunks.old.items) (length (elements (take k chunks.old.items)) + at) ≡ Some a.value) }
-    ensures err { OnErr result (elements chunks.new.items ≡ elements chunks.old.items) }
+    requires { IsItem (λ v. v) chunks.old k at }
+    ensures ok { OnOk result (flattened chunks.new ≡ remove (flattened chunks.old) (length (flattened (take k chunks.old)) + at)) }
+    ensures item { IfOk result (λ a. slice_get (flattened chunks.old) (length (flattened (take k chunks.old)) + at) ≡ Some a.value) }
+    ensures err { OnErr result (flattened chunks.new ≡ flattened chunks.old) }
 {
     let item = take_item(chunks, k, at)?;
     join(chunks, k.saturating_add(1));
@@ -119,17 +129,70 @@ pub fn remove_item<T: Drop>(
 }
 
 /// Makes one chunk of that one and the one before it, where they fit in one and there is memory for it.
-pub(crate) fn join<T: Drop>(chunks: &mut Vec<Arc<Chunk<T>>>, k: usize)
-    ensures { elements chunks.new.items ≡ elements chunks.old.items }
+pub(crate) fn join<T: Drop>(chunks: &mut Spine<Chunk<T>>, k: usize)
+    ensures { flattened chunks.new ≡ flattened chunks.old }
 {
     if k == 0 || k >= chunks.len() {
         return;
     }
-    if chunks[k - 1].len() + chunks[k].len() > CHUNK {
+    if chunks.at(k - 1).len() + chunks.at(k).len() > CHUNK {
         return;
     }
-    if let Ok(whole) = chunks[k - 1].joined(&chunks[k]) {
-        chunks[k - 1] = whole;
-        let _joined = chunks.remove(k);
+    if let Ok(fewer) = with_joined(chunks, k) {
+        *chunks = fewer;
     }
+}
+
+/// A copy with one chunk in the place of that one and the one before it, which fit in one.
+fn with_joined<T: Drop>(chunks: &Spine<Chunk<T>>, k: usize) -> Result<Spine<Chunk<T>>, AllocError>
+    requires some { 0 < k }
+    requires k { k < length chunks.now }
+    requires fits { (v w : List T) → slice_get chunks.now (k - 1) ≡ Some v → slice_get chunks.now k ≡ Some w → length v + length w ≤ 64 }
+    ensures { IfOk result (λ s. flattened s ≡ flattened chunks.now) }
+{
+    let whole = chunks.at(k - 1).joined(chunks.at(k))?;
+    let mut copy = chunks.copy()?;
+    copy.set_shared(k - 1, whole)?;
+    copy.remove(k)?;
+    Ok(copy)
+}
+
+/// Keeps the elements before that index, and gives the chunks of the others.
+pub(crate) fn cut_off<T: Drop>(
+    chunks: &mut Spine<Chunk<T>>,
+    index: usize,
+) -> Result<Spine<Chunk<T>>, AllocError>
+    requires { index < length (flattened chunks.old) }
+    ensures ok { OnOk result (flattened chunks.new ≡ take index (flattened chunks.old)) }
+    ensures rest { IfOk result (λ s. flattened s ≡ drop index (flattened chunks.old)) }
+    ensures err { OnErr result (flattened chunks.new ≡ flattened chunks.old) }
+{
+    let Place { k, at } = place_of(chunks, index);
+    if at == 0 {
+        let rest = chunks.split_off(k)?;
+        return Ok(rest);
+    }
+    let (low, high) = chunks.at(k).split(at)?;
+    let mut front = chunks.copy()?;
+    let mut rest = front.split_off(k)?;
+    rest.set_shared(0, high)?;
+    front.push_shared(low)?;
+    *chunks = front;
+    Ok(rest)
+}
+
+/// Moves the other chunks behind these.
+pub(crate) fn pour<T: Drop>(
+    chunks: &mut Spine<Chunk<T>>,
+    other: &mut Spine<Chunk<T>>,
+) -> Result<(), AllocError>
+    ensures ok { OnOk result (flattened chunks.new ≡ flattened chunks.old ++ flattened other.old) }
+    ensures emptied { OnOk result (other.new ≡ []) }
+    ensures err { OnErr result (flattened chunks.new ≡ flattened chunks.old) }
+    ensures other_err { OnErr result (other.new ≡ other.old) }
+{
+    let seam = chunks.len();
+    chunks.append(other)?;
+    join(chunks, seam);
+    Ok(())
 }

@@ -1,21 +1,23 @@
 //! The elements of a shared list, one after the other.
 ghost use Rattle.std.specs.Prelude.{◌≡◌};
-ghost use Rattle.shared_list.specs.Elements.{elements};
+ghost use Rattle.shared_list.specs.Ahead.{ahead};
+ghost use Rattle.shared_list.specs.Elements.{flattened};
 ghost use Rattle.shared_list.specs.Left.{left};
 
 use crate::chunk::Chunk;
+use crate::spine::SpineIter;
 use std::sync::Arc;
 
 /// An iterator over the elements of a shared list, first to last, each in constant time. Contracts see by `left` which are left.
 #[derive(Drop)]
 pub struct Iter<'a, T> {
     here: &'a [Arc<T>],
-    chunks: &'a [Arc<Chunk<T>>],
+    chunks: SpineIter<'a, Chunk<T>>,
 }
 
 impl<'a, T: Drop> Iter<'a, T> {
-    pub(crate) fn new(chunks: &'a [Arc<Chunk<T>>]) -> Iter<'a, T>
-        ensures { left result ≡ elements chunks.now }
+    pub(crate) fn new(chunks: SpineIter<'a, Chunk<T>>) -> Iter<'a, T>
+        ensures { left result ≡ flattened (ahead chunks.entry) }
     {
         Iter { here: &[], chunks }
     }
@@ -37,11 +39,8 @@ impl<'a, T: Drop> Iterator for Iter<'a, T> {
                 self.here = rest;
                 return Some(first);
             }
-            let [chunk, rest @ ..] = self.chunks else {
-                return None;
-            };
+            let chunk = self.chunks.next()?;
             self.here = chunk.items();
-            self.chunks = rest;
         }
     }
 }

@@ -5,43 +5,46 @@ ghost use Rattle.std.specs.Fn.{ComputesKey};
 ghost use Rattle.std.specs.List.Sorted.{IsPartitionedBy, IsPartitionPoint};
 ghost use Rattle.std.specs.Option.{option_copied, option_map, option_to_list};
 ghost use Rattle.shared_list.specs.Around.{IsAround};
-ghost use Rattle.shared_list.specs.Elements.{elements};
+ghost use Rattle.shared_list.specs.Elements.{flattened};
 ghost use Rattle.shared_list.specs.Left.{left};
 
-use crate::around::{Around, around_place};
+use crate::around::{Around, around_place, item_of};
 use crate::chunk::Chunk;
-use crate::edits::{copied, join, push_item, remove_item, set_item, take_item};
+use crate::edits::{cut_off, pour, push_item, remove_item, set_item, take_item};
 use crate::iter::Iter;
 use crate::place::{Place, index_of, item_at, last_place, partition_point, place_of};
+use crate::spine::Spine;
 use std::alloc::{AllocError, Global};
 use std::marker::Model;
 use std::sync::Arc;
 
 /// Elements in order. Contracts see the plain list of their values.
 ///
-/// They stand in chunks of 1 to 64 elements (profile), which copies share. No element is ever cloned: a copy takes one more owner of
-/// each chunk, and a change makes at most three chunks anew, each by one more owner of each of its elements. A chunk that no copy has
-/// is changed where it is by `push`, `pop_shared`, `set_shared` and `remove`. A push fills the last chunk before it begins another;
-/// `remove` and `append` make one chunk of two neighbours that fit in one, unless memory for it is refused, which is no error;
-/// `split_off` can leave a chunk that isn't full on each side of the cut. So how many chunks there are no clause says.
+/// They stand in chunks of 1 to 64 elements, and the chunks in groups of 1 to 64 (profile), which copies share. No element is ever
+/// cloned: a copy takes one more owner of each group, and a change makes at most three chunks anew, each by one more owner of each of
+/// its elements, and the groups that they stand in, each by one more owner of each of its chunks. A chunk that no copy has is changed
+/// where it is by `push`, `pop_shared`, `set_shared` and `remove`. A push fills the last chunk before it begins another; `remove` and
+/// `append` make one chunk of two neighbours that fit in one, unless memory for it is refused, which is no error; `split_off` can leave
+/// a chunk that isn't full on each side of the cut. So how many chunks there are no clause says. Where they are full, a group has 4,096
+/// elements.
 ///
-/// Each element takes memory of its own, and a pointer in each chunk that has it. A call that is refused memory answers AllocError,
-/// and changes no list.
+/// Each element takes memory of its own, and a pointer in each chunk that has it, and each chunk a pointer in each group that has it. A
+/// call that is refused memory answers AllocError, and changes no list.
 #[derive(Drop)]
 pub struct SharedList<T> {
-    chunks: Vec<Arc<Chunk<T>>>,
+    chunks: Spine<Chunk<T>>,
     len: usize,
 }
 
 impl<T> Model for SharedList<T> {
     ghost use Rattle.std.specs.Prelude.{◌≡◌, List, length};
-    ghost use Rattle.shared_list.specs.Elements.{elements};
+    ghost use Rattle.shared_list.specs.Elements.{flattened};
 
     ghost Value = { List T };
 
-    ghost view = { λ s. elements s.chunks.items };
+    ghost view = { λ s. flattened s.chunks };
 
-    ghost invariant = { λ s. s.len ≡ length (elements s.chunks.items) };
+    ghost invariant = { λ s. s.len ≡ length (flattened s.chunks) };
 }
 
 impl<T: Drop> SharedList<T> {
@@ -50,7 +53,7 @@ impl<T: Drop> SharedList<T> {
         ensures { result ≡ [] }
     {
         SharedList {
-            chunks: Vec::new(alloc),
+            chunks: Spine::new(alloc),
             len: 0,
         }
     }
@@ -74,17 +77,17 @@ impl<T: Drop> SharedList<T> {
         Some(item_at(&self.chunks, place))
     }
 
-    /// The last element, or None where there is none. Constant time.
-    #[tactic(auto, using(crate::proofs::Chunks::got_last))]
+    /// The last element, or None where there is none. It costs a walk over the groups.
     pub fn last(&self) -> Option<&T>
         ensures { option_copied result ≡ slice_get self.now (length self.now - 1) }
     {
-        let chunk: &Chunk<T> = self.chunks.last()?;
-        Some(chunk.get(chunk.len() - 1))
+        let place = last_place(&self.chunks)?;
+        Some(item_at(&self.chunks, place))
     }
 
     /// The index of the first element that doesn't pass a test, where those that pass come first; the length, where all pass. It costs
-    /// the logarithm of the number of elements, and a walk over the chunks before that one.
+    /// the logarithm of the number of elements, with a walk over the groups for each step to a chunk, and a walk over the chunks before
+    /// that one.
     pub fn partition_point<P: Fn(&T) -> bool>(&self, test: P) -> usize
         requires { P.IsAlwaysCallable test }
         ensures bound { result ≤ length self.now }
@@ -96,8 +99,17 @@ impl<T: Drop> SharedList<T> {
         }
     }
 
+    /// The first element that doesn't pass a test, where those that pass come first, or None where all pass. It costs the logarithm of the
+    /// number of elements, with a walk over the groups for each step to a chunk.
+    pub fn first<P: Fn(&T) -> bool>(&self, test: P) -> Option<&T>
+        requires { P.IsAlwaysCallable test }
+        ensures { (i : ℕ) × ((p : T → Bool) → ComputesKey P.FnMut p test → IsPartitionedBy p self.now → IsPartitionPoint (λ y. p y ≡ true) (λ y. p y ≡ false) self.now i) × (option_copied result ≡ slice_get self.now i) }
+    {
+        item_of(&self.chunks, partition_point(&self.chunks, test))
+    }
+
     /// The first element that doesn't pass a test, where those that pass come first, with the one before it and the one after it; each is
-    /// None where there is none. It costs the logarithm of the number of elements.
+    /// None where there is none. It costs the logarithm of the number of elements, with a walk over the groups for each step to a chunk.
     pub fn around<P: Fn(&T) -> bool>(&self, test: P) -> Around<'_, T>
         requires { P.IsAlwaysCallable test }
         ensures { (i : ℕ) × ((p : T → Bool) → ComputesKey P.FnMut p test → IsPartitionedBy p self.now → IsPartitionPoint (λ y. p y ≡ true) (λ y. p y ≡ false) self.now i) × IsAround self.now i result }
@@ -109,29 +121,27 @@ impl<T: Drop> SharedList<T> {
     pub fn iter(&self) -> Iter<'_, T>
         ensures { left result ≡ self.now }
     {
-        Iter::new(&self.chunks)
+        Iter::new(self.chunks.iter())
     }
 
-    /// An equal list, by one more owner of each chunk: it costs the chunks, and not their elements. AllocError where memory is
-    /// refused.
+    /// An equal list, by one more owner of each group: it costs the groups, and neither their chunks nor the elements. AllocError where
+    /// memory is refused.
     pub fn copy(&self) -> Result<SharedList<T>, AllocError>
         ensures { IfOk result (λ l. l ≡ self.now) }
     {
-        let alloc = *self.chunks.allocator();
-        let chunks = copied(alloc, &self.chunks)?;
+        let chunks = self.chunks.copy()?;
         let len = self.len;
         Ok(SharedList { chunks, len })
     }
 
-    /// Adds an element at the end. Constant time, where the last chunk has no other owner, but for a growth of what holds its pointers;
-    /// else it makes the last chunk anew. Where that is full it begins another, which now and then moves the pointers to all chunks.
-    /// AllocError where memory is refused or there are as many elements as a usize counts; then the list is as it was, and the element
-    /// is dropped.
+    /// Adds an element at the end. It costs a walk over the groups, and a growth of what holds the pointers now and then, where the last
+    /// chunk and its group have no other owner; else these are made anew. Where the chunk is full it begins another. AllocError where
+    /// memory is refused or there are as many elements as a usize counts; then the list is as it was, and the element is dropped.
     pub fn push(&mut self, value: T) -> Result<(), AllocError>
         ensures ok { OnOk result (self.new ≡ self.old ++ value ∷ []) }
         ensures err { OnErr result (self.new ≡ self.old) }
     {
-        let item = Arc::new(*self.chunks.allocator(), value)?;
+        let item = Arc::new(self.chunks.allocator(), value)?;
         self.push_shared(item)
     }
 
@@ -148,9 +158,9 @@ impl<T: Drop> SharedList<T> {
         Ok(())
     }
 
-    /// Removes the element with that index, which is below the length. It costs the number of chunks, and makes at most three anew, or
-    /// none where the chunk has no other owner and no neighbour that fits in one with it. AllocError where memory is refused; then the
-    /// list is as it was.
+    /// Removes the element with that index, which is below the length. It costs a walk over the chunks before it, and makes at most three
+    /// chunks anew, with their groups, or none where the chunk and its group have no other owner and no neighbour fits in one chunk with
+    /// it. AllocError where memory is refused; then the list is as it was.
     pub fn remove(&mut self, index: usize) -> Result<(), AllocError>
         requires { index < length self.old }
         ensures ok { OnOk result (self.new ≡ remove self.old index) }
@@ -162,8 +172,8 @@ impl<T: Drop> SharedList<T> {
         Ok(())
     }
 
-    /// Takes out the last element, and gives it, or None where there is none. Constant time, where the last chunk has no other owner;
-    /// else it makes the last chunk anew. AllocError where memory is refused; then the list is as it was.
+    /// Takes out the last element, and gives it, or None where there is none. It costs a walk over the groups, where the last chunk and
+    /// its group have no other owner; else these are made anew. AllocError where memory is refused; then the list is as it was.
     pub fn pop_shared(&mut self) -> Result<Option<Arc<T>>, AllocError>
         ensures ok { IfOk result (λ o. self.old ≡ self.new ++ option_to_list (option_map arc_value o)) }
         ensures none { IfOk result (λ o. (o ≡ None) ↔ (self.old ≡ [])) }
@@ -178,8 +188,8 @@ impl<T: Drop> SharedList<T> {
     }
 
     /// Puts an element that has other owners in the place of the one with that index, which is below the length. It costs a walk over
-    /// the chunks before it, and is done in place where the chunk has no other owner; else the chunk is made anew. AllocError where
-    /// memory is refused; then the list is as it was.
+    /// the chunks before it, and is done in place where the chunk and its group have no other owner; else these are made anew. AllocError
+    /// where memory is refused; then the list is as it was.
     pub fn set_shared(&mut self, index: usize, item: Arc<T>) -> Result<(), AllocError>
         requires { index < length self.old }
         ensures ok { OnOk result (self.new ≡ slice_set self.old index item.value) }
@@ -189,8 +199,9 @@ impl<T: Drop> SharedList<T> {
         set_item(&mut self.chunks, k, at, item)
     }
 
-    /// Keeps the elements before that index, which is at most the length, and gives the others. It costs the number of chunks, and
-    /// makes at most two anew. AllocError where memory is refused; then the list is as it was.
+    /// Keeps the elements before that index, which is at most the length, and gives the others. It costs a walk over the chunks before
+    /// it and over the groups, and makes at most two chunks anew, and some groups. AllocError where memory is refused; then the list is
+    /// as it was.
     pub fn split_off(&mut self, index: usize) -> Result<SharedList<T>, AllocError>
         requires { index ≤ length self.old }
         ensures ok { OnOk result (self.new ≡ take index self.old) }
@@ -198,7 +209,7 @@ impl<T: Drop> SharedList<T> {
         ensures err { OnErr result (self.new ≡ self.old) }
     {
         if index == self.len {
-            return Ok(SharedList::new(*self.chunks.allocator()));
+            return Ok(SharedList::new(self.chunks.allocator()));
         }
         let chunks = cut_off(&mut self.chunks, index)?;
         let len = self.len - index;
@@ -206,8 +217,8 @@ impl<T: Drop> SharedList<T> {
         Ok(SharedList { chunks, len })
     }
 
-    /// Moves all elements of the other list to the end of this one, and leaves it empty. It costs the number of the other's chunks,
-    /// and now and then of both; it makes at most one anew. AllocError where memory is refused or the two have more elements together
+    /// Moves all elements of the other list to the end of this one, and leaves it empty. It costs the number of the groups of both, and
+    /// makes at most one chunk anew, and some groups. AllocError where memory is refused or the two have more elements together
     /// than a usize counts; then both lists are as they were.
     pub fn append(&mut self, other: &mut SharedList<T>) -> Result<(), AllocError>
         ensures ok { OnOk result (self.new ≡ self.old ++ other.old) }
@@ -223,42 +234,4 @@ impl<T: Drop> SharedList<T> {
         other.len = 0;
         Ok(())
     }
-}
-
-/// Keeps the elements before that index, and gives the chunks of the others.
-fn cut_off<T: Drop>(
-    chunks: &mut Vec<Arc<Chunk<T>>>,
-    index: usize,
-) -> Result<Vec<Arc<Chunk<T>>>, AllocError>
-    requires { index < length (elements chunks.old.items) }
-    ensures ok { OnOk result (elements chunks.new.items ≡ take index (elements chunks.old.items)) }
-    ensures rest { IfOk result (λ v. elements v.items ≡ drop index (elements chunks.old.items)) }
-    ensures err { OnErr result (elements chunks.new.items ≡ elements chunks.old.items) }
-{
-    let Place { k, at } = place_of(chunks, index);
-    if at == 0 {
-        let rest = chunks.split_off(k)?;
-        return Ok(rest);
-    }
-    let (low, high) = chunks[k].split(at)?;
-    let mut rest = chunks.split_off(k)?;
-    rest[0] = high;
-    chunks.push_reserved(low);
-    Ok(rest)
-}
-
-/// Moves the other chunks behind these.
-fn pour<T: Drop>(
-    chunks: &mut Vec<Arc<Chunk<T>>>,
-    other: &mut Vec<Arc<Chunk<T>>>,
-) -> Result<(), AllocError>
-    ensures ok { OnOk result (elements chunks.new.items ≡ elements chunks.old.items ++ elements other.old.items) }
-    ensures emptied { OnOk result (other.new.items ≡ []) }
-    ensures err { OnErr result (elements chunks.new.items ≡ elements chunks.old.items) }
-    ensures other_err { OnErr result (other.new.items ≡ other.old.items) }
-{
-    let seam = chunks.len();
-    chunks.append(other)?;
-    join(chunks, seam);
-    Ok(())
 }

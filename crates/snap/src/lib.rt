@@ -38,9 +38,9 @@ pub struct Guids {
 /// the last one or the counter has no guids left. NoMemory, where there is none for the names or the snapshots, may come before all of
 /// these but NoDataset (zfs-snapshot(8); numbers are profile). A single snapshot is taken in place: it costs the logarithm of the number
 /// of file systems and that of the number of its file system's snapshots, with `recursive` the number of file systems; and where another
-/// table shares these snapshots, a 32nd of their number. Others are taken on a copy: n of them cost the number of file systems, with
+/// table shares these snapshots, a 1,024th of their number. Others are taken on a copy: n of them cost the number of file systems, with
 /// `recursive` once for each name, n times its logarithm and those of the numbers of file systems and of a file system's snapshots, and
-/// for each a 32nd of the number of these.
+/// for each a 1,024th of the number of these.
 pub fn snapshot(
     alloc: Global,
     table: &mut Table,

@@ -25,7 +25,7 @@ fn guid_at(guids: Guids, place: usize) -> Guid
 
 /// A table with a snapshot of each of these names, of which there is one or more, of the group that was open, which is closed. This
 /// table stays as it is. NoMemory where there is none for it. It costs the number of file systems, and for each name the logarithm of
-/// that and a 32nd of the snapshots that its file system had.
+/// that and a 1,024th of the snapshots that its file system had.
 pub fn take_all(alloc: Global, table: &Table, all: &[Named], guids: Guids) -> Result<Table, Refusal>
     requires takable { AreTakable table.now.file_systems all.now }
     requires some { 0 < length all.now }
@@ -46,7 +46,7 @@ pub fn take_all(alloc: Global, table: &Table, all: &[Named], guids: Guids) -> Re
 
 /// Takes a snapshot of this name alone in this table, of the group that was open, which is closed. NoMemory where there is none for
 /// it, and then the table is as it was. It costs the logarithm of the number of file systems; and where another table shares the
-/// snapshots of this one, a 32nd of their number.
+/// snapshots of this one, a 1,024th of their number.
 pub fn take_one(
     alloc: Global,
     table: &mut Table,

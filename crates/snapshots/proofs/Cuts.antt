@@ -1,16 +1,11 @@
--- What an edit at a name's place among chunks leaves. The place was sought in one list of chunks, the same as is edited.
-use Rattle.std.proofs.Common.{◌≡◌, ℕ, ◌+◌, ◌<◌, true, false, List, [], ◌∷◌, ◌++◌, length, take, set, slice_get, Some, None, cond, sym, ap, subst, ◌∙◌, arith}
+-- What an edit at a name's place leaves.
+use Rattle.std.proofs.Common.{◌≡◌, ℕ, ◌<◌, true, false, List, [], ◌∷◌, ◌++◌, length, set, slice_get, Some, None, cond, sym, ap, subst, ◌∙◌, arith}
 use Rattle.std.specs.Prelude.{insert, remove}
 use Rattle.std.specs.List.{find}
 use Rattle.std.specs.List.Sorted.{IsPartitionPoint}
 use Rattle.std.specs.Option.{IsSome}
-use Rattle.std.specs.Global.{Global}
-use Rattle.std.specs.declared.sync.Arc.{Arc}
 use Rattle.std.proofs.lemmas.List.Edits.{insert_end}
 use Rattle.base.specs.Names.{same_name}
-use Rattle.shared_list.specs.Elements.{elements}
-use Rattle.shared_list.specs.Places.{IsItem}
-use Rattle.shared_list.proofs.Points.{inside}
 use Rattle.snapshots.specs.declared.kept.Kept.{Kept}
 use Rattle.snapshots.specs.Order.{is_below, is_named, names_rise}
 use Rattle.snapshots.proofs.Names.{IsPlaceFor, place_at, found, found_none, none_past, rises_after, found_after, rises_with, found_with, removed_rises, found_without, is_inside}
@@ -25,54 +20,49 @@ pub record IsTaken (ks new : List Kept) (q : List ℕ) : Type 0 where
   pub rises : names_rise new ≡ true
   pub finds : (n : List ℕ) → find (is_named n) new ≡ cond (same_name q n) None (find (is_named n) ks)
 
-module _ (q : List ℕ) (xs ys : List (Arc (List Kept) Global)) (same : ys ≡ xs) (rises : names_rise (elements xs) ≡ true) where
-  module _ (point : IsPartitionPoint (λ j. is_below q j ≡ true) (λ j. is_below q j ≡ false) (elements ys) (length (elements ys))) where
-    end : IsPlaceFor q (elements xs) (length (elements xs))
-    end = subst (λ zs. IsPlaceFor q (elements zs) (length (elements zs))) same (place_at q (elements ys) (length (elements ys)) (omega arith) point)
+module _ (q : List ℕ) (ks : List Kept) (rises : names_rise ks ≡ true) where
+  module _ (point : IsPartitionPoint (λ j. is_below q j ≡ true) (λ j. is_below q j ≡ false) ks (length ks)) where
+    end : IsPlaceFor q ks (length ks)
+    end = place_at q ks (length ks) (omega arith) point
 
-    pub absent : find (is_named q) (elements xs) ≡ None
-    absent = found_none q (elements xs) (length (elements xs)) end.before (none_past (elements xs) (length (elements xs)) (omega arith))
+    pub absent : find (is_named q) ks ≡ None
+    absent = found_none q ks (length ks) end.before (none_past ks (length ks) (omega arith))
 
-    pub not_past : IsSome (find (is_named q) (elements xs)) → ⊥
-    not_past there = is_inside (elements xs) q (length (elements xs)) rises end there (omega arith)
+    pub not_past : IsSome (find (is_named q) ks) → ⊥
+    not_past there = is_inside ks q (length ks) rises end there (omega arith)
 
-    pub put_end : (y : Kept) (new : List Kept) → q ≡ y.snapshot.name → find (is_named y.snapshot.name) (elements xs) ≡ None → new ≡ elements xs ++ y ∷ [] → IsPut (elements xs) new y
+    pub put_end : (y : Kept) (new : List Kept) → q ≡ y.snapshot.name → find (is_named y.snapshot.name) ks ≡ None → new ≡ ks ++ y ∷ [] → IsPut ks new y
     put_end y new its none put =
-        let behind : new ≡ insert (elements xs) (length (elements xs)) y = put ∙ sym (insert_end (elements xs) y) in
+        let behind : new ≡ insert ks (length ks) y = put ∙ sym (insert_end ks y) in
         record {
-          rises = rises_after (elements xs) new q y (length (elements xs)) rises its end none behind;
-          finds = found_after (elements xs) new q y (length (elements xs)) rises its end none behind;
+          rises = rises_after ks new q y (length ks) rises its end none behind;
+          finds = found_after ks new q y (length ks) rises its end none behind;
         }
 
-  module _ (k i : ℕ) (item : IsItem ys k i) (point : IsPartitionPoint (λ j. is_below q j ≡ true) (λ j. is_below q j ≡ false) (elements ys) (length (elements (take k ys)) + i)) where
-    lt : length (elements (take k xs)) + i < length (elements xs)
-    lt = subst (λ zs. length (elements (take k zs)) + i < length (elements zs)) same (inside ys k i item.chunk item.within)
-
-    place : IsPlaceFor q (elements xs) (length (elements (take k xs)) + i)
-    place = subst (λ zs. IsPlaceFor q (elements zs) (length (elements (take k zs)) + i)) same (place_at q (elements ys) (length (elements (take k ys)) + i) (omega (arith, inside ys k i item.chunk item.within)) point)
+  module _ (i : ℕ) (lt : i < length ks) (point : IsPartitionPoint (λ j. is_below q j ≡ true) (λ j. is_below q j ≡ false) ks i) where
+    place : IsPlaceFor q ks i
+    place = place_at q ks i (omega arith) point
 
     -- what a search finds by it
-    pub got : (y : Kept) (zs : List (Arc (List Kept) Global)) → zs ≡ xs → slice_get (elements zs) (length (elements (take k zs)) + i) ≡ Some y → find (is_named q) (elements xs) ≡ cond (is_named q y) (Some y) None
-    got y zs e is =
-        let at : slice_get (elements xs) (length (elements (take k xs)) + i) ≡ Some y = subst (λ ws. slice_get (elements ws) (length (elements (take k ws)) + i) ≡ Some y) e is in
-        found q (elements xs) (length (elements (take k xs)) + i) y rises place.before place.after at
+    pub got : (y : Kept) → slice_get ks i ≡ Some y → find (is_named q) ks ≡ cond (is_named q y) (Some y) None
+    got y is = found q ks i y rises place.before place.after is
 
-    pub put_in : (y : Kept) (new : List Kept) → q ≡ y.snapshot.name → find (is_named y.snapshot.name) (elements xs) ≡ None → new ≡ insert (elements xs) (length (elements (take k xs)) + i) y → IsPut (elements xs) new y
+    pub put_in : (y : Kept) (new : List Kept) → q ≡ y.snapshot.name → find (is_named y.snapshot.name) ks ≡ None → new ≡ insert ks i y → IsPut ks new y
     put_in y new its none put = record {
-      rises = rises_after (elements xs) new q y (length (elements (take k xs)) + i) rises its place none put;
-      finds = found_after (elements xs) new q y (length (elements (take k xs)) + i) rises its place none put;
+      rises = rises_after ks new q y i rises its place none put;
+      finds = found_after ks new q y i rises its place none put;
     }
 
-    pub set_in : (y : Kept) (new : List Kept) → q ≡ y.snapshot.name → IsSome (find (is_named y.snapshot.name) (elements xs)) → new ≡ set (elements xs) (length (elements (take k xs)) + i) y → IsPut (elements xs) new y
+    pub set_in : (y : Kept) (new : List Kept) → q ≡ y.snapshot.name → IsSome (find (is_named y.snapshot.name) ks) → new ≡ set ks i y → IsPut ks new y
     set_in y new its there put =
-        let there_too : IsSome (find (is_named q) (elements xs)) = subst (λ n. IsSome (find (is_named n) (elements xs))) (sym its) there in
+        let there_too : IsSome (find (is_named q) ks) = subst (λ n. IsSome (find (is_named n) ks)) (sym its) there in
         record {
-          rises = rises_with (elements xs) q (length (elements (take k xs)) + i) rises place there_too new y its lt put;
-          finds = found_with (elements xs) q (length (elements (take k xs)) + i) rises place there_too new y its lt put;
+          rises = rises_with ks q i rises place there_too new y its lt put;
+          finds = found_with ks q i rises place there_too new y its lt put;
         }
 
-    pub taken : (new : List Kept) → IsSome (find (is_named q) (elements xs)) → new ≡ remove (elements xs) (length (elements (take k xs)) + i) → IsTaken (elements xs) new q
+    pub taken : (new : List Kept) → IsSome (find (is_named q) ks) → new ≡ remove ks i → IsTaken ks new q
     taken new there rest = record {
-      rises = ap names_rise rest ∙ removed_rises (elements xs) (length (elements (take k xs)) + i) rises;
-      finds = found_without (elements xs) q (length (elements (take k xs)) + i) rises place there new lt rest;
+      rises = ap names_rise rest ∙ removed_rises ks i rises;
+      finds = found_without ks q i rises place there new lt rest;
     }

@@ -3,7 +3,7 @@ ghost use Rattle.std.specs.Prelude.{◌≡◌, [], None, true, false, IsTrue, Is
 ghost use Rattle.std.specs.List.{find};
 ghost use Rattle.std.specs.List.Sorted.{IsPartitionPoint};
 ghost use Rattle.std.specs.Option.{option_copied};
-ghost use Rattle.shared_list.specs.Elements.{elements};
+ghost use Rattle.shared_list.specs.Elements.{flattened};
 ghost use Rattle.shared_list.specs.Places.{IsItem, place_index};
 ghost use Rattle.base.specs.declared.refusal.Refusal.{Refusal};
 ghost use Rattle.base.specs.Names.{same_name};
@@ -11,23 +11,23 @@ ghost use Rattle.snapshots.specs.Order.{is_below, is_named, names_rise};
 
 use crate::kept::Kept;
 use base::refusal::Refusal;
-use shared_list::Chunk;
-use shared_list::edits::{copied, insert_item, push_item, remove_item, set_item};
+use shared_list::edits::{insert_item, push_item, remove_item, set_item};
 use shared_list::place::{Place, item_at, partition_point};
+use shared_list::{Chunk, Spine};
 use std::alloc::Global;
 use std::marker::Model;
 use std::sync::Arc;
 
 /// Kept snapshots of one file system by name; copies share them. Contracts see the list of them, whose names strictly rise in byte
-/// order, so that each stands once. They stand in chunks of 1 to 64 (profile), which copies share.
+/// order, so that each stands once. They stand in chunks of 1 to 64, and these in groups of 1 to 64 (profile), which copies share.
 #[derive(Drop)]
 pub struct ByName {
-    chunks: Vec<Arc<Chunk<Kept>>>,
+    chunks: Spine<Chunk<Kept>>,
 }
 
 impl Model for ByName {
     ghost use Rattle.std.specs.Prelude.{IsTrue, List};
-    ghost use Rattle.shared_list.specs.Elements.{elements};
+    ghost use Rattle.shared_list.specs.Elements.{flattened};
     ghost use Rattle.std.specs.Coded.{coded_list};
     ghost use Rattle.snapshots.specs.declared.kept.Kept.{Kept};
     ghost use Rattle.snapshots.specs.contracts.kept.Kept.{the_row};
@@ -37,9 +37,9 @@ impl Model for ByName {
 
     ghost coded = { coded_list the_row.coded };
 
-    ghost view = { λ s. elements s.chunks.items };
+    ghost view = { λ s. flattened s.chunks };
 
-    ghost invariant = { λ s. IsTrue (names_rise (elements s.chunks.items)) };
+    ghost invariant = { λ s. IsTrue (names_rise (flattened s.chunks)) };
 }
 
 impl ByName {
@@ -48,22 +48,22 @@ impl ByName {
         ensures { result ≡ [] }
     {
         ByName {
-            chunks: Vec::new(alloc),
+            chunks: Spine::new(alloc),
         }
     }
 
-    /// The same snapshots, by one more owner of each chunk: it costs a 64th of their number, or a 32nd where they were put in among
+    /// The same snapshots, by one more owner of each group: it costs a 4,096th of their number, or a 1,024th where they were put in among
     /// others. NoMemory where memory is refused.
     pub fn copy(&self) -> Result<ByName, Refusal>
         ensures ok { IfOk result (λ b. b ≡ self.now) }
         ensures err { IfErr result (λ e. e ≡ Refusal.NoMemory) }
     {
-        let alloc = *self.chunks.allocator();
-        let chunks = copied(alloc, &self.chunks)?;
+        let chunks = self.chunks.copy()?;
         Ok(ByName { chunks })
     }
 
-    /// The snapshot of that name, or None where there is none. It costs the logarithm of their number.
+    /// The snapshot of that name, or None where there is none. It costs the logarithm of their number, with a walk over the groups for
+    /// each step to a chunk.
     pub fn get(&self, name: &[u8]) -> Option<&Kept>
         ensures { option_copied result ≡ find (λ k. same_name k.snapshot.name name.now) self.now }
     {
@@ -75,9 +75,9 @@ impl ByName {
         None
     }
 
-    /// Puts in a snapshot of a name that isn't there, by the owner that is given. It costs the logarithm of their number and at most
-    /// one chunk, and that is changed in place where it has no other owner and isn't full; a full one becomes two, which moves the
-    /// pointers to the chunks behind it. NoMemory where memory is refused; then all is as it was.
+    /// Puts in a snapshot of a name that isn't there, by the owner that is given. It costs the logarithm of their number, with a walk over
+    /// the groups for each step to a chunk, and at most two chunks and their groups; a chunk is changed in place where it and its group
+    /// have no other owner and it isn't full. NoMemory where memory is refused; then all is as it was.
     pub fn insert(&mut self, kept: Arc<Kept>) -> Result<(), Refusal>
         requires { find (λ k. same_name k.snapshot.name kept.value.snapshot.name) self.old ≡ None }
         ensures ok { OnOk result ((name : List ℕ) → find (λ k. same_name k.snapshot.name name) self.new ≡ (if same_name kept.value.snapshot.name name then Some kept.value else find (λ k. same_name k.snapshot.name name) self.old)) }
@@ -92,9 +92,9 @@ impl ByName {
         Ok(())
     }
 
-    /// Puts a snapshot in the place of the one of its name, which is there, by the owner that is given. It costs the logarithm of their
-    /// number, and is done in place where the chunk has no other owner; else the chunk is made anew. NoMemory where memory is refused;
-    /// then all is as it was.
+    /// Puts a snapshot in the place of the one of its name, which is there, by the owner that is given. It costs what finding does, and is
+    /// done in place where the chunk and its group have no other owner; else these are made anew. NoMemory where memory is refused; then
+    /// all is as it was.
     pub fn set(&mut self, kept: Arc<Kept>) -> Result<(), Refusal>
         requires { IsSome (find (λ k. same_name k.snapshot.name kept.value.snapshot.name) self.old) }
         ensures ok { OnOk result ((name : List ℕ) → find (λ k. same_name k.snapshot.name name) self.new ≡ (if same_name kept.value.snapshot.name name then Some kept.value else find (λ k. same_name k.snapshot.name name) self.old)) }
@@ -108,8 +108,8 @@ impl ByName {
         Ok(())
     }
 
-    /// Takes out the snapshot of that name, which is there. It costs the logarithm of their number and at most three chunks, and moves
-    /// the pointers to the chunks behind one that goes. NoMemory where memory is refused; then all is as it was.
+    /// Takes out the snapshot of that name, which is there. It costs what finding does, and at most three chunks and their groups.
+    /// NoMemory where memory is refused; then all is as it was.
     pub fn remove(&mut self, name: &[u8]) -> Result<(), Refusal>
         requires { IsSome (find (λ k. same_name k.snapshot.name name.now) self.old) }
         ensures ok { OnOk result ((other : List ℕ) → find (λ k. same_name k.snapshot.name other) self.new ≡ (if same_name name.now other then None else find (λ k. same_name k.snapshot.name other) self.old)) }
@@ -136,11 +136,11 @@ fn has_name(kept: &Kept, name: &[u8]) -> bool
     kept.snapshot.name().as_bytes() == name
 }
 
-/// Where the first snapshot stands whose name isn't below that one, or None where all are. It costs the logarithm of their number.
-fn place_of(chunks: &[Arc<Chunk<Kept>>], name: &[u8]) -> Option<Place>
-    requires { IsTrue (names_rise (elements chunks.now)) }
-    ensures place { IfSome result (λ c. IsItem chunks.now c.k c.at) }
-    ensures point { IsPartitionPoint (λ k. is_below name.now k ≡ true) (λ k. is_below name.now k ≡ false) (elements chunks.now) (place_index chunks.now result) }
+/// Where the first snapshot stands whose name isn't below that one, or None where all are.
+fn place_of(chunks: &Spine<Chunk<Kept>>, name: &[u8]) -> Option<Place>
+    requires { IsTrue (names_rise (flattened chunks.now)) }
+    ensures place { IfSome result (λ c. IsItem (λ v. v) chunks.now c.k c.at) }
+    ensures point { IsPartitionPoint (λ k. is_below name.now k ≡ true) (λ k. is_below name.now k ≡ false) (flattened chunks.now) (place_index (λ v. v) chunks.now result) }
 {
     partition_point(chunks, |kept: &Kept| is_below_name(kept, name))
 }

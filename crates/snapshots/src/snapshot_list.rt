@@ -63,7 +63,7 @@ impl SnapshotList {
         }
     }
 
-    /// The same snapshots, by one more owner of each chunk of them: it costs a 32nd of their number, or less. NoMemory where there is
+    /// The same snapshots, by one more owner of each group of chunks: it costs a 1,024th of their number, or less. NoMemory where there is
     /// none for that.
     pub fn copy(&self) -> Result<SnapshotList, Refusal>
         ensures ok { IfOk result (λ l. l ≡ self.now) }

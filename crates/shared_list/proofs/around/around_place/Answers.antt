@@ -9,8 +9,8 @@ returns g c =
     let before = c.place_before.ensures in
     let after = c.place_after.ensures in
     record {
-      within = place_within xs place c.requires;
-      before = stands_before xs place c.place_before.result (option_copied c.item_of.result) c.item_of.ensures before.place before.before before.none;
+      within = place_within (λ v. v) xs place c.requires;
+      before = stands_before (λ v. v) xs place c.place_before.result (option_copied c.item_of.result) c.item_of.ensures before.place before.before before.none;
       at = c.item_of-2.ensures;
-      after = stands_after xs place c.place_after.result (option_copied c.item_of-3.result) c.item_of-3.ensures after.after after.none;
+      after = stands_after (λ v. v) xs place c.place_after.result (option_copied c.item_of-3.result) c.item_of-3.ensures after.after after.none;
     }

@@ -1,33 +1,40 @@
-use Rattle.std.proofs.Common.{◌≡◌, ◌+◌, ◌≤◌, suc, ◌++◌, sym, subst, ap, ◌∙◌, length, get_or, set, arith, rules}
+use Rattle.std.proofs.Common.{◌≡◌, ◌+◌, ◌<◌, ◌≤◌, suc, refl, sym, subst, ap, ◌∙◌, length, arith}
 use Rattle.std.specs.Prelude.{insert}
-use Rattle.shared_list.specs.Elements.{elements}
-use Rattle.std.proofs.lemmas.Result.{err_from_is_err_and}
-use Rattle.shared_list.proofs.Chunks.{kept, put_within, split_within}
+use Rattle.shared_list.specs.Elements.{flattened}
+use Rattle.shared_list.proofs.Chunks.{put_within, split_within}
+use Rattle.shared_list.proofs.Points.{read_of}
 use Rattle.shared_list.proofs.edits.insert_item.Goals as goal
 
-pub returns-in_err-put_in-clause-err : goal.returns-in_err-put_in-clause-err
-returns-in_err-put_in-clause-err g c =
-    let xs = c.args.chunks.now.items in
-    let a = c.index_mut.result.now in
-    let read : a ≡ get_or xs c.args.k a = search rules in
-    let refused = err_from_is_err_and c.from_residual.result c.from_residual.ensures.1 in
-    rw refused.1 (kept xs c.args.k a c.put_in.new.place c.requires.chunk read c.in_err-put_in.ensures.err)
+pub change-requires-clause-can : goal.change-requires-clause-can
+change-requires-clause-can g c = λ v is.
+    let same : c.at.result.now ≡ v = cc (is, c.at.ensures) in
+    let within = subst (λ w. c.args.at ≤ length w) (sym (read_of c.args.chunks.now c.args.k c.at.result.now c.at.ensures c.at.result.now)) (c.requires.within c.at.result.now) in
+    subst (λ w. (length w < 64) × (c.args.at ≤ length w)) same (omega arith, within)
 
 pub returns-then-len-lt-CHUNK-clause-ok : goal.returns-then-len-lt-CHUNK-clause-ok
 returns-then-len-lt-CHUNK-clause-ok g c =
-    let xs = c.args.chunks.now.items in
-    let a = c.index_mut.result.now in
-    let read : a ≡ get_or xs c.args.k a = search rules in
-    let within = subst (λ b. c.args.at ≤ length b.value) (sym read) (c.requires.within a) in
-    put_within xs c.args.k c.args.at a c.put_in.new.place c.args.item.value c.requires.chunk read within c.in_ok-put_in.ensures.ok
+    let xs = c.args.chunks.now in
+    let k = c.args.k in
+    let at = c.args.at in
+    let a = c.at.result.now in
+    let y = c.args.item.value in
+    let read = read_of xs k a c.at.ensures a in
+    let within = subst (λ v. at ≤ length v) (sym read) (c.requires.within a) in
+    ap flattened (c.in_ok-change.ensures.ok a c.at.ensures) ∙ put_within (λ v. v) xs k at a (insert a at y) y c.requires.chunk read within refl
+
+pub split_with-requires-clause-at : goal.split_with-requires-clause-at
+split_with-requires-clause-at g c =
+    let a = c.at-2.result.now in
+    subst (λ v. c.args.at ≤ length v) (sym (read_of c.args.chunks.now c.args.k a c.at-2.ensures a)) (c.requires.within a)
 
 pub returns-clause-ok : goal.returns-clause-ok
 returns-clause-ok g c =
-    let xs = c.args.chunks.now.items in
-    let a = c.index-2.result.now in
-    let read : a ≡ get_or xs c.args.k a = search rules in
-    let within = subst (λ b. c.args.at ≤ length b.value) (sym read) (c.requires.within a) in
-    let next : c.args.k + 1 ≡ suc c.args.k = omega arith in
-    let put : c.in_ok-low.low.value ++ c.in_ok-low.high.value ≡ insert a.value c.args.at c.args.item.value = cc (c.in_ok-low.ensures, c.deref-2.ensures) in
-    ap (λ v. elements (set v c.args.k c.in_ok-low.low)) c.in_ok-insert.ensures.items
-    ∙ split_within xs c.args.k (c.args.k + 1) c.args.at a c.in_ok-low.low c.in_ok-low.high c.args.item.value next c.requires.chunk read within put
+    let xs = c.args.chunks.now in
+    let k = c.args.k in
+    let at = c.args.at in
+    let a = c.at-2.result.now in
+    let read = read_of xs k a c.at-2.ensures a in
+    let within = subst (λ v. at ≤ length v) (sym read) (c.requires.within a) in
+    let next : k + 1 ≡ suc k = omega arith in
+    ap flattened c.in_ok-both.ensures
+    ∙ split_within (λ v. v) xs k (k + 1) at a c.in_ok-low.low.value c.in_ok-low.high.value c.args.item.value next c.requires.chunk read within c.in_ok-low.ensures

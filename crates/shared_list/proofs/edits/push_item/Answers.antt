@@ -1,30 +1,22 @@
-use Rattle.std.proofs.Common.{◌≡◌, ◌+◌, ◌-◌, ◌<◌, length, get_or, arith, rules}
-use Rattle.std.proofs.lemmas.Result.{err_from_is_err_and}
-use Rattle.shared_list.proofs.Chunks.{added_one, ended, kept, read_same}
+use Rattle.std.proofs.Common.{◌≡◌, ◌+◌, ◌-◌, ◌<◌, ◌≤◌, length, refl, ap, subst, ◌∙◌, arith}
+use Rattle.std.specs.Prelude.{insert}
+use Rattle.shared_list.specs.Elements.{flattened}
+use Rattle.shared_list.proofs.Chunks.{added_one}
+use Rattle.shared_list.proofs.Points.{read_of}
 use Rattle.shared_list.proofs.edits.push_item.Goals as goal
 
-pub returns-then-len-lt-CHUNK-clause-ok : goal.returns-then-len-lt-CHUNK-clause-ok
-returns-then-len-lt-CHUNK-clause-ok g c =
-    let xs = c.args.chunks.now.items in
-    let k = c.len-count.result - 1 in
-    let a = c.index_mut.result.now in
-    let last : k + 1 ≡ length xs = grind arith in
-    let within : k < length xs = omega arith in
-    let read : a ≡ get_or xs k a = search rules in
-    let first : c.index-then-len-lt-CHUNK.result.now ≡ get_or xs k c.index-then-len-lt-CHUNK.result.now = search rules in
-    let same = read_same xs k a c.index-then-len-lt-CHUNK.result.now within read first in
-    let long : c.len-at.result ≡ length a.value = cc (same, c.len-at.ensures.len, c.deref-then-len-lt-CHUNK.ensures) in
-    added_one xs k c.len-at.result a c.put_in.new.place c.args.item.value last read long c.in_ok-put_in.ensures.ok
+pub change-requires-clause-can : goal.change-requires-clause-can
+change-requires-clause-can g c = λ v is.
+    let same : c.at.result.now ≡ v = cc (is, c.at.ensures) in
+    subst (λ w. (length w < 64) × (c.len-at.result ≤ length w)) same (omega arith, omega arith)
 
-pub returns-in_err-put_in-clause-err : goal.returns-in_err-put_in-clause-err
-returns-in_err-put_in-clause-err g c =
-    let xs = c.args.chunks.now.items in
+pub returns-then-at-lt-CHUNK-clause-ok : goal.returns-then-at-lt-CHUNK-clause-ok
+returns-then-at-lt-CHUNK-clause-ok g c =
+    let xs = c.args.chunks.now in
     let k = c.len-count.result - 1 in
-    let a = c.index_mut.result.now in
-    let within : k < length xs = grind arith in
-    let read : a ≡ get_or xs k a = search rules in
-    let refused = err_from_is_err_and c.from_residual.result c.from_residual.ensures.1 in
-    rw refused.1 (kept xs k a c.put_in.new.place within read c.in_err-put_in.ensures.err)
-
-pub returns-clause-ok : goal.returns-clause-ok
-returns-clause-ok g c = cc (ended c.args.chunks.now.items c.in_ok-fresh.fresh, c.in_ok-fresh.ensures, c.in_ok-push.ensures.items)
+    let at = c.len-at.result in
+    let a = c.at.result.now in
+    let y = c.args.item.value in
+    let last : k + 1 ≡ length xs = omega arith in
+    ap flattened (c.in_ok-change.ensures.ok a c.at.ensures)
+    ∙ added_one (λ v. v) xs k at a (insert a at y) y last (read_of xs k a c.at.ensures a) c.len-at.ensures.len refl

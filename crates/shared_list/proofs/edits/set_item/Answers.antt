@@ -1,20 +1,20 @@
-use Rattle.std.proofs.Common.{◌≡◌, ◌<◌, sym, subst, length, get_or, rules}
-use Rattle.std.proofs.lemmas.Result.{err_from_is_err_and}
-use Rattle.shared_list.proofs.Chunks.{kept, set_within}
+use Rattle.std.proofs.Common.{◌<◌, refl, sym, subst, ap, ◌∙◌, length, set}
+use Rattle.shared_list.specs.Elements.{flattened}
+use Rattle.shared_list.proofs.Chunks.{set_within, is_there}
+use Rattle.shared_list.proofs.Points.{read_of}
 use Rattle.shared_list.proofs.edits.set_item.Goals as goal
 
-pub returns-in_err-set_in-clause-err : goal.returns-in_err-set_in-clause-err
-returns-in_err-set_in-clause-err g c =
-    let xs = c.args.chunks.now.items in
-    let a = c.index_mut.result.now in
-    let read : a ≡ get_or xs c.args.k a = search rules in
-    let refused = err_from_is_err_and c.from_residual.result c.from_residual.ensures.1 in
-    rw refused.1 (kept xs c.args.k a c.set_in.new.place c.requires.chunk read c.in_err-set_in.ensures.err)
+pub change-requires-clause-can : goal.change-requires-clause-can
+change-requires-clause-can g c = λ v is. subst (λ w. c.args.at < length w) (sym (read_of c.args.chunks.now c.args.k v is v)) (c.requires.within v)
 
 pub returns-clause-ok : goal.returns-clause-ok
 returns-clause-ok g c =
-    let xs = c.args.chunks.now.items in
-    let a = c.index_mut.result.now in
-    let read : a ≡ get_or xs c.args.k a = search rules in
-    let within = subst (λ b. c.args.at < length b.value) (sym read) (c.requires.within a) in
-    set_within xs c.args.k c.args.at a c.set_in.new.place c.args.item.value c.requires.chunk read within c.in_ok-set_in.ensures.ok
+    let xs = c.args.chunks.now in
+    let k = c.args.k in
+    let at = c.args.at in
+    let y = c.args.item.value in
+    let there = is_there xs k c.requires.chunk in
+    let a = there.0 in
+    let read = read_of xs k a there.1 a in
+    let within = subst (λ v. at < length v) (sym read) (c.requires.within a) in
+    ap flattened (c.in_ok-change.ensures.ok a there.1) ∙ set_within (λ v. v) xs k at a (set a at y) y c.requires.chunk read within refl

@@ -1,47 +1,52 @@
-use Rattle.std.proofs.Common.{◌≡◌, ◌<◌, ◌∙◌, sym, subst, ap, length, get_or, slice_get, Some, arith, rules}
-use Rattle.std.proofs.lemmas.Result.{err_from_is_err_and}
-use Rattle.shared_list.specs.Elements.{elements}
-use Rattle.shared_list.proofs.Chunks.{kept, gone_within, gone_whole, got_within}
+use Rattle.std.proofs.Common.{◌≡◌, ◌<◌, ◌∙◌, refl, sym, subst, ap, length, remove, arith}
+use Rattle.shared_list.specs.Elements.{flattened}
+use Rattle.shared_list.proofs.Chunks.{gone_within, gone_whole, got_within}
+use Rattle.shared_list.proofs.Points.{read_of}
 use Rattle.shared_list.proofs.edits.take_item.Goals as goal
 
-pub returns-in_err-item-clause-err : goal.returns-in_err-item-clause-err
-returns-in_err-item-clause-err g c =
-    let xs = c.args.chunks.now.items in
-    let a = c.index_mut.result.now in
-    let read : a ≡ get_or xs c.args.k a = search rules in
-    let refused = err_from_is_err_and c.from_residual.result c.from_residual.ensures.1 in
-    rw refused.1 (kept xs c.args.k a c.take_from.new.place c.requires.chunk read c.in_err-item.ensures.err)
+pub change-requires-clause-can : goal.change-requires-clause-can
+change-requires-clause-can g c = λ v is.
+    let same : c.at-chunk.result.now ≡ v = cc (is, c.at-chunk.ensures) in
+    let within = subst (λ w. c.args.at < length w) (sym (read_of c.args.chunks.now c.args.k c.at-chunk.result.now c.at-chunk.ensures c.at-chunk.result.now)) (c.requires.within c.at-chunk.result.now) in
+    subst (λ w. (c.args.at < length w) × (1 < length w)) same (within, omega arith)
 
 pub returns-then-len-gt1-clause-ok : goal.returns-then-len-gt1-clause-ok
 returns-then-len-gt1-clause-ok g c =
-    let xs = c.args.chunks.now.items in
-    let a = c.index_mut.result.now in
-    let read : a ≡ get_or xs c.args.k a = search rules in
-    let within = subst (λ b. c.args.at < length b.value) (sym read) (c.requires.within a) in
-    gone_within xs c.args.k c.args.at a c.take_from.new.place c.requires.chunk read within c.in_ok-item.ensures.ok
+    let xs = c.args.chunks.now in
+    let k = c.args.k in
+    let at = c.args.at in
+    let a = c.at-chunk.result.now in
+    let read = read_of xs k a c.at-chunk.ensures a in
+    let within = subst (λ v. at < length v) (sym read) (c.requires.within a) in
+    ap flattened (c.in_ok-change.ensures.ok a c.at-chunk.ensures) ∙ gone_within (λ v. v) xs k at a (remove a at) c.requires.chunk read within refl
 
 pub returns-then-len-gt1-clause-item : goal.returns-then-len-gt1-clause-item
 returns-then-len-gt1-clause-item g c =
-    let xs = c.args.chunks.now.items in
-    let a = c.index_mut.result.now in
-    let read : a ≡ get_or xs c.args.k a = search rules in
-    let within = subst (λ b. c.args.at < length b.value) (sym read) (c.requires.within a) in
-    got_within xs c.args.k c.args.at a c.in_ok-item.item.value c.requires.chunk read within c.in_ok-item.ensures.item
+    let xs = c.args.chunks.now in
+    let k = c.args.k in
+    let at = c.args.at in
+    let a = c.at-chunk.result.now in
+    let read = read_of xs k a c.at-chunk.ensures a in
+    let within = subst (λ v. at < length v) (sym read) (c.requires.within a) in
+    got_within (λ v. v) xs k at a c.in_ok-item.item.value c.requires.chunk read within c.in_ok-item.ensures
 
 pub returns-clause-ok : goal.returns-clause-ok
 returns-clause-ok g c =
-    let xs = c.args.chunks.now.items in
-    let a = c.index.result.now in
-    let read : a ≡ get_or xs c.args.k a = search rules in
-    let within = subst (λ b. c.args.at < length b.value) (sym read) (c.requires.within a) in
-    let one : length a.value ≡ 1 = omega (arith, c.len.ensures.len, c.len.ensures.some, ap length c.deref.ensures) in
-    ap elements c.remove-gone.ensures.items ∙ gone_whole xs c.args.k c.args.at a c.requires.chunk read within one
+    let xs = c.args.chunks.now in
+    let k = c.args.k in
+    let at = c.args.at in
+    let a = c.at-chunk.result.now in
+    let read = read_of xs k a c.at-chunk.ensures a in
+    let within = subst (λ v. at < length v) (sym read) (c.requires.within a) in
+    let one : length a ≡ 1 = omega (arith, c.len.ensures.len, c.len.ensures.some) in
+    ap flattened c.in_ok-remove.ensures.ok ∙ gone_whole (λ v. v) xs k at a c.requires.chunk read within one
 
 pub returns-clause-item : goal.returns-clause-item
 returns-clause-item g c =
-    let xs = c.args.chunks.now.items in
-    let a = c.index-2.result.now in
-    let read : a ≡ get_or xs c.args.k a = search rules in
-    let within = subst (λ b. c.args.at < length b.value) (sym read) (c.requires.within a) in
-    let is = subst (λ v. slice_get v c.args.at ≡ Some c.in_ok-item-2.item.value) c.deref-2.ensures c.in_ok-item-2.ensures in
-    got_within xs c.args.k c.args.at a c.in_ok-item-2.item.value c.requires.chunk read within is
+    let xs = c.args.chunks.now in
+    let k = c.args.k in
+    let at = c.args.at in
+    let a = c.at-chunk.result.now in
+    let read = read_of xs k a c.at-chunk.ensures a in
+    let within = subst (λ v. at < length v) (sym read) (c.requires.within a) in
+    got_within (λ v. v) xs k at a c.in_ok-item.item.value c.requires.chunk read within c.in_ok-item.ensures

@@ -1,5 +1,6 @@
-use Rattle.std.proofs.Common.{◌≡◌, ◌<◌, sym, subst, length, slice_get, Some}
+use Rattle.std.proofs.Common.{◌<◌, sym, subst, length}
 use Rattle.shared_list.proofs.Chunks.{got_within}
+use Rattle.shared_list.proofs.Points.{read_of}
 use Rattle.shared_list.proofs.place.item_at.Goals as goal
 
 pub returns : goal.returns
@@ -7,7 +8,7 @@ returns g c =
     let xs = c.args.chunks.now in
     let k = c.args.place.k in
     let at = c.args.place.at in
-    let a = c.index-chunks-place.result in
-    let within = subst (λ b. at < length b.value) (sym c.index-chunks-place.is) (c.requires.within a) in
-    let is = subst (λ v. slice_get v at ≡ Some c.get.result.now) c.deref.ensures c.get.ensures in
-    got_within xs k at a c.get.result.now c.requires.chunk c.index-chunks-place.is within is
+    let a = c.at.result.now in
+    let read = read_of xs k a c.at.ensures a in
+    let within = subst (λ v. at < length v) (sym read) (c.requires.within a) in
+    got_within (λ v. v) xs k at a c.get.result.now c.requires.chunk read within c.get.ensures

@@ -7,7 +7,7 @@ abbrev pub invariant-loop-low : goal.invariant-loop-low
 invariant-loop-low g l = record {
   order : l.low ≤ l.high;
   within : l.high ≤ length l.chunks;
-  cut : (p : _ → Bool) → ComputesKey g.P.Fn p l.test → IsCut p l.chunks l.low l.high;
+  cut : (p : _ → Bool) → ComputesKey g.P.Fn p l.test → IsCut (λ v. v) p l.chunks l.low l.high;
 }
 
 abbrev pub decreases-loop-low : goal.decreases-loop-low

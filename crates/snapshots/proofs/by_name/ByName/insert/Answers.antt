@@ -1,44 +1,51 @@
-use Rattle.std.proofs.Common.{◌≡◌, Some, cond, ap, ◌∙◌}
+use Rattle.std.proofs.Common.{◌≡◌, ◌+◌, length, take, Some, cond, ap, ◌∙◌}
 use Rattle.std.specs.List.{find}
-use Rattle.shared_list.specs.Elements.{elements}
+use Rattle.shared_list.specs.Elements.{flattened}
 use Rattle.snapshots.specs.Order.{is_named}
+use Rattle.shared_list.proofs.Points.{inside}
 use Rattle.snapshots.proofs.Cuts.{put_in, put_end}
 use Rattle.snapshots.proofs.by_name.ByName.insert.Goals as goal
 
 pub invariant_of-self-in_default : goal.invariant_of-self-in_default
 invariant_of-self-in_default c =
-    let xs = c.self.inside.chunks.items in
+    let xs = c.self.inside.chunks in
     let y = c.args.kept.value in
     let q = c.as_bytes.result.now in
-    let its : q ≡ y.snapshot.name = cc (c.as_bytes.ensures, c.name.ensures, c.deref-2.ensures) in
+    let its : q ≡ y.snapshot.name = cc (c.as_bytes.ensures, c.name.ensures, c.deref.ensures) in
     let none = ap (find (is_named y.snapshot.name)) c.self.view_is ∙ c.requires in
-    (put_end q xs c.deref.result.now c.deref.ensures.value c.self.invariant c.in_default.ensures.point y (elements c.push_item.new.chunks.items) its none c.in_ok-push_item.ensures.ok).rises
+    (put_end q (flattened xs) c.self.invariant c.in_default.ensures.point y (flattened c.push_item.new.chunks) its none c.in_ok-push_item.ensures.ok).rises
 
 pub returns-in_default-clause-ok : goal.returns-in_default-clause-ok
 returns-in_default-clause-ok c = λ n.
-    let xs = c.self.inside.chunks.items in
+    let xs = c.self.inside.chunks in
     let y = c.args.kept.value in
     let q = c.as_bytes.result.now in
-    let its : q ≡ y.snapshot.name = cc (c.as_bytes.ensures, c.name.ensures, c.deref-2.ensures) in
+    let its : q ≡ y.snapshot.name = cc (c.as_bytes.ensures, c.name.ensures, c.deref.ensures) in
     let none = ap (find (is_named y.snapshot.name)) c.self.view_is ∙ c.requires in
-    (put_end q xs c.deref.result.now c.deref.ensures.value c.self.invariant c.in_default.ensures.point y (elements c.push_item.new.chunks.items) its none c.in_ok-push_item.ensures.ok).finds n
+    (put_end q (flattened xs) c.self.invariant c.in_default.ensures.point y (flattened c.push_item.new.chunks) its none c.in_ok-push_item.ensures.ok).finds n
     ∙ ap (λ ks. cond (is_named n y) (Some y) (find (is_named n) ks)) c.self.view_is
 
 pub invariant_of-self-2 : goal.invariant_of-self-2
 invariant_of-self-2 c =
-    let xs = c.self.inside.chunks.items in
+    let xs = c.self.inside.chunks in
+    let p = c.in-Some.place in
+    let i = length (flattened (take p.k xs)) + p.at in
+    let lt = inside (λ v. v) xs p.k p.at c.in-Some.ensures.place.chunk c.in-Some.ensures.place.within in
     let y = c.args.kept.value in
     let q = c.as_bytes.result.now in
-    let its : q ≡ y.snapshot.name = cc (c.as_bytes.ensures, c.name.ensures, c.deref-2.ensures) in
+    let its : q ≡ y.snapshot.name = cc (c.as_bytes.ensures, c.name.ensures, c.deref.ensures) in
     let none = ap (find (is_named y.snapshot.name)) c.self.view_is ∙ c.requires in
-    (put_in q xs c.deref.result.now c.deref.ensures.value c.self.invariant c.in-Some.place.k c.in-Some.place.at c.in-Some.ensures.place c.in-Some.ensures.point y (elements c.insert_item.new.chunks.items) its none c.in_ok-insert_item.ensures.ok).rises
+    (put_in q (flattened xs) c.self.invariant i lt c.in-Some.ensures.point y (flattened c.insert_item.new.chunks) its none c.in_ok-insert_item.ensures.ok).rises
 
 pub returns-clause-ok : goal.returns-clause-ok
 returns-clause-ok c = λ n.
-    let xs = c.self.inside.chunks.items in
+    let xs = c.self.inside.chunks in
+    let p = c.in-Some.place in
+    let i = length (flattened (take p.k xs)) + p.at in
+    let lt = inside (λ v. v) xs p.k p.at c.in-Some.ensures.place.chunk c.in-Some.ensures.place.within in
     let y = c.args.kept.value in
     let q = c.as_bytes.result.now in
-    let its : q ≡ y.snapshot.name = cc (c.as_bytes.ensures, c.name.ensures, c.deref-2.ensures) in
+    let its : q ≡ y.snapshot.name = cc (c.as_bytes.ensures, c.name.ensures, c.deref.ensures) in
     let none = ap (find (is_named y.snapshot.name)) c.self.view_is ∙ c.requires in
-    (put_in q xs c.deref.result.now c.deref.ensures.value c.self.invariant c.in-Some.place.k c.in-Some.place.at c.in-Some.ensures.place c.in-Some.ensures.point y (elements c.insert_item.new.chunks.items) its none c.in_ok-insert_item.ensures.ok).finds n
+    (put_in q (flattened xs) c.self.invariant i lt c.in-Some.ensures.point y (flattened c.insert_item.new.chunks) its none c.in_ok-insert_item.ensures.ok).finds n
     ∙ ap (λ ks. cond (is_named n y) (Some y) (find (is_named n) ks)) c.self.view_is

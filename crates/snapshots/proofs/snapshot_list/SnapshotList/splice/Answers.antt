@@ -1,11 +1,22 @@
-use Rattle.std.proofs.Common.{◌≡◌, ◌+◌, Some, set, slice_get, ap, sym, subst, ◌∙◌}
+use Rattle.std.proofs.Common.{◌≡◌, ◌+◌, ◌<◌, Some, length, set, slice_get, ap, sym, subst, ◌∙◌}
 use Rattle.std.specs.Prelude.{remove}
 use Rattle.std.specs.Option.{option_map}
+use Rattle.std.proofs.lemmas.Option.{slice_get_within}
 use Rattle.std.specs.Arc.{arc_value}
 use Rattle.snapshots.specs.declared.kept.Kept.{Kept}
 use Rattle.snapshots.specs.Index.{IsIndex, AreNamesOnce}
-use Rattle.snapshots.proofs.Splices.{index_has, once_without, named_after}
+use Rattle.snapshots.proofs.Splices.{named_at, index_has, once_without, named_after}
 use Rattle.snapshots.proofs.snapshot_list.SnapshotList.splice.Goals as goal
+
+-- the one after it has come to its place
+pub set_shared-requires : goal.set_shared-requires
+set_shared-requires c =
+    let ks = c.self.inside.kept in
+    let next : option_map (λ (k : Kept). k.snapshot.name) (slice_get ks (c.args.place + 1)) ≡ Some c.args.next.snapshot.name =
+    ap (λ l. option_map (λ (k : Kept). k.snapshot.name) (slice_get l (c.args.place + 1))) c.self.view_is ∙ c.requires.next in
+    let there = named_at (slice_get (remove ks c.args.place) c.args.place) c.args.next.snapshot.name (named_after ks c.args.place c.args.next.snapshot.name next) in
+    let gone : c.remove.new.self ≡ remove ks c.args.place = c.in_ok-remove.ensures.ok ∙ ap (λ l. remove l c.args.place) c.in_ok-kept.ensures in
+    subst (λ l. c.args.place < length l) (sym gone) (slice_get_within (remove ks c.args.place) c.args.place there.0 there.1)
 
 -- its name is in the index
 pub forget-requires : goal.forget-requires

@@ -1,6 +1,7 @@
 use Rattle.std.proofs.Common.{◌≡◌, suc, ◌-◌, ◌<◌, ◌++◌, length, get_or, arith, rules}
+use Rattle.std.specs.Arc.{arc_value}
 use Rattle.shared_list.proofs.Chunks.{met}
-use Rattle.shared_list.proofs.edits.join.Goals as goal
+use Rattle.shared_list.proofs.spine.edits.join.Goals as goal
 
 pub returns-in-Ok : goal.returns-in-Ok
 returns-in-Ok g c =
@@ -13,5 +14,5 @@ returns-in-Ok g c =
     let read_a : a ≡ get_or xs (k - 1) a = search rules in
     let read_b : b ≡ get_or xs k b = search rules in
     let value : c.in-Ok.whole.value ≡ a.value ++ b.value = search rules in
-    let m = met xs (k - 1) k a b c.in-Ok.whole next within read_a read_b value in
+    let m = met arc_value xs (k - 1) k a b c.in-Ok.whole next within read_a read_b value in
     cc (m, c.remove-joined.ensures.items)

@@ -1,0 +1,198 @@
+//! Elements in chunks which copies share: one level of what a list keeps.
+ghost use Rattle.std.specs.Prelude.{◌≡◌, ◌-◌, ◌<◌, ◌≤◌, ◌++◌, ◌∷◌, List, Some, [], length, take, drop, insert, remove, slice_get, slice_set, IfOk, OnOk, OnErr};
+ghost use Rattle.shared_list.specs.Ahead.{ahead};
+ghost use Rattle.shared_list.specs.Changes.{CanChange, changed};
+ghost use Rattle.shared_list.specs.Elements.{elements};
+
+mod edits;
+mod iter;
+mod place;
+
+use crate::change::Change;
+use crate::chunk::Chunk;
+use crate::place::Place;
+use edits::{change_deep, copied, cut_off, insert_item, pour, push_item, remove_item, set_item};
+pub use iter::SpineIter;
+use place::{item_at, place_of};
+use std::alloc::{AllocError, Global};
+use std::marker::Model;
+use std::sync::Arc;
+
+/// Owners of elements, in order, in chunks of 1 to 64 (profile), which copies share. Contracts see the list of the elements' values. It
+/// is what a list keeps its own chunks in. Where a cost is a walk, it is one over the chunks, a 64th of the elements.
+#[derive(Drop)]
+pub struct Spine<T> {
+    chunks: Vec<Arc<Chunk<T>>>,
+    len: usize,
+}
+
+impl<T> Model for Spine<T> {
+    ghost use Rattle.std.specs.Prelude.{◌≡◌, List, length};
+    ghost use Rattle.shared_list.specs.Elements.{elements};
+
+    ghost Value = { List T };
+
+    ghost view = { λ s. elements s.chunks.items };
+
+    ghost invariant = { λ s. s.len ≡ length (elements s.chunks.items) };
+}
+
+impl<T: Drop> Spine<T> {
+    /// One without elements. It takes no memory, and keeps the allocator.
+    pub fn new(alloc: Global) -> Spine<T>
+        ensures { result ≡ [] }
+    {
+        Spine {
+            chunks: Vec::new(alloc),
+            len: 0,
+        }
+    }
+
+    /// How many elements there are. Constant time.
+    pub fn len(&self) -> usize
+        ensures { result ≡ length self.now }
+    {
+        self.len
+    }
+
+    /// The allocator that was given.
+    pub(crate) fn allocator(&self) -> Global {
+        *self.chunks.allocator()
+    }
+
+    /// The element with that index, which is below the length. It costs a walk, and constant time where there are at most 64.
+    pub(crate) fn at(&self, index: usize) -> &T
+        requires { index < length self.now }
+        ensures { slice_get self.now index ≡ Some result.now }
+    {
+        if self.chunks.len() == 1 {
+            return self.chunks[0].get(index);
+        }
+        let place = place_of(&self.chunks, index);
+        item_at(&self.chunks, place)
+    }
+
+    /// The elements, first to last. Constant time, and constant time for each element.
+    pub(crate) fn iter(&self) -> SpineIter<'_, T>
+        ensures { ahead result ≡ self.now }
+    {
+        SpineIter::new(&self.chunks)
+    }
+
+    /// An equal one, by one more owner of each chunk. AllocError where memory is refused.
+    pub fn copy(&self) -> Result<Spine<T>, AllocError>
+        ensures { IfOk result (λ s. s ≡ self.now) }
+    {
+        let alloc = *self.chunks.allocator();
+        let chunks = copied(alloc, &self.chunks)?;
+        let len = self.len;
+        Ok(Spine { chunks, len })
+    }
+
+    /// Adds an element at the end. Constant time, where the last chunk has no other owner; else that is made anew. AllocError where
+    /// memory is refused or there are as many elements as a usize counts; then all is as it was.
+    pub(crate) fn push_shared(&mut self, item: Arc<T>) -> Result<(), AllocError>
+        ensures ok { OnOk result (self.new ≡ self.old ++ item.value ∷ []) }
+        ensures err { OnErr result (self.new ≡ self.old) }
+    {
+        let Some(len) = self.len.checked_add(1) else {
+            return Err(AllocError);
+        };
+        push_item(&mut self.chunks, item)?;
+        self.len = len;
+        Ok(())
+    }
+
+    /// Puts in an element, which gets that index, which is at most the length. It costs a walk, and at most two chunks anew. AllocError
+    /// where memory is refused or there are as many elements as a usize counts; then all is as it was.
+    pub(crate) fn insert_shared(&mut self, index: usize, item: Arc<T>) -> Result<(), AllocError>
+        requires { index ≤ length self.old }
+        ensures ok { OnOk result (self.new ≡ insert self.old index item.value) }
+        ensures err { OnErr result (self.new ≡ self.old) }
+    {
+        if index == self.len {
+            return self.push_shared(item);
+        }
+        let Some(len) = self.len.checked_add(1) else {
+            return Err(AllocError);
+        };
+        let Place { k, at } = place_of(&self.chunks, index);
+        insert_item(&mut self.chunks, k, at, item)?;
+        self.len = len;
+        Ok(())
+    }
+
+    /// Puts an element in the place of the one with that index, which is below the length. It costs a walk, and at most one chunk anew.
+    /// AllocError where memory is refused; then all is as it was.
+    pub(crate) fn set_shared(&mut self, index: usize, item: Arc<T>) -> Result<(), AllocError>
+        requires { index < length self.old }
+        ensures ok { OnOk result (self.new ≡ slice_set self.old index item.value) }
+        ensures err { OnErr result (self.new ≡ self.old) }
+    {
+        let Place { k, at } = place_of(&self.chunks, index);
+        set_item(&mut self.chunks, k, at, item)
+    }
+
+    /// Removes the element with that index, which is below the length. It costs a walk, and at most three chunks anew. AllocError where
+    /// memory is refused; then all is as it was.
+    pub(crate) fn remove(&mut self, index: usize) -> Result<(), AllocError>
+        requires { index < length self.old }
+        ensures ok { OnOk result (self.new ≡ remove self.old index) }
+        ensures err { OnErr result (self.new ≡ self.old) }
+    {
+        let Place { k, at } = place_of(&self.chunks, index);
+        let _gone = remove_item(&mut self.chunks, k, at)?;
+        self.len -= 1;
+        Ok(())
+    }
+
+    /// Keeps the elements before that index, which is at most the length, and gives the others. It costs a walk, and at most two chunks
+    /// anew. AllocError where memory is refused; then all is as it was.
+    pub(crate) fn split_off(&mut self, index: usize) -> Result<Spine<T>, AllocError>
+        requires { index ≤ length self.old }
+        ensures ok { OnOk result (self.new ≡ take index self.old) }
+        ensures rest { IfOk result (λ s. s ≡ drop index self.old) }
+        ensures err { OnErr result (self.new ≡ self.old) }
+    {
+        if index == self.len {
+            return Ok(Spine::new(*self.chunks.allocator()));
+        }
+        let chunks = cut_off(&mut self.chunks, index)?;
+        let len = self.len - index;
+        self.len = index;
+        Ok(Spine { chunks, len })
+    }
+
+    /// Moves all elements of the other to the end of this one, and leaves it empty. It costs a walk over the other's chunks, and at most
+    /// one chunk anew. AllocError where memory is refused or the two have more elements together than a usize counts; then both are as
+    /// they were.
+    pub(crate) fn append(&mut self, other: &mut Spine<T>) -> Result<(), AllocError>
+        ensures ok { OnOk result (self.new ≡ self.old ++ other.old) }
+        ensures emptied { OnOk result (other.new ≡ []) }
+        ensures err { OnErr result (self.new ≡ self.old) }
+        ensures other_err { OnErr result (other.new ≡ other.old) }
+    {
+        let Some(len) = self.len.checked_add(other.len) else {
+            return Err(AllocError);
+        };
+        pour(&mut self.chunks, &mut other.chunks)?;
+        self.len = len;
+        other.len = 0;
+        Ok(())
+    }
+}
+
+impl<T: Drop> Spine<Chunk<T>> {
+    /// Changes the chunk with index k, which is below the length. It costs a walk, and is done in place where neither that chunk nor the
+    /// one that has it here has another owner; else these are made anew. AllocError where memory is refused; then all is as it was.
+    pub(crate) fn change(&mut self, k: usize, change: Change<T>) -> Result<(), AllocError>
+        requires k { k < length self.old }
+        requires can { (v : List T) → slice_get self.old k ≡ Some v → CanChange v change }
+        ensures ok { OnOk result ((v : List T) → slice_get self.old k ≡ Some v → self.new ≡ slice_set self.old k (changed v change)) }
+        ensures err { OnErr result (self.new ≡ self.old) }
+    {
+        let place = place_of(&self.chunks, k);
+        change_deep(&mut self.chunks, place, change)?;
+        Ok(())
+    }
+}
