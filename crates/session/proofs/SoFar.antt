@@ -1,9 +1,11 @@
 -- How far a batch has come.
-use Rattle.std.proofs.Common.{◌≡◌, ◌+◌, ◌∷◌, ◌++◌, [], ℕ, List, length, refl, sym, ap, ◌∙◌, arith, length-append, append_assoc, map, take, Bool, true, false, inl, inr, ◌<◌}
+use Rattle.std.proofs.Common.{◌≡◌, ◌+◌, ◌∷◌, ◌++◌, [], ℕ, List, length, refl, sym, ap, ◌∙◌, arith, length-append, append_assoc, map, take, Bool, true, false, inl, inr, ◌<◌, zero, suc, subst}
+use Rattle.std.specs.Prelude.{All}
 use Rattle.std.proofs.Math.Seq.{take-append_seam}
 use Rattle.std.proofs.lemmas.List.{map-append, length-map}
 use Rattle.std.proofs.lemmas.List.Elements.{All-append}
 use Rattle.model.specs.declared.request.Request.{Request}
+use Rattle.session.specs.Asked.{Asked}
 use Rattle.session.specs.Receipts.{Placed, Kept}
 use Rattle.session.specs.Entering.{Ran}
 use Rattle.session.specs.Calls.{FollowOn, IsAdded, IsBegun, IsPaced}
@@ -11,6 +13,31 @@ use Rattle.session.proofs.Alls.{all_one}
 
 abbrev pub request_in : Placed → Request
 request_in r = r.entry.request
+
+-- what calls ask for
+abbrev pub requests_in : List Asked → List Request
+requests_in = map (λ a. a.request)
+
+-- a seat's call for a request
+abbrev pub asked_by : ℕ → Request → Asked
+asked_by n q = record { seat = n; request = q }
+
+-- calls that a seat makes are its own, and ask for what it was to ask for
+own_made : (n : ℕ) (qs : List Request) → All (λ (b : Asked). b.seat ≡ n) (map (asked_by n) qs)
+own_made n [] k d lt = absurd (omega arith)
+own_made n (q ∷ qs) zero d lt = refl
+own_made n (q ∷ qs) (suc k) d lt = own_made n qs k d (omega arith)
+
+pub own_all : (n : ℕ) (qs : List Request) (all : List Asked) → map (asked_by n) qs ≡ all → All (λ (b : Asked). b.seat ≡ n) all
+own_all n qs all e = subst (All (λ (b : Asked). b.seat ≡ n)) e (own_made n qs)
+
+pub requests_all : (n : ℕ) (qs : List Request) → requests_in (map (asked_by n) qs) ≡ qs
+requests_all n [] = refl
+requests_all n (q ∷ qs) = ap (λ xs. q ∷ xs) (requests_all n qs)
+
+-- the calls after the first are of the seat too, whatever it has kept
+pub own_later : (seat now : Kept) (all rest : List Asked) (a : Asked) → all ≡ a ∷ rest → All (λ (b : Asked). b.seat ≡ seat.number) all → now.number ≡ seat.number → All (λ (b : Asked). b.seat ≡ now.number) rest
+own_later seat now all rest a e own same k d lt = subst (All (λ (b : Asked). b.seat ≡ seat.number)) e own (suc k) d (omega arith) ∙ sym same
 
 -- receipts rs have numbers from the first on, and are for all requests but the rest
 pub record IsSoFar (first left : ℕ) (all rest : List Request) (rs : List Placed) (next left' : ℕ) : Type 0 where

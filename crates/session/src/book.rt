@@ -8,7 +8,7 @@ mod entering;
 mod opening;
 mod seat;
 
-pub use book::{Book, CALL_LIMIT, Entered, SEAT_LIMIT, enter, enter_call};
+pub use book::{Book, CALL_LIMIT, Entered, SEAT_LIMIT, enter_call};
 pub use call::Call;
 pub use closing::Closed;
 pub use opening::Opening;

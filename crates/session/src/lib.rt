@@ -12,8 +12,7 @@ mod view_calls;
 mod workers;
 
 pub use crate::book::{
-    Book, CALL_LIMIT, Call, Closed, Entered, Opening, Pool, Receipt, SEAT_LIMIT, Seat, enter,
-    enter_call,
+    Book, CALL_LIMIT, Call, Closed, Entered, Opening, Pool, Receipt, SEAT_LIMIT, Seat, enter_call,
 };
 pub use gate::{Gate, Turns};
 pub use shared::Session;

@@ -4,7 +4,7 @@ ghost use Rattle.std.specs.Prelude.{◌≡◌};
 use crate::rig::{Wanted, closes_with, get_of, is_receipt, read_of, write_of};
 use base::refusal::Refusal;
 use model::request::Request;
-use session::{Book, Call, Entered, Opening, Pool, Seat, enter, enter_call};
+use session::{Book, Call, Entered, Opening, Pool, Seat, enter_call};
 use std::alloc::Global;
 use std::marker::Brand;
 use std::process::Abort;
@@ -46,7 +46,7 @@ fn both_run<K: Opening>(
             0,
             Wanted::Done,
         )
-        && is_called(
+        && is_entered(
             rt,
             alloc,
             book,
@@ -59,24 +59,8 @@ fn both_run<K: Opening>(
         && is_full(rt, alloc, book, first)
 }
 
-fn is_entered<K: Opening>(
-    rt: &impl Abort,
-    alloc: Global,
-    book: &mut Book<K>,
-    seat: &mut Seat<K>,
-    request: Result<Request, Refusal>,
-    number: u64,
-    wanted: Wanted,
-) -> bool {
-    let request = request.expect(rt, "memory");
-    let receipt = enter(alloc, book, seat, request).expect(rt, "room");
-    let same = is_receipt(&receipt, number, wanted);
-    drop(receipt);
-    same
-}
-
 // Whether a request is entered as a call that has its memory, with this number and this reply.
-fn is_called<K: Opening>(
+fn is_entered<K: Opening>(
     rt: &impl Abort,
     alloc: Global,
     book: &mut Book<K>,
@@ -101,5 +85,7 @@ fn is_full<K: Opening>(
     seat: &mut Seat<K>,
 ) -> bool {
     let request = get_of(alloc).expect(rt, "memory");
-    enter(alloc, book, seat, request).err() == Some(Refusal::SessionFull)
+    let call = Call::new(alloc, seat, request).expect(rt, "memory");
+    let entered = enter_call(alloc, book, seat, call);
+    matches!(entered, Err(Refusal::SessionFull))
 }

@@ -172,29 +172,3 @@ pub fn enter_call<K: Opening>(
         viewed,
     })
 }
-
-/// Applies a request of a seat, as `enter_call` does the call for it; NoMemory also where there is none for its entry.
-pub fn enter<K: Opening>(
-    alloc: Global,
-    book: &mut Book<K>,
-    seat: &mut Seat<K>,
-    request: Request,
-) -> Result<Receipt, Refusal>
-    ensures ran { IfOk result (λ r. Ran seat.old request r seat.new) }
-    ensures number { IfOk result (λ r. r.number ≡ length book.old.history) }
-    ensures step { IfOk result (λ r. Step book.old.pool request r.entry.reply book.new.pool) }
-    ensures legal { IsLegal K.opening book.new.history book.new.pool }
-    ensures book { IfOk result (λ r. book.new ≡ record book.old { history = book.old.history ++ r.entry ∷ []; pool = book.new.pool }) }
-    ensures err { OnErr result ((book.new ≡ book.old) × (seat.new ≡ seat.old)) }
-    ensures full { (result ≡ Err Refusal.SessionFull) ↔ (K.limit ≤ length book.old.history) }
-    ensures refusal { IfErr result (λ r. IsFullOrNoMemory r) }
-{
-    if book.is_full() {
-        drop(request);
-        return Err(Refusal::SessionFull);
-    }
-    let call = Call::new(alloc, seat, request)?;
-    let Entered { receipt, viewed } = enter_call(alloc, book, seat, call)?;
-    drop(viewed);
-    Ok(receipt)
-}

@@ -1,5 +1,5 @@
 //! The end of a session: all seats' receipts against the history.
-ghost use Rattle.std.specs.Prelude.{◌≡◌, ◌+◌, ◌<◌, ◌≤◌, ◌==◌, ◌↔◌, ◌∷◌, List, ℕ, length, map, IsTrue, IsOk, IfOk, IfErr, All, count_by, MatchOption};
+ghost use Rattle.std.specs.Prelude.{◌≡◌, ◌+◌, ◌<◌, ◌≤◌, ◌==◌, ◌↔◌, ◌∷◌, List, ℕ, map, IsTrue, IsOk, IfOk, IfErr, All, count_by, MatchOption};
 ghost use Rattle.std.specs.Arc.{arc_value};
 ghost use Rattle.session.specs.History.{IsLegal};
 ghost use Rattle.session.specs.Receipts.{Placed};

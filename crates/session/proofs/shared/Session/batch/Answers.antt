@@ -1,24 +1,39 @@
-use Rattle.std.proofs.Common.{◌≡◌, ◌+◌, ◌≤◌, ◌∷◌, ◌∙◌, [], ℕ, List, length, length-append, refl, sym, ap, arith}
+use Rattle.std.proofs.Common.{◌≡◌, ◌+◌, ◌≤◌, ◌∷◌, ◌∙◌, [], ℕ, List, zero, length, length-append, map, refl, sym, ap, arith}
 use Rattle.std.specs.Vec.Iter.{into_iter_items}
 use Rattle.model.specs.declared.request.Request.{Request}
-use Rattle.session.specs.Receipts.{Placed}
+use Rattle.session.specs.Asked.{Asked}
+use Rattle.session.specs.Receipts.{Placed, Kept}
+use Rattle.session.proofs.SoFar.{requests_in, asked_by, own_all, own_later, requests_all}
 use Rattle.session.proofs.shared.Session.batch.Goals as goal
+
+pub enter_call-requires : goal.enter_call-requires
+enter_call-requires g c =
+    let rest : List Asked = into_iter_items c.next.new.self in
+    let all : map (asked_by c.args.seat.now.number) c.args.requests.items ≡ c.in-Some.first ∷ rest = sym c.in_ok-calls_of.ensures.ok ∙ sym c.into_iter-calls.ensures.rest ∙ c.in-Some.ensures.items in
+    record { own = own_all c.args.seat.now.number c.args.requests.items (c.in-Some.first ∷ rest) all zero c.in-Some.first (omega arith) }
 
 pub enter_rest-requires-clause-last : goal.enter_rest-requires-clause-last
 enter_rest-requires-clause-last g c =
-    omega (arith, c.in-Ok-enter.ensures.number, ap (λ b. length b.history) c.deref_mut-in-Ok-enter.ensures.value, ap (λ b. length b.history) c.in-Ok-enter.ensures.book, length-append c.deref_mut.result.now.history (c.in-Ok-enter.first.entry ∷ []))
+    omega (arith, c.in_ok-first.ensures.number, ap (λ b. length b.history) c.deref_mut-2.ensures.value, ap (λ b. length b.history) c.in_ok-first.ensures.book, length-append c.deref_mut.result.now.history (c.in_ok-first.first.receipt.entry ∷ []))
+
+pub enter_rest-requires-clause-own : goal.enter_rest-requires-clause-own
+enter_rest-requires-clause-own g c =
+    let rest : List Asked = into_iter_items c.next.new.self in
+    let all : map (asked_by c.args.seat.now.number) c.args.requests.items ≡ c.in-Some.first ∷ rest = sym c.in_ok-calls_of.ensures.ok ∙ sym c.into_iter-calls.ensures.rest ∙ c.in-Some.ensures.items in
+    own_later c.args.seat.now c.enter_call.new.seat (c.in-Some.first ∷ rest) rest c.in-Some.first refl (own_all c.args.seat.now.number c.args.requests.items (c.in-Some.first ∷ rest) all) (ap (λ (s : Kept). s.number) c.in_ok-first.ensures.ran.2)
 
 has_room : (number before room asked limit : ℕ) → number ≡ before → room + before ≡ limit → asked ≤ room → number + asked ≤ limit
 has_room number before room asked limit at left enough = omega arith
 
-pub returns-in-Ok-enter-clause-ok : goal.returns-in-Ok-enter-clause-ok
-returns-in-Ok-enter-clause-ok g c =
-    let r : Placed = c.in-Ok-enter.first in
-    let rest : List Request = into_iter_items c.next.new.self in
-    let ran = c.in-Ok-enter.ensures.ran in
-    let all : c.args.requests.items ≡ r.entry.request ∷ rest = sym c.into_iter-rest.ensures.rest ∙ c.in-Some.ensures.items ∙ ap (λ (q : Request). q ∷ rest) (sym ran.1) in
+pub returns-clause-ok : goal.returns-clause-ok
+returns-clause-ok g c =
+    let r : Placed = c.in_ok-first.first.receipt in
+    let rest : List Asked = into_iter_items c.next.new.self in
+    let ran = c.in_ok-first.ensures.ran in
+    let split : map (asked_by c.args.seat.now.number) c.args.requests.items ≡ c.in-Some.first ∷ rest = sym c.in_ok-calls_of.ensures.ok ∙ sym c.into_iter-calls.ensures.rest ∙ c.in-Some.ensures.items in
+    let all : c.args.requests.items ≡ r.entry.request ∷ requests_in rest = sym (requests_all c.args.seat.now.number c.args.requests.items) ∙ ap requests_in split ∙ ap (λ (q : Request). q ∷ requests_in rest) (sym ran.1) in
     let asked : c.len-asked.result ≡ length c.args.requests.items = omega arith in
-    let at : r.number ≡ length c.deref-2.result.now.history = c.in-Ok-enter.ensures.number ∙ ap (λ b. length b.history) (c.deref_mut.ensures.value ∙ sym c.deref-2.ensures) in
+    let at : r.number ≡ length c.deref-2.result.now.history = c.in_ok-first.ensures.number ∙ ap (λ b. length b.history) (c.deref_mut.ensures.value ∙ sym c.deref-2.ensures) in
     let enough : c.len-asked.result ≤ c.room.result = omega arith in
     record {
       added = c.enter_rest.ensures.added c.args.seat.now (ran.0, refl, ran.2);
