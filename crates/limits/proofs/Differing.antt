@@ -1,6 +1,6 @@
 -- Lines of an earlier world beside a world that differs from it at one name.
-use Rattle.std.proofs.Common.{◌≡◌, ℕ, zero, suc, ◌+◌, ◌-◌, ◌≤◌, ◌<◌, ◌^◌, List, [], ◌∷◌, length, get_or, map, Option, Some, None, is_some, refl, sym, ap, subst, ◌∙◌, inl, inr, ◌⊎◌, ⊎_elim, arith}
-use Rattle.std.specs.Prelude.{unwrap_or, max}
+use Rattle.std.proofs.Common.{◌≡◌, ℕ, zero, ◌+◌, ◌-◌, ◌≤◌, ◌<◌, ◌^◌, List, [], ◌∷◌, length, get_or, map, Option, Some, None, is_some, refl, sym, ap, subst, ◌∙◌, inl, inr, ◌⊎◌, ⊎_elim, arith}
+use Rattle.std.specs.Prelude.{max}
 use Rattle.std.specs.List.{All}
 use Rattle.std.specs.Option.{option_map_or}
 use Rattle.std.specs.FinMap.{get, entries, keys}
@@ -8,23 +8,21 @@ use Rattle.std.proofs.lemmas.List.{length-map, get_or-map}
 use Rattle.base.specs.Names.{parent_of}
 use Rattle.model.specs.World.{World, FileSystem}
 use Rattle.model.specs.Hierarchy.{IsHierarchy}
-use Rattle.model.specs.Sums.{used_of, used_here, used_by_children}
+use Rattle.model.specs.Sums.{used_of, used_by_children}
 use Rattle.world.specs.Shapes.{name_order}
 use Rattle.world.specs.Usage.{IsEntry}
 use Rattle.world.proofs.lists.Maps.{at_entry}
 use Rattle.accounts.specs.Levels.{slashes, IsUnder, charge_of}
 use Rattle.accounts.proofs.Names.{level_up, above_is, in_keys, under_or_not}
 use Rattle.accounts.proofs.Levels.{reserved_is, no_charge, nothing_used, used-split}
-use Rattle.accounts.proofs.Depth.{used_away, own_children, children_walk}
-use Rattle.limits.specs.declared.account.Account.{Account}
+use Rattle.accounts.proofs.Depth.{used_away, children_walk}
 use Rattle.limits.specs.declared.line.Line.{Line}
 use Rattle.limits.specs.Lines.{used_in, charge_in}
-use Rattle.limits.specs.Ledgers.{account_in, line_in, ledger_of}
-use Rattle.limits.specs.Places.{IsParentAt}
+use Rattle.limits.specs.Ledgers.{line_in, ledger_of}
 use Rattle.limits.specs.Changes.{IsModest, IsRecounted, CanWalkUp, IsBehind, bare_line, line_under, recharged}
 use Rattle.limits.proofs.Bounds.{charge_low}
 use Rattle.limits.proofs.Changes.{under_trans, line_at, used_at}
-use Rattle.limits.proofs.Order.{no_entry, keys_long, entry_at, place_in}
+use Rattle.limits.proofs.Order.{no_entry, entry_at, place_in}
 use Rattle.limits.proofs.Ways.{little}
 
 -- a ledger has the lines under its names

@@ -1,5 +1,5 @@
 -- The lines of an earlier world without that of a file system that a later one hasn't.
-use Rattle.std.proofs.Common.{◌≡◌, ℕ, ◌+◌, ◌-◌, ◌≤◌, ◌<◌, ◌^◌, List, [], ◌∷◌, length, get_or, map, Option, Some, None, Err, true, false, true≢false, is_some, refl, sym, ap, subst, ◌∙◌, ⊎_elim, arith}
+use Rattle.std.proofs.Common.{◌≡◌, ℕ, ◌+◌, ◌-◌, ◌≤◌, ◌<◌, ◌^◌, List, [], length, get_or, Option, Some, None, Err, true, false, true≢false, is_some, refl, sym, ap, subst, ◌∙◌, ⊎_elim, arith}
 use Rattle.std.specs.Prelude.{remove, IsSome}
 use Rattle.std.specs.List.{All}
 use Rattle.std.specs.FinMap.{get, entries, keys}
@@ -17,14 +17,14 @@ use Rattle.accounts.proofs.Depth.{children_walk}
 use Rattle.datasets.specs.Places.{IsAt, IsGapFor}
 use Rattle.limits.specs.declared.line.Line.{Line}
 use Rattle.limits.specs.Lines.{used_in, charge_in}
-use Rattle.limits.specs.Ledgers.{line_in, ledger_of}
+use Rattle.limits.specs.Ledgers.{ledger_of}
 use Rattle.limits.specs.Changes.{IsModest, IsRecounted, CanWalkUp, IsBehind, line_under, lines_under}
 use Rattle.limits.proofs.Bounds.{charge_low}
 use Rattle.limits.proofs.Changes.{under_parent, line_at}
 use Rattle.limits.proofs.Differing.{children_under, charge_under, other_line, was_long, was_at, was_low, behind, can_begin}
 use Rattle.limits.proofs.Order.{no_entry, entry_at}
 use Rattle.limits.proofs.Places.{not_there}
-use Rattle.limits.proofs.Renamed.{at_within, at_key, all_left, long_stay, lines_fewer, gone_line, long_fewer, gone_within}
+use Rattle.limits.proofs.Renamed.{at_within, at_key, long_stay, lines_fewer, gone_line, long_fewer, gone_within}
 use Rattle.limits.proofs.SameLines.{none_changed}
 
 module _ (old new : World) (good : IsHierarchy old.file_systems) (name : List ℕ) (ch : IsRecounted old new name) (lines : List Line) (own : lines ≡ ledger_of old)

@@ -1,5 +1,5 @@
 -- The file system of a table at one name is read anew into the lines of an earlier world.
-use Rattle.std.proofs.Common.{◌≡◌, ℕ, ◌+◌, ◌≤◌, ◌<◌, ◌^◌, List, [], length, get_or, map, Option, Some, None, is_some, refl, sym, ap, subst, ◌∙◌, arith}
+use Rattle.std.proofs.Common.{◌≡◌, ℕ, ◌≤◌, ◌<◌, ◌^◌, List, [], length, get_or, Option, Some, None, is_some, refl, sym, ap, subst, ◌∙◌, arith}
 use Rattle.std.specs.Prelude.{insert, unwrap_or}
 use Rattle.std.specs.List.{All}
 use Rattle.std.specs.FinMap.{get, entries, keys}

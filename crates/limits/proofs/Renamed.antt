@@ -1,5 +1,5 @@
 -- The lines of an earlier world under the names of one that has a file system more, or one fewer, or the same.
-use Rattle.std.proofs.Common.{◌≡◌, ℕ, zero, suc, ◌+◌, ◌<◌, ◌≤◌, cond, T, List, [], ◌∷◌, length, get_or, map, Option, Some, None, is_some, refl, sym, ap, subst, ◌∙◌, inl, inr, ◌⊎◌, ⊎_elim, arith, add-one}
+use Rattle.std.proofs.Common.{◌≡◌, ℕ, zero, suc, ◌+◌, ◌<◌, ◌≤◌, cond, T, List, [], ◌∷◌, length, get_or, map, Some, None, is_some, refl, sym, ap, subst, ◌∙◌, ◌⊎◌, ⊎_elim, arith, add-one}
 use Rattle.std.specs.Prelude.{insert, remove}
 use Rattle.std.specs.declared.cmp.Ordering.{Ordering}
 use Rattle.std.specs.declared.cmp.Ordering.TheVariants.{Less, Equal, Greater}
@@ -7,17 +7,17 @@ use Rattle.std.specs.Ordering.{is_eq}
 use Rattle.std.specs.Cmp.{tied_itself}
 use Rattle.std.specs.List.{All}
 use Rattle.std.specs.Option.{option_map_or}
-use Rattle.std.specs.FinMap.{get, entries, keys, find, is_sorted, from_sorted, entries_sorted, entries-from_sorted, entries-insert, get-from_sorted, get-entries, get-insert}
+use Rattle.std.specs.FinMap.{get, entries, keys, find, is_sorted, from_sorted, entries_sorted, entries-from_sorted, entries-insert, get-from_sorted, get-entries}
 use Rattle.std.specs.FinMap as finmap
 use Rattle.std.proofs.lemmas.Bool.{cases_lt}
 use Rattle.std.proofs.lemmas.List.{length-map, get_or-map}
 use Rattle.std.proofs.lemmas.List.Edits.{length-insert, length-remove, get_or-insert_below, get_or-insert_at, get_or-insert_above}
 use Rattle.base.specs.Names.{name_cmp}
 use Rattle.model.specs.World.{World, FileSystem, empty_file_system}
-use Rattle.model.specs.Hierarchy.{FileSystems, IsHierarchy}
+use Rattle.model.specs.Hierarchy.{FileSystems}
 use Rattle.world.specs.Shapes.{name_order}
 use Rattle.world.proofs.lineage.Put.{put_here, put_other}
-use Rattle.world.proofs.lists.Maps.{no_value, key_cases}
+use Rattle.world.proofs.lists.Maps.{key_cases}
 use Rattle.datasets.specs.Places.{IsAt, IsGapFor}
 use Rattle.datasets.proofs.RowGone.{left_sorted, find_left, map_removed}
 use Rattle.datasets.proofs.Sorted.{put_gap}

@@ -1,16 +1,15 @@
 -- Where the account of one file system changes, the lines from before are behind the world with the change.
-use Rattle.std.proofs.Common.{◌≡◌, ℕ, ◌+◌, ◌≤◌, ◌<◌, ◌^◌, List, [], ◌∷◌, length, get_or, map, Option, Some, None, is_some, refl, sym, ap, subst, ◌∙◌, arith, zero, ⊎_elim}
+use Rattle.std.proofs.Common.{◌≡◌, ℕ, ◌<◌, ◌^◌, List, [], length, get_or, map, Option, Some, None, is_some, refl, sym, ap, subst, ◌∙◌, arith}
 use Rattle.std.specs.List.{All}
 use Rattle.std.specs.FinMap.{get, keys}
 use Rattle.std.proofs.lemmas.List.{get_or_default}
-use Rattle.model.specs.World.{World, FileSystem, Live}
-use Rattle.model.specs.Hierarchy.{FileSystems, IsHierarchy}
+use Rattle.model.specs.World.{World, FileSystem}
+use Rattle.model.specs.Hierarchy.{IsHierarchy}
 use Rattle.world.proofs.lists.Maps.{no_value, same_value}
 use Rattle.accounts.specs.Levels.{IsUnder}
 use Rattle.accounts.proofs.Names.{under_itself}
 use Rattle.limits.specs.declared.line.Line.{Line}
 use Rattle.limits.specs.Lines.{used_in, charge_in}
-use Rattle.limits.specs.Ledgers.{ledger_of}
 use Rattle.limits.specs.Changes.{IsModest, IsChanged, IsRecounted, IsLedgerOf, CanWalkUp, IsBehind, line_under, amended}
 use Rattle.limits.proofs.Changes.{start_at}
 use Rattle.limits.proofs.Differing.{ledger_named, behind, can_begin}

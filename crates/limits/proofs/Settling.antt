@@ -1,14 +1,14 @@
 -- Each line on the way up is written, and then the lines are those of each world that they were behind.
 use Rattle.std.proofs.Common.{◌≡◌, ℕ, zero, suc, ◌+◌, ◌-◌, ◌≤◌, ◌<◌, ◌^◌, ◌≢◌, List, [], length, get_or, set, Option, Some, None, is_some, refl, sym, ap, subst, ◌∙◌, inl, inr, ◌⊎◌, ⊎_elim, arith}
 use Rattle.std.specs.List.{All}
-use Rattle.std.specs.FinMap.{get, keys}
+use Rattle.std.specs.FinMap.{keys}
 use Rattle.std.proofs.lemmas.Bool.{cases_eq}
 use Rattle.std.proofs.lemmas.List.{length-set, get_or-set_same, get_or-set_other, get_or_default, same_lists}
 use Rattle.std.proofs.lemmas.List.Elements.{All-set}
 use Rattle.base.specs.Names.{parent_of}
 use Rattle.base.specs.Surveys.{IsIn}
 use Rattle.model.specs.World.{World}
-use Rattle.model.specs.Hierarchy.{FileSystems, IsHierarchy}
+use Rattle.model.specs.Hierarchy.{FileSystems}
 use Rattle.accounts.specs.Levels.{slashes, above, IsUnder}
 use Rattle.accounts.proofs.Names.{level_up, above_is, under_itself, under_child, in_keys, parent_in}
 use Rattle.world.proofs.lists.Maps.{no_value, same_value}

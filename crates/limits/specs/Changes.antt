@@ -1,5 +1,5 @@
 -- Worlds that differ in what one file system has and keeps of its own, and the lines of a ledger that differ with it.
-use Rattle.std.specs.Prelude.{◌≡◌, ◌⊎◌, ℕ, ◌+◌, ◌-◌, ◌<◌, ◌≤◌, ◌^◌, List, [], ◌∷◌, Some, None, IsSome, is_some, true, false, length, map, slice_index_or}
+use Rattle.std.specs.Prelude.{◌≡◌, ◌⊎◌, ℕ, ◌+◌, ◌-◌, ◌<◌, ◌≤◌, ◌^◌, List, [], ◌∷◌, Some, None, is_some, true, false, length, map, slice_index_or}
 use Rattle.std.specs.Option.{option_map_or}
 use Rattle.std.specs.FinMap.{get, keys}
 use Rattle.base.specs.declared.refusal.Refusal.{Refusal}

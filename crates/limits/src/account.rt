@@ -1,10 +1,10 @@
 //! What of a file system its limits are asked of.
 ghost use Rattle.std.specs.Option.{unwrap_or};
-ghost use Rattle.std.specs.Prelude.{◌≡◌, ◌≤◌, ◌<◌, ◌^◌, IfOk, IfErr, map};
+ghost use Rattle.std.specs.Prelude.{◌≡◌, ◌≤◌, ◌<◌, ◌^◌};
 ghost use Rattle.model.specs.Sums.{used_by_refreservation as by_refreservation};
 ghost use Rattle.world.specs.Tables.{Datasets, world_of};
 ghost use Rattle.world.specs.Worlds.{AreFileSystems};
-ghost use Rattle.limits.specs.Ledgers.{account_in, accounts_in};
+ghost use Rattle.limits.specs.Ledgers.{account_in};
 ghost use Rattle.limits.specs.Rows.{IsRowOf, own_in, unwritten_in, account_at};
 
 use datasets::FileSystem;

@@ -2,7 +2,6 @@
 ghost use Rattle.std.specs.Prelude.{[], ◌≡◌, ◌<◌, ◌≤◌, ◌+◌, ◌*◌, ◌^◌, IsSome, IfSome, IfOk, IfErr};
 ghost use Rattle.std.specs.FinMap.{get};
 ghost use Rattle.std.specs.FinSet.{len};
-ghost use Rattle.std.specs.Option.{option_copied, option_map};
 ghost use Rattle.base.specs.declared.refusal.Refusal.{Refusal};
 ghost use Rattle.model.specs.Hierarchy.{IsHierarchy};
 ghost use Rattle.model.specs.Rule.{first_of};
@@ -11,7 +10,6 @@ ghost use Rattle.model.specs.Sums.{used_of, used_by_children, room_of};
 ghost use Rattle.model.specs.World.{union_of};
 ghost use Rattle.model.specs.requests.Change.{limit_row};
 ghost use Rattle.world.specs.Tables.{world_of};
-ghost use Rattle.datasets.specs.Clones.{row_in};
 ghost use Rattle.accounts.specs.Levels.{slashes};
 ghost use Rattle.limits.specs.Lines.{IsSmall};
 ghost use Rattle.limits.specs.Ledgers.{line_in, ledger_of, IsSpaceOf};
@@ -24,7 +22,7 @@ use crate::place::place_seen;
 use crate::pool_space::Space;
 use base::name::DsName;
 use base::refusal::Refusal;
-use datasets::{FILE_SYSTEM_LIMIT, FileSystem, Table};
+use datasets::{FILE_SYSTEM_LIMIT, Table};
 use std::alloc::Global;
 use std::marker::Model;
 

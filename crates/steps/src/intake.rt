@@ -1,5 +1,5 @@
 //! What a receive makes of a pool, before anything of the pool is changed (zfs-receive(8)): all that can fail comes here.
-ghost use Rattle.std.specs.Prelude.{ℕ, IfOk, IfErr};
+ghost use Rattle.std.specs.Prelude.{IfOk, IfErr};
 ghost use Rattle.stream.specs.Spelling.{IsStream};
 ghost use Rattle.model.specs.declared.request.Request.{Request};
 ghost use Rattle.model.specs.declared.reply.Reply.{Reply};

@@ -1,7 +1,5 @@
 //! The ledger of a pool's file systems where it is kept, and what it says of other datasets.
-ghost use Rattle.std.specs.Prelude.{◌≡◌, ◌<◌, ◌^◌, None, Some, IsSome, IfErr};
-ghost use Rattle.std.specs.FinMap.{get};
-ghost use Rattle.std.specs.Option.{option_copied, option_map};
+ghost use Rattle.std.specs.Prelude.{◌≡◌, ◌<◌, ◌^◌, None, Some};
 ghost use Rattle.std.specs.FinSet as set;
 ghost use Rattle.base.specs.declared.refusal.Refusal.{Refusal};
 ghost use Rattle.model.specs.Rule.{first_of};
@@ -10,14 +8,13 @@ ghost use Rattle.model.specs.World.{union_of};
 ghost use Rattle.model.specs.requests.Change.{limit_row};
 ghost use Rattle.world.specs.Tables.{Datasets, world_of};
 ghost use Rattle.accounts.specs.Limits.{IsUnlimited};
-ghost use Rattle.datasets.specs.Clones.{row_in};
 ghost use Rattle.limits.specs.Ledgers.{IsSpaceOf, ledger_of};
 ghost use Rattle.lookups.specs.Accounted.{IsAccounted};
 ghost use Rattle.steps.specs.Limiting.{IsOver, CanSettle, CanRecount};
 
 use base::name::DsName;
 use base::refusal::Refusal;
-use datasets::{FileSystem, Table};
+use datasets::Table;
 use limits::outlook::Outlook;
 use limits::{Ledger, Space};
 

@@ -3,7 +3,7 @@ use Rattle.std.proofs.Common.{◌≡◌, List, [], ◌∷◌, Option, Some, None
 use Rattle.std.specs.FinMap.{get}
 use Rattle.model.specs.World.{FileSystem, no_limits}
 use Rattle.world.specs.Shapes.{Name}
-use Rattle.world.specs.Tables.{Datasets, world_of}
+use Rattle.world.specs.Tables.{Datasets}
 use Rattle.world.specs.Worlds.{AreFileSystems}
 use Rattle.world.proofs.lists.Maps.{same_value}
 use Rattle.limits.specs.declared.line.Line.{Line}

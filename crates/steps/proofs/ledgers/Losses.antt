@@ -33,7 +33,7 @@ use Rattle.marks.specs.Requests.{released_in}
 use Rattle.marks.proofs.Placed.{placed_at}
 use Rattle.marks.proofs.Tagged.{tagged_stays, tagged_goes}
 use Rattle.removals.specs.Families.{unneeded, has_deferred_origin}
-use Rattle.removals.specs.Requests.{swept, destroyed, without_family, gone_with, IsSweptBy}
+use Rattle.removals.specs.Requests.{swept, destroyed, gone_with, IsSweptBy}
 use Rattle.removals.proofs.Alone.{nothing_swept}
 use Rattle.removals.proofs.Closed.{none_goes, one_goes}
 use Rattle.removals.proofs.Deferring.{marked_by, in_before}

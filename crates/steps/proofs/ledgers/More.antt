@@ -1,5 +1,5 @@
 -- A file system that is created or cloned has nothing of its own.
-use Rattle.std.proofs.Common.{◌≡◌, ◌∷◌, false, not, List, [], Option, Some, None, is_some, refl, sym, ap, subst, ◌∙◌, inl, inr, ⊎_elim}
+use Rattle.std.proofs.Common.{◌≡◌, ◌∷◌, false, not, List, [], Option, Some, None, is_some, refl, sym, ap, subst, ◌∙◌, inl, inr}
 use Rattle.std.specs.Option.{option_map_or}
 use Rattle.std.specs.FinMap.{get, contains_key}
 use Rattle.base.specs.declared.refusal.Refusal.TheVariants.{NoDataset, Exists}
@@ -9,11 +9,11 @@ use Rattle.model.specs.State.{State}
 use Rattle.model.specs.requests.Clone.{clone_row}
 use Rattle.model.specs.requests.Create.{create_refusal}
 use Rattle.model.specs.requests.Rollback.{placed}
-use Rattle.world.specs.Shapes.{Name, name_order}
+use Rattle.world.specs.Shapes.{Name}
 use Rattle.world.specs.Tables.{Datasets, world_of, with_system}
 use Rattle.world.specs.Worlds.{AreFileSystems}
 use Rattle.world.proofs.lineage.Put.{put_other}
-use Rattle.world.proofs.lists.Maps.{no_value, same_value, key_cases}
+use Rattle.world.proofs.lists.Maps.{same_value}
 use Rattle.world.proofs.views.ViewedRequests.{row_false}
 use Rattle.accounts.specs.Limits.{IsMade}
 use Rattle.accounts.proofs.Steps.{shrunk_made}

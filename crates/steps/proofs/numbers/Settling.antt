@@ -20,7 +20,7 @@ use Rattle.steps.proofs.numbers.Surveys.{in_list, from_in_list}
 use Rattle.world.proofs.lists.Listed.{in_map, different_map}
 use Rattle.steps.proofs.numbers.States.{state_at-now}
 use Rattle.steps.proofs.numbers.Settles as settles
-use Rattle.steps.proofs.numbers.Settles.{numbers_of, releases_other, releases_here, is_in}
+use Rattle.steps.proofs.numbers.Settles.{numbers_of, releases_other, releases_here}
 
 length-takes : (states : List BlockState) (ns : List ℕ) → length (takes states ns) ≡ length states
 length-takes states [] = refl

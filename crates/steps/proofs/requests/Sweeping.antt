@@ -1,6 +1,6 @@
 -- What nothing needs goes from a state whose worlds are in order: what holds between two steps holds then.
 use Rattle.std.proofs.Common.{◌≡◌, not, ◌&&◌, refl, sym, ap, subst, ◌∙◌}
-use Rattle.model.specs.World.{World, Snap, reach_of}
+use Rattle.model.specs.World.{reach_of}
 use Rattle.model.specs.State.{State}
 use Rattle.model.specs.Outcome.{is_needed, state_after_sweep}
 use Rattle.model.specs.Edits.{without_snaps}

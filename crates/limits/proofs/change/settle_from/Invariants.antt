@@ -1,4 +1,4 @@
-use Rattle.std.proofs.Common.{◌≡◌, ◌≤◌, ◌^◌}
+use Rattle.std.proofs.Common.{◌≤◌, ◌^◌}
 use Rattle.std.specs.FinMap.{keys}
 use Rattle.std.specs.List.{All}
 use Rattle.model.specs.World.{World}

@@ -1,6 +1,4 @@
-use Rattle.std.proofs.Common.{◌∷◌, [], None, Some, refl, sym, ap, subst, ◌∙◌, inl, arith}
-use Rattle.std.specs.Prelude.{is_some}
-use Rattle.std.specs.Option.{option_copied}
+use Rattle.std.proofs.Common.{◌∷◌, [], None, Some, refl, subst, inl, arith}
 use Rattle.batch.specs.Forecast.{IsForecast}
 use Rattle.tree.specs.Updates.{changes_of}
 use Rattle.steps.proofs.asked.Asked.{nothing_kept, bare_in, is_ahead, few_more, change_over, change_fits, change_foretold}

@@ -1,11 +1,10 @@
-use Rattle.std.proofs.Common.{◌≡◌, ◌<◌, ◌≤◌, ◌^◌, ◌⊎◌, None, Some, List, length, get_or, sym, ap, subst, ◌∙◌, arith}
+use Rattle.std.proofs.Common.{◌≡◌, length, sym, ap, subst, ◌∙◌, arith}
 use Rattle.std.specs.FinMap.{keys}
 use Rattle.std.specs.List.{All}
 use Rattle.std.specs.Option.{option_copied}
 use Rattle.base.specs.Names.{parent_of as parent_name}
 use Rattle.world.specs.Tables.{world_of}
 use Rattle.limits.specs.Changes.{IsModest}
-use Rattle.limits.specs.Ledgers.{ledger_of}
 use Rattle.limits.specs.Lines.{IsSmall}
 use Rattle.limits.proofs.Leaving.{stays, within, long_left, has_parent, parent_left, rest_long, charged_low, rest_little, leave_behind, can_leave}
 use Rattle.limits.proofs.Places.{rows_count}

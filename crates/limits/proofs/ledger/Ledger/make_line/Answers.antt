@@ -1,4 +1,4 @@
-use Rattle.std.proofs.Common.{◌≡◌, ◌<◌, ◌≤◌, length, sym, subst, ◌∙◌, arith}
+use Rattle.std.proofs.Common.{◌<◌, length, sym, subst, ◌∙◌, arith}
 use Rattle.std.specs.FinMap.{keys, len-entries}
 use Rattle.std.specs.List.{All}
 use Rattle.limits.specs.Changes.{IsModest, bare_line}

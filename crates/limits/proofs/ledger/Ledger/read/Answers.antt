@@ -1,10 +1,7 @@
-use Rattle.std.proofs.Common.{◌≤◌, length, get_or, refl, sym, ap, subst, ◌∙◌, arith}
-use Rattle.std.specs.FinMap.{keys}
+use Rattle.std.proofs.Common.{length, get_or, ap, subst, ◌∙◌, arith}
 use Rattle.std.specs.List.{All}
 use Rattle.world.specs.Tables.{world_of}
-use Rattle.datasets.specs.Places.{IsAt}
 use Rattle.limits.specs.Changes.{IsModest}
-use Rattle.limits.specs.Lines.{IsSmall}
 use Rattle.limits.proofs.Places.{row_at}
 use Rattle.limits.proofs.Reading.{in_lines, was_little, read_behind, can_read}
 use Rattle.limits.proofs.Rows.{found_row, row_own}
