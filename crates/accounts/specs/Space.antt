@@ -9,7 +9,6 @@ use Rattle.base.specs.Surveys.{IsIn}
 use Rattle.base.specs.Names.{same_name, is_descendant}
 use Rattle.model.specs.World.{World, FileSystem, Snap, SnapId, Dataset, Live, Snapped, id_of, map_of, previous_of, file_system_at}
 use Rattle.model.specs.Sums.{used_by_dataset, used_by_snapshots}
-use Rattle.world.specs.Blocks.{upto}
 use Rattle.world.specs.Dead.{dead_of, IsThere, next_in}
 
 -- what a file system has that its origin hasn't (zfsprops(7): usedbydataset, usedbysnapshots)
@@ -75,7 +74,3 @@ newest_blocks s (t ∷ ts) = newest_blocks (blocks t.map) ts
 abbrev pub without_each : World → BlockSet → List Dataset → BlockSet
 without_each w s [] = s
 without_each w s (d ∷ ds) = without_each w (set.difference s (blocks (map_of w d))) ds
-
--- how many of a dataset's blocks were born by a group (zfsprops(7), written@snapshot)
-abbrev pub born_by : World → ℕ → Dataset → ℕ
-born_by w cut d = set.len (upto cut (blocks (map_of w d)))

@@ -23,7 +23,7 @@ use Rattle.datasets.specs.declared.clones.CloneName.{CloneName}
 use Rattle.datasets.specs.CloneNames.{CloneKey, CloneEntry, id_cmp, key_cmp, key_in, with_key, IsCloneAt, IsCloneGap}
 use Rattle.datasets.proofs.Rows.{true_from}
 use Rattle.datasets.proofs.RowGone.{left_sorted, find_left}
-use Rattle.datasets.proofs.Sorted.{equal_from, comparisons_rise, find_at, put_gap, find_gap}
+use Rattle.snapshots.proofs.Sorted.{equal_from, comparisons_rise, find_at, put_gap, find_gap}
 
 -- ---- the order
 

@@ -17,7 +17,7 @@ use Rattle.world.proofs.lists.Finding.{same_id_is}
 use Rattle.datasets.specs.declared.clones.CloneName.{CloneName}
 use Rattle.datasets.specs.CloneNames.{CloneKey, CloneEntry, id_cmp, key_cmp, key_of, key_in, name_of, names_in, IsInOrder}
 use Rattle.datasets.proofs.CloneKeys.{id_total, key_order, exact_ids}
-use Rattle.datasets.proofs.Sorted.{sorted_at}
+use Rattle.snapshots.proofs.Sorted.{sorted_at}
 
 -- ---- what passes a test stands together
 

@@ -38,12 +38,6 @@ module _ (t : Datasets) (m : Member) (r : Row) where
       ∙ ap (option_map {T = Snap} {U = Row × Snap} (λ u. (row_in t.file_systems (m.file_system, r.system), u))) (sym named)
       ∙ ap (λ x. Some (x, u)) (sym p.1))
 
-  pub unplaced : IsFound → None ≡ find (λ (v : Snap). same_name v.name m.component) r.system.snaps → None ≡ snapshot_place t m
-  unplaced found none =
-      let p = found_place t m.file_system r found in
-      sym (ap (option_and_then {T = FileSystem} {U = Row × Snap} (λ f. option_map (λ (u : Snap). (row_in t.file_systems (m.file_system, f), u)) (find (λ (v : Snap). same_name v.name m.component) f.snaps))) p.0
-      ∙ ap (option_map {T = Snap} {U = Row × Snap} (λ u. (row_in t.file_systems (m.file_system, r.system), u))) (sym none))
-
 -- it is the snapshot of the name
 pub place_named : (t : Datasets) (m : Member) → option_map {T = Row × Snap} {U = Snap} (λ p. p.1) (snapshot_place t m) ≡ snap_named (world_of t) m
 place_named t m = by_system (get t.file_systems m.file_system)

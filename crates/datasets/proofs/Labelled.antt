@@ -84,11 +84,6 @@ module _ (t : Inside) (sound : IsSorted t) (m : FileSystems) (view : from_sorted
   abbrev rows : List Entry
   rows = map entry_in t.rows.items
 
-  -- a name that is there isn't in a gap
-  pub not_in_gap : IsGapFor rows q i → IsSome (get m q) → ⊥
-  not_in_gap gap there =
-      true≢false (sym there ∙ ap (λ (x : Option FileSystem). is_some x) (ap (λ (x : FileSystems). get x q) (sym view) ∙ get_gap rows sound.sorted q i gap))
-
   -- nor is one with such a snapshot
   pub no_snap_in_gap : IsGapFor rows q i → (g : ℕ) → IsSome (find (λ (u : Snap). u.group == g) (snaps_at m q)) → ⊥
   no_snap_in_gap gap g there =

@@ -15,7 +15,6 @@ pub mod Promoted
 pub mod ClonesOf
 pub mod Changed
 pub mod Bookmarked
-pub mod Sorted
 pub mod Rows
 pub mod Counts
 pub mod RowGone

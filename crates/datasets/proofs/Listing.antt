@@ -22,7 +22,7 @@ use Rattle.file_system.specs.Rows.{Entry, FileSystems}
 use Rattle.datasets.proofs.CloneKeys.{id_total, key_order, keys_tie}
 use Rattle.datasets.proofs.RowGone.{T_both, none_below}
 use Rattle.datasets.proofs.Rows.{placed_is, got, fresh_is}
-use Rattle.datasets.proofs.Sorted.{T_left, T_right, less_from, equal_from}
+use Rattle.snapshots.proofs.Sorted.{T_left, T_right, less_from, equal_from}
 
 -- ---- names in order
 

@@ -1,14 +1,13 @@
 -- A snapshot of a table that is marked: its destroy is deferred, or it has other tags.
 use Rattle.std.proofs.Common.{◌≡◌, ◌⊎◌, ◌++◌, true≢false, ℕ, Bool, true, false, cond, ◌||◌, List, [], ◌∷◌, map, Option, Some, None, refl, sym, ap, subst, ◌∙◌, inl, inr, ⊎_elim}
-use Rattle.std.specs.Prelude.{◌==◌, Result, Ok, Err, IfSome, OnOk, OnErr}
+use Rattle.std.specs.Prelude.{◌==◌, Result, Ok, Err, is_some, OnOk, OnErr}
 use Rattle.std.specs.Option.{option_map, option_map_or}
 use Rattle.std.specs.FinMap.{get, insert, same_map}
 use Rattle.std.proofs.lemmas.Bool.{eq-eqb}
 use Rattle.base.specs.Map.{Map, blocks}
 use Rattle.base.specs.Surveys.{IsIn}
 use Rattle.base.specs.declared.refusal.Refusal.{Refusal}
-use Rattle.base.specs.declared.name.member.Member.{Member}
-use Rattle.model.specs.World.{FileSystem, Snap, SnapId, id_of, same_id, snap_named, maps_of}
+use Rattle.model.specs.World.{FileSystem, Snap, SnapId, id_of, same_id, maps_of}
 use Rattle.model.specs.Edits.{with_file_systems}
 use Rattle.file_system.specs.Deferred.{edited_if, edited_at, edited_of, with_deferred, with_tags}
 use Rattle.world.specs.Shapes.{Name, name_order}
@@ -22,6 +21,7 @@ use Rattle.world.proofs.lists.Maps.{key_cases}
 use Rattle.world.proofs.lineage.Put.{put_here, put_other}
 use Rattle.world.proofs.removals.Sweep.{get-with_file_systems}
 use Rattle.world.proofs.changes.Views.{label_systems, label_from, same_shapes_mapped, same_maps_mapped}
+use Rattle.datasets.specs.Holders.{snap_in_system}
 use Rattle.datasets.specs.Table.{IsTable}
 use Rattle.datasets.proofs.Kept.{numbers_from, added_table}
 use Rattle.datasets.proofs.Removed.{IsOf, of, older_differ, newer_differ, rising_at}
@@ -181,31 +181,31 @@ module _ {change : Snap → Snap} {by_id : SnapId → Snap → Snap} (mark : IsM
         by_old n ne None e = ap (option_map (each n)) e ∙ sym e
         by_old n ne (Some x) e = ap (option_map (each n)) e ∙ ap (λ l. Some (record x { snaps = l })) (others n x ne e) ∙ sym e
 
-  -- ---- the snapshot of this name, which is there, by its group
+  -- ---- the snapshot of this identity, which this file system has
 
-  module _ (t : Datasets) (sound : IsTable t) (m : Member) (g : ℕ) (told : Some g ≡ option_map (λ (u : Snap). u.group) (snap_named (world_of t) m)) where
-    abbrev o : IsOf t sound m g told
-    o = of t sound m g told
+  module _ (t : Datasets) (sound : IsTable t) (name : Name) (id : SnapId) (told : is_some (snap_in_system t name id) ≡ true) where
+    abbrev o : IsOf t sound name id told
+    o = of t sound name id told
 
     there : IsIn o.system.snaps o.it
     there = subst (λ l. IsIn l o.it) (sym o.snaps_are) (in_middle o.older o.it o.newer)
 
-    after_is : edited_of change t.file_systems m.file_system g ≡ insert t.file_systems m.file_system (edited_at change o.system o.it.group)
+    after_is : edited_of change t.file_systems name id.group ≡ insert t.file_systems name (edited_at change o.system o.it.group)
     after_is =
-        ap (λ x. option_map_or (λ (f : FileSystem). insert t.file_systems m.file_system (edited_at change f g)) x t.file_systems) o.at
-        ∙ ap (λ n. insert t.file_systems m.file_system (edited_at change o.system n)) (sym o.group_is)
+        ap (λ x. option_map_or (λ (f : FileSystem). insert t.file_systems name (edited_at change f id.group)) x t.file_systems) o.at
+        ∙ ap (λ n. insert t.file_systems name (edited_at change o.system n)) (sym (ap (λ (i : SnapId). i.group) o.id_is))
 
-    after_table : IsTable (record t { file_systems = edited_of change t.file_systems m.file_system g })
-    after_table = subst (λ ss. IsTable (record t { file_systems = ss })) (sym after_is) (marked_table t sound m.file_system o.system o.at o.it there)
+    after_table : IsTable (record t { file_systems = edited_of change t.file_systems name id.group })
+    after_table = subst (λ ss. IsTable (record t { file_systems = ss })) (sym after_is) (marked_table t sound name o.system o.at o.it there)
 
     -- what the file systems answer
-    module _ {A : Type 0} (r : Result A Refusal) (new : FileSystems) (ok : OnOk r (new ≡ edited_of change t.file_systems m.file_system g)) where
+    module _ {A : Type 0} (r : Result A Refusal) (new : FileSystems) (ok : OnOk r (new ≡ edited_of change t.file_systems name id.group)) where
       pub table_marked : OnErr r (new ≡ t.file_systems) → IsTable (record t { file_systems = new })
-      table_marked err = added_table t sound r new (edited_of change t.file_systems m.file_system g) after_table ok err
+      table_marked err = added_table t sound r new (edited_of change t.file_systems name id.group) after_table ok err
 
-      pub is_marked : IfSome (snap_named (world_of t) m) (λ u. OnOk r (record t { file_systems = new } ≡ marked_by t (id_of u)))
-      is_marked = subst (λ x. IfSome x (λ u. OnOk r (record t { file_systems = new } ≡ marked_by t (id_of u)))) (sym o.found) (by_result r ok)
+      pub is_marked : OnOk r (record t { file_systems = new } ≡ marked_by t id)
+      is_marked = by_result r ok
         where
-          by_result : (x : Result A Refusal) → OnOk x (new ≡ edited_of change t.file_systems m.file_system g) → OnOk x (record t { file_systems = new } ≡ marked_by t (id_of o.it))
-          by_result (Ok d) is = ap (λ ss. record t { file_systems = ss }) (is ∙ after_is) ∙ marked_is t sound m.file_system o.system o.at o.it there
+          by_result : (x : Result A Refusal) → OnOk x (new ≡ edited_of change t.file_systems name id.group) → OnOk x (record t { file_systems = new } ≡ marked_by t id)
+          by_result (Ok d) is = ap (λ ss. record t { file_systems = ss }) (is ∙ after_is) ∙ marked_is t sound name o.system o.at o.it there ∙ ap (marked_by t) o.id_is
           by_result (Err w) is = tt

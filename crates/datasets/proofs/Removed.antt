@@ -1,8 +1,8 @@
 -- A snapshot goes from a table.
-use Rattle.std.proofs.Common.{◌≡◌, ◌<◌, ◌++◌, ◌∷◌, [], ℕ, List, Bool, true, false, cond, Option, Some, None, Result, Ok, Err, refl, sym, ap, subst, ◌∙◌, inl, inr, ⊎_elim, map, arith}
+use Rattle.std.proofs.Common.{◌≡◌, ◌<◌, ◌++◌, ◌∷◌, [], ℕ, List, Bool, true, false, cond, Option, Some, None, Result, Ok, Err, refl, sym, ap, subst, ◌∙◌, inl, inr, ⊎_elim, map, arith, true≢false}
 use Rattle.std.specs.Prelude.{◌==◌, IfOk, IfSome, OnOk, OnErr, IsSome, is_some, not}
 use Rattle.std.specs.List.{find, filter}
-use Rattle.std.specs.Option.{option_map, option_map_or, option_and_then}
+use Rattle.std.specs.Option.{option_map_or, option_and_then}
 use Rattle.std.specs.FinMap as finmap
 use Rattle.std.specs.FinMap.{get, insert}
 use Rattle.std.specs.FinSet.{difference}
@@ -11,10 +11,9 @@ use Rattle.base.specs.declared.refusal.Refusal.{Refusal}
 use Rattle.base.specs.Map.{Map, Block, BlockSet, blocks}
 use Rattle.base.specs.Surveys.{IsIn, dead_block}
 use Rattle.deadlist.specs.declared.deadlist.Deadlist.{Deadlist}
-use Rattle.base.specs.declared.name.member.Member.{Member}
-use Rattle.base.specs.Names.{same_name}
-use Rattle.model.specs.World.{FileSystem, Snap, Live, Snapped, id_of, newest_or_origin, previous_of, map_of, snap_named}
+use Rattle.model.specs.World.{FileSystem, Snap, SnapId, Live, Snapped, id_of, same_id, newest_or_origin, previous_of, map_of}
 use Rattle.datasets.specs.Clones.{below_in, below_at}
+use Rattle.datasets.specs.Holders.{snap_in_system}
 use Rattle.file_system.specs.Dead.{newest_blocks}
 use Rattle.file_system.specs.Origins.{origin_group}
 use Rattle.file_system.specs.Rows.{live_of, snaps_at}
@@ -29,8 +28,7 @@ use Rattle.world.specs.Dead.{below_of, dead_of, IsThere, HasNoCloneIn, next_in}
 use Rattle.world.specs.Tables.{Datasets, world_of, without_snap, lost_between}
 use Rattle.world.proofs.lists.SetCounts.{same_members, in_difference, from_difference}
 use Rattle.world.proofs.lineage.Lineage.{in_after, from_after}
-use Rattle.world.proofs.lists.Maps.{same_value, no_value}
-use Rattle.world.proofs.lists.Finding.{from_find, in_left, filter_all, filter_join}
+use Rattle.world.proofs.lists.Finding.{from_find, in_left, filter_all, filter_join, same_id_is}
 use Rattle.world.proofs.changes.Promotions.{split_at, append_assoc}
 use Rattle.world.proofs.removals.WithoutSnaps.{dropped}
 use Rattle.world.proofs.lineage.Bridge.{start, starts, start_is, in_middle, rising, rising_once, rising_above, rising_below, rising_after, map_of_live, map_of_kept, previous_of_live, previous_of_kept}
@@ -195,106 +193,113 @@ module _ (t : Datasets) (sound : IsTable t) (name : Name) (f : FileSystem) (at :
         ∙ born_after
         ∙ sym (lost_is bs f.live older u newer (older_differ 0 older u newer (subst (AreRising 0) is rising_at)))
 
-group_told : (x : Option Snap) (g : ℕ) → Some g ≡ option_map (λ (u : Snap). u.group) x → (u : Snap) × (x ≡ Some u) × (u.group ≡ g)
-group_told None g e = absurd (no_value g (sym e))
-group_told (Some u) g e = (u, refl, sym (same_value g u.group e))
+-- it has one of this identity, as was asked
+pub is_there : (t u : Datasets) (name : Name) (id : SnapId) (found : Bool) → t ≡ u → found ≡ is_some (snap_in_system u name id) → found ≡ true → is_some (snap_in_system t name id) ≡ true
+is_there t u name id found same asked is = ap (λ (x : Datasets). is_some (snap_in_system x name id)) same ∙ sym asked ∙ is
 
--- the snapshot of this name, which is there, by its group
-module _ (t : Datasets) (sound : IsTable t) (m : Member) (g : ℕ) (told : Some g ≡ option_map (λ (u : Snap). u.group) (snap_named (world_of t) m)) where
+-- the snapshot of this identity, which this file system has
+module _ (t : Datasets) (sound : IsTable t) (name : Name) (id : SnapId) (told : is_some (snap_in_system t name id) ≡ true) where
   -- it, and its file system
   pub record IsOf : Type 0 where
     pub system : FileSystem
-    pub at : get t.file_systems m.file_system ≡ Some system
+    pub at : get t.file_systems name ≡ Some system
     pub it : Snap
-    pub found : snap_named (world_of t) m ≡ Some it
-    pub group_is : it.group ≡ g
+    pub id_is : id_of it ≡ id
     pub older : List Snap
     pub newer : List Snap
     pub snaps_are : system.snaps ≡ older ++ it ∷ newer
 
+  abbrev has_it : Option FileSystem → Option Snap
+  has_it x = find (λ (v : Snap). same_id (id_of v) id) (option_map_or (λ (f : FileSystem). f.snaps) x [])
+
   pub of : IsOf
-  of =
-      let u = group_told (snap_named (world_of t) m) g told in
-      by_system (get t.file_systems m.file_system) refl u.0 u.1 u.2
+  of = by_system (get t.file_systems name) refl
     where
-      by_system : (x : Option FileSystem) → get t.file_systems m.file_system ≡ x → (u : Snap) → snap_named (world_of t) m ≡ Some u → u.group ≡ g → IsOf
-      by_system None e u found is = absurd (no_value u (sym (ap (option_and_then (λ (f : FileSystem). find (λ (v : Snap). same_name v.name m.component) f.snaps)) e) ∙ found))
-      by_system (Some f) e u found is =
-          let there = (from_find (λ (v : Snap). same_name v.name m.component) f.snaps u
-          (sym (ap (option_and_then (λ (f : FileSystem). find (λ (v : Snap). same_name v.name m.component) f.snaps)) e) ∙ found)).0 in
-          let parts = split_at f.snaps u there in
-          record { system = f; at = e; it = u; found = found; group_is = is; older = parts.0; newer = parts.1; snaps_are = parts.2 }
+      by_snap : (f : FileSystem) → get t.file_systems name ≡ Some f → (y : Option Snap) → has_it (Some f) ≡ y → is_some y ≡ true → IsOf
+      by_snap f e None k h = absurd (true≢false (sym h))
+      by_snap f e (Some u) k h =
+          let there = from_find (λ (v : Snap). same_id (id_of v) id) f.snaps u k in
+          let parts = split_at f.snaps u there.0 in
+          record { system = f; at = e; it = u; id_is = same_id_is (id_of u) id there.1; older = parts.0; newer = parts.1; snaps_are = parts.2 }
+
+      by_system : (x : Option FileSystem) → get t.file_systems name ≡ x → IsOf
+      by_system None e = absurd (true≢false (sym told ∙ ap (λ x. is_some (has_it x)) e))
+      by_system (Some f) e = by_snap f e (has_it (Some f)) refl (sym (ap (λ x. is_some (has_it x)) e) ∙ told)
+
+  group_is : of.it.group ≡ id.group
+  group_is = ap (λ (i : SnapId). i.group) of.id_is
 
   up : AreRising 0 (of.older ++ of.it ∷ of.newer)
-  up = subst (AreRising 0) of.snaps_are (rising_at t sound m.file_system of.system of.at)
+  up = subst (AreRising 0) of.snaps_are (rising_at t sound name of.system of.at)
 
   -- it is the one of its group
-  pub told_there : IsSome (find (λ (v : Snap). v.group == g) (snaps_at t.file_systems m.file_system))
+  pub told_there : IsSome (find (λ (v : Snap). v.group == id.group) (snaps_at t.file_systems name))
   told_there =
-      subst (λ (x : Option FileSystem). IsSome (find (λ (v : Snap). v.group == g) (option_map_or (λ (f : FileSystem). f.snaps) x []))) (sym of.at)
-      (subst (λ l. IsSome (find (λ (v : Snap). v.group == g) l)) (sym of.snaps_are)
-      (subst (λ n. IsSome (find (λ (v : Snap). v.group == n) (of.older ++ of.it ∷ of.newer))) of.group_is (found_there of.older of.it of.newer)))
+      subst (λ (x : Option FileSystem). IsSome (find (λ (v : Snap). v.group == id.group) (option_map_or (λ (f : FileSystem). f.snaps) x []))) (sym of.at)
+      (subst (λ l. IsSome (find (λ (v : Snap). v.group == id.group) l)) (sym of.snaps_are)
+      (subst (λ n. IsSome (find (λ (v : Snap). v.group == n) (of.older ++ of.it ∷ of.newer))) group_is (found_there of.older of.it of.newer)))
 
   -- the snapshots of its group are it
-  pub told_once : (u : Snap) → IsIn (snaps_at t.file_systems m.file_system) u → u.group ≡ g → u ≡ of.it
-  told_once u h e = rising_once 0 of.system.snaps u of.it (rising_at t sound m.file_system of.system of.at)
+  pub told_once : (u : Snap) → IsIn (snaps_at t.file_systems name) u → u.group ≡ id.group → u ≡ of.it
+  told_once u h e = rising_once 0 of.system.snaps u of.it (rising_at t sound name of.system of.at)
       (subst (λ (x : Option FileSystem). IsIn (option_map_or (λ (f : FileSystem). f.snaps) x []) u) of.at h)
-      (subst (λ l. IsIn l of.it) (sym of.snaps_are) (in_middle of.older of.it of.newer)) (e ∙ sym of.group_is)
+      (subst (λ l. IsIn l of.it) (sym of.snaps_are) (in_middle of.older of.it of.newer)) (e ∙ sym group_is)
 
   -- of which no file system is a clone
-  module _ (no_clone : IfSome (snap_named (world_of t) m) (λ u. HasNoCloneIn t.file_systems (id_of u))) where
+  module _ (no_clone : HasNoCloneIn t.file_systems id) where
     none : HasNoCloneIn t.file_systems (id_of of.it)
-    none = subst (λ (x : Option Snap). IfSome x (λ u. HasNoCloneIn t.file_systems (id_of u))) of.found no_clone
+    none = subst (HasNoCloneIn t.file_systems) (sym of.id_is) no_clone
 
-    pub told_unused : (u : Snap) → IsIn (snaps_at t.file_systems m.file_system) u → u.group ≡ g → HasNoCloneIn t.file_systems (id_of u)
+    pub told_unused : (u : Snap) → IsIn (snaps_at t.file_systems name) u → u.group ≡ id.group → HasNoCloneIn t.file_systems (id_of u)
     told_unused u h e = subst (λ (x : Snap). HasNoCloneIn t.file_systems (id_of x)) (sym (told_once u h e)) none
 
-    after_is : without_snap_of t.file_systems m.file_system g ≡ insert t.file_systems m.file_system (record of.system { snaps = of.older ++ of.newer })
+    after_is : without_snap_of t.file_systems name id.group ≡ insert t.file_systems name (record of.system { snaps = of.older ++ of.newer })
     after_is =
-        ap (λ x. option_map_or (λ (f : FileSystem). insert t.file_systems m.file_system (without_group f g)) x t.file_systems) of.at
-        ∙ ap (λ l. insert t.file_systems m.file_system (record of.system { snaps = l }))
-        (ap (λ n. filter (λ (v : Snap). not (v.group == n)) of.system.snaps) (sym of.group_is)
+        ap (λ x. option_map_or (λ (f : FileSystem). insert t.file_systems name (without_group f id.group)) x t.file_systems) of.at
+        ∙ ap (λ l. insert t.file_systems name (record of.system { snaps = l }))
+        (ap (λ n. filter (λ (v : Snap). not (v.group == n)) of.system.snaps) (sym group_is)
         ∙ ap (filter (λ (v : Snap). not (v.group == of.it.group))) of.snaps_are
         ∙ others_stay 0 of.older of.it of.newer up)
 
-    gone_table : IsTable (record t { file_systems = without_snap_of t.file_systems m.file_system g })
-    gone_table = subst (λ ss. IsTable (record t { file_systems = ss })) (sym after_is) (spliced t sound m.file_system of.system of.at of.older of.it of.newer of.snaps_are none)
+    gone_table : IsTable (record t { file_systems = without_snap_of t.file_systems name id.group })
+    gone_table = subst (λ ss. IsTable (record t { file_systems = ss })) (sym after_is) (spliced t sound name of.system of.at of.older of.it of.newer of.snaps_are none)
 
-    gone_is : record t { file_systems = without_snap_of t.file_systems m.file_system g } ≡ without_snap t (id_of of.it)
+    gone_is : record t { file_systems = without_snap_of t.file_systems name id.group } ≡ without_snap t id
     gone_is = ap (λ ss. record t { file_systems = ss }) (after_is
         ∙ sym (dropped (world_of t) t.group sound.systems (id_of of.it) none
-        m.file_system of.system of.at of.older of.it of.newer of.snaps_are refl))
+        name of.system of.at of.older of.it of.newer of.snaps_are refl))
+        ∙ ap (without_snap t) of.id_is
 
-    gone_loses : lost_from (blocks (below_at t.file_systems m.file_system)) (snaps_at t.file_systems m.file_system) (live_of t.file_systems m.file_system) g ≡ lost_between t (record t { file_systems = without_snap_of t.file_systems m.file_system g })
+    gone_loses : lost_from (blocks (below_at t.file_systems name)) (snaps_at t.file_systems name) (live_of t.file_systems name) id.group ≡ lost_between t (record t { file_systems = without_snap_of t.file_systems name id.group })
     gone_loses =
-        ap (λ x. lost_from (blocks (below_in t.file_systems (option_and_then (λ (f : FileSystem). f.origin) x))) (option_map_or (λ (f : FileSystem). f.snaps) x []) (option_map_or (λ (f : FileSystem). f.live) x finmap.empty) g) of.at
-        ∙ ap (λ l. lost_from (blocks (below_in t.file_systems of.system.origin)) l of.system.live g) of.snaps_are
-        ∙ ap (lost_from (blocks (below_in t.file_systems of.system.origin)) (of.older ++ of.it ∷ of.newer) of.system.live) (sym of.group_is)
-        ∙ sym (spliced_loses t sound m.file_system of.system of.at of.older of.it of.newer of.snaps_are none)
+        ap (λ x. lost_from (blocks (below_in t.file_systems (option_and_then (λ (f : FileSystem). f.origin) x))) (option_map_or (λ (f : FileSystem). f.snaps) x []) (option_map_or (λ (f : FileSystem). f.live) x finmap.empty) id.group) of.at
+        ∙ ap (λ l. lost_from (blocks (below_in t.file_systems of.system.origin)) l of.system.live id.group) of.snaps_are
+        ∙ ap (lost_from (blocks (below_in t.file_systems of.system.origin)) (of.older ++ of.it ∷ of.newer) of.system.live) (sym group_is)
+        ∙ sym (spliced_loses t sound name of.system of.at of.older of.it of.newer of.snaps_are none)
         ∙ ap (λ ss. lost_between t (record t { file_systems = ss })) (sym after_is)
 
     -- what the file systems answer
-    module _ (r : Result Deadlist Refusal) (new : FileSystems) (ok : OnOk r (new ≡ without_snap_of t.file_systems m.file_system g)) where
+    module _ (r : Result Deadlist Refusal) (new : FileSystems) (ok : OnOk r (new ≡ without_snap_of t.file_systems name id.group)) where
       pub removed_table : OnErr r (new ≡ t.file_systems) → IsTable (record t { file_systems = new })
       removed_table err = by_result r ok err
         where
-          by_result : (x : Result Deadlist Refusal) → OnOk x (new ≡ without_snap_of t.file_systems m.file_system g) → OnErr x (new ≡ t.file_systems) → IsTable (record t { file_systems = new })
+          by_result : (x : Result Deadlist Refusal) → OnOk x (new ≡ without_snap_of t.file_systems name id.group) → OnErr x (new ≡ t.file_systems) → IsTable (record t { file_systems = new })
           by_result (Ok d) is e = subst (λ ss. IsTable (record t { file_systems = ss })) (sym is) gone_table
           by_result (Err w) is e = subst (λ ss. IsTable (record t { file_systems = ss })) (sym e) sound
 
-      pub removed_is : IfSome (snap_named (world_of t) m) (λ u. OnOk r (record t { file_systems = new } ≡ without_snap t (id_of u)))
-      removed_is = subst (λ x. IfSome x (λ u. OnOk r (record t { file_systems = new } ≡ without_snap t (id_of u)))) (sym of.found) (by_result r ok)
+      pub removed_is : OnOk r (record t { file_systems = new } ≡ without_snap t id)
+      removed_is = by_result r ok
         where
-          by_result : (x : Result Deadlist Refusal) → OnOk x (new ≡ without_snap_of t.file_systems m.file_system g) → OnOk x (record t { file_systems = new } ≡ without_snap t (id_of of.it))
+          by_result : (x : Result Deadlist Refusal) → OnOk x (new ≡ without_snap_of t.file_systems name id.group) → OnOk x (record t { file_systems = new } ≡ without_snap t id)
           by_result (Ok d) is = ap (λ ss. record t { file_systems = ss }) is ∙ gone_is
           by_result (Err w) is = tt
 
-      pub removed_loses : IfOk r (λ d. Lists (map dead_block d.entries) (lost_from (blocks (below_at t.file_systems m.file_system)) (snaps_at t.file_systems m.file_system) (live_of t.file_systems m.file_system) g))
+      pub removed_loses : IfOk r (λ d. Lists (map dead_block d.entries) (lost_from (blocks (below_at t.file_systems name)) (snaps_at t.file_systems name) (live_of t.file_systems name) id.group))
           → IfOk r (λ d. Lists (map dead_block d.entries) (lost_between t (record t { file_systems = new })))
       removed_loses = by_result r ok
         where
-          by_result : (x : Result Deadlist Refusal) → OnOk x (new ≡ without_snap_of t.file_systems m.file_system g)
-              → IfOk x (λ d. Lists (map dead_block d.entries) (lost_from (blocks (below_at t.file_systems m.file_system)) (snaps_at t.file_systems m.file_system) (live_of t.file_systems m.file_system) g))
+          by_result : (x : Result Deadlist Refusal) → OnOk x (new ≡ without_snap_of t.file_systems name id.group)
+              → IfOk x (λ d. Lists (map dead_block d.entries) (lost_from (blocks (below_at t.file_systems name)) (snaps_at t.file_systems name) (live_of t.file_systems name) id.group))
               → IfOk x (λ d. Lists (map dead_block d.entries) (lost_between t (record t { file_systems = new })))
           by_result (Ok d) is h = subst (Lists (map dead_block d.entries)) (gone_loses ∙ ap (λ ss. lost_between t (record t { file_systems = ss })) (sym is)) h
           by_result (Err w) is h = tt

@@ -15,7 +15,7 @@ use Rattle.datasets.specs.Places.{IsAt}
 use Rattle.file_system.specs.Rows.{Entry, snap_count}
 use Rattle.datasets.proofs.Rows.{same_name, true_from}
 use Rattle.datasets.proofs.Counts.{counted, snaps_in}
-use Rattle.datasets.proofs.Sorted.{sorted_at, less_from, equal_from, T_left, T_right}
+use Rattle.snapshots.proofs.Sorted.{sorted_at, less_from, equal_from, T_left, T_right}
 
 pub T_both : (a b : Bool) → T a → T b → T (a && b)
 T_both true b h k = k

@@ -23,7 +23,7 @@ use Rattle.model.specs.World.{FileSystem, empty_file_system}
 use Rattle.file_system.specs.Losses.{newest_map}
 use Rattle.file_system.specs.Rows.{Entry, FileSystems, live_of, snaps_at, with_live}
 use Rattle.datasets.specs.Places.{IsAt, IsGapFor}
-use Rattle.datasets.proofs.Sorted.{comparisons_rise, find_at, put_at, find_gap, put_gap}
+use Rattle.snapshots.proofs.Sorted.{comparisons_rise, find_at, put_at, find_gap, put_gap}
 
 -- only equal names tie
 pub same_name : IsAntisymmetric name_cmp

@@ -82,7 +82,7 @@ fn promote_row(
     let clone = own(clone, alloc)?;
     let owner = own(owner, alloc)?;
     clones.promote(origin, clone, owner)?;
-    clone.set_line(line);
-    owner.set_line(owner_line);
+    clone.set_lineage(line);
+    owner.set_lineage(owner_line);
     Ok(())
 }

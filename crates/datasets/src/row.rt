@@ -1,5 +1,5 @@
 //! The rows of a list of file systems, each of which other lists may own too.
-ghost use Rattle.std.specs.Prelude.{◌≡◌, ◌+◌, ◌<◌, ◌≤◌, ◌++◌, ◌==◌, Some, None, IsSome, IfSome, IfNone, slice_get, IfOk, IfErr, OnOk, map, length, vec_len, vec_capacity};
+ghost use Rattle.std.specs.Prelude.{◌≡◌, ◌+◌, ◌<◌, ◌≤◌, ◌++◌, Some, None, IsSome, IfSome, IfNone, slice_get, IfOk, IfErr, OnOk, map, length, vec_len, vec_capacity};
 ghost use Rattle.std.specs.Arc.{arc_value};
 ghost use Rattle.std.specs.Borrow.{sem};
 ghost use Rattle.std.specs.List.{find, insert};

@@ -1,5 +1,5 @@
 //! The datasets of a pool.
-ghost use Rattle.std.specs.Prelude.{ℕ, List, [], ◌≡◌, ◌⊎◌, ◌↔◌, ◌≤◌, ◌+◌, ◌<◌, ◌^◌, false, Some, None, IsSome, IfSome, IfOk, IfErr, OnOk, OnErr, map, length, nat_lt};
+ghost use Rattle.std.specs.Prelude.{ℕ, List, [], ◌≡◌, ◌⊎◌, ◌↔◌, ◌≤◌, ◌+◌, ◌<◌, ◌^◌, false, Some, None, IsSome, is_some, IfSome, IfOk, IfErr, OnOk, OnErr, map, length, nat_lt};
 ghost use Rattle.std.specs.List.{list_any};
 ghost use Rattle.std.specs.Arc.{arc_value};
 ghost use Rattle.std.specs.Option.{option_map, option_map_or, option_copied};
@@ -25,7 +25,7 @@ ghost use Rattle.datasets.specs.Clones.{row_in};
 ghost use Rattle.file_system.specs.Losses.{newest_map};
 ghost use Rattle.file_system.specs.Rows.{Row, live_of, snaps_at, with_live, snap_count, plain_snap};
 ghost use Rattle.datasets.specs.Clones.{with_clone_of, with_promoted};
-ghost use Rattle.datasets.specs.Holders.{snapshot_place, IsPlace};
+ghost use Rattle.datasets.specs.Holders.{snapshot_place, snap_in_system, IsPlace};
 ghost use Rattle.datasets.specs.Limits.{with_limit_of};
 ghost use Rattle.datasets.specs.Rollbacks.{Loses};
 ghost use Rattle.datasets.specs.Table.{AreNumbersOne, AreBookmarksClosed, AreSnapshotsClosed};
@@ -361,64 +361,70 @@ impl Table {
         Ok(())
     }
 
-    /// Takes a snapshot out that no file system is a clone of, as `has_clone` tells (zfs-destroy(8)): what comes after it keeps its blocks,
-    /// and the answer lists the blocks that no dataset has any more, each once; nobody has walked them. NoDataset exactly where there is no
-    /// snapshot of this name; else NoMemory where there is none for it. At `Err` the table is as it was. It costs the logarithms of the
-    /// numbers of file systems and of snapshots, the segments of two dead lists with the entries of at most one of them, and a 32nd of the
-    /// number of snapshots of its file system.
+    /// Takes the snapshot of this identity, of which no file system is a clone, as `has_clone` tells, out of this file system
+    /// (zfs-destroy(8)): what comes after it keeps its blocks, and the answer lists the blocks that no dataset has any more, each once;
+    /// nobody has walked them. NoDataset exactly where the file system has no such snapshot; else NoMemory where there is none for it. At
+    /// `Err` the table is as it was. It costs the logarithms of the numbers of file systems and of snapshots, the segments of two dead lists
+    /// with the entries of at most one of them, and a 32nd of the number of snapshots of its file system.
     pub fn remove_snapshot(
         &mut self,
         alloc: Global,
-        name: &Member,
+        file_system: &DsName,
+        id: SnapshotId,
         segments: &mut SegMeter,
     ) -> Result<Deadlist, Refusal>
-        requires no_clone { IfSome (snap_named (world_of self.old) name.now) (λ t. HasNoCloneIn self.old.file_systems (id_of t)) }
-        ensures ok { IfSome (snap_named (world_of self.old) name.now) (λ t. OnOk result (self.new ≡ without_snap self.old (id_of t))) }
+        requires no_clone { HasNoCloneIn self.old.file_systems (snap_id id) }
+        ensures ok { OnOk result (self.new ≡ without_snap self.old (snap_id id)) }
         ensures lost { IfOk result (λ d. Lists (map dead_block d.entries) (lost_between self.old self.new)) }
-        ensures no_dataset { (result ≡ Err Refusal.NoDataset) ↔ (snap_named (world_of self.old) name.now ≡ None) }
+        ensures no_dataset { (result ≡ Err Refusal.NoDataset) ↔ (snap_in_system self.old file_system.now (snap_id id) ≡ None) }
         ensures err { OnErr result (self.new ≡ self.old) }
         ensures only { IfErr result (λ e. (e ≡ Refusal.NoDataset) ⊎ (e ≡ Refusal.NoMemory)) }
     {
-        let Some(group) = self.group_of(name) else {
+        if !self.has_snapshot_in(file_system, id) {
             return Err(Refusal::NoDataset);
-        };
-        self.systems
-            .splice(alloc, &name.file_system, group, segments)
+        }
+        self.systems.splice(alloc, file_system, id.group, segments)
     }
 
-    /// From now on the destroy of the snapshot of this name is deferred (zfs-destroy(8), -d). NoDataset exactly where there is no snapshot
-    /// of this name; else NoMemory where there is none for it. At `Err` the table is as it was. It costs the logarithms of the numbers of
-    /// file systems and of snapshots, and a walk over the chunks of its file system's.
-    pub fn defer(&mut self, alloc: Global, name: &Member) -> Result<(), Refusal>
-        ensures ok { IfSome (snap_named (world_of self.old) name.now) (λ t. OnOk result (self.new ≡ deferred_snap self.old (id_of t))) }
-        ensures no_dataset { (result ≡ Err Refusal.NoDataset) ↔ (snap_named (world_of self.old) name.now ≡ None) }
+    /// From now on the destroy of the snapshot of this identity of this file system is deferred (zfs-destroy(8), -d). NoDataset exactly where
+    /// the file system has no such snapshot; else NoMemory where there is none for it. At `Err` the table is as it was. It costs the
+    /// logarithms of the numbers of file systems and of snapshots, and a walk over the chunks of its file system's.
+    pub fn defer(
+        &mut self,
+        alloc: Global,
+        file_system: &DsName,
+        id: SnapshotId,
+    ) -> Result<(), Refusal>
+        ensures ok { OnOk result (self.new ≡ deferred_snap self.old (snap_id id)) }
+        ensures no_dataset { (result ≡ Err Refusal.NoDataset) ↔ (snap_in_system self.old file_system.now (snap_id id) ≡ None) }
         ensures err { OnErr result (self.new ≡ self.old) }
         ensures only { IfErr result (λ e. (e ≡ Refusal.NoDataset) ⊎ (e ≡ Refusal.NoMemory)) }
     {
-        let Some(group) = self.group_of(name) else {
+        if !self.has_snapshot_in(file_system, id) {
             return Err(Refusal::NoDataset);
-        };
-        self.systems.defer(alloc, &name.file_system, group)
+        }
+        self.systems.defer(alloc, file_system, id.group)
     }
 
-    /// From now on the snapshot of this name has these tags (zfs-hold(8), zfs-release(8)). NoDataset exactly where there is no snapshot of
-    /// this name; else NoMemory where there is none for it. At `Err` the table is as it was. It costs the logarithms of the numbers of file
-    /// systems and of snapshots, and a walk over the chunks of its file system's.
+    /// From now on the snapshot of this identity of this file system has these tags (zfs-hold(8), zfs-release(8)). NoDataset exactly where the
+    /// file system has no such snapshot; else NoMemory where there is none for it. At `Err` the table is as it was. It costs the logarithms of
+    /// the numbers of file systems and of snapshots, and a walk over the chunks of its file system's.
     pub fn set_tags(
         &mut self,
         alloc: Global,
-        name: &Member,
+        file_system: &DsName,
+        id: SnapshotId,
         tags: Arc<Holds>,
     ) -> Result<(), Refusal>
-        ensures ok { IfSome (snap_named (world_of self.old) name.now) (λ t. OnOk result (self.new ≡ tagged_snap self.old (id_of t) (arc_value tags))) }
-        ensures no_dataset { (result ≡ Err Refusal.NoDataset) ↔ (snap_named (world_of self.old) name.now ≡ None) }
+        ensures ok { OnOk result (self.new ≡ tagged_snap self.old (snap_id id) (arc_value tags)) }
+        ensures no_dataset { (result ≡ Err Refusal.NoDataset) ↔ (snap_in_system self.old file_system.now (snap_id id) ≡ None) }
         ensures err { OnErr result (self.new ≡ self.old) }
         ensures only { IfErr result (λ e. (e ≡ Refusal.NoDataset) ⊎ (e ≡ Refusal.NoMemory)) }
     {
-        let Some(group) = self.group_of(name) else {
+        if !self.has_snapshot_in(file_system, id) {
             return Err(Refusal::NoDataset);
-        };
-        self.systems.set_tags(alloc, &name.file_system, group, tags)
+        }
+        self.systems.set_tags(alloc, file_system, id.group, tags)
     }
 
     /// From now on this file system has these bookmarks (zfs-bookmark(8)), which are of closed groups. NoDataset exactly where there is no
@@ -524,12 +530,15 @@ impl Table {
         }
     }
 
-    // The creation group of the snapshot of this name, or none.
-    fn group_of(&self, name: &Member) -> Option<Group>
-        ensures { option_map (λ g. g.0) result ≡ option_map (λ t. t.group) (snap_named (world_of self.now) name.now) }
+    // Whether the file system of this name has the snapshot of this identity. It costs the logarithms of the numbers of file systems and of
+    // snapshots.
+    fn has_snapshot_in(&self, file_system: &DsName, id: SnapshotId) -> bool
+        ensures { result ≡ is_some (snap_in_system self.now file_system.now (snap_id id)) }
     {
-        let snapshot = self.snapshot(name)?;
-        Some(snapshot.group())
+        match self.systems.find(file_system) {
+            Some(file_system) => file_system.snapshot_of(id).is_some(),
+            None => false,
+        }
     }
 
     /// Whether a file system has this one's name as its parent's (zfs(8)). It costs the number of file systems.

@@ -2,7 +2,6 @@
 ghost use Rattle.std.specs.Prelude.{◌≡◌, IfOk};
 ghost use Rattle.std.specs.FinSet as set;
 
-use crate::free::is_free;
 use crate::now::take;
 use base::meter::SegMeter;
 use base::name::SnapName;
@@ -32,11 +31,15 @@ fn edit_of(alloc: Global, table: &Table) -> Result<WorkingCopy, Refusal>
 fn left_without(alloc: Global, table: &Table, bytes: &[u8]) -> Result<(usize, u64), Refusal> {
     let name = SnapName::read(alloc, bytes)?;
     let mut edit = edit_of(alloc, table)?;
-    if !is_free(&edit.to, name.member()) {
+    let Some(snapshot) = table.snapshot(name.member()) else {
+        return Err(Refusal::NoDataset);
+    };
+    let id = snapshot.id();
+    if edit.to.has_clone(id) {
         return Err(Refusal::HasClones);
     }
     let mut segments = SegMeter::new(Toll::new());
-    edit.remove_snapshot(alloc, name.member(), &mut segments)?;
+    edit.remove_snapshot(alloc, &name.member().file_system, id, &mut segments)?;
     Ok((edit.to.snapshot_count(), edit.freeing.len()))
 }
 

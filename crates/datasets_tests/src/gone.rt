@@ -1,5 +1,4 @@
 //! Snapshots that go from a table.
-use crate::free::is_free;
 use crate::tables::is_out_of_memory;
 use base::meter::SegMeter;
 use base::name::SnapName;
@@ -12,11 +11,15 @@ use toll::Toll;
 
 /// Whether the first of two snapshots is gone, or both are there, and a rollback leaves them so.
 fn loses_or_keeps(alloc: Global, table: &mut Table, first: &SnapName, second: &SnapName) -> bool {
-    if !is_free(table, first.member()) {
+    let Some(snapshot) = table.snapshot(first.member()) else {
+        return false;
+    };
+    let id = snapshot.id();
+    if table.has_clone(id) {
         return false;
     }
     let mut segments = SegMeter::new(Toll::new());
-    let gone = table.remove_snapshot(alloc, first.member(), &mut segments);
+    let gone = table.remove_snapshot(alloc, &first.member().file_system, id, &mut segments);
     let count = if gone.is_ok() { 1 } else { 2 };
     let is_refused = is_out_of_memory(gone);
     is_refused

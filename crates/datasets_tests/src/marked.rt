@@ -67,7 +67,11 @@ enum Change {
 fn free(alloc: Global, table: &mut Table) -> Result<(), Refusal> {
     let name = SnapName::read(alloc, b"p/a@s")?;
     let none = Arc::new(alloc, Holds::new(alloc))?;
-    table.set_tags(alloc, name.member(), none)
+    let Some(snapshot) = table.snapshot(name.member()) else {
+        return Err(Refusal::NoDataset);
+    };
+    let id = snapshot.id();
+    table.set_tags(alloc, &name.member().file_system, id, none)
 }
 
 fn clear(alloc: Global, table: &mut Table) -> Result<(), Refusal> {

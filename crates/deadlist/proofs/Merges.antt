@@ -57,13 +57,3 @@ perm_four es fs gs hs new h =
     let left : (es ++ fs) ++ (gs ++ hs) ≡ es ++ ((fs ++ gs) ++ hs) = a ∙ ap (λ x. es ++ x) (sym b) in
     let right : es ++ ((gs ++ fs) ++ hs) ≡ (es ++ gs) ++ (fs ++ hs) = ap (λ x. es ++ x) d ∙ sym e in
     rw left (IsPermutation-trans (es ++ ((fs ++ gs) ++ hs)) (es ++ ((gs ++ fs) ++ hs)) (new ++ (fs ++ hs)) swap (rw right (IsPermutation-append_left (fs ++ hs) (es ++ gs) new h)))
-
--- the same, where what stood behind the second is put into both
-pub perm_sorted : {X : Type 0} (es fs gs hs mid new : List X) → IsPermutation (es ++ gs) mid → IsPermutation (mid ++ hs) new → IsPermutation ((es ++ fs) ++ (gs ++ hs)) (new ++ fs)
-perm_sorted es fs gs hs mid new h k =
-    let all = perm_four es fs gs hs mid h in
-    let turn = IsPermutation-append_right mid (fs ++ hs) (hs ++ fs) (IsPermutation-append_comm fs hs) in
-    let put = IsPermutation-append_left fs (mid ++ hs) new k in
-    let same = append_assoc mid hs fs in
-    let last : IsPermutation (mid ++ (hs ++ fs)) (new ++ fs) = rw same at put in
-    IsPermutation-trans ((es ++ fs) ++ (gs ++ hs)) (mid ++ (fs ++ hs)) (new ++ fs) all (IsPermutation-trans (mid ++ (fs ++ hs)) (mid ++ (hs ++ fs)) (new ++ fs) turn last)

@@ -1,6 +1,6 @@
 -- Blocks of subtrees as their tops come off.
-use Rattle.std.proofs.Common.{◌≡◌, ℕ, suc, ◌+◌, ◌<◌, ◌≤◌, Bool, true, false, cond, List, [], ◌∷◌, ◌++◌, length, map, drop, Option, Some, None, refl, sym, ap, subst, ◌∙◌, arith, append_assoc, drop-cons, inl, inr}
-use Rattle.std.specs.Prelude.{slice_index_or, reverse, IfSome, ltb}
+use Rattle.std.proofs.Common.{◌≡◌, ℕ, ◌<◌, ◌≤◌, Bool, true, false, cond, List, [], ◌∷◌, ◌++◌, map, refl, sym, ap, subst, ◌∙◌, arith, append_assoc, inl, inr}
+use Rattle.std.specs.Prelude.{reverse, IfSome, ltb}
 use Rattle.std.specs.List.{flat_map}
 use Rattle.std.specs.FinMap.{get, entries}
 use Rattle.std.proofs.lemmas.Bool.{lt-ltb, ltb-true}
@@ -9,46 +9,32 @@ use Rattle.std.proofs.lemmas.List.Elements.{filter-append}
 use Rattle.std.proofs.lemmas.List.{reverse-append}
 use Rattle.base.specs.declared.number.Key.{Key}
 use Rattle.base.specs.Map.{Cell, Block, block_of}
-use Rattle.tree.specs.Branch.{Branch, branch_blocks, place_blocks}
+use Rattle.tree.specs.Branch.{Branch, branch_blocks}
 use Rattle.world.specs.Deadlists.{entries_after}
 use Rattle.world.specs.Shapes.{key_order}
 use Rattle.world.specs.Usage.{IsEntry}
 use Rattle.world.proofs.lists.Maps.{at_entry}
-use Rattle.destroyer.specs.Members.{born_after, tops_after, somes}
-
--- what stands at the places from n on
-pub somes_none : (bs : List (Option Branch)) (n : ℕ) → n < length bs → slice_index_or bs n None ≡ None → somes (drop n bs) ≡ somes (drop (n + 1) bs)
-somes_none bs n lt is =
-    ap somes (drop-cons bs n None lt)
-    ∙ ap (λ o. somes (o ∷ drop (suc n) bs)) is
-    ∙ ap (λ k. somes (drop k bs)) (let e : suc n ≡ n + 1 = omega arith in e)
-
-pub somes_some : (bs : List (Option Branch)) (n : ℕ) (b : Branch) → n < length bs → slice_index_or bs n None ≡ Some b → somes (drop n bs) ≡ b ∷ somes (drop (n + 1) bs)
-somes_some bs n b lt is =
-    ap somes (drop-cons bs n None lt)
-    ∙ ap (λ o. somes (o ∷ drop (suc n) bs)) is
-    ∙ ap (λ k. b ∷ somes (drop k bs)) (let e : suc n ≡ n + 1 = omega arith in e)
+use Rattle.destroyer.specs.Members.{born_after, tops_after}
 
 -- the blocks below that were born after the cut
-after_below : (cut : ℕ) (bs : List (Option Branch)) → entries_after cut (flat_map place_blocks bs) ≡ flat_map (born_after cut) (somes bs)
+after_below : (cut : ℕ) (bs : List Branch) → entries_after cut (flat_map branch_blocks bs) ≡ flat_map (born_after cut) bs
 after_below cut [] = refl
-after_below cut (None ∷ bs) = after_below cut bs
-after_below cut (Some b ∷ bs) =
-    filter-append (λ (x : Block). ltb cut x.birth) (branch_blocks b) (flat_map place_blocks bs)
+after_below cut (b ∷ bs) =
+    filter-append (λ (x : Block). ltb cut x.birth) (branch_blocks b) (flat_map branch_blocks bs)
     ∙ ap (λ xs. born_after cut b ++ xs) (after_below cut bs)
 
 keeps : (cut : ℕ) (x : Block) (xs : List Block) → cut < x.birth → entries_after cut (x ∷ xs) ≡ x ∷ entries_after cut xs
 keeps cut x xs lt = ap (λ b. cond b (x ∷ entries_after cut xs) (entries_after cut xs)) (lt-ltb cut x.birth lt)
 
 -- a top that comes off
-pub peeled : (cut : ℕ) (top : Branch) (x : Block) (below : List (Option Branch)) (news olds : List Branch) (done more : List Block)
-    → branch_blocks top ≡ x ∷ flat_map place_blocks below → cut < x.birth → reverse news ≡ somes below ++ reverse olds → more ≡ done ++ x ∷ []
+pub peeled : (cut : ℕ) (top : Branch) (x : Block) (below news olds : List Branch) (done more : List Block)
+    → branch_blocks top ≡ x ∷ flat_map branch_blocks below → cut < x.birth → reverse news ≡ below ++ reverse olds → more ≡ done ++ x ∷ []
     → more ++ tops_after cut news ≡ done ++ (born_after cut top ++ tops_after cut olds)
 peeled cut top x below news olds done more all young news-are more-is =
     ap (λ ys. ys ++ tops_after cut news) more-is
     ∙ append_assoc done (x ∷ []) (tops_after cut news)
-    ∙ ap (λ ys. done ++ x ∷ ys) (ap (flat_map (born_after cut)) news-are ∙ flat_map-append (born_after cut) (somes below) (reverse olds))
-    ∙ ap (λ ys. done ++ (ys ++ tops_after cut olds)) (sym (ap (entries_after cut) all ∙ keeps cut x (flat_map place_blocks below) young ∙ ap (λ ys. x ∷ ys) (after_below cut below)))
+    ∙ ap (λ ys. done ++ x ∷ ys) (ap (flat_map (born_after cut)) news-are ∙ flat_map-append (born_after cut) below (reverse olds))
+    ∙ ap (λ ys. done ++ (ys ++ tops_after cut olds)) (sym (ap (entries_after cut) all ∙ keeps cut x (flat_map branch_blocks below) young ∙ ap (λ ys. x ∷ ys) (after_below cut below)))
 
 -- a top that doesn't has nothing below it either
 drops : (cut : ℕ) (x : Block) (xs : List Block) → x.birth ≤ cut → entries_after cut (x ∷ xs) ≡ entries_after cut xs

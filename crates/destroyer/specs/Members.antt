@@ -1,6 +1,6 @@
 -- The blocks of what is to be freed.
-use Rattle.std.specs.Prelude.{ℕ, List, Option, map, drop, reverse}
-use Rattle.std.specs.List.{flat_map, filter_map}
+use Rattle.std.specs.Prelude.{ℕ, List, map, drop, reverse}
+use Rattle.std.specs.List.{flat_map}
 use Rattle.std.specs.FinSet.{from_list}
 use Rattle.base.specs.declared.number.Dead.{Dead}
 use Rattle.base.specs.Map.{Block, BlockSet}
@@ -17,10 +17,6 @@ dead_blocks = map dead_block
 -- the set of the blocks of entries (On-Disk Specification, chapter 4)
 abbrev pub dead_set : List Dead → BlockSet
 dead_set ds = from_list (dead_blocks ds)
-
--- what stands at the places that have anything (profile)
-abbrev pub somes : {A : Type 0} → List (Option A) → List A
-somes = filter_map (λ o. o)
 
 -- the blocks of a branch that were born after a cut (On-Disk Specification, chapter 2: birth txg)
 abbrev pub born_after : ℕ → Branch → List Block

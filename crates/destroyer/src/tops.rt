@@ -1,30 +1,13 @@
 //! Subtrees whose tops are taken off one after another.
-ghost use Rattle.std.specs.Prelude.{◌≡◌, ◌+◌, ◌≤◌, ◌++◌, ◌⊎◌, [], length, reverse, OnOk, OnErr};
+ghost use Rattle.std.specs.Prelude.{◌≡◌, ◌+◌, ◌≤◌, ◌++◌, ◌⊎◌, [], length, OnOk, OnErr};
 ghost use Rattle.base.specs.Counting.{counted};
 ghost use Rattle.base.specs.declared.refusal.Refusal.{Refusal};
-ghost use Rattle.destroyer.specs.Members.{dead_blocks, born_after, tops_after, somes};
+ghost use Rattle.destroyer.specs.Members.{dead_blocks, born_after, tops_after};
 
 use base::meter::Meter;
 use base::number::{Dead, Group};
 use base::refusal::Refusal;
 use tree::Subtree;
-
-/// Puts the subtrees at sixteen places onto the others, the last place first.
-fn put_on(tops: &mut Vec<Subtree>, below: [Option<Subtree>; 16]) -> Result<(), Refusal>
-    ensures stack { OnOk result (reverse tops.new.items ≡ somes below ++ reverse tops.old.items) }
-    ensures few { OnOk result (length tops.new.items ≤ length tops.old.items + 16) }
-    ensures err { OnErr result (result ≡ Err Refusal.NoMemory) }
-{
-    let mut below = below;
-    let mut place = 16;
-    while place > 0 {
-        place -= 1;
-        if let Some(top) = below[place].take() {
-            tops.push(top)?;
-        }
-    }
-    Ok(())
-}
 
 /// Takes one top off, if it was born after the cut, and puts the subtrees directly below on the others.
 fn peel_top(
@@ -43,15 +26,10 @@ fn peel_top(
     ensures err { OnErr result (result ≡ Err Refusal.NoMemory) }
     ensures metered { meter.new ≡ counted meter.old 1 }
 {
-    match top.peel(cut, meter) {
-        Ok(Some(peeled)) => {
-            taken.push(peeled.0)?;
-            let below = peeled.1;
-            put_on(tops, below)
-        }
-        Ok(None) => Ok(()),
-        Err(_) => Err(Refusal::NoMemory),
+    if let Some(block) = top.peel(cut, tops, meter)? {
+        taken.push(block)?;
     }
+    Ok(())
 }
 
 /// Takes tops off until that many blocks are taken or no subtree is left.

@@ -37,10 +37,6 @@ pub record IsEdited (change : Snap → Snap) (ks : List Kept) (i : ℕ) (next : 
 abbrev pub with_deferred : Snap → Snap
 with_deferred t = record t { deferred = true }
 
--- the snapshot, where it is the one of this group (zfs-destroy(8), -d)
-abbrev pub deferred_if : ℕ → Snap → Snap
-deferred_if group t = edited_if with_deferred group t
-
 -- the file system whose snapshot of this group is to go once nothing needs it (zfs-destroy(8), -d)
 abbrev pub deferred_at : FileSystem → ℕ → FileSystem
 deferred_at f group = edited_at with_deferred f group
@@ -54,10 +50,6 @@ deferred_of m name group = edited_of with_deferred m name group
 -- the snapshot with these tags (zfs-hold(8), zfs-release(8))
 abbrev pub with_tags : List (List ℕ) → Snap → Snap
 with_tags tags t = record t { tags = tags }
-
--- the snapshot, where it is the one of this group (zfs-hold(8), zfs-release(8))
-abbrev pub tagged_if : ℕ → List (List ℕ) → Snap → Snap
-tagged_if group tags t = edited_if (with_tags tags) group t
 
 -- the file system whose snapshot of this group has these tags (zfs-hold(8), zfs-release(8))
 abbrev pub tagged_at : FileSystem → ℕ → List (List ℕ) → FileSystem

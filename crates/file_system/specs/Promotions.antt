@@ -11,7 +11,7 @@ use Rattle.file_system.specs.Dead.{snaps_in, newest_blocks, AreAccounted}
 use Rattle.file_system.specs.Origins.{origin_id, map_below, blocks_below}
 use Rattle.file_system.specs.Rows.{Row}
 use Rattle.file_system.specs.Splices.{AreAbove}
-use Rattle.file_system.specs.declared.promote.Line.{Line}
+use Rattle.file_system.specs.declared.promote.Lineage.{Lineage}
 
 -- a clone of a snapshot (zfs-clone(8))
 abbrev pub clone_system : Snap → FileSystem
@@ -46,8 +46,8 @@ pub record CanPromote (clone owner : Row) (id : SnapId) : Type 0 where
   pub names : (t u : Snap) → IsIn (snaps_upto owner.system id.group) t → IsIn clone.system.snaps u → t.name ≡ u.name → ⊥
 
 -- a row with these snapshots above this origin (zfs-promote(8))
-abbrev pub with_line : Row → Line → Row
-with_line r l = record {
+abbrev pub with_lineage : Row → Lineage → Row
+with_lineage r l = record {
   name = r.name;
   system = record r.system { snaps = snaps_in (arc_value l.snapshots); origin = origin_id (option_map arc_value l.origin) };
   below = map_below (option_map arc_value l.origin);
@@ -55,7 +55,7 @@ with_line r l = record {
 
 -- The row can have them: their dead lists are theirs above the origin, what stands before the live map has the blocks of what did, and the
 -- counts are those of the row with them (On-Disk Specification, chapter 4: ds_deadlist_obj; zfsprops(7): usedbydataset, usedbysnapshots)
-pub record IsLineFor (r : Row) (l : Line) : Type 0 where
+pub record IsLineageFor (r : Row) (l : Lineage) : Type 0 where
   pub accounted : AreAccounted (blocks_below (option_map arc_value l.origin)) (arc_value l.snapshots)
   pub newest : newest_blocks (blocks_below (option_map arc_value l.origin)) (snaps_in (arc_value l.snapshots)) ≡ newest_blocks (blocks r.below) r.system.snaps
   pub counted : IsCounted (map_below (option_map arc_value l.origin)) (snaps_in (arc_value l.snapshots)) r.system.live l.counts

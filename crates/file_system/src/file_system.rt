@@ -1,5 +1,5 @@
 //! One file system, with its snapshots.
-ghost use Rattle.std.specs.Prelude.{◌≡◌, ◌≤◌, ◌<◌, ◌+◌, ◌^◌, ◌==◌, max, nat_lt, ◌++◌, ◌∷◌, ◌↔◌, [], Some, IsSome, IsTrue, List, IfOk, IfErr, OnOk, OnErr, length, map, remove, slice_get, slice_set};
+ghost use Rattle.std.specs.Prelude.{◌≡◌, ◌≤◌, ◌<◌, ◌+◌, ◌^◌, ◌==◌, max, nat_lt, ◌∷◌, ◌↔◌, [], Some, IsSome, IsTrue, IfOk, IfErr, OnOk, OnErr, length, map, remove};
 ghost use Rattle.std.specs.Option.{option_map, option_copied};
 ghost use Rattle.std.specs.Arc.{arc_value};
 ghost use Rattle.std.specs.Borrow.{sem};
@@ -18,7 +18,6 @@ ghost use Rattle.tree.specs.Change.{HasRoom, LacksRoom, CountsDropped};
 ghost use Rattle.tree.specs.Updates.{changes_of};
 ghost use Rattle.file_system.specs.Dead.{snaps_in, newest_blocks, written_from, AllowsLive, IsAbove};
 ghost use Rattle.file_system.specs.Losses.{newest_map, IsLost};
-ghost use Rattle.snapshots.specs.Index.{AreNamesOnce};
 ghost use Rattle.world.specs.Deadlists.{Lists};
 ghost use Rattle.world.specs.Worlds.{AreRising};
 ghost use Rattle.file_system.specs.Origins.{origin_group};

@@ -4,7 +4,7 @@ ghost use Rattle.std.specs.List.{sum_by};
 ghost use Rattle.std.specs.Option.{option_map};
 ghost use Rattle.std.specs.FinSet.{len};
 ghost use Rattle.world.specs.Blocks.{upto, after};
-ghost use Rattle.file_system.specs.Gone.{count_on, is_asked, asked_count, kept_count, entry_count, dead_between, size_on, kept_segments, segment_count};
+ghost use Rattle.file_system.specs.Gone.{count_on, is_asked, kept_count, entry_count, dead_between, size_on, kept_segments, segment_count};
 
 use crate::file_system::FileSystem;
 use base::meter::SegMeter;

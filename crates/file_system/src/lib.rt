@@ -16,5 +16,5 @@ mod written;
 pub use alone::Alone;
 pub use file_system::FileSystem;
 pub use lost::Lost;
-pub use promote::Line;
+pub use promote::Lineage;
 pub use snapshots::{Kept, Snapshot};

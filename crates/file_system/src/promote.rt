@@ -9,7 +9,7 @@ ghost use Rattle.snapshots.specs.Index.{AreNamesOnce};
 ghost use Rattle.file_system.specs.Counts.{AreLined};
 ghost use Rattle.file_system.specs.Dead.{snaps_in, newest_blocks, AreAccounted};
 ghost use Rattle.file_system.specs.Origins.{map_below, blocks_below, group_below};
-ghost use Rattle.file_system.specs.Promotions.{promoted_row, demoted_row, with_line, CanPromote, IsLineFor};
+ghost use Rattle.file_system.specs.Promotions.{promoted_row, demoted_row, with_lineage, CanPromote, IsLineageFor};
 
 use crate::counts::{UsedBlocks, recounted};
 use crate::file_system::FileSystem;
@@ -24,7 +24,7 @@ use std::sync::Arc;
 
 /// What a promote puts into a file system: its snapshots, its origin, where it is a clone then, and what it counts with these.
 #[derive(Drop)]
-pub struct Line {
+pub struct Lineage {
     snapshots: Arc<SnapshotList>,
     origin: Option<Arc<Origin>>,
     counts: UsedBlocks,
@@ -74,7 +74,7 @@ fn appended(
 impl FileSystem {
     /// What a promote puts into this file system, whose origin is that snapshot of the other, and into the other (zfs-promote(8)): the first
     /// has the snapshots of the other up to its origin before its own, and the other's origin; the other has its newer snapshots, and that
-    /// snapshot as its origin. Each keeps its limits and its bookmarks. Both are as they were until `set_line`. No block is visited, and each
+    /// snapshot as its origin. Each keeps its limits and its bookmarks. Both are as they were until `set_lineage`. No block is visited, and each
     /// dead list stays as it is, since no dataset has another before it; what the live map and the snapshots of each have alone is counted
     /// again. NoMemory where there is none for it, or the snapshots of one have more blocks than a u64 counts. It costs the number of
     /// snapshots of both and the segments of their dead lists, for the counts; and where the origin isn't the other's newest snapshot or the
@@ -85,12 +85,12 @@ impl FileSystem {
         owner: &FileSystem,
         origin: SnapshotId,
         segments: &mut SegMeter,
-    ) -> Result<(Line, Line), Refusal>
+    ) -> Result<(Lineage, Lineage), Refusal>
         requires { CanPromote self.now owner.now (snap_id origin) }
-        ensures fits { IfOk result (λ lines. IsLineFor self.now lines.0) }
-        ensures promoted { IfOk result (λ lines. with_line self.now lines.0 ≡ promoted_row self.now owner.now (snap_id origin)) }
-        ensures fits_owner { IfOk result (λ lines. IsLineFor owner.now lines.1) }
-        ensures demoted { IfOk result (λ lines. with_line owner.now lines.1 ≡ demoted_row self.now owner.now (snap_id origin)) }
+        ensures fits { IfOk result (λ lines. IsLineageFor self.now lines.0) }
+        ensures promoted { IfOk result (λ lines. with_lineage self.now lines.0 ≡ promoted_row self.now owner.now (snap_id origin)) }
+        ensures fits_owner { IfOk result (λ lines. IsLineageFor owner.now lines.1) }
+        ensures demoted { IfOk result (λ lines. with_lineage owner.now lines.1 ≡ demoted_row self.now owner.now (snap_id origin)) }
         ensures err { IfErr result (λ e. e ≡ Refusal.NoMemory) }
     {
         let kept = owner.snapshots.list();
@@ -104,9 +104,9 @@ impl FileSystem {
 
     /// From now on it has these snapshots above this origin, as `promotion` made them for it. Constant time, and it costs what the drop of
     /// those before costs where they have no other owner.
-    pub fn set_line(&mut self, line: Line)
-        requires { IsLineFor self.old line }
-        ensures { self.new ≡ with_line self.old line }
+    pub fn set_lineage(&mut self, line: Lineage)
+        requires { IsLineageFor self.old line }
+        ensures { self.new ≡ with_lineage self.old line }
     {
         self.snapshots = line.snapshots;
         self.origin = line.origin;
@@ -121,11 +121,11 @@ impl FileSystem {
         snapshots: Arc<SnapshotList>,
         origin: &Option<Arc<Origin>>,
         segments: &mut SegMeter,
-    ) -> Result<Line, Refusal>
+    ) -> Result<Lineage, Refusal>
         requires accounted { AreAccounted (blocks_below (option_map arc_value origin.now)) (arc_value snapshots) }
         requires line { AreLined (map_below (option_map arc_value origin.now)) (group_below (option_map arc_value origin.now)) (snaps_in (arc_value snapshots)) self.now.system.live }
         requires newest { newest_blocks (blocks_below (option_map arc_value origin.now)) (snaps_in (arc_value snapshots)) ≡ newest_blocks (blocks self.now.below) self.now.system.snaps }
-        ensures fits { IfOk result (λ l. IsLineFor self.now l) }
+        ensures fits { IfOk result (λ l. IsLineageFor self.now l) }
         ensures snapshots { IfOk result (λ l. arc_value l.snapshots ≡ arc_value snapshots) }
         ensures origin { IfOk result (λ l. option_map arc_value l.origin ≡ option_map arc_value origin.now) }
         ensures err { IfErr result (λ e. e ≡ Refusal.NoMemory) }
@@ -138,7 +138,7 @@ impl FileSystem {
             segments,
         )?;
         let origin = copy_of_origin(origin)?;
-        Ok(Line {
+        Ok(Lineage {
             snapshots,
             origin,
             counts,

@@ -1,8 +1,7 @@
 //! A snapshot that goes from those of a file system.
-ghost use Rattle.std.specs.Prelude.{◌≡◌, ℕ, ◌+◌, ◌<◌, ◌≤◌, ◌==◌, [], Some, None, IsSome, IfOk, IfErr, length, take, nat_le, nat_lt, slice_get};
+ghost use Rattle.std.specs.Prelude.{◌≡◌, ℕ, ◌+◌, ◌<◌, ◌≤◌, ◌==◌, [], Some, None, IsSome, IfOk, IfErr, length, take, nat_lt, slice_get};
 ghost use Rattle.std.specs.List.{find, last_or};
-ghost use Rattle.std.specs.List.Sorted.{IsPermutation};
-ghost use Rattle.std.specs.Option.{option_copied, option_map, option_map_or};
+ghost use Rattle.std.specs.Option.{option_copied, option_map};
 ghost use Rattle.base.specs.declared.refusal.Refusal.{Refusal};
 ghost use Rattle.model.specs.World.{id_of, same_id};
 ghost use Rattle.model.specs.Ids.{snap_id};

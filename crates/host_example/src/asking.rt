@@ -4,7 +4,8 @@ use yuzgont::{Data, Pool, Refusal, Reply, Request, SnapName, SnapNames, Target};
 
 /// The reply to a request.
 pub fn ask(alloc: Global, pool: &mut Pool, request: Request) -> Reply {
-    let reply = pool.apply(alloc, &request);
+    let mut reply = Reply::Done;
+    pool.apply(alloc, &request, &mut reply);
     drop(request);
     reply
 }

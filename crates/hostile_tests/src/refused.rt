@@ -181,12 +181,13 @@ fn of_name(rt: &impl Abort, alloc: Global, question: &str, name: &str) -> String
 
 /// The reply to a request that is asked again where memory was refused to it.
 fn applied_at_last(alloc: Global, pool: &mut Pool, request: &Request) -> Reply {
-    let reply = pool.apply(alloc, request);
+    let mut reply = Reply::Done;
+    pool.apply(alloc, request, &mut reply);
     if !lacks_memory(&reply) {
         return reply;
     }
-    drop(reply);
-    pool.apply(alloc, request)
+    pool.apply(alloc, request, &mut reply);
+    reply
 }
 
 /// Whether a pool that is asked in steps goes along with another, and has the same blocks in the end.

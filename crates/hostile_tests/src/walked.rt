@@ -149,7 +149,8 @@ pub fn is_replayed(
 }
 
 fn is_replied(alloc: Global, pool: &mut Pool, entry: &Entry) -> bool {
-    let reply = pool.apply(alloc, &entry.request);
+    let mut reply = Reply::Done;
+    pool.apply(alloc, &entry.request, &mut reply);
     let is_same = entry.reply.is(&reply);
     drop(reply);
     is_same
@@ -194,7 +195,8 @@ fn is_sent(rt: &impl Abort, alloc: Global, pool: &mut Pool, seen: &Seen) -> bool
 
 fn answer(rt: &impl Abort, alloc: Global, pool: &mut Pool, line: String) -> Reply {
     let request = request_at_last(rt, alloc, line.as_str());
-    let reply = pool.apply(alloc, &request);
+    let mut reply = Reply::Done;
+    pool.apply(alloc, &request, &mut reply);
     drop(request);
     reply
 }

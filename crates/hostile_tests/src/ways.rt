@@ -60,10 +60,11 @@ pub struct Plain {
 
 impl Ask for Plain {
     fn ask(&mut self, alloc: Global, request: Request) -> Told {
-        let reply = match self.steps {
-            Steps::AtOnce => self.pool.apply(alloc, &request),
-            Steps::InTwo => left_and_done(alloc, &mut self.pool, &request),
-        };
+        let mut reply = Reply::Done;
+        match self.steps {
+            Steps::AtOnce => self.pool.apply(alloc, &request, &mut reply),
+            Steps::InTwo => reply = left_and_done(alloc, &mut self.pool, &request),
+        }
         drop(request);
         if lacks_memory(&reply) {
             drop(reply);

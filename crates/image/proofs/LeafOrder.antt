@@ -23,10 +23,6 @@ rises_wider : (a b c : ℕ) (xs : List (ℕ × List ℕ)) → a ≤ b → Rises 
 rises_wider a b c [] h r = omega arith
 rises_wider a b c (x ∷ xs) h r = (let l = r.0 in omega arith, r.1)
 
-rises_bound : (a b : ℕ) (xs : List (ℕ × List ℕ)) → Rises a b xs → a ≤ b
-rises_bound a b [] r = r
-rises_bound a b (x ∷ xs) r = let l = r.0 in let m = rises_bound (x.0 + 1) b xs r.1 in omega arith
-
 rises_append : (a b c : ℕ) (xs ys : List (ℕ × List ℕ)) → Rises a b xs → Rises b c ys → Rises a c (xs ++ ys)
 rises_append a b c [] ys p q = rises_wider a b c ys p q
 rises_append a b c (x ∷ xs) ys p q = (p.0, rises_append (x.0 + 1) b c xs ys p.1 q)

@@ -81,16 +81,6 @@ block_part_put old bytes b i k size fits long =
     ∙ ap (λ xs. take i (drop (512 * b) old) ++ xs) (take_further bytes (drop (512 * b + i + length bytes) old) k (512 - i - k) size ∙ ap (λ xs. bytes ++ take (512 - i - k) xs) rest ∙ ap (λ xs. bytes ++ xs) (sym tail))
     ∙ ap (λ xs. xs ++ (bytes ++ drop (i + length bytes) (take 512 (drop (512 * b) old)))) (sym (take-take i 512 (drop (512 * b) old) (omega arith)))
 
--- the other blocks
-pub block_elsewhere : (old bytes : List ℕ) (b q i k : ℕ) → length bytes ≡ k → i + k ≤ 512 → 512 * b + 512 ≤ length old → (q ≡ b → ⊥) → block_at (bytes_put old (512 * b + i) bytes) q ≡ block_at old q
-block_elsewhere old bytes b q i k size fits long other = ⊎_elim
-    (λ (lt : q < b). block_before old bytes (512 * b + i) k size (omega arith) q (omega arith))
-    (λ (ge : b ≤ q). ⊎_elim
-    (λ (gt : b < q). block_behind old bytes (512 * b + i) k size (omega arith) q (omega arith))
-    (λ (le : q ≤ b). absurd (other (omega arith)))
-    (cases_lt b q))
-    (cases_lt q b)
-
 -- one pointer of a block put in
 pub pointer_put : (l i : ℕ) (ps : List (Option Block)) (p : Option Block) → i < length ps → bytes_put (pointers_bytes l ps) (32 * i) (pointer_bytes l p) ≡ pointers_bytes l (set ps i p)
 unfolding pointers_bytes bytes_put

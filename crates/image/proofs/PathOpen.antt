@@ -7,7 +7,6 @@ use Rattle.std.proofs.Math.Nat.{mod-lt}
 use Rattle.std.proofs.Math.Seq.{take-append-add, drop-append-add}
 use Rattle.base.specs.Map.{Block}
 use Rattle.base.specs.Surveys.{IsIn}
-use Rattle.std.proofs.lemmas.Bool.{eq-eqb}
 use Rattle.node.proofs.Digits.{eq_not}
 use Rattle.zalloc.specs.declared.BlockState.{BlockState}
 use Rattle.tree.specs.declared.block.Root.{Root}
@@ -152,9 +151,6 @@ module _ (image bytes : List ℕ) (kept : List BlockState) (leaf : ℕ) (before 
       ∙ sym (images_append image (so_far (l + 1)) (f (suc l)))
       ∙ ap (images_put image) (sym (flat_more f (l + 1) 0 ∙ ap (λ n. so_far (l + 1) ++ f n) next))
 
-  pub first_level : images_put image (leaf_writes (after 0) bytes) ≡ images_put image (so_far 1)
-  first_level = ap (images_put image) (sym (append-nil (leaf_writes (after 0) bytes)))
-
 -- a block of zeros points to no block
 no_child : (l : ℕ) → replicate 512 0 ≡ pointers_bytes l (replicate 16 None)
 unfolding pointers_bytes
@@ -172,9 +168,6 @@ both_true false b e f = e
 module _ (image : List ℕ) (l i : ℕ) (o n : Block) (c d : Option Block) (small : i < 16) (there : 512 * n.number + 512 ≤ length image) where
   abbrev all : List (ℕ × List ℕ)
   all = (n.number, bytes_put (block_at image o.number) (32 * i) (pointer_bytes l d)) ∷ []
-
-  pub writes_nothing : o.number ≡ n.number → is_same_block c d ≡ true → image ≡ images_put image (inner_writes (block_at image) l i (Some o) (Some n) c d)
-  writes_nothing same child = ap (λ t. images_put image (cond t [] all)) (sym (both_true (o.number == n.number) (is_same_block c d) (eq-eqb _ _ same) child))
 
   pub writes_pointed : o.number ≡ n.number → is_same_block c d ≡ false → bytes_put image (512 * n.number + 32 * i) (pointer_bytes l d) ≡ images_put image (inner_writes (block_at image) l i (Some o) (Some n) c d)
   writes_pointed same child =

@@ -1,5 +1,5 @@
 -- Pointers as they are written one after the other, and bytes put into a `Vec`.
-use Rattle.std.proofs.Common.{◌≡◌, ℕ, zero, suc, ◌+◌, ◌*◌, ◌<◌, ◌≤◌, List, [], ◌∷◌, ◌++◌, length, map, set, take, get_or, Option, Vec, Global, refl, sym, ap, ◌∙◌, arith, append-nil}
+use Rattle.std.proofs.Common.{◌≡◌, ℕ, ◌+◌, ◌*◌, ◌<◌, ◌≤◌, List, [], ◌∷◌, ◌++◌, length, map, take, get_or, Option, Vec, Global, refl, sym, ap, ◌∙◌, arith, append-nil}
 use Rattle.std.specs.List.{flat_map}
 use Rattle.std.specs.Vec.{with_items}
 use Rattle.std.proofs.lemmas.List.{map_more, take_all, with_items_is}
@@ -49,8 +49,3 @@ put_in v old bytes at k size same len is fits =
 pub put_whole : (v : Vec ℕ Global) (old new bytes : List ℕ) (at : ℕ) → old ≡ v.items → new ≡ bytes_put old at bytes → at + length bytes ≤ length old → (with_items v new).items ≡ bytes_put v.items at bytes
 put_whole v old new bytes at same is fits =
     with_items_is v new (ap length is ∙ length-bytes_put old bytes at fits ∙ ap length same ∙ sym v.ok.0) ∙ is ∙ ap (λ xs. bytes_put xs at bytes) same
-
-pub map_set : {X Y : Type 0} (f : X → Y) (xs : List X) (i : ℕ) (y : X) → map f (set xs i y) ≡ set (map f xs) i (f y)
-map_set f [] i y = refl
-map_set f (x ∷ xs) zero y = refl
-map_set f (x ∷ xs) (suc i) y = ap (λ ys. f x ∷ ys) (map_set f xs i y)

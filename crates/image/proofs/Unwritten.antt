@@ -5,12 +5,10 @@ use Rattle.std.specs.FinMap.{get}
 use Rattle.std.proofs.lemmas.Bool.{eqb-true, eq-eqb}
 use Rattle.base.specs.Surveys.{IsIn, AreDifferent}
 use Rattle.base.specs.declared.number.Key.{Key}
-use Rattle.base.specs.Map.{Map, Cell, contents}
-use Rattle.image.specs.ImageWalk.{walk}
-use Rattle.image.specs.HasBlocks.{HasBlocks, IsWritable, root_of}
+use Rattle.base.specs.Map.{Map, Cell}
+use Rattle.image.specs.HasBlocks.{HasBlocks}
 use Rattle.image.specs.BlockWrites.{block_put, blocks_put, AreOutside, AreSameAt}
 use Rattle.batch.proofs.Listing.{in_map}
-use Rattle.image.proofs.Walked.{walked}
 
 -- the numbers of a map's blocks are in a set
 abbrev pub AreNumbersIn : (ℕ → Type 0) → Map → Type 0
@@ -63,8 +61,3 @@ outside_take kept (suc i) (w ∷ ws) out = (out.0, outside_take kept i ws out.1)
 pub holds_at_each : (kept : ℕ → Type 0) (image : ℕ → List ℕ) (ws : List (ℕ × List ℕ)) (m : Map) → AreOutside kept ws → AreNumbersIn kept m → HasBlocks image m → (i : ℕ) → HasBlocks (blocks_put image (take i ws)) m
 holds_at_each kept image ws m out among holds i =
     still_holds kept image (blocks_put image (take i ws)) m among (writes_leave kept image (take i ws) (outside_take kept i ws out)) holds
-
--- and it can be walked
-pub walked_at_each : (kept : ℕ → Type 0) (image : ℕ → List ℕ) (n : ℕ) (ws : List (ℕ × List ℕ)) (m : Map) → AreOutside kept ws → AreNumbersIn kept m → HasBlocks image m → IsWritable n m
-    → (i : ℕ) → walk (blocks_put image (take i ws)) n (root_of m) ≡ Some (contents m)
-walked_at_each kept image n ws m out among holds w i = walked (blocks_put image (take i ws)) n m (holds_at_each kept image ws m out among holds i) w

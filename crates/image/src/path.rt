@@ -1,8 +1,8 @@
 //! Writes of one changed path.
-ghost use Rattle.std.specs.Prelude.{◌≡◌, ◌<◌, ◌*◌, IfSome, None, length, replicate, set};
+ghost use Rattle.std.specs.Prelude.{◌≡◌, ◌<◌, ◌*◌, IfSome, None, length};
 ghost use Rattle.image.specs.BlockWrites.{bytes_put, images_put};
 ghost use Rattle.image.specs.Image.{IsOpen};
-ghost use Rattle.image.specs.ImageBlocks.{block_at, maybe_block, pointers_bytes, made_bytes, IsOfTree};
+ghost use Rattle.image.specs.ImageBlocks.{block_at, maybe_block};
 ghost use Rattle.image.specs.PathWrites.{block_on, is_same_block, inner_writes, leaf_writes, path_writes, IsPathOpen, AreSourcesApart};
 
 use crate::block_bytes::{ZEROS, put_copy};

@@ -1,14 +1,12 @@
 -- The roots of all datasets, as they are listed.
-use Rattle.std.proofs.Common.{◌≡◌, ℕ, List, [], ◌∷◌, ◌++◌, Bor, Some, map, refl, sym, ap, ◌∙◌}
+use Rattle.std.proofs.Common.{◌≡◌, ℕ, List, [], ◌∷◌, ◌++◌, Bor, Some, map, refl, ap, ◌∙◌}
 use Rattle.std.specs.Iterator.{Yields, YieldsFirstRef}
 use Rattle.world.proofs.lists.Finding.{append_none}
-use Rattle.std.proofs.lemmas.List.{map-append, append_assoc}
 use Rattle.image.specs.HasBlocks.{root_of}
 use Rattle.model.specs.World.{FileSystem}
 use Rattle.datasets.specs.Dead.{snaps_in}
 use Rattle.snapshots.specs.declared.kept.Kept.{Kept}
-use Rattle.images.specs.declared.roots.DatasetRoot.{DatasetRoot}
-use Rattle.images.specs.Roots.{RootAt, shown_root, snapshot_roots}
+use Rattle.images.specs.Roots.{RootAt, snapshot_roots}
 
 -- what an iterator has yielded is the front of what was left
 yielded_front : {S A : Type 0} (rest : S → List A) (s : S) (xs : List (Bor A)) (t : S) → Yields (YieldsFirstRef rest) s xs t → rest s ≡ map (λ x. x.now) xs ++ rest t
@@ -26,13 +24,6 @@ kept_root name t = record { file_system = name; snapshot = Some t.now.snapshot.n
 kept_roots : (name : List ℕ) (xs : List (Bor Kept)) → map (kept_root name) xs ≡ map (λ t. record { file_system = name; snapshot = Some t.name; root = root_of t.map }) (snaps_in (map (λ x. x.now) xs))
 kept_roots name [] = refl
 kept_roots name (x ∷ xs) = ap (λ ts. kept_root name x ∷ ts) (kept_roots name xs)
-
--- one more
-pub one_more_root : (roots : List DatasetRoot) (r : DatasetRoot) (before : List RootAt) (name : List ℕ) (xs : List (Bor Kept)) (x : Bor Kept) → shown_root r ≡ kept_root name x
-    → map shown_root roots ≡ before ++ map (kept_root name) xs → map shown_root (roots ++ r ∷ []) ≡ before ++ map (kept_root name) (xs ++ x ∷ [])
-one_more_root roots r before name xs x is so_far =
-    map-append shown_root roots (r ∷ []) ∙ (λ i. so_far i ++ is i ∷ []) ∙ append_assoc before (map (kept_root name) xs) (kept_root name x ∷ [])
-    ∙ ap (λ ys. before ++ ys) (sym (map-append (kept_root name) xs (x ∷ [])))
 
 -- all that a file system has
 pub snapshots_rooted : (before after : List RootAt) (name : List ℕ) (f : List ℕ × FileSystem) (xs : List (Bor Kept)) → name ≡ f.0 → f.1.snaps ≡ snaps_in (map (λ x. x.now) xs)

@@ -7,8 +7,7 @@ use Rattle.base.specs.Surveys.{IsIn}
 use Rattle.model.specs.State.{State}
 use Rattle.model.specs.World.{World, FileSystem, Snap, Live, map_of, maps_of, reach_of}
 use Rattle.world.specs.Shapes.{Name}
-use Rattle.world.specs.Worlds.{FileSystems, AreMapsFrom, IsPoolState, InNow, InLast, maps_of_both}
-use Rattle.world.proofs.lineage.Bridge.{map_of_live}
+use Rattle.world.specs.Worlds.{FileSystems, IsPoolState, InNow, InLast, maps_of_both}
 use Rattle.world.proofs.lineage.Put.{put_cases}
 use Rattle.world.proofs.lists.Finding.{in_either}
 use Rattle.world.proofs.lists.Listed.{in_map, map_in}
@@ -17,7 +16,7 @@ use Rattle.image.specs.HasBlocks.{HasBlocks, AreBirthsRising}
 use Rattle.image.specs.Image.{IsOpen}
 use Rattle.images.specs.Opened.{KeepsJust}
 use Rattle.images.specs.Stored.{AreStored, IsStored, AreDrawnBeside, AreMapsBeside}
-use Rattle.images.proofs.Drawing.{drawn_beside, stored_drawn, world_drawn}
+use Rattle.images.proofs.Drawing.{drawn_beside}
 use Rattle.images.proofs.MadeBlocks.{IsWrittenIn}
 use Rattle.images.proofs.Opening.{young_open}
 use Rattle.images.proofs.Walking.{cell_reached}
@@ -49,21 +48,6 @@ kept_beside ss name f m t is later beside at live q g x there i = ⊎_elim
     (subst (λ (y : FileSystem). IsIn (maps_of y) x) k.1 i))
     (λ k. beside q g x k.1 i)
     (put_cases later name (record f { snaps = f.snaps ++ t ∷ [] }) q g there)
-
-pub beside_through : (m : Map) (a b c : FileSystems) → AreMapsFrom a b → AreMapsBeside m b c → AreMapsBeside m a c
-beside_through m a b c from beside q g x there i = ⊎_elim
-    inl
-    (λ r. ⊎_elim (λ k. ⊎_elim inl (λ o. inr (inl o)) (from k.0 k.1 x k.2 k.3)) (λ one. inr (inr one)) r)
-    (beside q g x there i)
-
--- the live map of a file system that is there before the change
-pub live_stored : (s : State) (t : State) → IsPoolState s → (image : ℕ → List ℕ) → IsStored s image → (ss : FileSystems) → AreMapsFrom s.now.file_systems ss → (name : Name) (f : FileSystem) → get ss name ≡ Some f
-    → HasBlocks image f.live × AreBirthsRising f.live
-live_stored s t good image stored ss from name f at =
-    let w = record s.now { file_systems = ss } in
-    let own = stored_drawn (maps_of_both s.now s.last) (map_of w) image (world_drawn s t good w (inl from)) stored in
-    let is = map_of_live w name f at in
-    (subst (HasBlocks image) is (own.blocks (Live name)), subst AreBirthsRising is (own.rising (Live name)))
 
 -- ---- the step
 

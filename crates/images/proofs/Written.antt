@@ -18,12 +18,6 @@ use Rattle.image.proofs.AfterChange.{same_bytes}
 use Rattle.images.specs.Stored.{AreStored, AreDrawnBeside}
 use Rattle.images.proofs.Drawing.{empty_has, empty_rises}
 
--- a key is at or below itself, and below its parent
-pub at_itself : (k : Key) → IsTrue (is_at_or_below k k)
-at_itself k =
-    let none : k.level - k.level ≡ 0 = omega arith in
-    and_from (nat_le k.level k.level) _ (le-leb k.level k.level (omega arith)) (eq-eqb _ _ (ap (λ d. k.index / 16 ^ d) none ∙ omega arith))
-
 pub below_parent : (k : Key) → IsTrue (is_at_or_below (parent k) k)
 below_parent k =
     let one : (k.level + 1) - k.level ≡ 1 = omega arith in

@@ -1,5 +1,5 @@
 //! What a change of a live map writes into the image.
-ghost use Rattle.std.specs.Prelude.{◌≡◌, ◌<◌, ℕ, IsTrue, IfOk, IfErr, length, map};
+ghost use Rattle.std.specs.Prelude.{◌≡◌, ◌<◌, IsTrue, IfOk, IfErr, length, map};
 ghost use Rattle.base.specs.declared.refusal.Refusal.{Refusal};
 ghost use Rattle.batch.specs.Updates.{first_of, IsOfTree};
 ghost use Rattle.datasets.specs.Rows.{live_of};

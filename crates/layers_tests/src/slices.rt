@@ -1,5 +1,5 @@
 //! Blocks to be freed beside what was put in, counted by hand: each slice, copies, and each allocation refused in turn.
-ghost use Rattle.std.specs.Prelude.{◌≡◌, ◌<◌, ◌≤◌, OnOk, IfOk, IsTrue};
+ghost use Rattle.std.specs.Prelude.{◌≡◌, ◌<◌, IfOk, IsTrue};
 ghost use Rattle.std.specs.FinSet as set;
 ghost use Rattle.base.specs.Map.{Block, blocks};
 ghost use Rattle.world.specs.Blocks.{after};

@@ -17,7 +17,7 @@ use Rattle.world.proofs.lists.Maps.{same_value, no_value}
 use Rattle.world.proofs.lineage.Put.{parent_there}
 use Rattle.accounts.proofs.Names.{is_child, child_is, in_keys}
 use Rattle.limits.specs.Charges.{children_from}
-use Rattle.datasets.proofs.Sorted.{sorted_at, find_at}
+use Rattle.snapshots.proofs.Sorted.{sorted_at, find_at}
 
 -- ---- a parent is below its children
 

@@ -20,7 +20,7 @@ use Rattle.world.proofs.lineage.Put.{put_here, put_other}
 use Rattle.world.proofs.lists.Maps.{key_cases}
 use Rattle.datasets.specs.Places.{IsAt, IsGapFor}
 use Rattle.datasets.proofs.RowGone.{left_sorted, find_left, map_removed}
-use Rattle.datasets.proofs.Sorted.{put_gap}
+use Rattle.snapshots.proofs.Sorted.{put_gap}
 use Rattle.limits.specs.declared.line.Line.{Line}
 use Rattle.limits.specs.Changes.{IsRecounted, bare_line, line_under}
 use Rattle.limits.specs.Ledgers.{line_in, ledger_of}

@@ -17,7 +17,7 @@ use Rattle.accounts.proofs.Names.{in_keys, from_keys, level_low, parent_in}
 use Rattle.accounts.proofs.Levels.{reserved_is}
 use Rattle.accounts.proofs.Available.{room_root, room_below}
 use Rattle.datasets.specs.Places.{IsAt}
-use Rattle.datasets.proofs.Sorted.{find_at}
+use Rattle.snapshots.proofs.Sorted.{find_at}
 use Rattle.limits.specs.declared.line.Line.{Line}
 use Rattle.limits.specs.declared.pool_space.Space.{Space}
 use Rattle.limits.specs.Lines.{used_in, reserved_in, unspent_in}

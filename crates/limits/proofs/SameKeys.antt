@@ -14,7 +14,7 @@ use Rattle.world.specs.Shapes.{name_order}
 use Rattle.world.specs.Tables.{world_of}
 use Rattle.world.proofs.lists.Maps.{no_value}
 use Rattle.world.proofs.removals.Sweep.{get-with_file_systems}
-use Rattle.datasets.proofs.Sorted.{less_from, T_left, T_right}
+use Rattle.snapshots.proofs.Sorted.{less_from, T_left, T_right}
 use Rattle.accounts.proofs.Names.{in_keys, from_keys}
 
 abbrev Entries : Type 0

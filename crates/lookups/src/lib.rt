@@ -8,5 +8,5 @@ mod trees;
 mod values;
 
 pub use crate::names::{member_text, names_of};
-pub use crate::trees::{bookmark_named, live_name, snapshot_named, tree_named};
+pub use crate::trees::{bookmark_named, live_name, tree_named};
 pub use crate::values::{in_bytes, value_named};

@@ -2,7 +2,6 @@
 ghost use Rattle.std.specs.Prelude.{◌≡◌, IfOk, IfErr};
 ghost use Rattle.std.specs.Option.{option_copied, option_map};
 ghost use Rattle.snapshots.specs.Marks.{bookmark_of};
-ghost use Rattle.model.specs.Hierarchy.{snap_in};
 ghost use Rattle.model.specs.World.{bookmark_named};
 ghost use Rattle.world.specs.Tables.{world_of};
 ghost use Rattle.base.specs.declared.name.target.Target.{Target};
@@ -21,7 +20,7 @@ pub fn tree_named<'a>(table: &'a Table, target: &Target) -> Option<&'a Tree>
 {
     match target {
         Target::FileSystem(name) => table.find(name).map(FileSystem::live),
-        Target::Snapshot(name) => snapshot_named(table, name.member()).map(Snapshot::tree),
+        Target::Snapshot(name) => table.snapshot(name.member()).map(Snapshot::tree),
         Target::Bookmark(_) => None,
     }
 }
@@ -40,13 +39,6 @@ pub fn live_name<'a>(table: &Table, target: &'a Target) -> Result<&'a DsName, Re
             None => Refusal::NoDataset,
         }),
     }
-}
-
-/// The snapshot of this name, or none. It costs the logarithms of the numbers of file systems and of the snapshots of one.
-pub fn snapshot_named<'a>(table: &'a Table, member: &Member) -> Option<&'a Snapshot>
-    ensures { option_copied result ≡ snap_in table.now.file_systems member.now }
-{
-    table.snapshot(member)
 }
 
 /// What the bookmark of this name keeps of its snapshot, or none where there is no such bookmark. It costs the logarithms of the numbers of

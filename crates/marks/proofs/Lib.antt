@@ -1,4 +1,5 @@
 pub mod Placed
 pub mod Tagged
 pub mod Released
+pub mod Held
 pub mod Bookmarked

@@ -1,6 +1,5 @@
 -- What a hold, a release and a bookmark leave of datasets, and why they and a list of holds are refused.
-use Rattle.std.specs.Prelude.{ℕ, List, [], ◌∷◌, Bool, false, not, ◌&&◌, Option}
-use Rattle.std.specs.Option.{option_map_or}
+use Rattle.std.specs.Prelude.{ℕ, List, [], ◌∷◌, Bool, not, ◌&&◌, Option}
 use Rattle.std.specs.FinMap.{contains_key}
 use Rattle.base.specs.declared.refusal.Refusal.{Refusal}
 use Rattle.base.specs.declared.refusal.Refusal.TheVariants.{Deferred, TagExists, TooMany, Exists}
@@ -10,7 +9,6 @@ use Rattle.model.specs.World.{Snap}
 use Rattle.model.specs.State.{Views}
 use Rattle.model.specs.Outcome.{is_needed}
 use Rattle.model.specs.Rule.{first_of}
-use Rattle.model.specs.requests.Rollback.{placed}
 use Rattle.model.specs.requests.Hold.{hold_row, held, has_tag, is_full}
 use Rattle.model.specs.requests.Release.{release_row, released}
 use Rattle.model.specs.requests.Holds.{holds_row}
@@ -38,11 +36,10 @@ released_in t tag target = record t { file_systems = (released (world_of t) tag 
 abbrev pub release_refusal : Datasets → List ℕ → Target → Option Refusal
 release_refusal t tag target = first_of (release_row (world_of t) tag target)
 
--- with these tags the snapshot of this name isn't needed by a tag, an open view or a clone, and its destroy is deferred (zfs-destroy(8),
--- -d; the view is profile)
-abbrev pub is_due_with : Datasets → Views → Target → List (List ℕ) → Bool
-is_due_with t views target tags =
-    option_map_or (λ p. p.1.deferred && not (is_needed (world_of t) views (record p.1 { tags = tags }))) (placed (world_of t) target) false
+-- with these tags the snapshot isn't needed by a tag, an open view or a clone, and its destroy is deferred (zfs-destroy(8), -d; the view is
+-- profile)
+abbrev pub is_due_with : Datasets → Views → Snap → List (List ℕ) → Bool
+is_due_with t views u tags = u.deferred && not (is_needed (world_of t) views (record u { tags = tags }))
 
 -- why these bookmarks don't get one of this name, if they don't (zfs-bookmark(8); the order and the limit are profile)
 abbrev pub mark_refusal : Marks → List ℕ → Option Refusal

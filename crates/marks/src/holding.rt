@@ -2,12 +2,9 @@
 ghost use Rattle.std.specs.Prelude.{◌≡◌, ◌⊎◌, ◌++◌, ◌∷◌, [], Some, None, IfSome, IfOk, IfErr, OnOk, OnErr};
 ghost use Rattle.std.specs.Arc.{arc_value};
 ghost use Rattle.std.specs.List.{list_any};
-ghost use Rattle.std.specs.Option.{option_map};
 ghost use Rattle.base.specs.declared.refusal.Refusal.{Refusal};
 ghost use Rattle.snapshots.specs.Tags.{has_tag};
 ghost use Rattle.base.specs.Names.{same_name};
-ghost use Rattle.model.specs.requests.Rollback.{placed};
-ghost use Rattle.world.specs.Tables.{world_of};
 ghost use Rattle.marks.specs.Requests.{held_in, hold_refusal, tag_refusal};
 
 use crate::place::placed;
@@ -30,27 +27,23 @@ pub fn hold(alloc: Global, table: &mut Table, target: &Target, tag: &Tag) -> Res
     ensures unchanged { OnErr result (table.new ≡ table.old) }
     ensures only { IfErr result (λ e. (hold_refusal table.old tag.now target.now ≡ Some e) ⊎ (e ≡ Refusal.NoMemory)) }
 {
-    let tags = tags_with(alloc, table, target, tag)?;
+    let snapshot = placed(table, target)?;
+    let id = snapshot.id();
+    let tags = tags_with(alloc, snapshot, tag)?;
     let Target::Snapshot(name) = target else {
         unreachable!()
     };
-    table.set_tags(alloc, name.member(), tags)
+    table.set_tags(alloc, &name.member().file_system, id, tags)
 }
 
-// The tags of the snapshot that the target names with this one behind them. It is refused as `hold` is. It costs the logarithm of the
-// number of file systems, that of the number of snapshots of one, and the bytes of the tags.
-fn tags_with(
-    alloc: Global,
-    table: &Table,
-    target: &Target,
-    tag: &Tag,
-) -> Result<Arc<Holds>, Refusal>
-    ensures ok { IfOk result (λ tags. option_map (λ p. p.1.tags ++ tag.now ∷ []) (placed (world_of table.now) target.now) ≡ Some (arc_value tags)) }
-    ensures can { OnOk result (hold_refusal table.now tag.now target.now ≡ None) }
-    ensures refused { IfSome (hold_refusal table.now tag.now target.now) (λ e. result ≡ Err e) }
-    ensures only { IfErr result (λ e. (hold_refusal table.now tag.now target.now ≡ Some e) ⊎ (e ≡ Refusal.NoMemory)) }
+// The tags of the snapshot with this one behind them. Refused as `refusal_at` says; else NoMemory where there is none for them. It costs the
+// bytes of the tags.
+fn tags_with(alloc: Global, snapshot: &Snapshot, tag: &Tag) -> Result<Arc<Holds>, Refusal>
+    ensures ok { IfOk result (λ tags. arc_value tags ≡ snapshot.now.tags ++ tag.now ∷ []) }
+    ensures can { OnOk result (tag_refusal snapshot.now tag.now ≡ None) }
+    ensures refused { IfSome (tag_refusal snapshot.now tag.now) (λ e. result ≡ Err e) }
+    ensures only { IfErr result (λ e. (tag_refusal snapshot.now tag.now ≡ Some e) ⊎ (e ≡ Refusal.NoMemory)) }
 {
-    let snapshot = placed(table, target)?;
     if let Some(refusal) = refusal_at(snapshot, tag) {
         return Err(refusal);
     }

@@ -1,23 +1,24 @@
 //! The release of a snapshot.
-ghost use Rattle.std.specs.Prelude.{◌≡◌, ◌⊎◌, false, Some, None, IsSome, IfSome, IfOk, IfErr, OnOk, OnErr};
-ghost use Rattle.std.specs.Option.{option_map};
+ghost use Rattle.std.specs.Prelude.{◌≡◌, ◌⊎◌, true, false, is_some, Some, None, IfSome, IfOk, IfErr, OnOk, OnErr};
 ghost use Rattle.base.specs.declared.refusal.Refusal.{Refusal};
-ghost use Rattle.snapshots.specs.Tags.{without_tag};
-ghost use Rattle.model.specs.World.{id_of, snap_named, union_of};
-ghost use Rattle.model.specs.requests.Rollback.{placed};
+ghost use Rattle.snapshots.specs.Tags.{has_tag, without_tag};
+ghost use Rattle.datasets.specs.Holders.{snap_in_system};
+ghost use Rattle.model.specs.Ids.{snap_id};
+ghost use Rattle.model.specs.World.{union_of};
 ghost use Rattle.world.specs.Sets.{AreDisjoint};
 ghost use Rattle.world.specs.Tables.{world_of, without_snap};
 ghost use Rattle.removals.specs.Edits.{HasLost};
-ghost use Rattle.removals.specs.Named.{has_clone_named};
+ghost use Rattle.removals.specs.Named.{has_clone};
 ghost use Rattle.removals.specs.Requests.{swept, IsSweptBy};
 ghost use Rattle.marks.specs.Requests.{released_in, release_refusal, is_due_with};
 
 use crate::place::placed;
 use base::meter::SegMeter;
-use base::name::{Member, Tag, Target};
+use base::name::{DsName, Tag, Target};
 use base::refusal::Refusal;
-use datasets::Table;
+use datasets::{Snapshot, Table};
 use destroyer::Freeing;
+use model::snapshot_id::SnapshotId;
 use removals::WorkingCopy;
 use snapshots::holds::Holds;
 use std::alloc::Global;
@@ -51,64 +52,64 @@ pub fn release(
     ensures only { IfErr result (λ e. (release_refusal table.old tag.now target.now ≡ Some e) ⊎ (e ≡ Refusal.NoMemory)) }
 {
     table.facts();
-    let tags = tags_without(alloc, table, target, tag)?;
+    let snapshot = placed(table, target)?;
+    let id = snapshot.id();
+    let tags = tags_without(alloc, snapshot, tag)?;
+    let is_due = is_due_with(table, views, snapshot, &tags);
     let Target::Snapshot(name) = target else {
         unreachable!()
     };
-    if is_due_with(table, views, target, &tags) {
-        return lose(alloc, table, freeing, name.member(), segments);
+    let file_system = &name.member().file_system;
+    if is_due {
+        return lose(alloc, table, freeing, file_system, id, segments);
     }
     let tags = Arc::new(alloc, tags)?;
-    table.set_tags(alloc, name.member(), tags)
+    table.set_tags(alloc, file_system, id, tags)
 }
 
-// The other tags of the snapshot that the target names. It is refused as `release` is. It costs the logarithm of the number of file
-// systems, that of the number of snapshots of one, and the bytes of the tags.
-fn tags_without(alloc: Global, table: &Table, target: &Target, tag: &Tag) -> Result<Holds, Refusal>
-    ensures ok { IfOk result (λ tags. option_map (λ p. without_tag p.1.tags tag.now) (placed (world_of table.now) target.now) ≡ Some tags) }
-    ensures can { OnOk result (release_refusal table.now tag.now target.now ≡ None) }
-    ensures refused { IfSome (release_refusal table.now tag.now target.now) (λ e. (result ≡ Err e) ⊎ (result ≡ Err Refusal.NoMemory)) }
-    ensures only { IfErr result (λ e. (release_refusal table.now tag.now target.now ≡ Some e) ⊎ (e ≡ Refusal.NoMemory)) }
+// The other tags of the snapshot. NoTag exactly where it hasn't this one; NoMemory, where there is none for them, may come before that. It
+// costs the bytes of the tags.
+fn tags_without(alloc: Global, snapshot: &Snapshot, tag: &Tag) -> Result<Holds, Refusal>
+    ensures ok { IfOk result (λ tags. tags ≡ without_tag snapshot.now.tags tag.now) }
+    ensures can { OnOk result (has_tag snapshot.now.tags tag.now ≡ true) }
+    ensures only { IfErr result (λ e. ((e ≡ Refusal.NoTag) × (has_tag snapshot.now.tags tag.now ≡ false)) ⊎ (e ≡ Refusal.NoMemory)) }
 {
-    let snapshot = placed(table, target)?;
     let mut tags = snapshot.holds(alloc)?;
     tags.remove(tag.as_bytes())?;
     Ok(tags)
 }
 
-// Whether the snapshot that the target names goes once it has these tags: there is none of them, its destroy is deferred, and neither an
-// open view nor a clone needs it. It costs the logarithms of the numbers of file systems, of clones and of the snapshots of one, and where
-// its destroy is deferred the number of open views.
-fn is_due_with(table: &Table, views: &Views, target: &Target, tags: &Holds) -> bool
-    ensures { result ≡ is_due_with table.now views.now.opened target.now tags.now }
+// Whether the snapshot of the table goes once it has these tags: there is none of them, its destroy is deferred, and neither an open view
+// nor a clone needs it. It costs the logarithm of the number of clones, and where its destroy is deferred the number of open views.
+fn is_due_with(table: &Table, views: &Views, snapshot: &Snapshot, tags: &Holds) -> bool
+    ensures { result ≡ is_due_with table.now views.now.opened snapshot.now tags.now }
 {
-    let Ok(snapshot) = placed(table, target) else {
-        return false;
-    };
     let id = snapshot.id();
     snapshot.is_deferred() && tags.is_empty() && !views.is_viewed(id) && !table.has_clone(id)
 }
 
-// Lets the snapshot of this name go, which is there and has no clone: what no dataset has then is to be freed. NoMemory where there is none
-// for it, and then the table and what it has to free are as they were. It costs what `WorkingCopy::of` and `WorkingCopy::remove_snapshot` do.
+// Lets the snapshot of this identity go from this file system, which has it; it has no clone: what no dataset has then is to be freed.
+// NoMemory where there is none for it, and then the table and what it has to free are as they were. It costs what `WorkingCopy::of` and
+// `WorkingCopy::remove_snapshot` do.
 fn lose(
     alloc: Global,
     table: &mut Table,
     freeing: &mut Freeing,
-    name: &Member,
+    file_system: &DsName,
+    id: SnapshotId,
     segments: &mut SegMeter,
 ) -> Result<(), Refusal>
     requires apart { AreDisjoint (union_of (world_of table.old)) freeing.old }
-    requires there { IsSome (snap_named (world_of table.old) name.now) }
-    requires no_clone { has_clone_named table.old name.now ≡ false }
-    ensures ok { IfSome (snap_named (world_of table.old) name.now) (λ u. OnOk result (table.new ≡ without_snap table.old (id_of u))) }
+    requires there { is_some (snap_in_system table.old file_system.now (snap_id id)) ≡ true }
+    requires no_clone { has_clone table.old (snap_id id) ≡ false }
+    ensures ok { OnOk result (table.new ≡ without_snap table.old (snap_id id)) }
     ensures lost { OnOk result (HasLost table.old freeing.old table.new freeing.new) }
     ensures unchanged { OnErr result (table.new ≡ table.old) }
     ensures kept { OnErr result (freeing.new ≡ freeing.old) }
     ensures err { IfErr result (λ e. e ≡ Refusal.NoMemory) }
 {
     let mut edit = WorkingCopy::of(table, freeing)?;
-    edit.remove_snapshot(alloc, name, segments)?;
+    edit.remove_snapshot(alloc, file_system, id, segments)?;
     edit.put(table, freeing);
     Ok(())
 }

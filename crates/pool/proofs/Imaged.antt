@@ -152,12 +152,5 @@ no_group ToSync (inl k) g = absurd cc
 no_group ToSync (inr k) g = absurd cc
 no_group request k g = refl
 
-not_synced : (q : Request) → ((g : ℕ) → is_synced (Group g) q ≡ false) → (r : Reply) → is_synced r q ≡ false
-not_synced q none (Group g) = none g
-not_synced q none reply = refl
-
 unchanged : (q : Request) (r : Reply) (n : ℕ) → is_synced r q ≡ false → n ≡ keeps_after q r n
 unchanged q r n e = ap (λ x. if x then counted n 1 else n) (sym e)
-
-pub keeps_same : (q : Request) (r : Reply) → (kind_of q ≡ Question) ⊎ (kind_of q ≡ View) → (n : ℕ) → n ≡ keeps_after q r n
-keeps_same q r kind n = unchanged q r n (not_synced q (no_group q kind) r)

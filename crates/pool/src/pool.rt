@@ -267,16 +267,17 @@ impl Pool {
         }
     }
 
-    /// One step: the request is done, or refused with the state as it was. What changes file systems changes them in place; a family that is
-    /// destroyed, several snapshots, a rollback and a receive are made on a copy, which costs a count for each file system, and so is a
+    /// One step: the request is done, or refused with the state as it was. The reply comes in the place of what stands there, since it has
+    /// room for a block's bytes, and whoever asks again and again spares its moves. What changes file systems changes them in place; a family
+    /// that is destroyed, several snapshots, a rollback and a receive are made on a copy, which costs a count for each file system, and so is a
     /// snapshot and a promote where a file system has a limit. A name costs the logarithm of the number of file systems, and a snapshot's also
     /// that of the number of its file system's snapshots. A write or a punch costs the path to its leaf, and to free an object its nodes; a
     /// sync and an abandon cost a count for each file system; each other request costs what the function says that makes it, as `Table::create`,
     /// `snap::clones::promote`, `removals::destroy`. What only reads costs what `steps::answer` says, and the opening of a view what
     /// `sources::sources_of` does.
-    pub fn apply(&mut self, alloc: Global, request: &Request) -> Reply
-        ensures step { Step self.old.state request.now result self.new.state }
-        ensures metered { IsMetered self.old request.now result self.new }
+    pub fn apply(&mut self, alloc: Global, request: &Request, reply: &mut Reply)
+        ensures step { Step self.old.state request.now reply.new self.new.state }
+        ensures metered { IsMetered self.old request.now reply.new self.new }
         ensures numbered { IsNumbered self.new.state }
         ensures states { HasStates self.new.state self.new.numbers }
         ensures balanced { IsBalanced self.new.state }
@@ -284,14 +285,15 @@ impl Pool {
         ensures quotas { AreQuotasMet self.new.state.now }
         ensures viewing { IsViewing self.new.state }
         ensures walked { IsWalked self.new.state self.new.image }
+        ensures writes { AreWrites self.old.image self.new.image }
         ensures moments { HasMoments self.old.state self.old.image self.new.image }
-        ensures keeps { self.new.image.keeps ≡ keeps_after request.now result self.old.image.keeps }
+        ensures keeps { self.new.image.keeps ≡ keeps_after request.now reply.new self.old.image.keeps }
     {
         self.facts();
-        let mut reply = Reply::Done;
-        self.answer(alloc, request, &mut reply);
+        make_done(reply);
+        self.look_at(request);
+        self.take(alloc, request, reply);
         self.facts();
-        reply
     }
 
     // What holds of a pool between two steps: it opens the pool to its proof, and reads nothing.
@@ -316,19 +318,6 @@ impl Pool {
         if let Some(name) = changed_name(request) {
             self.present.table.look_at(name);
         }
-    }
-
-    /// One step, as `apply` takes it and at its cost, whose reply comes in the place of Done: a reply has room for a block's bytes, and who
-    /// asks again and again spares its moves.
-    pub fn answer(&mut self, alloc: Global, request: &Request, reply: &mut Reply)
-        requires { reply.old ≡ Reply.Done }
-        ensures step { Step self.old.state request.now reply.new self.new.state }
-        ensures metered { IsMetered self.old request.now reply.new self.new }
-        ensures writes { AreWrites self.old.image self.new.image }
-        ensures keeps { self.new.image.keeps ≡ keeps_after request.now reply.new self.old.image.keeps }
-    {
-        self.look_at(request);
-        self.take(alloc, request, reply);
     }
 
     // The step itself: in place, but for what must not be seen half done.
@@ -422,11 +411,30 @@ impl Pool {
     {
         let mut replies = Vec::with_capacity(alloc, requests.len())?;
         for request in requests {
-            let reply = self.apply(alloc, request);
+            let mut reply = Reply::Done;
+            self.apply(alloc, request, &mut reply);
             replies.push_reserved(reply);
         }
         Ok(replies)
     }
+}
+
+// The reply is Done, whatever it was.
+fn make_done(reply: &mut Reply)
+    ensures { reply.new ≡ Reply.Done }
+{
+    match reply {
+        Reply::Done => {}
+        _ => forget(reply),
+    }
+}
+
+// The same of one that isn't. It stands apart, since a reply takes room on the stack, which is filled first.
+#[inline(never)]
+fn forget(reply: &mut Reply)
+    ensures { reply.new ≡ Reply.Done }
+{
+    *reply = Reply::Done;
 }
 
 // One step on the present world itself, which no refusal leaves half done.

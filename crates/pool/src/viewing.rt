@@ -27,7 +27,7 @@ use model::snapshot_id::SnapshotId;
 use removals::close_view;
 use std::alloc::Global;
 use std::sync::Arc;
-use steps::{Ledger, recount, snapshot_named, sources_of};
+use steps::{Ledger, recount, sources_of};
 
 impl Keep {
     /// The snapshot that the next view shows, where it is opened of this name, and what it shows. NotSnapshot where the name isn't one of a
@@ -47,7 +47,7 @@ impl Keep {
         let Target::Snapshot(name) = target else {
             return Err(Refusal::NotSnapshot);
         };
-        let Some(snapshot) = snapshot_named(&world.table, name.member()) else {
+        let Some(snapshot) = world.table.snapshot(name.member()) else {
             return Err(Refusal::NoDataset);
         };
         if snapshot.is_deferred() {

@@ -26,7 +26,8 @@ fn reply_to(alloc: Global, pool: &mut Pool, name: &[u8], bytes: &[u8]) -> Result
         bytes: Bytes::from(copied(alloc, bytes)?),
         force: false,
     };
-    let reply = pool.apply(alloc, &request);
+    let mut reply = Reply::Done;
+    pool.apply(alloc, &request, &mut reply);
     drop(request);
     Ok(reply)
 }
@@ -171,7 +172,8 @@ fn sends_or_is_refused(alloc: Global, pool: &mut Pool, wanted: &[u8]) -> bool {
         return true;
     };
     let request = Request::Send { target, from: None };
-    let reply = pool.apply(alloc, &request);
+    let mut reply = Reply::Done;
+    pool.apply(alloc, &request, &mut reply);
     drop(request);
     let is_right = match &reply {
         Reply::Stream(bytes) => bytes.as_slice() == wanted,

@@ -47,7 +47,9 @@ fn moments(alloc: Global, pool: &mut Pool, request: &Request) -> Result<Option<u
     let roots = pool.roots(alloc, true)?;
     let wanted = walks(alloc, &roots, pool.image())?;
     let mut stopped = copied(alloc, pool.image().bytes())?;
-    if let Reply::Refused(why) = pool.apply(alloc, request) {
+    let mut reply = Reply::Done;
+    pool.apply(alloc, request, &mut reply);
+    if let Reply::Refused(why) = reply {
         return Err(why);
     }
     let after = pool.image().bytes();

@@ -43,7 +43,8 @@ pub fn group() -> Request {
 
 /// Whether a pool answers a request so.
 pub fn answers(alloc: Global, pool: &mut Pool, request: Request, wanted: Reply) -> bool {
-    let reply = pool.apply(alloc, &request);
+    let mut reply = Reply::Done;
+    pool.apply(alloc, &request, &mut reply);
     let same = reply.same(&wanted);
     drop(request);
     drop(reply);
@@ -152,7 +153,8 @@ fn is_done_or_out_of_memory(reply: &Reply) -> bool {
 
 /// Whether a request is done, or refused memory.
 fn is_tried(alloc: Global, pool: &mut Pool, request: Request) -> bool {
-    let reply = pool.apply(alloc, &request);
+    let mut reply = Reply::Done;
+    pool.apply(alloc, &request, &mut reply);
     let fine = is_done_or_out_of_memory(&reply);
     drop(request);
     drop(reply);
@@ -193,7 +195,8 @@ fn refused_memory_changes_nothing(rt: HostRuntime) {
 
 /// Whether a request is done.
 fn is_done(alloc: Global, pool: &mut Pool, request: Request) -> bool {
-    let reply = pool.apply(alloc, &request);
+    let mut reply = Reply::Done;
+    pool.apply(alloc, &request, &mut reply);
     let done = reply.same(&Reply::Done);
     drop(request);
     drop(reply);

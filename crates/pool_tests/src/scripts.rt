@@ -65,16 +65,16 @@ type Leaves = Vec<(u32, [u8; 512])>;
 
 /// A pool that answers lines.
 #[derive(Drop)]
-struct Asked {
+struct ScriptedPool {
     alloc: Global,
     pool: Pool,
 }
 
-impl Caller for Asked {
+impl Caller for ScriptedPool {
     ghost asks = { λ _ _ _ _. Unit {0} };
 
     fn ask(&mut self, request: Request, reply: &mut Reply) -> bool {
-        self.pool.answer(self.alloc, &request, reply);
+        self.pool.apply(self.alloc, &request, reply);
         drop(request);
         true
     }
@@ -115,7 +115,8 @@ fn read(
         object,
         block,
     };
-    let reply = pool.apply(alloc, &request);
+    let mut reply = Reply::Done;
+    pool.apply(alloc, &request, &mut reply);
     drop(request);
     match reply {
         Reply::Data(bytes) => bytes,
@@ -194,7 +195,7 @@ fn are_same(one: &[Leaves], other: &[Leaves]) -> bool {
 }
 
 /// Asks one line.
-fn ask(asked: &mut Asked, line: &str) -> bool {
+fn ask(asked: &mut ScriptedPool, line: &str) -> bool {
     let alloc = asked.alloc;
     let mut reader = Counted::new(line.as_bytes());
     let mut writer = Counted::new(Vec::new(alloc));
@@ -202,7 +203,7 @@ fn ask(asked: &mut Asked, line: &str) -> bool {
 }
 
 /// Whether the last synced world is still walked as it was when it was synced.
-fn is_last(asked: &Asked, synced: &[Leaves]) -> bool {
+fn is_last(asked: &ScriptedPool, synced: &[Leaves]) -> bool {
     match walks(asked.alloc, &asked.pool, true) {
         Ok(last) => are_same(last.as_slice(), synced),
         Err(_) => false,
@@ -210,7 +211,7 @@ fn is_last(asked: &Asked, synced: &[Leaves]) -> bool {
 }
 
 /// How many lines of a random script leave both worlds as they are to be walked, up to the first that doesn't.
-fn lines_walked(asked: &mut Asked, mut seed: u64, lines: u32) -> Result<u32, Refusal> {
+fn lines_walked(asked: &mut ScriptedPool, mut seed: u64, lines: u32) -> Result<u32, Refusal> {
     let mut synced = walks(asked.alloc, &asked.pool, true)?;
     for line in 0..lines {
         seed = next(seed);
@@ -233,7 +234,7 @@ fn both_worlds_are_walked_after_each_line(rt: HostRuntime) {
     let alloc = rt.alloc();
     for seed in 0..20 {
         let pool = Pool::create(alloc, 1, 200).expect(&rt, "memory for a pool");
-        let mut asked = Asked { alloc, pool };
+        let mut asked = ScriptedPool { alloc, pool };
         let walked = lines_walked(&mut asked, seed, 300);
         drop(asked);
         assert!(rt; walked == Ok(300));

@@ -74,7 +74,8 @@ fn get_of(rt: &impl Abort, alloc: Global, property: Property) -> Request {
 
 /// Whether a pool answers a request so.
 fn answers(alloc: Global, pool: &mut Pool, request: Request, wanted: Reply) -> bool {
-    let reply = pool.apply(alloc, &request);
+    let mut reply = Reply::Done;
+    pool.apply(alloc, &request, &mut reply);
     let same = reply.same(&wanted);
     drop(request);
     drop(reply);
@@ -158,7 +159,8 @@ fn sets_in_a_list(rt: HostRuntime) {
 
 /// Whether a request is done; None where it is neither done nor refused memory.
 fn is_done(alloc: Global, pool: &mut Pool, request: Request) -> Option<bool> {
-    let reply = pool.apply(alloc, &request);
+    let mut reply = Reply::Done;
+    pool.apply(alloc, &request, &mut reply);
     let done = match &reply {
         Reply::Done => Some(true),
         Reply::Refused(Refusal::NoMemory) => Some(false),

@@ -1,40 +1,31 @@
 -- A view that is closed: the one snapshot that goes with it is all that nothing needs any more.
 use Rattle.std.proofs.Common.{◌≡◌, ℕ, Bool, true, false, cond, not, ◌&&◌, ◌||◌, List, [], ◌∷◌, length, Option, Some, None, refl, sym, ap, ◌∙◌, true≢false, inl, inr, ⊎_elim}
-use Rattle.std.specs.Prelude.{nat_lt}
-use Rattle.std.specs.List.{find, filter}
-use Rattle.std.specs.Option.{option_map, option_map_or, option_and_then}
+use Rattle.std.specs.Prelude.{is_some, nat_lt}
+use Rattle.std.specs.List.{filter}
+use Rattle.std.specs.Option.{option_map, option_and_then}
 use Rattle.std.specs.FinMap.{get, remove, same_map}
 use Rattle.std.proofs.lemmas.Bool.{and_parts}
 use Rattle.base.specs.Surveys.{IsIn}
-use Rattle.base.specs.Names.{same_name}
-use Rattle.model.specs.World.{FileSystem, Snap, SnapId, id_of, same_id, snap_at, snap_named}
+use Rattle.model.specs.World.{FileSystem, Snap, SnapId, id_of, same_id, snap_at}
 use Rattle.model.specs.State.{Views, is_viewed}
 use Rattle.model.specs.Outcome.{is_needed}
 use Rattle.world.specs.Shapes.{Name, name_order}
 use Rattle.world.specs.Worlds.{AreFileSystems}
 use Rattle.world.specs.Tables.{Datasets, world_of, without_snap}
 use Rattle.world.proofs.lists.Maps.{no_value, same_value}
-use Rattle.world.proofs.lists.Finding.{find_only, same_id_is, is_same_id, one_name, name_itself}
+use Rattle.world.proofs.lists.Finding.{same_id_is, is_same_id}
 use Rattle.world.proofs.lineage.Bridge.{from_snap_at, snap_is_at, one_snap}
 use Rattle.world.proofs.removals.WithoutSnaps.{get-without, without_none}
-use Rattle.removals.specs.Named.{without_named, has_clone, has_clone_named, is_kept}
+use Rattle.removals.specs.Named.{without_owned, has_clone, is_kept}
 use Rattle.removals.specs.Families.{unneeded}
 use Rattle.removals.specs.Requests.{swept, gone_with, IsSweptBy}
-use Rattle.removals.proofs.Named.{names_once}
-use Rattle.removals.proofs.Needed.{not_true, needed_is, kept_parts, if_due, unneeded_parts}
+use Rattle.datasets.specs.Holders.{snap_in_system}
+use Rattle.removals.proofs.Needed.{found_there, not_true, needed_is, kept_parts, if_due, unneeded_parts}
 use Rattle.removals.proofs.Seen.{viewed_beside}
 
 pub filter_alike : (p q : Snap → Bool) (us : List Snap) → ((u : Snap) → IsIn us u → p u ≡ q u) → filter (λ u. not (p u)) us ≡ filter (λ u. not (q u)) us
 filter_alike p q [] each = refl
 filter_alike p q (u ∷ us) each = (λ i. cond (not (each u (inl refl) i)) (u ∷ filter (λ u. not (p u)) us) (filter (λ u. not (p u)) us)) ∙ ap (λ l. cond (not (q u)) (u ∷ l) l) (filter_alike p q us (λ v i. each v (inr i)))
-
--- a snapshot by its place is found by its name
-pub named_at : (t : Datasets) → AreFileSystems t.file_systems t.group → (id : SnapId) (p : Name × Snap) → snap_at (world_of t) id ≡ Some p
-    → snap_named (world_of t) (record { file_system = p.0; component = p.1.name }) ≡ Some p.1
-named_at t good id p at =
-    let k = from_snap_at (world_of t) id p at in
-    ap (option_and_then (λ (f : FileSystem). find (λ (v : Snap). same_name v.name p.1.name) f.snaps)) k.1
-    ∙ find_only (λ (v : Snap). same_name v.name p.1.name) k.0.snaps p.1 k.2 (name_itself p.1.name) (λ y i n. names_once t good p.0 k.0 k.1 y p.1 i k.2 (one_name y.name p.1.name n))
 
 module _ (t : Datasets) (good : AreFileSystems t.file_systems t.group) (views : Views) (clean : IsSweptBy t views) (number : ℕ) where
   abbrev left : Views
@@ -85,12 +76,12 @@ module _ (t : Datasets) (good : AreFileSystems t.file_systems t.group) (views : 
         by_view None a e = absurd (no_value p e)
         by_view (Some id) a e = let k = unneeded_parts t left id p e in (id, a, k.0, k.1, k.2)
 
-    pub named : snap_named (world_of t) (record { file_system = p.0; component = p.1.name }) ≡ Some p.1
-    named = named_at t good shown.0 p shown.2
+    -- it is there, and has no clone
+    pub goes_there : is_some (snap_in_system t p.0 (id_of p.1)) ≡ true
+    goes_there = let k = from_snap_at (world_of t) shown.0 p shown.2 in found_there t p.0 k.0 p.1 k.1 k.2
 
-    -- it has no clone
-    pub goes_uncloned : has_clone_named t (record { file_system = p.0; component = p.1.name }) ≡ false
-    goes_uncloned = ap (λ (x : Option Snap). option_map_or (λ (s : Snap). has_clone t (id_of s)) x false) named ∙ (kept_parts t left p.1 shown.4).2
+    pub goes_uncloned : has_clone t (id_of p.1) ≡ false
+    goes_uncloned = (kept_parts t left p.1 shown.4).2
 
     pub one_goes : without_snap t (id_of p.1) ≡ swept t left
     one_goes = ap (λ ss. record t { file_systems = ss })
@@ -120,8 +111,8 @@ module _ (t : Datasets) (good : AreFileSystems t.file_systems t.group) (views : 
         by_system n None at = refl
         by_system n (Some f) at = ap (λ l. Some (record f { snaps = l })) (filter_alike (λ u. same_id (id_of u) (id_of p.1)) goes f.snaps (λ u i. alike n f u at i))
 
--- the same of the name under which it goes
-pub named_goes : (t : Datasets) → AreFileSystems t.file_systems t.group → (views : Views) → IsSweptBy t views → (number : ℕ) (p : Name × Snap) → gone_with t views number ≡ Some p
-    → without_named t (record { file_system = p.0; component = p.1.name }) ≡ swept t (remove views number)
-named_goes t good views clean number p is =
-    ap (λ x. option_map_or (λ (s : Snap). without_snap t (id_of s)) x t) (named t good views clean number p is) ∙ one_goes t good views clean number p is
+-- the same of its file system
+pub goes_owned : (t : Datasets) → AreFileSystems t.file_systems t.group → (views : Views) → IsSweptBy t views → (number : ℕ) (p : Name × Snap) → gone_with t views number ≡ Some p
+    → without_owned t p.0 (id_of p.1) ≡ swept t (remove views number)
+goes_owned t good views clean number p is =
+    ap (λ b. cond b (without_snap t (id_of p.1)) t) (goes_there t good views clean number p is) ∙ one_goes t good views clean number p is

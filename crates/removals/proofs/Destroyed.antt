@@ -1,8 +1,9 @@
--- Snapshots that are destroyed go by their names, one after another.
-use Rattle.std.proofs.Common.{◌≡◌, Bool, true, false, ◌&&◌, ◌||◌, not, cond, List, [], ◌∷◌, ◌++◌, Option, Some, None, refl, sym, ap, ◌∙◌, true≢false, inl, inr, map, length, arith}
-use Rattle.std.specs.Prelude.{is_some, nat_lt}
-use Rattle.std.proofs.lemmas.Bool.{lt-ltb}
-use Rattle.std.specs.List.{filter, list_any}
+-- Snapshots that are destroyed: those that nothing needs go, and the others are deferred, one after another.
+use Rattle.std.proofs.Common.{◌≡◌, Bool, true, false, ◌&&◌, ◌||◌, not, cond, List, [], ◌∷◌, ◌++◌, Option, Some, None, refl, sym, ap, subst, ◌∙◌, true≢false, inl, inr, ⊎_elim, map, length, take, get_or, ℕ, zero, suc, ◌+◌, ◌<◌, ◌≤◌, arith}
+use Rattle.std.proofs.lemmas.List.{map-append, take_more}
+use Rattle.std.proofs.lemmas.List.Folds.{list_any-append}
+use Rattle.std.specs.Prelude.{nat_lt}
+use Rattle.std.specs.List.{filter, flat_map, list_any}
 use Rattle.std.specs.Option.{option_map, option_map_or}
 use Rattle.std.specs.FinMap.{get, same_map}
 use Rattle.base.specs.declared.refusal.Refusal.TheVariants.{NoDataset, Busy, HasClones}
@@ -16,111 +17,136 @@ use Rattle.model.specs.Outcome.{is_needed}
 use Rattle.model.specs.Edits.{without_snaps}
 use Rattle.model.specs.requests.Snapshot.{named_with}
 use Rattle.model.specs.requests.Destroy.{is_one_of, snaps_named, with_deferred}
+use Rattle.datasets.specs.Rows.{snaps_at}
 use Rattle.world.specs.Shapes.{Name, name_order}
 use Rattle.world.specs.Worlds.{AreFileSystems}
-use Rattle.world.specs.Tables.{Datasets, world_of}
+use Rattle.world.specs.Tables.{Datasets, world_of, without_snap, deferred_snap}
 use Rattle.world.proofs.removals.Sweep.{get-with_file_systems}
-use Rattle.world.proofs.lists.Finding.{append_none, any_none, same_id_is}
-use Rattle.world.proofs.removals.WithoutSnaps.{get-without, any_from}
+use Rattle.world.proofs.lists.Finding.{append_none, any_none, or_none, from_flat, from_filter, same_id_is}
+use Rattle.world.proofs.lists.Listed.{in_map, length-mapped}
+use Rattle.world.proofs.lists.Maps.{no_value, same_value}
+use Rattle.world.proofs.lineage.Bridge.{one_snap}
+use Rattle.world.proofs.removals.WithoutSnaps.{get-without, without_twice, without_none}
 use Rattle.snap.specs.Taking.{all_of}
-use Rattle.removals.specs.Named.{without_all, deferred_all, has_clone, is_held, is_named_held, has_clone_named, is_kept, is_named_needed}
-use Rattle.removals.specs.Requests.{destroyed, destroy_refusal}
+use Rattle.removals.specs.Found.{found_in, found_refusal, AreThere, removed_or_deferred}
+use Rattle.removals.specs.Named.{has_clone, is_held}
+use Rattle.removals.specs.Requests.{destroy_refusal}
 use Rattle.removals.proofs.Clones.{outside_is}
-use Rattle.removals.proofs.Named.{names_once, ids_of, all_are, ids_left}
-use Rattle.removals.proofs.Needed.{any_alike, needed_is, is_held_at, held_at, named_held, named_one}
-use Rattle.removals.proofs.Seen.{any_named}
-use Rattle.removals.proofs.Deferring.{all_deferred}
+use Rattle.removals.proofs.Deferring.{marked_by, by_one, deferred_none, deferred_twice, deferred_gone}
+use Rattle.removals.proofs.Identified.{IsLeftOf}
+use Rattle.removals.proofs.Needed.{any_alike, is_held_at, held_at, named_there, system_at}
+use Rattle.removals.proofs.Seen.{any_value}
+use Rattle.removals.proofs.Swept.{same_clones}
+
+-- ---- what is found
 
 -- what one name stands for
 pub named_is : (t : Datasets) (m : Member) (recursive : Bool) → all_of t (m ∷ []) recursive ≡ named_with (world_of t) recursive m
 named_is t m recursive = append_none (named_with (world_of t) recursive m)
 
--- whether one of these is there
-any_there : (t : Datasets) (ms : List Member) → list_any (λ m. is_some (snap_named (world_of t) m)) ms ≡ nat_lt 0 (length (ids_of t ms))
-any_there t [] = refl
-any_there t (m ∷ ms) = by_snap (snap_named (world_of t) m) (any_there t ms)
+-- the identities
+pub found_ids : (t : Datasets) (ms : List Member) → map (λ (p : Name × Snap). id_of p.1) (found_in t ms) ≡ flat_map (λ m. option_map_or (λ (s : Snap). id_of s ∷ []) (snap_named (world_of t) m) []) ms
+found_ids t [] = refl
+found_ids t (m ∷ ms) =
+    map-append (λ (p : Name × Snap). id_of p.1) (option_map_or (λ (s : Snap). (m.file_system, s) ∷ []) (snap_named (world_of t) m) []) (found_in t ms)
+    ∙ (λ i. by_snap (snap_named (world_of t) m) i ++ found_ids t ms i)
   where
-    by_snap : (x : Option Snap) → list_any (λ m. is_some (snap_named (world_of t) m)) ms ≡ nat_lt 0 (length (ids_of t ms))
-        → (is_some x || list_any (λ m. is_some (snap_named (world_of t) m)) ms) ≡ nat_lt 0 (length (option_map_or (λ (s : Snap). id_of s ∷ []) x [] ++ ids_of t ms))
-    by_snap None ih = ih
-    by_snap (Some s) ih = sym (lt-ltb 0 (length (id_of s ∷ ids_of t ms)) (omega arith))
+    by_snap : (x : Option Snap) → map (λ (p : Name × Snap). id_of p.1) (option_map_or {U = List (Name × Snap)} (λ (s : Snap). (m.file_system, s) ∷ []) x []) ≡ option_map_or (λ (s : Snap). id_of s ∷ []) x []
+    by_snap None = refl
+    by_snap (Some s) = refl
 
-and_false : (b : Bool) → (b && false) ≡ false
-and_false true = refl
-and_false false = refl
-
--- whether a tag or a view keeps one of these
-any_held : (t : Datasets) → AreFileSystems t.file_systems t.group → (views : Views) (ms : List Member) → list_any (is_held_at t views) (ids_of t ms) ≡ list_any (is_named_held t views) ms
-any_held t good views ms = any_named t (is_held_at t views) ms
-    ∙ any_alike (λ m. option_map_or (λ (s : Snap). is_held_at t views (id_of s)) (snap_named (world_of t) m) false) (is_named_held t views) ms (λ m i. named_held t good views m)
-
--- why it is refused
-pub refusal_is : (t : Datasets) → AreFileSystems t.file_systems t.group → (views : Views) (m : Member) (recursive defer : Bool)
-    → destroy_refusal t views (OfSnapshot m) recursive defer
-    ≡ cond (list_any (λ n. is_some (snap_named (world_of t) n)) (all_of t (m ∷ []) recursive))
-    (cond (not defer && list_any (is_named_held t views) (all_of t (m ∷ []) recursive)) (Some Busy)
-    (cond (not defer && list_any (has_clone_named t) (all_of t (m ∷ []) recursive)) (Some HasClones) None)) (Some NoDataset)
-refusal_is t good views m recursive defer =
-    first-of (nat_lt 0 (length (snaps_named (world_of t) m recursive))) _ _ _ _
-    (ap (λ b. not defer && b) (any_held t good views (named_with (world_of t) recursive m) ∙ ap (list_any (is_named_held t views)) (sym (named_is t m recursive))))
-    (ap (λ b. not defer && b) (outside_is t (snaps_named (world_of t) m recursive) ∙ any_named t (has_clone t) (named_with (world_of t) recursive m)
-    ∙ ap (list_any (has_clone_named t)) (sym (named_is t m recursive))))
-    ∙ ap (λ b. cond {A = Option Refusal} b (cond (not defer && list_any (is_named_held t views) (all_of t (m ∷ []) recursive)) (Some Busy)
-    (cond (not defer && list_any (has_clone_named t) (all_of t (m ∷ []) recursive)) (Some HasClones) None)) (Some NoDataset))
-    (sym (any_there t (named_with (world_of t) recursive m)) ∙ ap (list_any (λ n. is_some (snap_named (world_of t) n))) (sym (named_is t m recursive)))
+-- each is where it was found
+pub found_there_all : (t : Datasets) (ms : List Member) → AreThere t (found_in t ms)
+found_there_all t ms p i =
+    let k = from_flat (λ (m : Member). option_map_or (λ (s : Snap). (m.file_system, s) ∷ []) (snap_named (world_of t) m) []) ms p i in
+    by_snap k.0 (snap_named (world_of t) k.0) refl k.2
   where
-    first-of : (is_there busy held outside cloned : Bool) → busy ≡ held → outside ≡ cloned
-        → cond {A = Option Refusal} (not is_there) (Some NoDataset) (cond busy (Some Busy) (cond outside (Some HasClones) None))
-        ≡ cond {A = Option Refusal} is_there (cond held (Some Busy) (cond cloned (Some HasClones) None)) (Some NoDataset)
-    first-of true busy held outside cloned a b = λ i. cond {A = Option Refusal} (a i) (Some Busy) (cond (b i) (Some HasClones) None)
-    first-of false busy held outside cloned a b = refl
+    by_snap : (m : Member) (x : Option Snap) → snap_named (world_of t) m ≡ x → IsIn (option_map_or {U = List (Name × Snap)} (λ (s : Snap). (m.file_system, s) ∷ []) x []) p → IsIn (snaps_at t.file_systems p.0) p.1
+    by_snap m None e j = absurd j
+    by_snap m (Some s) e j =
+        let there = named_there t m s e in
+        ⊎_elim
+        (λ (same : p ≡ (m.file_system, s)). subst (λ (q : Name × Snap). IsIn (snaps_at t.file_systems q.0) q.1) (sym same)
+        (subst (λ (y : Option FileSystem). IsIn (option_map_or (λ (f : FileSystem). f.snaps) y []) s) (sym there.1) there.2))
+        (λ k. absurd k)
+        j
+
+-- one more of them
+pub more_ids : (all : List (Name × Snap)) (i : ℕ) (p : Name × Snap) → i < length all → p ≡ get_or all i p
+    → map (λ (q : Name × Snap). id_of q.1) (take (i + 1) all) ≡ map (λ (q : Name × Snap). id_of q.1) (take i all) ++ id_of p.1 ∷ []
+more_ids all i p lt is =
+    ap (map (λ (q : Name × Snap). id_of q.1)) (take_more all i p lt ∙ ap (λ q. take i all ++ q ∷ []) (sym is))
+    ∙ map-append (λ (q : Name × Snap). id_of q.1) (take i all) (p ∷ [])
+
+pub in_place : {A : Type 0} (xs : List A) (i : ℕ) (x : A) → i < length xs → x ≡ get_or xs i x → IsIn xs x
+in_place [] i x lt is = absurd (omega arith)
+in_place (y ∷ ys) zero x lt is = inl is
+in_place (y ∷ ys) (suc i) x lt is = inr (in_place ys i x (omega arith) is)
+
+-- all of them
+pub whole_ids : (all : List (Name × Snap)) (i : ℕ) → length all ≤ i → take i all ≡ all
+whole_ids [] zero le = refl
+whole_ids [] (suc i) le = refl
+whole_ids (x ∷ xs) zero le = absurd (omega arith)
+whole_ids (x ∷ xs) (suc i) le = ap (λ l. x ∷ l) (whole_ids xs i (omega arith))
+
+-- why they aren't destroyed
+module _ (t : Datasets) (good : AreFileSystems t.file_systems t.group) (views : Views) (m : Member) (recursive defer : Bool) (all : List (Name × Snap))
+    (ids : map (λ (p : Name × Snap). id_of p.1) all ≡ snaps_named (world_of t) m recursive) (there : AreThere t all) where
+  held : list_any (is_held_at t views) (snaps_named (world_of t) m recursive) ≡ list_any (λ (p : Name × Snap). is_held views p.1) all
+  held =
+      ap (list_any (is_held_at t views)) (sym ids) ∙ sym (any_value (λ (p : Name × Snap). id_of p.1) (is_held_at t views) all)
+      ∙ any_alike (λ (p : Name × Snap). is_held_at t views (id_of p.1)) (λ p. is_held views p.1) all
+      (λ p i. let k = system_at t p.0 p.1 (there p i) in held_at t good views p.0 k.0 p.1 k.1 k.2)
+
+  cloned : list_any (has_clone t) (snaps_named (world_of t) m recursive) ≡ list_any (λ (p : Name × Snap). has_clone t (id_of p.1)) all
+  cloned = ap (list_any (has_clone t)) (sym ids) ∙ sym (any_value (λ (p : Name × Snap). id_of p.1) (has_clone t) all)
+
+  count : length (snaps_named (world_of t) m recursive) ≡ length all
+  count = ap length (sym ids) ∙ length-mapped (λ (p : Name × Snap). id_of p.1) all
+
+  pub refusal_is : destroy_refusal t views (OfSnapshot m) recursive defer ≡ found_refusal t views defer all
+  refusal_is = λ i. cond {A = Option Refusal} (not (nat_lt 0 (count i))) (Some NoDataset)
+      (cond (not defer && held i) (Some Busy) (cond (not defer && (outside_is t (snaps_named (world_of t) m recursive) ∙ cloned) i) (Some HasClones) None))
+
+-- where nothing refuses it, none has a clone
+pub none_cloned : (t : Datasets) (views : Views) (defer : Bool) (all : List (Name × Snap)) → found_refusal t views defer all ≡ None → (not defer && list_any (λ (p : Name × Snap). has_clone t (id_of p.1)) all) ≡ false
+none_cloned t views defer all e = by_tests (nat_lt 0 (length all)) (not defer && list_any (λ (p : Name × Snap). is_held views p.1) all) (not defer && list_any (λ (p : Name × Snap). has_clone t (id_of p.1)) all) e
+  where
+    by_tests : (some busy used : Bool) → cond {A = Option Refusal} (not some) (Some NoDataset) (cond busy (Some Busy) (cond used (Some HasClones) None)) ≡ None → used ≡ false
+    by_tests false busy used e = absurd (no_value NoDataset (sym e))
+    by_tests true true used e = absurd (no_value Busy (sym e))
+    by_tests true false true e = absurd (no_value HasClones (sym e))
+    by_tests true false false e = refl
+
+-- and none that goes
+pub goes_uncloned : (t : Datasets) (views : Views) (defer : Bool) (all : List (Name × Snap)) → (not defer && list_any (λ (p : Name × Snap). has_clone t (id_of p.1)) all) ≡ false
+    → (p : Name × Snap) → IsIn all p → (defer && is_needed (world_of t) views p.1) ≡ false → has_clone t (id_of p.1) ≡ false
+goes_uncloned t views true all none p i e = (or_none _ (has_clone t (id_of p.1)) (or_none (nat_lt 0 (length p.1.tags)) _ e).1).1
+goes_uncloned t views false all none p i e = any_none (λ (q : Name × Snap). has_clone t (id_of q.1)) all none p i
 
 -- ---- what is left
 
--- of those that are not kept, where each name's that has the identity of this snapshot is this one
-module _ (t : Datasets) (views : Views) (u : Snap) (one : (m : Member) (s : Snap) → snap_named (world_of t) m ≡ Some s → id_of u ≡ id_of s → u ≡ s) where
-  unkept_ids : (ms : List Member) → is_one_of (ids_of t (filter (λ m. not (is_named_needed t views m)) ms)) u ≡ (is_one_of (ids_of t ms) u && not (is_kept t views u))
-  unkept_ids [] = refl
-  unkept_ids (m ∷ ms) = by_snap (snap_named (world_of t) m) (unkept_ids ms) refl
-    where
-      rest : List Member
-      rest = filter (λ m. not (is_named_needed t views m)) ms
+abbrev left_by : (Snap → Bool) → List Snap → List Snap
+left_by r us = filter (λ u. not (r u)) us
 
-      -- the one of the name is this, or another
-      by_same : (s : Snap) → snap_named (world_of t) m ≡ Some s → (same kept : Bool) → same_id (id_of u) (id_of s) ≡ same → is_kept t views s ≡ kept
-          → is_one_of (ids_of t rest) u ≡ (is_one_of (ids_of t ms) u && not (is_kept t views u))
-          → cond kept (is_one_of (ids_of t rest) u) (same || is_one_of (ids_of t rest) u) ≡ ((same || is_one_of (ids_of t ms) u) && not (is_kept t views u))
-      by_same s at true true e v ih =
-          let it : is_kept t views u ≡ true = ap (is_kept t views) (one m s at (same_id_is (id_of u) (id_of s) e)) ∙ v in
-          ih ∙ ap (λ b. is_one_of (ids_of t ms) u && not b) it ∙ and_false (is_one_of (ids_of t ms) u) ∙ sym (ap not it)
-      by_same s at true false e v ih =
-          let it : is_kept t views u ≡ false = ap (is_kept t views) (one m s at (same_id_is (id_of u) (id_of s) e)) ∙ v in
-          sym (ap not it)
-      by_same s at false true e v ih = ih
-      by_same s at false false e v ih = ih
-
-      by_snap : (x : Option Snap) → is_one_of (ids_of t rest) u ≡ (is_one_of (ids_of t ms) u && not (is_kept t views u)) → snap_named (world_of t) m ≡ x
-          → is_one_of (ids_of t (cond (not (option_map_or (is_held views) x false || option_map_or (λ (s : Snap). has_clone t (id_of s)) x false)) (m ∷ rest) rest)) u
-          ≡ (is_one_of (option_map_or (λ (s : Snap). id_of s ∷ []) x [] ++ ids_of t ms) u && not (is_kept t views u))
-      by_snap None ih e = ap (λ x. is_one_of (option_map_or (λ (s : Snap). id_of s ∷ []) x [] ++ ids_of t rest) u) e ∙ ih
-      by_snap (Some s) ih e =
-          by_kept (is_kept t views s)
-          ∙ by_same s e (same_id (id_of u) (id_of s)) (is_kept t views s) refl refl ih
-        where
-          by_kept : (v : Bool) → is_one_of (ids_of t (cond (not v) (m ∷ rest) rest)) u ≡ cond v (is_one_of (ids_of t rest) u) (same_id (id_of u) (id_of s) || is_one_of (ids_of t rest) u)
-          by_kept true = refl
-          by_kept false = ap (λ x. is_one_of (option_map_or (λ (v : Snap). id_of v ∷ []) x [] ++ ids_of t rest) u) e
+get-parted : (w : World) (p q : Snap → Bool) (n : Name)
+    → get (with_deferred (without_snaps w p) q).file_systems n ≡ option_map (λ (f : FileSystem). record f { snaps = map (marked_by q) (left_by p f.snaps) }) (get w.file_systems n)
+get-parted w p q n =
+    get-with_file_systems (without_snaps w p) (λ _ f. record f { snaps = map (marked_by q) f.snaps }) n
+    ∙ ap (option_map (λ (f : FileSystem). record f { snaps = map (marked_by q) f.snaps })) (get-without w p n)
+    ∙ twice (get w.file_systems n)
+  where
+    twice : (x : Option FileSystem)
+        → option_map (λ (f : FileSystem). record f { snaps = map (marked_by q) f.snaps }) (option_map (λ (f : FileSystem). record f { snaps = left_by p f.snaps }) x)
+        ≡ option_map (λ (f : FileSystem). record f { snaps = map (marked_by q) (left_by p f.snaps) }) x
+    twice None = refl
+    twice (Some f) = refl
 
 -- snapshots gone and others marked, by tests that agree
 module _ (w : World) (p q : Snap → Bool) (p' q' : Snap → Bool)
     (goes : (n : Name) (f : FileSystem) (u : Snap) → get w.file_systems n ≡ Some f → IsIn f.snaps u → p u ≡ p' u)
     (marks : (n : Name) (f : FileSystem) (u : Snap) → get w.file_systems n ≡ Some f → IsIn f.snaps u → p u ≡ false → q u ≡ q' u) where
-  abbrev marked_by : (Snap → Bool) → Snap → Snap
-  marked_by r u = record u { deferred = u.deferred || r u }
-
-  abbrev left_by : (Snap → Bool) → List Snap → List Snap
-  left_by r us = filter (λ u. not (r u)) us
-
   same_left : (us : List Snap) → ((u : Snap) → IsIn us u → p u ≡ p' u) → ((u : Snap) → IsIn us u → p u ≡ false → q u ≡ q' u) → map (marked_by q) (left_by p us) ≡ map (marked_by q') (left_by p' us)
   same_left [] a b = refl
   same_left (u ∷ us) a b =
@@ -138,79 +164,105 @@ module _ (w : World) (p q : Snap → Bool) (p' q' : Snap → Bool)
           ∙ sym (ap (λ x. map (marked_by q') (cond (not x) (u ∷ left_by p' us) (left_by p' us))) e)
 
   pub alike_after : (with_deferred (without_snaps w p) q).file_systems ≡ (with_deferred (without_snaps w p') q').file_systems
-  alike_after = same_map name_order.total name_order.exact _ _ (λ n. at p q n ∙ by_system n (get w.file_systems n) refl ∙ sym (at p' q' n))
+  alike_after = same_map name_order.total name_order.exact _ _ (λ n. get-parted w p q n ∙ by_system n (get w.file_systems n) refl ∙ sym (get-parted w p' q' n))
     where
-      at : (r s : Snap → Bool) (n : Name) → get (with_deferred (without_snaps w r) s).file_systems n ≡ option_map (λ (f : FileSystem). record f { snaps = map (marked_by s) (left_by r f.snaps) }) (get w.file_systems n)
-      at r s n =
-          get-with_file_systems (without_snaps w r) (λ _ f. record f { snaps = map (marked_by s) f.snaps }) n
-          ∙ ap (option_map (λ (f : FileSystem). record f { snaps = map (marked_by s) f.snaps })) (get-without w r n)
-          ∙ twice (get w.file_systems n)
-        where
-          twice : (x : Option FileSystem)
-              → option_map (λ (f : FileSystem). record f { snaps = map (marked_by s) f.snaps }) (option_map (λ (f : FileSystem). record f { snaps = left_by r f.snaps }) x)
-              ≡ option_map (λ (f : FileSystem). record f { snaps = map (marked_by s) (left_by r f.snaps) }) x
-          twice None = refl
-          twice (Some f) = refl
-
       by_system : (n : Name) (x : Option FileSystem) → get w.file_systems n ≡ x
           → option_map (λ (f : FileSystem). record f { snaps = map (marked_by q) (left_by p f.snaps) }) x ≡ option_map (λ (f : FileSystem). record f { snaps = map (marked_by q') (left_by p' f.snaps) }) x
       by_system n None e = refl
       by_system n (Some f) e = ap (λ l. Some (record f { snaps = l })) (same_left f.snaps (λ u i. goes n f u e i) (λ u i. marks n f u e i))
 
--- what the destroy of a name leaves
-module _ (t : Datasets) (good : AreFileSystems t.file_systems t.group) (views : Views) (m : Member) (recursive defer : Bool)
-    (may : (not defer && list_any (is_named_held t views) (all_of t (m ∷ []) recursive)) ≡ false)
-    (uncloned : (not defer && list_any (has_clone_named t) (all_of t (m ∷ []) recursive)) ≡ false) where
-  abbrev all : List Member
-  all = named_with (world_of t) recursive m
+-- some of them are gone or deferred
+module _ (t : Datasets) (good : AreFileSystems t.file_systems t.group) (needed : Snap → Bool) where
+  pub parted_none : removed_or_deferred t needed [] ≡ t
+  parted_none = ap (λ ss. record t { file_systems = ss })
+      (deferred_none (without_snaps (world_of t) (λ u. false)) (λ u. false) (λ n f u at i. refl) ∙ without_none (world_of t) (λ u. false) (λ n f u at i. refl))
 
-  abbrev one : Snap → Bool
-  one u = is_one_of (ids_of t all) u
+  module _ (ids : List SnapId) where
+    abbrev goes_of : Snap → Bool
+    goes_of u = is_one_of ids u && not (needed u)
 
-  abbrev gone : List Member
-  gone = filter (λ n. not (is_named_needed t views n)) all
+    abbrev marks_of : Snap → Bool
+    marks_of u = is_one_of ids u && needed u
 
-  abbrev needed : Snap → Bool
-  needed u = defer && is_needed (world_of t) views u
+    abbrev after_of : FileSystem → FileSystem
+    after_of f = record f { snaps = map (marked_by marks_of) (left_by goes_of f.snaps) }
 
-  -- those of them that are kept are needed
-  alike : (n : Name) (f : FileSystem) (u : Snap) → get t.file_systems n ≡ Some f → IsIn f.snaps u → one u ≡ true → is_kept t views u ≡ needed u
-  alike n f u at i is = by_defer defer may uncloned
-    where
-      none_of : (p : SnapId → Bool) → list_any p (ids_of t all) ≡ false → p (id_of u) ≡ false
-      none_of p none = any_none p (ids_of t all) none (id_of u) (any_from (ids_of t all) (id_of u) is)
+    pub parted_left : IsLeftOf t (removed_or_deferred t needed ids)
+    parted_left n f s at i = by_system (get t.file_systems n) refl
+      where
+        by_system : (x : Option FileSystem) → get t.file_systems n ≡ x → (g : FileSystem) × (get t.file_systems n ≡ Some g) × (v : Snap) × IsIn g.snaps v × (id_of s ≡ id_of v)
+        by_system None e = absurd (no_value f (sym (get-parted (world_of t) goes_of marks_of n ∙ ap (option_map after_of) e) ∙ at))
+        by_system (Some g) e =
+            let same : f ≡ after_of g = same_value f (after_of g) (sym at ∙ get-parted (world_of t) goes_of marks_of n ∙ ap (option_map after_of) e) in
+            let v = in_map (marked_by marks_of) (left_by goes_of g.snaps) s (subst (λ (x : FileSystem). IsIn x.snaps s) same i) in
+            (g, e, v.0, (from_filter (λ u. not (goes_of u)) g.snaps v.0 v.1).0, ap id_of v.2)
 
-      by_defer : (d : Bool) → (not d && list_any (is_named_held t views) (all_of t (m ∷ []) recursive)) ≡ false → (not d && list_any (has_clone_named t) (all_of t (m ∷ []) recursive)) ≡ false
-          → is_kept t views u ≡ (d && is_needed (world_of t) views u)
-      by_defer true e k = sym (needed_is t views u)
-      by_defer false e k = λ j.
-          (sym (held_at t good views n f u at i) ∙ none_of (is_held_at t views) (any_held t good views all ∙ ap (list_any (is_named_held t views)) (sym (named_is t m recursive)) ∙ e)) j
-          || none_of (has_clone t) (any_named t (has_clone t) all ∙ ap (list_any (has_clone_named t)) (sym (named_is t m recursive)) ∙ k) j
+    pub parted_clones : (id : SnapId) → has_clone (removed_or_deferred t needed ids) id ≡ has_clone t id
+    parted_clones id = same_clones t (removed_or_deferred t needed ids) (λ n. ap (option_map (λ (f : FileSystem). f.origin)) (get-parted (world_of t) goes_of marks_of n) ∙ by_system (get t.file_systems n)) id
+      where
+        by_system : (x : Option FileSystem) → option_map (λ (f : FileSystem). f.origin) (option_map after_of x) ≡ option_map (λ (f : FileSystem). f.origin) x
+        by_system None = refl
+        by_system (Some f) = refl
 
-  when : (a b c : Bool) → (a ≡ true → b ≡ c) → (a && not b) ≡ (a && not c)
-  when true b c e = ap not (e refl)
-  when false b c e = refl
+    -- and one more
+    module _ (name : Name) (f : FileSystem) (s : Snap) (at : get t.file_systems name ≡ Some f) (i : IsIn f.snaps s) where
+      abbrev more : List SnapId
+      more = ids ++ id_of s ∷ []
 
-  -- the others go
-  goes_alike : (n : Name) (f : FileSystem) (u : Snap) → get t.file_systems n ≡ Some f → IsIn f.snaps u → is_one_of (ids_of t gone) u ≡ (one u && not (needed u))
-  goes_alike n f u at i = unkept_ids t views u (named_one t good views n f u at i) all ∙ when (one u) (is_kept t views u) (needed u) (alike n f u at i)
+      abbrev is_it : Snap → Bool
+      is_it u = same_id (id_of u) (id_of s)
 
-  -- and they are deferred
-  marks_alike : (n : Name) (f : FileSystem) (u : Snap) → get t.file_systems n ≡ Some f → IsIn f.snaps u → is_one_of (ids_of t gone) u ≡ false
-      → is_one_of (ids_of (without_all t gone) all) u ≡ (one u && needed u)
-  marks_alike n f u at i out = ids_left gone all t (names_once t good) u out ∙ stays (one u) (needed u) (sym (goes_alike n f u at i) ∙ out)
-    where
-      stays : (a b : Bool) → (a && not b) ≡ false → a ≡ (a && b)
-      stays true true e = refl
-      stays true false e = absurd (true≢false e)
-      stays false b e = refl
+      one_more : (u : Snap) → is_one_of more u ≡ (is_one_of ids u || is_it u)
+      one_more u = list_any-append (same_id (id_of u)) ids (id_of s ∷ []) ∙ ap (λ b. is_one_of ids u || b) (or_false (is_it u))
+        where
+          or_false : (b : Bool) → (b || false) ≡ b
+          or_false true = refl
+          or_false false = refl
 
-  pub destroyed_is : deferred_all (without_all t gone) all ≡ destroyed t views (OfSnapshot m) recursive defer
-  destroyed_is =
-      all_deferred all (without_all t gone)
-      ∙ (λ i. record (first i) { file_systems = (with_deferred (world_of (first i)) (is_one_of (ids_of (without_all t gone) all))).file_systems })
-      ∙ ap (λ ss. record t { file_systems = ss })
-      (alike_after (world_of t) (is_one_of (ids_of t gone)) (is_one_of (ids_of (without_all t gone) all)) (λ u. one u && not (needed u)) (λ u. one u && needed u) goes_alike marks_alike)
-    where
-      first : without_all t gone ≡ record t { file_systems = (without_snaps (world_of t) (is_one_of (ids_of t gone))).file_systems }
-      first = all_are gone t (names_once t good)
+      -- it alone has the identity
+      same_need : (n : Name) (g : FileSystem) (u : Snap) → get t.file_systems n ≡ Some g → IsIn g.snaps u → is_it u ≡ true → needed u ≡ needed s
+      same_need n g u there j e = ap needed (one_snap t.file_systems t.group good.lines n name g f u s there at j i (same_id_is (id_of u) (id_of s) e)).1
+
+      pub deferred_more : needed s ≡ true → deferred_snap (removed_or_deferred t needed ids) (id_of s) ≡ removed_or_deferred t needed more
+      deferred_more need = ap (λ ss. record t { file_systems = ss })
+          (deferred_twice (without_snaps (world_of t) goes_of) marks_of is_it (λ u. marks_of u || is_it u) (by_one (id_of s)) (λ u. refl)
+          ∙ alike_after (world_of t) goes_of (λ u. marks_of u || is_it u) (λ u. is_one_of more u && not (needed u)) (λ u. is_one_of more u && needed u)
+          (λ n g u there j. goes_alike (is_one_of ids u) (is_it u) (needed u) (λ e. same_need n g u there j e ∙ need) ∙ ap (λ b. b && not (needed u)) (sym (one_more u)))
+          (λ n g u there j e. marks_alike (is_one_of ids u) (is_it u) (needed u) (λ e. same_need n g u there j e ∙ need) ∙ ap (λ b. b && needed u) (sym (one_more u))))
+        where
+          goes_alike : (a b k : Bool) → (b ≡ true → k ≡ true) → (a && not k) ≡ ((a || b) && not k)
+          goes_alike true b k h = refl
+          goes_alike false false k h = refl
+          goes_alike false true k h = sym (ap not (h refl))
+
+          marks_alike : (a b k : Bool) → (b ≡ true → k ≡ true) → ((a && k) || b) ≡ ((a || b) && k)
+          marks_alike true true k h = ap (λ c. c || true) (h refl) ∙ sym (h refl)
+          marks_alike true false true h = refl
+          marks_alike true false false h = refl
+          marks_alike false true k h = sym (h refl)
+          marks_alike false false k h = refl
+
+      pub removed_more : needed s ≡ false → without_snap (removed_or_deferred t needed ids) (id_of s) ≡ removed_or_deferred t needed more
+      removed_more free = ap (λ ss. record t { file_systems = ss })
+          (deferred_gone (without_snaps (world_of t) goes_of) marks_of is_it (by_one (id_of s))
+          ∙ ap (λ ss. (with_deferred (record (world_of t) { file_systems = ss }) marks_of).file_systems)
+          (without_twice (world_of t) goes_of is_it (λ u. goes_of u || is_it u) (λ u. neither (goes_of u) (is_it u)))
+          ∙ alike_after (world_of t) (λ u. goes_of u || is_it u) marks_of (λ u. is_one_of more u && not (needed u)) (λ u. is_one_of more u && needed u)
+          (λ n g u there j. goes_alike (is_one_of ids u) (is_it u) (needed u) (λ e. same_need n g u there j e ∙ free) ∙ ap (λ b. b && not (needed u)) (sym (one_more u)))
+          (λ n g u there j e. marks_alike (is_one_of ids u) (is_it u) (needed u) e ∙ ap (λ b. b && needed u) (sym (one_more u))))
+        where
+          neither : (a b : Bool) → (not a && not b) ≡ not (a || b)
+          neither true b = refl
+          neither false b = refl
+
+          goes_alike : (a b k : Bool) → (b ≡ true → k ≡ false) → ((a && not k) || b) ≡ ((a || b) && not k)
+          goes_alike true true k h = ap (λ c. not c || true) (h refl) ∙ sym (ap not (h refl))
+          goes_alike true false true h = refl
+          goes_alike true false false h = refl
+          goes_alike false true k h = sym (ap not (h refl))
+          goes_alike false false k h = refl
+
+          marks_alike : (a b k : Bool) → ((a && not k) || b) ≡ false → (a && k) ≡ ((a || b) && k)
+          marks_alike true b k h = refl
+          marks_alike false true k h = absurd (true≢false h)
+          marks_alike false false k h = refl

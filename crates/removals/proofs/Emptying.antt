@@ -1,18 +1,16 @@
 -- The file systems of a family are emptied, those first whose origins are of the latest groups.
-use Rattle.std.proofs.Common.{◌≡◌, ◌⊎◌, ◌<◌, ◌≤◌, ◌+◌, ◌-◌, ℕ, zero, suc, Bool, true, false, cond, ◌||◌, List, [], ◌∷◌, map, length, drop, get_or, Option, Some, None, Result, Ok, Err, refl, sym, ap, subst, ◌∙◌, true≢false, inl, inr, ⊎_elim, arith}
+use Rattle.std.proofs.Common.{◌≡◌, ◌⊎◌, ◌<◌, ◌≤◌, ◌+◌, ◌-◌, ℕ, zero, suc, Bool, true, false, cond, ◌&&◌, ◌||◌, List, [], ◌∷◌, map, length, drop, get_or, Option, Some, None, Result, Ok, Err, refl, sym, ap, subst, ◌∙◌, true≢false, inl, inr, ⊎_elim, arith}
 use Rattle.std.specs.Prelude.{IsSome, OnOk, is_some, nat_lt}
-use Rattle.std.specs.List.{filter, find, list_any}
+use Rattle.std.specs.List.{filter, list_any}
 use Rattle.std.specs.List.Sorted.{IsPermutation, IsNonDecreasingBy}
-use Rattle.std.specs.Option.{option_map, option_map_or, option_and_then}
+use Rattle.std.specs.Option.{option_map, option_map_or}
 use Rattle.std.specs.FinMap.{get, insert, entries, same_map}
 use Rattle.std.specs.FinSet.{union}
 use Rattle.std.proofs.lemmas.Bool.{lt-ltb}
 use Rattle.std.proofs.lemmas.List.Sorted.{IsPermutation-sym}
 use Rattle.base.specs.Map.{BlockSet}
 use Rattle.base.specs.Surveys.{IsIn}
-use Rattle.base.specs.declared.name.member.Member.{Member}
-use Rattle.base.specs.Names.{same_name}
-use Rattle.model.specs.World.{FileSystem, Snap, SnapId, id_of, empty_file_system, snap_named, union_of}
+use Rattle.model.specs.World.{FileSystem, Snap, SnapId, id_of, empty_file_system, union_of}
 use Rattle.datasets.specs.Origins.{origin_group}
 use Rattle.datasets.specs.Rows.{Entry, snaps_at}
 use Rattle.snap.specs.Taking.{is_in_family}
@@ -20,20 +18,21 @@ use Rattle.snap.proofs.Rests.{next_left, none_left}
 use Rattle.world.specs.Sets.{IsSubset, AreDisjoint}
 use Rattle.world.specs.Shapes.{Name, name_order}
 use Rattle.world.specs.Worlds.{AreFileSystems, AreRising}
-use Rattle.world.specs.Tables.{Datasets, world_of, with_system, without_snap, lost_between}
+use Rattle.world.specs.Tables.{Datasets, world_of, with_system, lost_between}
 use Rattle.world.proofs.lineage.Bridge.{from_entries, start, starts, start_is, rising, rising_above}
 use Rattle.world.proofs.changes.Drawn.{union_from}
-use Rattle.world.proofs.lists.Finding.{from_find, from_filter, in_filter, filter_all}
-use Rattle.world.proofs.lists.Listed.{in_map, map_in}
+use Rattle.world.proofs.lists.Finding.{from_filter, in_filter, filter_all}
+use Rattle.world.proofs.lists.Listed.{map_in}
 use Rattle.world.proofs.lists.Maps.{key_cases, no_value, same_value, entry_of, at_entry}
 use Rattle.world.proofs.lineage.Put.{put_here, put_other, put_maps}
 use Rattle.world.proofs.lineage.Shuffled.{stays_in}
 use Rattle.world.proofs.removals.Sweep.{get-with_file_systems}
 use Rattle.removals.specs.Edits.{HasLost}
 use Rattle.removals.specs.Families.{emptied, AreClonesInside, IsBareFamily}
-use Rattle.removals.specs.Named.{without_all, has_clone, has_clone_named, member_of, newer_members}
+use Rattle.removals.specs.Named.{without_all, later_ids, has_clone, has_clone_and_is_later}
 use Rattle.removals.specs.Requests.{without_family}
 use Rattle.removals.proofs.Clones.{is_uncloned}
+use Rattle.removals.proofs.Identified.{none_owned}
 use Rattle.removals.proofs.Losses.{has_lost}
 use Rattle.removals.proofs.Rolled.{insert_twice, last_go}
 use Rattle.removals.proofs.SystemsGone.{in_entries, get-family}
@@ -45,27 +44,19 @@ abbrev pub bare_at : Datasets → Entry → Datasets
 bare_at t r = record t { file_systems = insert t.file_systems r.0 (record r.1 { snaps = [] }) }
 
 -- all its snapshots are of a later group than 0
-pub bare_is : (t : Datasets) (good : AreFileSystems t.file_systems t.group) (r : Entry) → get t.file_systems r.0 ≡ Some r.1 → without_all t (newer_members r 0) ≡ bare_at t r
+pub bare_is : (t : Datasets) (good : AreFileSystems t.file_systems t.group) (r : Entry) → get t.file_systems r.0 ≡ Some r.1 → without_all t r.0 (later_ids 0 r.1.snaps) ≡ bare_at t r
 bare_is t good r at =
-    ap (λ l. without_all t (map (member_of r) l)) (filter_all (λ (s : Snap). nat_lt 0 s.group) r.1.snaps (λ u i.
+    ap (λ l. without_all t r.0 (map {A = Snap} id_of l)) (filter_all (λ (s : Snap). nat_lt 0 s.group) r.1.snaps (λ u i.
     let l = rising_above (start t.file_systems t.group good.lines r.0 r.1 at).base r.1.snaps u (rising t.file_systems t.group good.lines r.0 r.1 at) i in
     lt-ltb 0 u.group (omega (arith, l))))
     ∙ last_go t good r at [] r.1.snaps refl
 
-none_named : (t : Datasets) (ms : List Member) → ((m : Member) → IsIn ms m → snap_named (world_of t) m ≡ None) → without_all t ms ≡ t
-none_named t [] each = refl
-none_named t (m ∷ ms) each =
-    ap (λ x. without_all (option_map_or (λ (s : Snap). without_snap t (id_of s)) x t) ms) (each m (inl refl)) ∙ none_named t ms (λ n i. each n (inr i))
-
 -- what is empty has none of them
-already_bare : (t : Datasets) (r : Entry) → get t.file_systems r.0 ≡ Some empty_file_system → without_all t (newer_members r 0) ≡ t
-already_bare t r at = none_named t (newer_members r 0) (λ m i.
-    let s = in_map (member_of r) (filter (λ (u : Snap). nat_lt 0 u.group) r.1.snaps) m i in
-    ap (λ n. option_and_then (λ (f : FileSystem). find (λ (u : Snap). same_name u.name n.component) f.snaps) (get t.file_systems n.file_system)) s.2
-    ∙ ap (option_and_then (λ (f : FileSystem). find (λ (u : Snap). same_name u.name s.0.name) f.snaps)) at)
+already_bare : (t : Datasets) (r : Entry) → get t.file_systems r.0 ≡ Some empty_file_system → without_all t r.0 (later_ids 0 r.1.snaps) ≡ t
+already_bare t r at = none_owned (later_ids 0 r.1.snaps) t r.0 (ap (λ (x : Option FileSystem). option_map_or (λ (f : FileSystem). f.snaps) x []) at)
 
 module _ (t : Datasets) (good : AreFileSystems t.file_systems t.group) (r : Entry) (state : (get t.file_systems r.0 ≡ Some r.1) ⊎ (get t.file_systems r.0 ≡ Some empty_file_system))
-    (u : Datasets) (to : u ≡ without_all t (newer_members r 0)) where
+    (u : Datasets) (to : u ≡ without_all t r.0 (later_ids 0 r.1.snaps)) where
   pub one_there : IsSome (get u.file_systems r.0)
   one_there = ⊎_elim
       (λ at. ap (λ (v : Datasets). is_some (get v.file_systems r.0)) (to ∙ bare_is t good r at) ∙ ap is_some (put_here t.file_systems r.0 (record r.1 { snaps = [] })))
@@ -183,23 +174,12 @@ module _ (t : Datasets) (good : AreFileSystems t.file_systems t.group) (name : N
           (λ l. absurd (omega (arith, l, later, group)))
           (left (n, f) (in_entries (entries t.file_systems) n f (entry_of name_order t.file_systems n f there)) of_family)
 
-  pub none_cloned : list_any (has_clone_named u) (newer_members r 0) ≡ false
-  none_cloned = none_any (has_clone_named u) (newer_members r 0) (λ m i.
-      let s = in_map (member_of r) (filter (λ (v : Snap). nat_lt 0 v.group) r.1.snaps) m i in
-      ap (has_clone_named u) s.2 ∙ by_named s.0 (snap_named (world_of u) (member_of r s.0)) refl)
+  pub none_cloned : list_any (has_clone_and_is_later u 0) r.1.snaps ≡ false
+  none_cloned = none_any (has_clone_and_is_later u 0) r.1.snaps (λ s i. ap (λ b. nat_lt 0 s.group && b) (uncloned s i) ∙ and_false (nat_lt 0 s.group))
     where
-      found : Snap → Option FileSystem → Option Snap
-      found v x = option_and_then (λ (f : FileSystem). find (λ (w : Snap). same_name w.name v.name) f.snaps) x
-
-      there : (v s : Snap) → snap_named (world_of u) (member_of r v) ≡ Some s → IsIn r.1.snaps s
-      there v s e = ⊎_elim
-          (λ k. (from_find (λ (w : Snap). same_name w.name v.name) r.1.snaps s (sym (ap (found v) k) ∙ e)).0)
-          (λ k. absurd (no_value s (sym (ap (found v) k) ∙ e)))
-          as_was
-
-      by_named : (v : Snap) (x : Option Snap) → snap_named (world_of u) (member_of r v) ≡ x → has_clone_named u (member_of r v) ≡ false
-      by_named v None e = ap (λ (x : Option Snap). option_map_or (λ (s : Snap). has_clone u (id_of s)) x false) e
-      by_named v (Some s) e = ap (λ (x : Option Snap). option_map_or (λ (s : Snap). has_clone u (id_of s)) x false) e ∙ uncloned s (there v s e)
+      and_false : (b : Bool) → (b && false) ≡ false
+      and_false true = refl
+      and_false false = refl
 
 -- ---- in order
 
@@ -268,7 +248,7 @@ module _ {A : Type 0} (value : A → Entry) (t : Datasets) (good : AreFileSystem
       pub turn_as : (get u.file_systems (value a).0 ≡ Some (value a).1) ⊎ (get u.file_systems (value a).0 ≡ Some empty_file_system)
       turn_as = as_was t good name inside u (map value (drop left xs)) stage (value a) there its.1 latest
 
-      pub turn_uncloned : list_any (has_clone_named u) (newer_members (value a) 0) ≡ false
+      pub turn_uncloned : list_any (has_clone_and_is_later u 0) (value a).1.snaps ≡ false
       turn_uncloned = none_cloned t good name inside u (map value (drop left xs)) stage (value a) there its.1 latest
 
       pub turn_stage : (v : Datasets) → v ≡ with_system u (value a).0 empty_file_system → IsStage t name v (map value (drop (left - 1) xs))

@@ -1,7 +1,7 @@
 pub use Rattle.snap.proofs.Turns
 pub use Rattle.snap.proofs.Rooms
 pub mod Losses
-pub mod Named
+pub mod Identified
 pub mod Yielded
 pub mod Rolled
 pub mod Destroyed

@@ -1,6 +1,6 @@
 -- What a removal loses joins what is to be freed, and stays apart from the datasets.
 use Rattle.std.proofs.Common.{◌≡◌, ◌⊎◌, ℕ, List, [], ◌∷◌, Option, Some, None, Result, Ok, Err, refl, sym, ap, subst, ◌∙◌, inl, inr, ⊎_elim, map}
-use Rattle.std.specs.Prelude.{IfSome, OnOk}
+use Rattle.std.specs.Prelude.{OnOk}
 use Rattle.std.specs.Option.{option_map_or}
 use Rattle.std.specs.FinMap as finmap
 use Rattle.std.specs.FinMap.{get, insert}
@@ -47,12 +47,6 @@ pub lost_without : {T E : Type 0} (r : Result T E) (t u : Datasets) (freeing aft
 lost_without (Ok x) t u freeing after lost good apart id to is joined =
     has_lost t u freeing after (subst (λ v. IsSubset (union_of (world_of v)) (union_of (world_of t))) (sym to) (fewer_without t good id)) apart (joined ∙ ap (union freeing) is)
 lost_without (Err e) t u freeing after lost good apart id to is joined = tt
-
--- the snapshot of a name
-pub lost_named : {T E : Type 0} (r : Result T E) (t u : Datasets) (freeing after : BlockSet) (lost : BlockSet) → AreFileSystems t.file_systems t.group → AreDisjoint (union_of (world_of t)) freeing
-    → (x : Option Snap) → (x ≡ None → ⊥) → IfSome x (λ v. u ≡ without_snap t (id_of v)) → lost ≡ lost_between t u → OnOk r (after ≡ union freeing lost) → OnOk r (HasLost t freeing u after)
-lost_named r t u freeing after lost good apart None there to = absurd (there refl)
-lost_named r t u freeing after lost good apart (Some v) there to = lost_without r t u freeing after lost good apart (id_of v) to
 
 -- the newest of these maps is one of them, or the first
 newest_in : (m : Map) (ts : List Snap) → (newest_map m ts ≡ m) ⊎ IsIn (map (λ (u : Snap). u.map) ts) (newest_map m ts)

@@ -1,6 +1,6 @@
 -- Who needs a snapshot: a tag, an open view, or a clone.
 use Rattle.std.proofs.Common.{◌≡◌, ℕ, Bool, true, false, cond, not, ◌&&◌, ◌||◌, List, [], ◌∷◌, length, map, Option, Some, None, refl, sym, ap, subst, ◌∙◌, true≢false, inl, inr}
-use Rattle.std.specs.Prelude.{nat_lt}
+use Rattle.std.specs.Prelude.{is_some, nat_lt}
 use Rattle.std.specs.List.{find, filter, list_any}
 use Rattle.std.specs.Option.{option_map_or, option_and_then}
 use Rattle.std.specs.FinMap.{get}
@@ -8,16 +8,18 @@ use Rattle.std.proofs.lemmas.Bool.{and_parts}
 use Rattle.base.specs.Surveys.{IsIn}
 use Rattle.base.specs.Names.{same_name}
 use Rattle.base.specs.declared.name.member.Member.{Member}
-use Rattle.model.specs.World.{FileSystem, Snap, SnapId, id_of, snap_at, snap_named}
+use Rattle.model.specs.World.{FileSystem, Snap, SnapId, id_of, same_id, snap_at, snap_named}
 use Rattle.model.specs.State.{Views, is_viewed}
 use Rattle.model.specs.Outcome.{is_needed}
+use Rattle.datasets.specs.Holders.{snap_in_system}
+use Rattle.datasets.specs.Rows.{snaps_at}
 use Rattle.world.specs.Shapes.{Name}
 use Rattle.world.specs.Worlds.{AreFileSystems}
 use Rattle.world.specs.Tables.{Datasets, world_of}
 use Rattle.world.proofs.lists.Maps.{no_value, same_value}
-use Rattle.world.proofs.lists.Finding.{or_none, from_find}
-use Rattle.world.proofs.lineage.Bridge.{from_snap_at, one_snap, snap_is_at}
-use Rattle.removals.specs.Named.{has_clone, is_held, is_named_held, is_held_after, is_kept}
+use Rattle.world.proofs.lists.Finding.{or_none, from_find, found_none, is_same_id}
+use Rattle.world.proofs.lineage.Bridge.{from_snap_at, snap_is_at}
+use Rattle.removals.specs.Named.{has_clone, is_held, is_held_after, is_kept}
 use Rattle.removals.specs.Families.{unneeded}
 use Rattle.removals.proofs.Seen.{any_later}
 
@@ -70,6 +72,26 @@ named_there t m s e = by_system (get t.file_systems m.file_system) refl e
     by_system None at k = absurd (no_value s k)
     by_system (Some f) at k = (f, at, (from_find (λ (u : Snap). same_name u.name m.component) f.snaps s k).0)
 
+-- one that is there is found by its identity
+pub found_there : (t : Datasets) (name : Name) (f : FileSystem) (u : Snap) → get t.file_systems name ≡ Some f → IsIn f.snaps u → is_some (snap_in_system t name (id_of u)) ≡ true
+found_there t name f u at i =
+    ap (λ (x : Option FileSystem). is_some (find is_it (option_map_or (λ (g : FileSystem). g.snaps) x []))) at ∙ by_snap (find is_it f.snaps) refl
+  where
+    is_it : Snap → Bool
+    is_it v = same_id (id_of v) (id_of u)
+
+    by_snap : (y : Option Snap) → find is_it f.snaps ≡ y → is_some (find is_it f.snaps) ≡ true
+    by_snap None e = absurd (found_none is_it f.snaps e u i (is_same_id (id_of u) (id_of u) refl))
+    by_snap (Some v) e = ap is_some e
+
+-- its file system
+pub system_at : (t : Datasets) (name : Name) (u : Snap) → IsIn (snaps_at t.file_systems name) u → (f : FileSystem) × (get t.file_systems name ≡ Some f) × IsIn f.snaps u
+system_at t name u i = by_system (get t.file_systems name) refl i
+  where
+    by_system : (x : Option FileSystem) → get t.file_systems name ≡ x → IsIn (option_map_or (λ (f : FileSystem). f.snaps) x []) u → (f : FileSystem) × (get t.file_systems name ≡ Some f) × IsIn f.snaps u
+    by_system None e k = absurd k
+    by_system (Some f) e k = (f, e, k)
+
 module _ (t : Datasets) (good : AreFileSystems t.file_systems t.group) (views : Views) where
   -- an identity is one snapshot's
   pub held_at : (name : Name) (f : FileSystem) (u : Snap) → get t.file_systems name ≡ Some f → IsIn f.snaps u → is_held_at t views (id_of u) ≡ is_held views u
@@ -83,18 +105,6 @@ module _ (t : Datasets) (good : AreFileSystems t.file_systems t.group) (views : 
   later_held name f at group =
       any_later (is_held_at t views) group f.snaps
       ∙ any_alike (λ (u : Snap). nat_lt group u.group && is_held_at t views (id_of u)) (is_held_after views group) f.snaps (λ u i. ap (λ b. nat_lt group u.group && b) (held_at name f u at i))
-
-  -- so is a name
-  pub named_held : (m : Member) → option_map_or (λ (s : Snap). is_held_at t views (id_of s)) (snap_named (world_of t) m) false ≡ is_named_held t views m
-  named_held m = by_snap (snap_named (world_of t) m) refl
-    where
-      by_snap : (x : Option Snap) → snap_named (world_of t) m ≡ x → option_map_or (λ (s : Snap). is_held_at t views (id_of s)) x false ≡ option_map_or (is_held views) x false
-      by_snap None e = refl
-      by_snap (Some s) e = let k = named_there t m s e in held_at m.file_system k.0 s k.1 k.2
-
-  -- it is the one of each name that stands for its identity
-  pub named_one : (n : Name) (f : FileSystem) (u : Snap) → get t.file_systems n ≡ Some f → IsIn f.snaps u → (m : Member) (s : Snap) → snap_named (world_of t) m ≡ Some s → id_of u ≡ id_of s → u ≡ s
-  named_one n f u at i m s e ids = let k = named_there t m s e in (one_snap t.file_systems t.group good.lines n m.file_system f k.0 u s at k.1 i k.2 ids).1
 
 -- ---- the one that nothing needs
 

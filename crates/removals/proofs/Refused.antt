@@ -28,7 +28,7 @@ use Rattle.removals.specs.Families.{family_refusal, is_outside_clone, AreClonesI
 use Rattle.removals.specs.Requests.{destroy_refusal}
 use Rattle.removals.proofs.Needed.{is_held_at, later_held}
 use Rattle.removals.proofs.Outside.{cloned_outside, clones_inside}
-use Rattle.removals.proofs.Seen.{any_join}
+use Rattle.std.proofs.lemmas.List.Folds.{list_any-append}
 use Rattle.removals.proofs.SystemsGone.{in_entries}
 
 -- by the tests of a file system that is there
@@ -73,7 +73,7 @@ module _ (t : Datasets) (good : AreFileSystems t.file_systems t.group) (views : 
           → list_any (is_held_at t views) (flat_map (ids_at t) (cond b (r.0 ∷ filter p (map (λ (r : Entry). r.0) rows)) (filter p (map (λ (r : Entry). r.0) rows))))
           ≡ ((b && list_any (is_held_after views 0) r.1.snaps) || list_any (λ (r : Entry). p r.0 && list_any (is_held_after views 0) r.1.snaps) rows)
       by_test true ih =
-          any_join (is_held_at t views) (ids_at t r.0) (flat_map (ids_at t) (filter p (map (λ (r : Entry). r.0) rows)))
+          list_any-append (is_held_at t views) (ids_at t r.0) (flat_map (ids_at t) (filter p (map (λ (r : Entry). r.0) rows)))
           ∙ (λ i. (ap (λ x. list_any (is_held_at t views) (option_map_or (λ (f : FileSystem). map {A = Snap} id_of f.snaps) x [])) (each r (inl refl)) ∙ all_later r.0 r.1 (each r (inl refl))) i || ih i)
       by_test false ih = ih
 

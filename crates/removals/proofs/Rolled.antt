@@ -1,4 +1,4 @@
--- A file system goes back to one of its snapshots: what is newer goes by its names, and then the live map.
+-- A file system goes back to one of its snapshots: what is newer goes, and then the live map.
 use Rattle.std.proofs.Common.{◌≡◌, ℕ, ◌<◌, ◌≤◌, Bool, true, false, cond, not, List, [], ◌∷◌, ◌++◌, Option, Some, None, refl, sym, ap, subst, ◌∙◌, true≢false, ◌⊎◌, inl, inr, ⊎_elim, map, length, arith}
 use Rattle.std.specs.Prelude.{nat_le, nat_lt, is_some, ◌&&◌, ◌||◌}
 use Rattle.base.specs.declared.refusal.Refusal.{Refusal}
@@ -14,7 +14,7 @@ use Rattle.base.specs.Names.{same_name}
 use Rattle.base.specs.Surveys.{IsIn}
 use Rattle.snapshots.specs.Marks.{Marks, has_newer, without_newer}
 use Rattle.base.specs.Map.{Map}
-use Rattle.model.specs.World.{World, FileSystem, Snap, SnapId, id_of, snap_named}
+use Rattle.model.specs.World.{World, FileSystem, Snap, SnapId, id_of}
 use Rattle.model.specs.Edits.{without_snaps, with_file_system}
 use Rattle.model.specs.State.{Views}
 use Rattle.model.specs.requests.Rollback.{snaps_after, back_at, after_rollback, placed, newer_snaps}
@@ -28,43 +28,18 @@ use Rattle.world.specs.Outcomes.{is_one_of}
 use Rattle.world.specs.Tables.{Datasets, world_of}
 use Rattle.world.proofs.lists.Maps.{key_cases, same_value, no_value}
 use Rattle.world.proofs.lists.Listed.{in_map, map_in, length-mapped}
-use Rattle.world.proofs.lists.Finding.{from_find, find_only, filter_front, filter_all, in_filter, from_filter, in_right, one_name, name_itself}
+use Rattle.world.proofs.lists.Finding.{from_find, filter_front, filter_all, in_filter, from_filter, in_right}
 use Rattle.world.proofs.changes.Promotions.{split_at, upto_is, after_is, append_assoc}
 use Rattle.world.proofs.lineage.Put.{put_here, put_other}
 use Rattle.world.proofs.lineage.Bridge.{start, rising, rising_above, one_snap, snap_is_at, in_middle}
 use Rattle.world.proofs.removals.WithoutSnaps.{get-without, any_in, any_from}
-use Rattle.removals.specs.Named.{without_all, member_of, newer_members, has_clone, has_clone_named, is_held_after, has_clone_and_is_later}
+use Rattle.removals.specs.Named.{without_all, later_ids, has_clone, is_held_after, has_clone_and_is_later}
 use Rattle.removals.specs.Requests.{rolled, rollback_refusal, refusal_at, with_marks}
 use Rattle.removals.proofs.Clones.{outside_is}
+use Rattle.removals.proofs.Identified.{all_go}
 use Rattle.removals.proofs.Marked.{marks_put}
 use Rattle.removals.proofs.Needed.{is_held_at, later_held}
 use Rattle.removals.proofs.Seen.{any_later}
-use Rattle.removals.proofs.Named.{AreNamesOnce, names_once, ids_of, all_are}
-
--- each snapshot of a file system is found by its name
-module _ (t : Datasets) (once : AreNamesOnce t.file_systems) (r : Entry) (at : get t.file_systems r.0 ≡ Some r.1) where
-  pub found_itself : (u : Snap) → IsIn r.1.snaps u → snap_named (world_of t) (member_of r u) ≡ Some u
-  found_itself u h =
-      ap (option_and_then (λ (f : FileSystem). find (λ (v : Snap). same_name v.name u.name) f.snaps)) at
-      ∙ find_only (λ (v : Snap). same_name v.name u.name) r.1.snaps u h (name_itself u.name) (λ y i n. once r.0 r.1 at y u i h (one_name y.name u.name n))
-
-  ids_are : (us : List Snap) → ((u : Snap) → IsIn us u → IsIn r.1.snaps u) → ids_of t (map (member_of r) us) ≡ map (λ (u : Snap). id_of u) us
-  ids_are [] each = refl
-  ids_are (u ∷ us) each =
-      ap (λ x. option_map_or (λ (s : Snap). id_of s ∷ []) x [] ++ ids_of t (map (member_of r) us)) (found_itself u (each u (inl refl)))
-      ∙ ap (λ l. id_of u ∷ l) (ids_are us (λ v i. each v (inr i)))
-
-  -- those of a later group that have a clone
-  pub later_named : (group : ℕ) (us : List Snap) → ((u : Snap) → IsIn us u → IsIn r.1.snaps u)
-      → list_any (has_clone_named t) (map (member_of r) (filter (λ (u : Snap). nat_lt group u.group) us)) ≡ list_any (has_clone_and_is_later t group) us
-  later_named group [] each = refl
-  later_named group (u ∷ us) each = by_test (nat_lt group u.group) (later_named group us (λ v i. each v (inr i)))
-    where
-      by_test : (b : Bool) → list_any (has_clone_named t) (map (member_of r) (filter (λ (u : Snap). nat_lt group u.group) us)) ≡ list_any (has_clone_and_is_later t group) us
-          → list_any (has_clone_named t) (map (member_of r) (cond b (u ∷ filter (λ (u : Snap). nat_lt group u.group) us) (filter (λ (u : Snap). nat_lt group u.group) us)))
-          ≡ ((b && has_clone t (id_of u)) || list_any (has_clone_and_is_later t group) us)
-      by_test true ih = λ i. option_map_or (λ (s : Snap). has_clone t (id_of s)) (found_itself u (each u (inl refl)) i) false || ih i
-      by_test false ih = ih
 
 -- the last snapshots of one file system go
 module _ (t : Datasets) (good : AreFileSystems t.file_systems t.group) (r : Entry) (at : get t.file_systems r.0 ≡ Some r.1) (older newer : List Snap) (is : r.1.snaps ≡ older ++ newer) where
@@ -116,11 +91,8 @@ module _ (t : Datasets) (good : AreFileSystems t.file_systems t.group) (r : Entr
       by_old n ne None e = ap (option_map (λ (s : FileSystem). record s { snaps = filter (λ t. not (is_one_of ids t)) s.snaps })) e ∙ sym e
       by_old n ne (Some x) e = ap (option_map (λ (s : FileSystem). record s { snaps = filter (λ t. not (is_one_of ids t)) s.snaps })) e ∙ ap (λ l. Some (record x { snaps = l })) (elsewhere n x ne e) ∙ sym e
 
-  pub last_go : without_all t (map (member_of r) newer) ≡ record t { file_systems = insert t.file_systems r.0 (record r.1 { snaps = older }) }
-  last_go =
-      all_are (map (member_of r) newer) t (names_once t good)
-      ∙ ap (λ l. record t { file_systems = (without_snaps (world_of t) (is_one_of l)).file_systems }) (ids_are t (names_once t good) r at newer (λ u i. subst (λ l. IsIn l u) (sym is) (in_right older newer u i)))
-      ∙ ap (λ ss. record t { file_systems = ss }) shorter
+  pub last_go : without_all t r.0 (map {A = Snap} id_of newer) ≡ record t { file_systems = insert t.file_systems r.0 (record r.1 { snaps = older }) }
+  last_go = all_go t good r.0 r.1 at newer (λ u i. subst (λ l. IsIn l u) (sym is) (in_right older newer u i)) ∙ ap (λ ss. record t { file_systems = ss }) shorter
 
 pub insert_twice : (ss : FileSystems) (name : Name) (a b : FileSystem) → insert (insert ss name a) name b ≡ insert ss name b
 insert_twice ss name a b = same_map name_order.total name_order.exact _ _ (λ q. ⊎_elim
@@ -141,10 +113,10 @@ module _ (t : Datasets) (good : AreFileSystems t.file_systems t.group) (r : Entr
   rises : AreRising (start t.file_systems t.group good.lines r.0 r.1 at).base (older ++ s ∷ newer)
   rises = subst (AreRising (start t.file_systems t.group good.lines r.0 r.1 at).base) is (rising t.file_systems t.group good.lines r.0 r.1 at)
 
-  newer_gone : without_all t (newer_members r s.group) ≡ record t { file_systems = insert t.file_systems r.0 (record r.1 { snaps = older ++ s ∷ [] }) }
+  newer_gone : without_all t r.0 (later_ids s.group r.1.snaps) ≡ record t { file_systems = insert t.file_systems r.0 (record r.1 { snaps = older ++ s ∷ [] }) }
   newer_gone =
-      ap (λ l. without_all t (map (member_of r) (filter (λ (u : Snap). nat_lt s.group u.group) l))) is
-      ∙ ap (λ l. without_all t (map (member_of r) l)) (after_is _ older s newer rises)
+      ap (λ l. without_all t r.0 (later_ids s.group l)) is
+      ∙ ap (λ l. without_all t r.0 (map {A = Snap} id_of l)) (after_is _ older s newer rises)
       ∙ last_go t good r at (older ++ s ∷ []) newer (is ∙ sym (append_assoc older (s ∷ []) newer))
 
   abbrev back : FileSystem
@@ -172,7 +144,7 @@ module _ (t : Datasets) (good : AreFileSystems t.file_systems t.group) (r : Entr
       w : World
       w = world_of t
 
-  module _ (u : Datasets) (to : u ≡ without_all t (newer_members r s.group)) where
+  module _ (u : Datasets) (to : u ≡ without_all t r.0 (later_ids s.group r.1.snaps)) where
     shorter_there : get u.file_systems r.0 ≡ Some (record r.1 { snaps = older ++ s ∷ [] })
     shorter_there = ap (λ (x : Datasets). get x.file_systems r.0) (to ∙ newer_gone) ∙ put_here t.file_systems r.0 (record r.1 { snaps = older ++ s ∷ [] })
 
@@ -237,7 +209,7 @@ is_newer g base low (t ∷ ts) s i up = by_list (filter (λ (u : Snap). nat_lt g
 
 pub back_of : (t : Datasets) → AreFileSystems t.file_systems t.group → (r : Entry) → get t.file_systems r.0 ≡ Some r.1 → (component : List ℕ) (g : ℕ)
     → option_map (λ (u : Snap). u.group) (find (λ (v : Snap). same_name v.name component) r.1.snaps) ≡ Some g
-    → (u : Datasets) → u ≡ without_all t (newer_members r g)
+    → (u : Datasets) → u ≡ without_all t r.0 (later_ids g r.1.snaps)
     → (length (snaps_at u.file_systems r.0) ≡ 0 → ⊥)
     × ((v : Datasets) → v ≡ record u { file_systems = with_live u.file_systems r.0 (newest_map (live_of u.file_systems r.0) (snaps_at u.file_systems r.0)) }
     → with_marks v r.0 (λ marks. without_newer marks g) ≡ rolled t (OfSnapshot (record { file_system = r.0; component = component })))
@@ -252,7 +224,7 @@ back_of t good r at component g told u to = by_snap (find (λ (v : Snap). same_n
         let there = (from_find (λ (v : Snap). same_name v.name component) r.1.snaps s e).0 in
         let parts = split_at r.1.snaps s there in
         let same : g ≡ s.group = sym (same_value s.group g k) in
-        let to' : u ≡ without_all t (newer_members r s.group) = to ∙ ap (λ n. without_all t (newer_members r n)) same in (
+        let to' : u ≡ without_all t r.0 (later_ids s.group r.1.snaps) = to ∙ ap (λ n. without_all t r.0 (later_ids n r.1.snaps)) same in (
           has_snaps t good r at parts.0 s parts.1 parts.2 u to',
           λ v is. ap (λ n. with_marks v r.0 (λ marks. without_newer marks n)) same ∙ rolled_is t good r at parts.0 s parts.1 parts.2 u to' component e v is,
         )

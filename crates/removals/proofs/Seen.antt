@@ -1,19 +1,15 @@
 -- Open views and the snapshots that they show.
-use Rattle.std.proofs.Common.{◌≡◌, ◌⊎◌, ℕ, Bool, true, false, cond, ◌&&◌, ◌||◌, List, [], ◌∷◌, ◌++◌, map, Option, Some, None, refl, sym, ap, ◌∙◌, true≢false, inl, inr, ⊎_elim}
+use Rattle.std.proofs.Common.{◌≡◌, ◌⊎◌, ℕ, Bool, true, false, cond, ◌&&◌, ◌||◌, List, [], ◌∷◌, ◌++◌, map, Some, refl, sym, ap, ◌∙◌, true≢false, inl, inr, ⊎_elim}
 use Rattle.std.specs.Prelude.{nat_lt}
 use Rattle.std.specs.List.{filter, list_any}
-use Rattle.std.specs.Option.{option_map_or}
 use Rattle.std.specs.FinMap.{get, entries, remove}
-use Rattle.base.specs.declared.name.member.Member.{Member}
-use Rattle.model.specs.World.{Snap, SnapId, id_of, same_id, snap_named}
+use Rattle.model.specs.World.{Snap, SnapId, id_of, same_id}
 use Rattle.model.specs.State.{Views, is_viewed}
 use Rattle.world.specs.Shapes.{view_order}
-use Rattle.world.specs.Tables.{Datasets, world_of}
 use Rattle.world.specs.Usage.{IsEntry}
 use Rattle.world.proofs.lists.Finding.{same_id_is}
 use Rattle.world.proofs.views.ViewedSteps.{viewed}
 use Rattle.world.proofs.lists.Maps.{key_cases, at_entry, get-remove_other}
-use Rattle.removals.proofs.Named.{ids_of, id_named}
 
 -- ---- a view of a snapshot
 
@@ -38,28 +34,6 @@ viewed_beside views number id e =
     (λ (same : k.0 ≡ number). inr (ap (get views) (sym same) ∙ k.1))
     (λ other. inl (viewed (remove views number) k.0 id (get-remove_other view_order views number k.0 other ∙ k.1)))
     (key_cases view_order k.0 number)
-
--- ---- of some names
-
-pub any_join : (p : SnapId → Bool) (xs ys : List SnapId) → list_any p (xs ++ ys) ≡ (list_any p xs || list_any p ys)
-any_join p [] ys = refl
-any_join p (x ∷ xs) ys = ap (λ b. p x || b) (any_join p xs ys) ∙ assoc (p x) (list_any p xs) (list_any p ys)
-  where
-    assoc : (a b c : Bool) → (a || (b || c)) ≡ ((a || b) || c)
-    assoc true b c = refl
-    assoc false b c = refl
-
-pub any_named : (t : Datasets) (p : SnapId → Bool) (ms : List Member) → list_any p (ids_of t ms) ≡ list_any (λ m. option_map_or (λ (s : Snap). p (id_of s)) (snap_named (world_of t) m) false) ms
-any_named t p [] = refl
-any_named t p (m ∷ ms) = any_join p (id_named t m) (ids_of t ms) ∙ (λ i. one (snap_named (world_of t) m) i || any_named t p ms i)
-  where
-    or_none : (b : Bool) → (b || false) ≡ b
-    or_none true = refl
-    or_none false = refl
-
-    one : (x : Option Snap) → list_any p (option_map_or (λ (s : Snap). id_of s ∷ []) x []) ≡ option_map_or (λ (s : Snap). p (id_of s)) x false
-    one None = refl
-    one (Some s) = or_none (p (id_of s))
 
 -- ---- of those in a list
 

@@ -8,11 +8,12 @@ use Rattle.std.proofs.lemmas.Bool.{and_parts}
 use Rattle.base.specs.Surveys.{IsIn}
 use Rattle.base.specs.declared.name.member.Member.{Member}
 use Rattle.base.specs.declared.name.target.Target.TheVariants.{Snapshot as OfSnapshot}
-use Rattle.model.specs.World.{World, FileSystem, Snap, SnapId, id_of, same_id, snap_at, snaps_of, snap_named}
+use Rattle.model.specs.World.{World, FileSystem, Snap, SnapId, id_of, same_id, snap_at, snaps_of}
 use Rattle.model.specs.State.{Views, is_viewed}
 use Rattle.model.specs.Outcome.{is_needed}
 use Rattle.model.specs.Edits.{without_snaps}
 use Rattle.model.specs.requests.Destroy.{is_one_of, snaps_named}
+use Rattle.datasets.specs.Holders.{snap_in_system}
 use Rattle.datasets.specs.Rows.{Entry}
 use Rattle.world.specs.Shapes.{Name, name_order}
 use Rattle.world.specs.Worlds.{AreFileSystems}
@@ -23,12 +24,12 @@ use Rattle.world.proofs.lineage.Bridge.{from_entries, from_snap_at, in_snaps, on
 use Rattle.world.proofs.lists.Listed.{in_map}
 use Rattle.world.proofs.removals.Sweep.{get-with_file_systems}
 use Rattle.world.proofs.removals.WithoutSnaps.{get-without, from_without, without_twice, without_none}
-use Rattle.removals.specs.Named.{has_clone, is_held, is_kept, has_clone_named}
+use Rattle.removals.specs.Named.{without_owned, has_clone, is_held, is_kept}
 use Rattle.removals.specs.Families.{ArePartOf, unneeded, without_unneeded, removed_origin, without_origin}
 use Rattle.removals.specs.Requests.{swept, destroyed, IsSweptBut, IsSweptBy}
 use Rattle.removals.proofs.Clones.{uncloned_is, is_uncloned}
-use Rattle.removals.proofs.Closed.{filter_alike, named_at}
-use Rattle.removals.proofs.Needed.{not_true, needed_is, kept_parts, if_due, unneeded_parts}
+use Rattle.removals.proofs.Closed.{filter_alike}
+use Rattle.removals.proofs.Needed.{found_there, not_true, needed_is, kept_parts, if_due, unneeded_parts}
 
 and_false : (b : Bool) → (b && false) ≡ false
 and_false true = refl
@@ -359,13 +360,15 @@ module _ (t : Datasets) (views : Views) (clean : IsSweptBy t views) (m : Member)
 
 -- ---- the one that goes
 
-module _ (t : Datasets) (good : AreFileSystems t.file_systems t.group) (views : Views) (id : SnapId) (p : Name × Snap) (is : unneeded t views id ≡ Some p) where
-  pub unneeded_named : snap_named (world_of t) (record { file_system = p.0; component = p.1.name }) ≡ Some p.1
-  unneeded_named = named_at t good id p (unneeded_parts t views id p is).0
+module _ (t : Datasets) (views : Views) (id : SnapId) (p : Name × Snap) (is : unneeded t views id ≡ Some p) where
+  there_with : (f : FileSystem) × (get t.file_systems p.0 ≡ Some f) × IsIn f.snaps p.1 × (id_of p.1 ≡ id)
+  there_with = from_snap_at (world_of t) id p (unneeded_parts t views id p is).0
 
-  pub unneeded_uncloned : has_clone_named t (record { file_system = p.0; component = p.1.name }) ≡ false
-  unneeded_uncloned =
-      ap (λ (x : Option Snap). option_map_or (λ (s : Snap). has_clone t (id_of s)) x false) unneeded_named ∙ (kept_parts t views p.1 (unneeded_parts t views id p is).2).2
+  pub unneeded_uncloned : has_clone t id ≡ false
+  unneeded_uncloned = ap (has_clone t) (sym there_with.3) ∙ (kept_parts t views p.1 (unneeded_parts t views id p is).2).2
 
-  pub unneeded_goes : without_snap t (id_of p.1) ≡ without_unneeded t views id
-  unneeded_goes = sym (ap (λ (x : Option (Name × Snap)). option_map_or (λ q. without_snap t (id_of q.1)) x t) is)
+  pub unneeded_goes : without_owned t p.0 id ≡ without_unneeded t views id
+  unneeded_goes =
+      ap (λ b. cond b (without_snap t id) t) (ap (λ i. is_some (snap_in_system t p.0 i)) (sym there_with.3) ∙ found_there t p.0 there_with.0 p.1 there_with.1 there_with.2)
+      ∙ ap (without_snap t) (sym there_with.3)
+      ∙ sym (ap (λ (x : Option (Name × Snap)). option_map_or (λ q. without_snap t (id_of q.1)) x t) is)

@@ -6,54 +6,13 @@ ghost use Rattle.datasets.specs.Rows.{entry_in};
 ghost use Rattle.datasets.specs.CloneNames.{name_of};
 ghost use Rattle.snap.specs.Taking.{is_in_family};
 ghost use Rattle.removals.specs.Families.{is_cloned_outside, is_outside_clone};
-ghost use Rattle.removals.specs.Named.{has_clone_named, is_named_needed, has_clone_and_is_later};
+ghost use Rattle.removals.specs.Named.{has_clone_and_is_later};
 
-use crate::held::is_named_held;
-use base::name::{Component, DsName};
+use base::name::DsName;
 use base::number::Group;
 use datasets::{CloneName, FileSystem, Snapshot, Table};
-use snap::{Named, is_in_family};
+use snap::is_in_family;
 use std::sync::Arc;
-use views::Views;
-
-/// Whether the snapshot of this name has a clone. It costs the logarithms of the numbers of file systems, of clones and of snapshots of
-/// its own.
-pub(crate) fn has_clone_named(table: &Table, file_system: &DsName, component: &Component) -> bool
-    ensures { result ≡ has_clone_named table.now (record { file_system = file_system.now; component = component.now }) }
-{
-    match table.snapshot_named(file_system, component) {
-        Some((_owner, snapshot)) => table.has_clone(snapshot.id()),
-        None => false,
-    }
-}
-
-// The same of a name that is lent.
-fn is_cloned(table: &Table, name: &Named) -> bool
-    ensures { result ≡ has_clone_named table.now name.now }
-{
-    has_clone_named(table, name.file_system, name.component)
-}
-
-/// Whether the snapshot of one of these names has a clone. It costs what `has_clone_named` does for each.
-pub(crate) fn any_has_clone(table: &Table, all: &[Named]) -> bool
-    ensures { result ≡ list_any (has_clone_named table.now) all.now }
-{
-    all.iter().any(|name| is_cloned(table, name))
-}
-
-/// Whether a tag or an open view keeps the snapshot of this name, or it has a clone. It costs what `is_named_held` and `has_clone_named`
-/// do.
-pub(crate) fn is_named_needed(
-    table: &Table,
-    views: &Views,
-    file_system: &DsName,
-    component: &Component,
-) -> bool
-    ensures { result ≡ is_named_needed table.now views.now.opened (record { file_system = file_system.now; component = component.now }) }
-{
-    is_named_held(table, views, file_system, component)
-        || has_clone_named(table, file_system, component)
-}
 
 /// Whether a snapshot of this file system of a later group has a clone in the table. It costs the number of its snapshots, and for each
 /// that is later the logarithm of the number of clones.

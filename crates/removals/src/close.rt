@@ -42,9 +42,8 @@ fn removed_with<'a>(
 /// Lets the snapshot go that goes with the view of this number, once that is closed: the one that it shows, if its destroy is deferred and
 /// no tag, no other view and no clone needs it (zfs-destroy(8), -d); what no dataset has then is to be freed. Where none goes, all stays.
 /// The answer names the file system that it went from, or none. NoMemory where there is none for it, and then the table and what it has to free
-/// are as they were. It costs the number of open views and
-/// the number of file systems times the logarithm of that of the snapshots of one; and where a snapshot goes, what `WorkingCopy::of` and
-/// `WorkingCopy::remove_snapshot` do.
+/// are as they were. It costs the number of open views and the number of file systems times the logarithm of that of the snapshots of one;
+/// and where a snapshot goes, what `WorkingCopy::of` and `WorkingCopy::remove_snapshot` do.
 pub fn close_view(
     alloc: Global,
     table: &mut Table,
@@ -68,7 +67,7 @@ pub fn close_view(
     };
     let owner = file_system.name().clone()?;
     let mut edit = WorkingCopy::of(table, freeing)?;
-    edit.remove_named(alloc, file_system.name(), snapshot.name(), segments)?;
+    edit.remove_snapshot(alloc, file_system.name(), snapshot.id(), segments)?;
     edit.put(table, freeing);
     Ok(Some(owner))
 }

@@ -1,5 +1,5 @@
 //! File systems that are emptied before they go.
-ghost use Rattle.std.specs.Prelude.{◌≡◌, ◌⊎◌, [], true, false, Some, IsSome, IfOk, IfErr, OnOk, map};
+ghost use Rattle.std.specs.Prelude.{◌≡◌, ◌⊎◌, [], false, Some, IsSome, IfOk, IfErr, OnOk, map};
 ghost use Rattle.std.specs.List.{filter, list_any};
 ghost use Rattle.std.specs.List.Sorted.{IsPermutation, IsNonDecreasingBy};
 ghost use Rattle.std.specs.FinMap.{get, entries};
@@ -12,7 +12,7 @@ ghost use Rattle.world.specs.Sets.{AreDisjoint};
 ghost use Rattle.world.specs.Tables.{world_of, with_system};
 ghost use Rattle.removals.specs.Edits.{HasLost};
 ghost use Rattle.removals.specs.Families.{emptied, AreClonesInside};
-ghost use Rattle.removals.specs.Named.{has_clone_named, newer_members};
+ghost use Rattle.removals.specs.Named.{has_clone_and_is_later};
 
 use crate::working_copy::WorkingCopy;
 use base::meter::SegMeter;
@@ -94,7 +94,7 @@ fn empty_one(
 ) -> Result<(), Refusal>
     requires apart { AreDisjoint (union_of (world_of edit.old.to)) edit.old.freeing }
     requires there { (get edit.old.to.file_systems file_system.now.name ≡ Some file_system.now.system) ⊎ (get edit.old.to.file_systems file_system.now.name ≡ Some empty_file_system) }
-    requires no_clone { list_any (has_clone_named edit.old.to) (newer_members (entry_of file_system.now) 0) ≡ false }
+    requires no_clone { list_any (has_clone_and_is_later edit.old.to 0) file_system.now.system.snaps ≡ false }
     ensures ok { OnOk result (edit.new.to ≡ with_system edit.old.to file_system.now.name empty_file_system) }
     ensures lost { OnOk result (HasLost edit.old.to edit.old.freeing edit.new.to edit.new.freeing) }
     ensures err { IfErr result (λ e. e ≡ Refusal.NoMemory) }

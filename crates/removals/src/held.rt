@@ -4,50 +4,20 @@ ghost use Rattle.std.specs.List.{list_any};
 ghost use Rattle.std.specs.FinMap.{entries};
 ghost use Rattle.datasets.specs.Rows.{entry_in};
 ghost use Rattle.snap.specs.Taking.{is_in_family};
-ghost use Rattle.removals.specs.Named.{is_held, is_named_held, is_held_after};
+ghost use Rattle.removals.specs.Named.{is_held, is_held_after};
 
-use base::name::{Component, DsName};
+use base::name::DsName;
 use base::number::Group;
 use datasets::{FileSystem, Snapshot, Table};
-use snap::{Named, is_in_family};
+use snap::is_in_family;
 use std::sync::Arc;
 use views::Views;
 
-// Whether a tag or an open view keeps it. It costs the number of open views.
-fn is_held(views: &Views, snapshot: &Snapshot) -> bool
+/// Whether a tag or an open view keeps it. It costs the number of open views.
+pub(crate) fn is_held(views: &Views, snapshot: &Snapshot) -> bool
     ensures { result ≡ is_held views.now.opened snapshot.now }
 {
     snapshot.is_held() || views.is_viewed(snapshot.id())
-}
-
-/// Whether a tag or an open view keeps the snapshot of this name. It costs the logarithm of the number of file systems, that of the number
-/// of snapshots of this one, and the number of open views.
-pub(crate) fn is_named_held(
-    table: &Table,
-    views: &Views,
-    file_system: &DsName,
-    component: &Component,
-) -> bool
-    ensures { result ≡ is_named_held table.now views.now.opened (record { file_system = file_system.now; component = component.now }) }
-{
-    match table.snapshot_named(file_system, component) {
-        Some((_owner, snapshot)) => is_held(views, snapshot),
-        None => false,
-    }
-}
-
-// The same of a name that is lent.
-fn is_one_held(table: &Table, views: &Views, name: &Named) -> bool
-    ensures { result ≡ is_named_held table.now views.now.opened name.now }
-{
-    is_named_held(table, views, name.file_system, name.component)
-}
-
-/// Whether a tag or an open view keeps the snapshot of one of these names. It costs what `is_named_held` does for each.
-pub(crate) fn any_named_held(table: &Table, views: &Views, all: &[Named]) -> bool
-    ensures { result ≡ list_any (is_named_held table.now views.now.opened) all.now }
-{
-    all.iter().any(|name| is_one_held(table, views, name))
 }
 
 /// Whether a tag or an open view keeps a snapshot of this file system of a later group. It costs the number of its snapshots, and for each

@@ -12,6 +12,7 @@ mod close;
 mod destroying;
 mod emptied;
 mod family;
+mod found;
 mod gone;
 mod held;
 mod rolling;

@@ -11,12 +11,13 @@ ghost use Rattle.removals.specs.Edits.{HasLost};
 ghost use Rattle.removals.specs.Families.{ArePartOf, unneeded, removed_origin, without_origin, without_unneeded};
 ghost use Rattle.removals.specs.Requests.{swept, IsSweptBut, IsSweptBy};
 
-use crate::working_copy::{WorkingCopy, member};
+use crate::working_copy::WorkingCopy;
 use base::meter::SegMeter;
 use base::refusal::Refusal;
 use datasets::{FileSystem, Snapshot, Table};
 use model::snapshot_id::SnapshotId;
 use std::alloc::Global;
+use std::sync::Arc;
 use views::Views;
 
 // The snapshot of this identity with its file system, where its destroy is deferred and no tag, no open view and no clone needs it. It
@@ -54,11 +55,11 @@ fn lose_unneeded(
     ensures err { IfErr result (λ e. e ≡ Refusal.NoMemory) }
 {
     edit.to.facts();
-    let name = match unneeded(&edit.to, views, id) {
-        Some((file_system, snapshot)) => member(file_system.name(), snapshot.name())?,
+    let owner = match unneeded(&edit.to, views, id) {
+        Some((file_system, _snapshot)) => Arc::try_clone(file_system.owned_name())?,
         None => return Ok(()),
     };
-    edit.remove_snapshot(alloc, &name, segments)
+    edit.remove_snapshot(alloc, &owner, id, segments)
 }
 
 // The origin of a file system that the table hasn't any more. It costs the logarithm of the number of file systems.

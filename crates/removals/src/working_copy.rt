@@ -1,23 +1,26 @@
 //! A table from which datasets go.
-ghost use Rattle.std.specs.Prelude.{◌≡◌, ◌⊎◌, ◌↔◌, false, not, filter, Some, None, IfSome, IfOk, IfErr, OnOk, length};
+ghost use Rattle.std.specs.Prelude.{◌≡◌, ◌⊎◌, ◌↔◌, ◌&&◌, false, not, map, IfOk, IfErr, OnOk, length};
 ghost use Rattle.std.specs.List.{list_any};
 ghost use Rattle.base.specs.declared.refusal.Refusal.{Refusal};
 ghost use Rattle.datasets.specs.Losses.{newest_map};
-ghost use Rattle.datasets.specs.Rows.{entry_of, live_of, snaps_at, with_live};
-ghost use Rattle.model.specs.World.{id_of, snap_named, union_of};
+ghost use Rattle.datasets.specs.Rows.{live_of, snaps_at, with_live};
+ghost use Rattle.model.specs.Ids.{snap_id};
+ghost use Rattle.model.specs.Outcome.{is_needed};
+ghost use Rattle.model.specs.World.{id_of, union_of};
 ghost use Rattle.world.specs.Sets.{AreDisjoint};
-ghost use Rattle.world.specs.Tables.{world_of, without_snap};
+ghost use Rattle.world.specs.Tables.{world_of};
 ghost use Rattle.removals.specs.Edits.{HasLost};
-ghost use Rattle.removals.specs.Named.{without_named, without_all, deferred_named, deferred_all, has_clone_named, is_named_needed, newer_members};
+ghost use Rattle.removals.specs.Found.{AreThere, removed_or_deferred};
+ghost use Rattle.removals.specs.Named.{without_owned, without_all, deferred_owned, has_clone, has_clone_and_is_later, later_ids};
 
-use crate::cloned::is_named_needed;
+use crate::found::{Found, has_to_wait};
 use base::meter::SegMeter;
-use base::name::{Component, DsName, Member};
+use base::name::DsName;
 use base::number::Group;
 use base::refusal::Refusal;
 use datasets::{FileSystem, Table};
 use destroyer::Freeing;
-use snap::Named;
+use model::snapshot_id::SnapshotId;
 use std::alloc::Global;
 use std::sync::Arc;
 use views::Views;
@@ -52,24 +55,28 @@ impl WorkingCopy {
         *freeing = left;
     }
 
-    /// Lets the snapshot of this name go, which has no clone (zfs-destroy(8)): the blocks that no dataset has any more are to be freed.
-    /// NoDataset exactly where there is none of that name; else NoMemory where there is none for it, and then the edit is of no use. It
-    /// costs what `Table::remove_snapshot` does.
+    /// Lets the snapshot of this identity go from this file system, and nothing where that hasn't it; it has no clone (zfs-destroy(8)). The
+    /// blocks that no dataset has any more are to be freed. NoMemory where there is none for it, and then the edit is of no use. It costs what
+    /// `Table::remove_snapshot` does.
     pub fn remove_snapshot(
         &mut self,
         alloc: Global,
-        name: &Member,
+        file_system: &DsName,
+        id: SnapshotId,
         segments: &mut SegMeter,
     ) -> Result<(), Refusal>
         requires apart { AreDisjoint (union_of (world_of self.old.to)) self.old.freeing }
-        requires no_clone { has_clone_named self.old.to name.now ≡ false }
-        ensures ok { IfSome (snap_named (world_of self.old.to) name.now) (λ t. OnOk result (self.new.to ≡ without_snap self.old.to (id_of t))) }
+        requires no_clone { has_clone self.old.to (snap_id id) ≡ false }
+        ensures ok { OnOk result (self.new.to ≡ without_owned self.old.to file_system.now (snap_id id)) }
         ensures lost { OnOk result (HasLost self.old.to self.old.freeing self.new.to self.new.freeing) }
-        ensures no_dataset { (result ≡ Err Refusal.NoDataset) ↔ (snap_named (world_of self.old.to) name.now ≡ None) }
-        ensures only { IfErr result (λ e. (e ≡ Refusal.NoDataset) ⊎ (e ≡ Refusal.NoMemory)) }
+        ensures err { IfErr result (λ e. e ≡ Refusal.NoMemory) }
     {
         self.to.facts();
-        let lost = self.to.remove_snapshot(alloc, name, segments)?;
+        let lost = match self.to.remove_snapshot(alloc, file_system, id, segments) {
+            Ok(lost) => lost,
+            Err(Refusal::NoDataset) => return Ok(()),
+            Err(refusal) => return Err(refusal),
+        };
         let lost = Arc::new(alloc, lost)?;
         self.freeing.add_dead(lost)
     }
@@ -95,83 +102,47 @@ impl WorkingCopy {
             .add_tree(&lost.tree, lost.after, u64::from(lost.count))
     }
 
-    // Lets the snapshot of this name go, which has no clone, and nothing where there is none. NoMemory where there is none for it, and then
-    // the edit is of no use. It costs what `remove_snapshot` does.
-    pub(crate) fn remove_named(
-        &mut self,
-        alloc: Global,
-        file_system: &DsName,
-        component: &Component,
-        segments: &mut SegMeter,
-    ) -> Result<(), Refusal>
-        requires apart { AreDisjoint (union_of (world_of self.old.to)) self.old.freeing }
-        requires no_clone { has_clone_named self.old.to (record { file_system = file_system.now; component = component.now }) ≡ false }
-        ensures ok { OnOk result (self.new.to ≡ without_named self.old.to (record { file_system = file_system.now; component = component.now })) }
-        ensures lost { OnOk result (HasLost self.old.to self.old.freeing self.new.to self.new.freeing) }
+    // From now on the destroy of the snapshot of this identity of this file system is deferred, where that has it. NoMemory where there is
+    // none for it, and then the edit is of no use. It costs what `Table::defer` does.
+    fn defer(&mut self, alloc: Global, file_system: &DsName, id: SnapshotId) -> Result<(), Refusal>
+        ensures ok { OnOk result (self.new.to ≡ deferred_owned self.old.to file_system.now (snap_id id)) }
+        ensures same { OnOk result (self.new.freeing ≡ self.old.freeing) }
         ensures err { IfErr result (λ e. e ≡ Refusal.NoMemory) }
     {
-        if self.to.snapshot_named(file_system, component).is_none() {
-            return Ok(());
+        match self.to.defer(alloc, file_system, id) {
+            Err(Refusal::NoDataset) => Ok(()),
+            outcome => outcome,
         }
-        let name = member(file_system, component)?;
-        self.remove_snapshot(alloc, &name, segments)
     }
 
-    // Lets the snapshots of all these names go that are there, but for those that a tag or one of these views keeps or that have a clone;
-    // the table is the one that the names are of. NoMemory where there is none for it, and then the edit is of no use. It costs what
-    // `remove_snapshot` does for each, and the number of open views.
-    pub(crate) fn lose_unneeded(
+    // Lets these snapshots go, which are the table's; with `defer` those stay that a tag, one of these views or a clone needs, and their
+    // destroy is deferred. Where not `defer`, none of them has a clone. NoMemory where there is none for it, and then the edit is of no use.
+    // It costs for each what `remove_snapshot` or `Table::defer` does, and with `defer` the number of open views.
+    pub(crate) fn remove_or_defer(
         &mut self,
         alloc: Global,
         table: &Table,
         views: &Views,
-        all: &[Named],
+        all: &[Found],
+        defer: bool,
         segments: &mut SegMeter,
     ) -> Result<(), Refusal>
         requires apart { AreDisjoint (union_of (world_of self.old.to)) self.old.freeing }
         requires same { self.old.to ≡ table.now }
-        ensures ok { OnOk result (self.new.to ≡ without_all self.old.to (filter (λ m. not (is_named_needed table.now views.now.opened m)) all.now)) }
+        requires there { AreThere table.now all.now }
+        requires no_clone { (not defer && list_any (λ p. has_clone table.now (id_of p.1)) all.now) ≡ false }
+        ensures ok { OnOk result (self.new.to ≡ removed_or_deferred table.now (λ u. defer && is_needed (world_of table.now) views.now.opened u) (map (λ p. id_of p.1) all.now)) }
         ensures lost { OnOk result (HasLost self.old.to self.old.freeing self.new.to self.new.freeing) }
         ensures err { IfErr result (λ e. e ≡ Refusal.NoMemory) }
     {
         table.facts();
-        for name in all {
-            let (file_system, component) = (name.file_system, name.component);
-            if !is_named_needed(table, views, file_system, component) {
-                self.remove_named(alloc, file_system, component, segments)?;
+        for found in all {
+            let id = found.snapshot.id();
+            if has_to_wait(table, views, found.snapshot, defer) {
+                self.defer(alloc, found.file_system, id)?;
+            } else {
+                self.remove_snapshot(alloc, found.file_system, id, segments)?;
             }
-        }
-        Ok(())
-    }
-
-    // From now on the destroy of the snapshot of this name is deferred, where it is there. NoMemory where there is none for it, and then
-    // the edit is of no use. It costs what `Table::defer` does.
-    fn defer_named(
-        &mut self,
-        alloc: Global,
-        file_system: &DsName,
-        component: &Component,
-    ) -> Result<(), Refusal>
-        ensures ok { OnOk result (self.new.to ≡ deferred_named self.old.to (record { file_system = file_system.now; component = component.now })) }
-        ensures same { OnOk result (self.new.freeing ≡ self.old.freeing) }
-        ensures err { IfErr result (λ e. e ≡ Refusal.NoMemory) }
-    {
-        if self.to.snapshot_named(file_system, component).is_none() {
-            return Ok(());
-        }
-        let name = member(file_system, component)?;
-        self.to.defer(alloc, &name)
-    }
-
-    // From now on the destroy of the snapshots of all these names is deferred that are there. NoMemory where there is none for it, and then
-    // the edit is of no use. It costs what `Table::defer` does for each.
-    pub(crate) fn defer_all(&mut self, alloc: Global, all: &[Named]) -> Result<(), Refusal>
-        ensures ok { OnOk result (self.new.to ≡ deferred_all self.old.to all.now) }
-        ensures same { OnOk result (self.new.freeing ≡ self.old.freeing) }
-        ensures err { IfErr result (λ e. e ≡ Refusal.NoMemory) }
-    {
-        for name in all {
-            self.defer_named(alloc, name.file_system, name.component)?;
         }
         Ok(())
     }
@@ -187,8 +158,8 @@ impl WorkingCopy {
         segments: &mut SegMeter,
     ) -> Result<(), Refusal>
         requires apart { AreDisjoint (union_of (world_of self.old.to)) self.old.freeing }
-        requires no_clone { list_any (has_clone_named self.old.to) (newer_members (entry_of file_system.now) group.0) ≡ false }
-        ensures ok { OnOk result (self.new.to ≡ without_all self.old.to (newer_members (entry_of file_system.now) group.0)) }
+        requires no_clone { list_any (has_clone_and_is_later self.old.to group.0) file_system.now.system.snaps ≡ false }
+        ensures ok { OnOk result (self.new.to ≡ without_all self.old.to file_system.now.name (later_ids group.0 file_system.now.system.snaps)) }
         ensures lost { OnOk result (HasLost self.old.to self.old.freeing self.new.to self.new.freeing) }
         ensures err { IfErr result (λ e. e ≡ Refusal.NoMemory) }
     {
@@ -196,20 +167,9 @@ impl WorkingCopy {
         let name = file_system.name();
         for kept in file_system.snapshots().iter() {
             if kept.snapshot.group() > group {
-                self.remove_named(alloc, name, kept.snapshot.name(), segments)?;
+                self.remove_snapshot(alloc, name, kept.snapshot.id(), segments)?;
             }
         }
         Ok(())
     }
-}
-
-/// A copy of a snapshot's name. NoMemory where there is none for it. It costs its length.
-pub(crate) fn member(file_system: &DsName, component: &Component) -> Result<Member, Refusal>
-    ensures ok { IfOk result (λ m. m ≡ record { file_system = file_system.now; component = component.now }) }
-    ensures err { IfErr result (λ e. e ≡ Refusal.NoMemory) }
-{
-    Ok(Member {
-        file_system: file_system.clone()?,
-        component: component.clone()?,
-    })
 }

@@ -8,38 +8,38 @@ use std::alloc::Global;
 
 /// How a request is answered.
 #[derive(Clone, Copy)]
-pub enum Way {
+pub enum Answering {
     /// By `apply`.
     AtOnce,
     /// By `prepare`, and then `commit`.
     InTwo,
 }
 
-impl Way {
+impl Answering {
     /// What a message says of it.
     pub fn text(&self) -> &'static str {
         match self {
-            Way::AtOnce => "at once",
-            Way::InTwo => "in two",
+            Answering::AtOnce => "at once",
+            Answering::InTwo => "in two",
         }
     }
 }
 
 /// A pool, and how it is asked.
 #[derive(Drop)]
-pub struct Asked {
+pub struct AskedPool {
     alloc: Global,
     pool: Pool,
-    way: Way,
+    way: Answering,
     /// The pool's meters before the last line.
     before: (u64, u64),
 }
 
-impl Asked {
+impl AskedPool {
     /// A fresh pool of so many blocks with this id; None where it can't be made.
-    pub fn new(alloc: Global, blocks: u32, id: u32, way: Way) -> Option<Asked> {
+    pub fn new(alloc: Global, blocks: u32, id: u32, way: Answering) -> Option<AskedPool> {
         let pool = Pool::create(alloc, id, blocks).ok()?;
-        Some(Asked {
+        Some(AskedPool {
             alloc,
             pool,
             way,
@@ -47,7 +47,7 @@ impl Asked {
         })
     }
 
-    pub fn way(&self) -> Way {
+    pub fn way(&self) -> Answering {
         self.way
     }
 
@@ -78,13 +78,13 @@ fn reply_in_two(alloc: Global, pool: &mut Pool, request: &Request) -> Reply {
     reply
 }
 
-impl Caller for Asked {
+impl Caller for AskedPool {
     ghost asks = { λ _ _ _ _. Unit {0} };
 
     fn ask(&mut self, request: Request, reply: &mut Reply) -> bool {
         match self.way {
-            Way::AtOnce => self.pool.answer(self.alloc, &request, reply),
-            Way::InTwo => *reply = reply_in_two(self.alloc, &mut self.pool, &request),
+            Answering::AtOnce => self.pool.apply(self.alloc, &request, reply),
+            Answering::InTwo => *reply = reply_in_two(self.alloc, &mut self.pool, &request),
         }
         drop(request);
         true

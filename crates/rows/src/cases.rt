@@ -1,5 +1,5 @@
 //! Cases: they are read from the lines of a file, and asked of fresh pools.
-use crate::asked::{Asked, Way};
+use crate::asked::{Answering, AskedPool};
 use crate::texts::Texts;
 use crate::walks::Walk;
 use anyhow::{Context, Result};
@@ -29,7 +29,7 @@ impl fmt::Display for Tally {
 #[derive(Drop)]
 struct Case {
     name: String,
-    pools: Vec<Asked>,
+    pools: Vec<AskedPool>,
     walk: Walk,
     lines: u32,
     is_wrong: bool,
@@ -43,8 +43,8 @@ impl Case {
         let (blocks, id) = (blocks.parse::<u32>()?, id.parse::<u32>()?);
         let name = String::from_str(alloc, name)?;
         let mut pools = Vec::new(alloc);
-        for way in [Way::AtOnce, Way::InTwo] {
-            pools.push(Asked::new(alloc, blocks, id, way).context("a pool")?)?;
+        for way in [Answering::AtOnce, Answering::InTwo] {
+            pools.push(AskedPool::new(alloc, blocks, id, way).context("a pool")?)?;
         }
         Ok(Case {
             name,

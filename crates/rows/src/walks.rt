@@ -1,5 +1,5 @@
 //! Walks: lines of a list in an order that only looks random, and after each way back the answers that the last sync got.
-use crate::asked::Asked;
+use crate::asked::AskedPool;
 use anyhow::{Context, Result};
 use std::alloc::Global;
 
@@ -33,7 +33,7 @@ impl Walk {
     }
 
     /// What is printed for all questions.
-    fn answers(&self, pool: &mut Asked) -> Result<Vec<u8>> {
+    fn answers(&self, pool: &mut AskedPool) -> Result<Vec<u8>> {
         let mut answers = Vec::new(self.alloc);
         for question in &self.questions {
             let printed = pool.printed(question).context("memory for an answer")?;
@@ -51,7 +51,7 @@ impl Walk {
 
     /// Takes so many steps, by numbers from this one on, and tells how many there were when an abandon didn't bring back the answers of the
     /// last sync, if one didn't. The pool was just made or synced.
-    pub fn take(&self, pool: &mut Asked, seed: u32, steps: u32) -> Result<Option<u32>> {
+    pub fn take(&self, pool: &mut AskedPool, seed: u32, steps: u32) -> Result<Option<u32>> {
         let mut kept = self.answers(pool)?;
         let mut number = seed;
         for taken in 0..steps {

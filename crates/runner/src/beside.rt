@@ -7,7 +7,7 @@ ghost use Rattle.runner.specs.Status.{RanTo};
 
 use crate::run::{print_fault, run_on};
 use crate::seated::{Seated, Shared};
-use crate::turns::{Lines, Turns};
+use crate::turns::{Lines, WorkerTurns};
 use base::failing::Failing;
 use script::run::{Caller, ScriptFault};
 use session::{Book, CALL_LIMIT, Opening, Pool, Seat, Session};
@@ -228,7 +228,7 @@ fn run_workers<K: Opening + Send + Sync, T: Threads + Wait + Sync>(
 }
 
 fn run_syncer<K: Opening, T: Wait>(rt: &T, alloc: Global, shared: &Shared<K>, seat: &mut Seat<K>) {
-    let mut turns = Turns::new(rt, &shared.lines);
+    let mut turns = WorkerTurns::new(rt, &shared.lines);
     let _ = shared.session.run_syncer(alloc, rt, seat, &mut turns);
 }
 
@@ -238,7 +238,7 @@ fn run_destroyer<K: Opening, T: Wait>(
     shared: &Shared<K>,
     seat: &mut Seat<K>,
 ) {
-    let mut turns = Turns::new(rt, &shared.lines);
+    let mut turns = WorkerTurns::new(rt, &shared.lines);
     let _ = shared
         .session
         .run_destroyer(alloc, rt, seat, SLICE, &mut turns);

@@ -35,7 +35,7 @@ impl Caller for PoolCaller {
     ghost asks = { Serves };
 
     fn ask(&mut self, request: Request, reply: &mut Reply) -> bool {
-        self.pool.answer(self.alloc, &request, reply);
+        self.pool.apply(self.alloc, &request, reply);
         drop(request);
         true
     }

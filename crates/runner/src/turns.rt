@@ -58,7 +58,7 @@ impl Lines {
 
 /// A worker's gate: as many turns as lines have asked, until the script has ended.
 #[derive(Drop)]
-pub(crate) struct Turns<'t, 'l, T: Wait> {
+pub(crate) struct WorkerTurns<'t, 'l, T: Wait> {
     rt: &'t T,
     lines: &'l Lines,
     taken: u64,
@@ -66,9 +66,9 @@ pub(crate) struct Turns<'t, 'l, T: Wait> {
     stopped: bool,
 }
 
-impl<'t, 'l, T: Wait> Turns<'t, 'l, T> {
-    pub(crate) fn new(rt: &'t T, lines: &'l Lines) -> Turns<'t, 'l, T> {
-        Turns {
+impl<'t, 'l, T: Wait> WorkerTurns<'t, 'l, T> {
+    pub(crate) fn new(rt: &'t T, lines: &'l Lines) -> WorkerTurns<'t, 'l, T> {
+        WorkerTurns {
             rt,
             lines,
             taken: 0,
@@ -85,7 +85,7 @@ impl<'t, 'l, T: Wait> Turns<'t, 'l, T> {
     }
 }
 
-impl<T: Wait> Gate for Turns<'_, '_, T> {
+impl<T: Wait> Gate for WorkerTurns<'_, '_, T> {
     ghost left = { λ g. g.left };
 
     ghost stopped = { λ g. g.stopped };

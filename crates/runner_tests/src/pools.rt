@@ -17,7 +17,8 @@ fn prints<C: Caller>(alloc: Global, caller: &mut C, script: &[u8], output: &[u8]
 
 /// Whether a sync of the pool opens this group.
 fn opens(alloc: Global, pool: &mut Pool, group: u64) -> bool {
-    let reply = pool.apply(alloc, &Request::Sync);
+    let mut reply = Reply::Done;
+    pool.apply(alloc, &Request::Sync, &mut reply);
     let is_it = reply.same(&Reply::Group(group));
     drop(reply);
     is_it

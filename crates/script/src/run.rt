@@ -1,5 +1,5 @@
 //! Runs of scripts.
-ghost use Rattle.std.specs.Prelude.{◌≡◌, ◌&&◌, ◌||◌, ◌⊎◌, [], false, Option, Some, None, Err, IsTrue, IfOk, IfErr, OnOk, if◌then◌else◌};
+ghost use Rattle.std.specs.Prelude.{◌≡◌, ◌||◌, ◌⊎◌, [], false, Option, Some, None, Err, IsTrue, IfOk, IfErr, OnOk, if◌then◌else◌};
 ghost use Rattle.base.specs.Failing.{HasRisen};
 ghost use Rattle.base.specs.declared.refusal.Refusal.{Refusal};
 ghost use Rattle.script.specs.Lines.{lines, HasNoFeed};

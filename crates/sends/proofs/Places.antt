@@ -1,5 +1,5 @@
 -- What the records of the sixteen places below a key come to.
-use Rattle.std.proofs.Common.{◌≡◌, ℕ, suc, ◌+◌, ◌-◌, ◌*◌, ◌/◌, ◌%◌, ◌^◌, ◌<◌, ◌≤◌, inl, inr, ⊎_elim, Bool, true, false, cond, List, [], ◌∷◌, ◌++◌, get_or, append-nil, append_assoc, Option, Some, None, refl, sym, ap, subst, ◌∙◌, arith, true≢false}
+use Rattle.std.proofs.Common.{◌≡◌, ℕ, suc, ◌+◌, ◌-◌, ◌*◌, ◌/◌, ◌%◌, ◌^◌, ◌<◌, ◌≤◌, inl, inr, ⊎_elim, Bool, true, false, cond, List, [], ◌∷◌, ◌++◌, append-nil, append_assoc, Option, Some, None, refl, sym, ap, subst, ◌∙◌, arith, true≢false}
 use Rattle.std.specs.Prelude.{IsSome, IfSome, is_some, ◌↔◌, nat_lt, nat_le, ◌==◌, ◌&&◌}
 use Rattle.std.specs.Option.{option_map}
 use Rattle.std.specs.FinMap.{get, get-retain_keys}
@@ -36,13 +36,6 @@ pub record AddsBefore (t : ℕ) (b : Branch) (n : ℕ) (old new : List Record) :
   pub is : new ≡ old ++ sent
   pub each : (r : Record) → IsIn sent r ↔ IsSentBefore t b n r
   pub rising : AreRising (first_leaf b.key) sent (first_leaf (child_key b.key n))
-
--- how far a walk has come in the places below a top, as far as those before n: what is left of them, and what was added
-pub record IsWalked (t : ℕ) (part : Option Branch) (n : ℕ) (below : List (Option Branch)) (old new : List Record) : Type 0 where
-  pub top : Branch
-  pub is : part ≡ Some top
-  pub left : (i : ℕ) → n ≤ i → i < 16 → get_or below i None ≡ child_of top i
-  pub adds : AddsBefore t top n old new
 
 -- lists in order, one after the other
 rising_from : (a b c : ℕ) (ys : List Record) → a ≤ b → AreRising b ys c → AreRising a ys c
@@ -189,7 +182,7 @@ module _ (t : ℕ) (b : Branch) where
         rising = rising_both _ _ _ adds.sent more adds.rising (subst (λ x. AreRising (first_leaf (child_key b.key n)) more (x * 16 ^ (b.key.level - 1))) next are.rising);
       }
 
-  module _ (below : List (Option Branch)) (y : IsYoung t b below) where
+  module _ (y : IsYoung t b) where
     -- what a send of the branch has is what it has of its places
     below_sent : 0 < b.key.level → (r : Record) → IsSent b.map t r → IsSentBefore t b 16 r
     below_sent high (Write leaf bytes) w = ⊎_elim
@@ -300,13 +293,20 @@ module _ (t : ℕ) (b : Branch) where
       not (Free q) (inl g) = let y = g.young in let a = age (parent q) g.above g.there in omega (arith, y, a)
       not (Free q) (inr a) = not_there (get b.map k) (a.nothing k) at.there
 
--- a top that was taken off is one that was born late
-pub taken_off : (t : ℕ) (b : Branch) (d : Dead) (below : List (Option Branch)) → option_map block_of (get b.map b.key) ≡ Some (dead_block d) → t < d.birth.0 → AreOwnOrBelow b
-    → ((i : ℕ) → i < 16 → get_or below i None ≡ child_of b i) → IsYoung t b below
-taken_off t b d below block young keys each =
+-- a top whose block was born late
+pub born_late : (t : ℕ) (b : Branch) (d : Dead) → option_map block_of (get b.map b.key) ≡ Some (dead_block d) → t < d.birth.0 → AreOwnOrBelow b → IsYoung t b
+born_late t b d block young keys =
     let top = mapped block_of (get b.map b.key) (dead_block d) block in
     let birth : top.0.birth ≡ d.birth.0 = ap (λ (x : Block). x.birth) top.2 in
-    record { cell = top.0; there = top.1; young = omega (arith, birth, young); keys = keys; each = each }
+    record { cell = top.0; there = top.1; young = omega (arith, birth, young); keys = keys }
+
+-- nothing of a top that was born early is younger
+pub born_early : (t : ℕ) (b : Branch) (d : Dead) → d.birth.0 ≤ t → ((k : Key) → IfSome (get b.map k) (λ c. c.birth ≤ d.birth.0)) → IsOld t b
+born_early t b d early youngest k = by (get b.map k) (youngest k)
+  where
+    by : (o : Option Cell) → IfSome o (λ c. c.birth ≤ d.birth.0) → IfSome o (λ c. c.birth ≤ t)
+    by None h = tt
+    by (Some c) h = omega (arith, h, early)
 
 -- of what is absent, its free
 pub one_free : (t : ℕ) (k : Key) → AreSent t k None (Free k ∷ [])

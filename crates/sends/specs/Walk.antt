@@ -1,5 +1,5 @@
 -- What a walk of a tree finds at a key, and which records it adds there.
-use Rattle.std.specs.Prelude.{◌≡◌, ◌≤◌, ◌<◌, ◌↔◌, ◌+◌, ℕ, List, [], ◌∷◌, ◌++◌, Option, None, Some, IsSome, IfSome, slice_index_or}
+use Rattle.std.specs.Prelude.{◌≡◌, ◌≤◌, ◌<◌, ◌↔◌, ◌+◌, ℕ, List, [], ◌∷◌, ◌++◌, Option, None, Some, IsSome, IfSome}
 use Rattle.std.specs.FinMap.{get}
 use Rattle.base.specs.declared.number.Key.{Key}
 use Rattle.base.specs.Key.{first_leaf}
@@ -8,7 +8,7 @@ use Rattle.base.specs.Surveys.{IsIn}
 use Rattle.stream.specs.declared.record.Record.{Record}
 use Rattle.stream.specs.declared.record.Record.TheVariants.{Free}
 use Rattle.stream.specs.Records.{start_of, end_of}
-use Rattle.tree.specs.Branch.{Branch, child_of, AreOwnOrBelow}
+use Rattle.tree.specs.Branch.{Branch, AreOwnOrBelow}
 use Rattle.laws.specs.Records.{IsSent}
 
 -- a branch that stands at the key (On-Disk Specification, chapter 3)
@@ -16,13 +16,12 @@ pub record IsAt (k : Key) (b : Branch) : Type 0 where
   pub key : b.key ≡ k
   pub there : IsSome (get b.map k)
 
--- its top was born after t, and these stand directly below (On-Disk Specification, chapter 2: birth txg)
-pub record IsYoung (t : ℕ) (b : Branch) (below : List (Option Branch)) : Type 0 where
+-- its top was born after t (On-Disk Specification, chapter 2: birth txg)
+pub record IsYoung (t : ℕ) (b : Branch) : Type 0 where
   pub cell : Cell
   pub there : get b.map b.key ≡ Some cell
   pub young : t < cell.birth
   pub keys : AreOwnOrBelow b
-  pub each : (i : ℕ) → i < 16 → slice_index_or below i None ≡ child_of b i
 
 -- nothing of it was born after t (On-Disk Specification, chapter 2: birth txg)
 abbrev pub IsOld : ℕ → Branch → Type 0

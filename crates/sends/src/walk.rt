@@ -1,5 +1,5 @@
 //! The records of a send, by a walk from the top of a tree.
-ghost use Rattle.std.specs.Prelude.{◌≡◌, ◌<◌, None, Some, IfOk, OnOk, OnErr, IfSome, IfNone, slice_index_or, slice_set};
+ghost use Rattle.std.specs.Prelude.{◌≡◌, ℕ, true, false, Some, IfOk, OnOk, OnErr, IfSome};
 ghost use Rattle.base.specs.Key.{IsKey};
 ghost use Rattle.base.specs.declared.refusal.Refusal.{Refusal};
 ghost use Rattle.stream.specs.Records.{records_since};
@@ -33,54 +33,32 @@ pub fn records(
     Ok(records)
 }
 
-/// What stands directly below a top, each at its place, if the top was born after the group.
-fn below_young(
-    top: Subtree,
-    since: Group,
-    meter: &mut Meter,
-) -> Result<Option<[Option<Subtree>; 16]>, Refusal>
-    ensures young { IfOk result (λ o. IfSome o (IsYoung since.0 top)) }
-    ensures old { IfOk result (λ o. IfNone o (IsOld since.0 top)) }
-    ensures err { OnErr result (result ≡ Err Refusal.NoMemory) }
+/// Whether a top was born after the group.
+fn is_young(top: &Subtree, since: Group, meter: &mut Meter) -> bool
+    ensures young { result ≡ true → IsYoung since.0 top.now }
+    ensures old { result ≡ false → IsOld since.0 top.now }
 {
-    match top.peel(since, meter) {
-        Ok(Some(peeled)) => Ok(Some(peeled.1)),
-        Ok(None) => Ok(None),
-        Err(_) => Err(Refusal::NoMemory),
-    }
+    since.0 < top.block(meter).birth.0
 }
 
-/// Adds the write of a leaf, if it was born after the group.
+/// Adds the write of a leaf: all that a send from a group before its birth has of it.
 fn add_leaf(
     alloc: Global,
     top: &Subtree,
     leaf: u32,
-    since: Group,
     records: &mut Vec<Record>,
     meter: &mut Meter,
 ) -> Result<(), Refusal>
     requires { IsAt (leaf_key leaf) top.now }
-    ensures ok { OnOk result (AddsSent since.0 (leaf_key leaf) (Some top.now) records.old.items records.new.items) }
+    ensures ok { OnOk result ((t : ℕ) → IsYoung t top.now → AddsSent t (leaf_key leaf) (Some top.now) records.old.items records.new.items) }
     ensures err { OnErr result (result ≡ Err Refusal.NoMemory) }
 {
-    if below_young(top.copy()?, since, meter)?.is_none() {
-        return Ok(());
-    }
     let Some(bytes) = top.bytes(meter) else {
         return Ok(());
     };
     let bytes = Data::new(alloc, bytes)?;
     records.push(Record::Write { leaf, bytes })?;
     Ok(())
-}
-
-/// Takes what stands at a place.
-fn take_at(below: &mut [Option<Subtree>; 16], place: usize) -> Option<Subtree>
-    requires { place < 16 }
-    ensures taken { result ≡ slice_index_or below.old place None }
-    ensures left { below.new ≡ slice_set below.old place None }
-{
-    below[place].take()
 }
 
 /// Adds the records of what stands at a key: its free, where nothing does.
@@ -101,21 +79,18 @@ fn add_sent(
         records.push(Record::Free(key))?;
         return Ok(());
     };
-    if key.level == 0 {
-        let added = add_leaf(alloc, &top, key.index, since, records, meter);
-        drop(top);
-        return added;
-    }
-    let Some(mut below) = below_young(top, since, meter)? else {
+    if !is_young(&top, since, meter) {
         return Ok(());
-    };
+    }
+    if key.level == 0 {
+        return add_leaf(alloc, &top, key.index, records, meter);
+    }
     for place in 0..16u32 {
         let child = Key {
             level: key.level - 1,
             index: 16 * key.index + place,
         };
-        let part = take_at(&mut below, place as usize);
-        add_sent(alloc, part, child, since, records, meter)?;
+        add_sent(alloc, top.child(place)?, child, since, records, meter)?;
     }
     Ok(())
 }

@@ -492,7 +492,8 @@ fn closes_and_destroys(rt: &impl Abort, alloc: Global, pool: &mut Pool) -> bool 
 }
 
 fn is_answered(alloc: Global, pool: &mut Pool, request: &Request, wanted: &Reply) -> bool {
-    let reply = pool.apply(alloc, request);
+    let mut reply = Reply::Done;
+    pool.apply(alloc, request, &mut reply);
     let same = reply.same(wanted);
     drop(reply);
     same

@@ -45,7 +45,8 @@ fn applied_to(alloc: Global, pool: &mut Pool, calls: u32) -> Result<u32, Refusal
     let mut done: u32 = 0;
     for number in 0..calls {
         let request = write_of(alloc, number)?;
-        let reply = pool.apply(alloc, &request);
+        let mut reply = Reply::Done;
+        pool.apply(alloc, &request, &mut reply);
         drop(request);
         if is_done(&reply) {
             done = done.saturating_add(1);

@@ -1,9 +1,7 @@
--- What stands before and after a place of chunks.
-use Rattle.std.proofs.Common.{◌≡◌, ℕ, zero, suc, ◌+◌, ◌<◌, ◌≤◌, List, [], ◌∷◌, length, take, slice_get, Option, None, Some, IfSome, refl, sym, ap, ◌∙◌, arith}
-use Rattle.std.specs.List.{flat_map, last_or}
-use Rattle.shared_list.specs.declared.place.Place.{Place}
-use Rattle.shared_list.specs.Places.{IsItem, place_index}
-use Rattle.shared_list.proofs.Points.{inside}
+-- What stands before and after a place.
+use Rattle.std.proofs.Common.{◌≡◌, ℕ, zero, suc, ◌+◌, ◌-◌, ◌<◌, ◌≤◌, List, [], ◌∷◌, length, take, slice_get, Option, None, Some, refl, sym, ap, ◌∙◌, arith}
+use Rattle.std.specs.List.{last_or}
+use Rattle.std.proofs.lemmas.Option.{slice_get_within}
 
 -- an element is the last of those up to it
 last_taken : {X : Type 0} (o : Option X) (xs : List X) (i : ℕ) → i < length xs → slice_get xs i ≡ last_or o (take (suc i) xs)
@@ -11,39 +9,20 @@ last_taken o [] i lt = absurd (omega arith)
 last_taken o (x ∷ xs) zero lt = refl
 last_taken o (x ∷ xs) (suc i) lt = last_taken (Some x) xs i (omega arith)
 
-none_taken : {X : Type 0} (xs : List X) → None ≡ last_or None (take 0 xs)
-none_taken [] = refl
-none_taken (x ∷ xs) = refl
-
-none_behind : {X : Type 0} (xs : List X) (i : ℕ) → length xs ≤ i → slice_get xs i ≡ None
+pub none_behind : {X : Type 0} (xs : List X) (i : ℕ) → length xs ≤ i → slice_get xs i ≡ None
 none_behind [] i le = refl
 none_behind (x ∷ xs) zero le = absurd (omega arith)
 none_behind (x ∷ xs) (suc i) le = none_behind xs i (omega arith)
 
-module _ {A X : Type 0} (f : A → List X) (xs : List A) where
-  pub place_within : (q : Option Place) → IfSome q (λ c. IsItem f xs c.k c.at) → place_index f xs q ≤ length (flat_map f xs)
-  place_within None item = omega arith
-  place_within (Some c) item = let lt = inside f xs c.k c.at item.chunk item.within in omega arith
+-- what stands at a place is the last before the next one
+pub before_next : {X : Type 0} (all : List X) (i n : ℕ) (y : X) → slice_get all i ≡ Some y → n ≡ i + 1 → Some y ≡ last_or None (take n all)
+before_next all i n y is next =
+    let at : suc i ≡ n = omega arith in
+    sym is ∙ last_taken None all i (slice_get_within all i y is) ∙ ap (λ m. last_or None (take m all)) at
 
-  -- what stands at the place before is the last of those before
-  pub stands_before : (q r : Option Place) (o : Option X) → o ≡ slice_get (flat_map f xs) (place_index f xs r)
-      → IfSome r (λ c. IsItem f xs c.k c.at) → IfSome r (λ c. place_index f xs q ≡ place_index f xs (Some c) + 1) → (r ≡ None → place_index f xs q ≡ 0)
-      → o ≡ last_or None (take (place_index f xs q) (flat_map f xs))
-  stands_before q None o is item next first =
-      is
-      ∙ none_behind (flat_map f xs) (length (flat_map f xs)) (omega arith)
-      ∙ none_taken (flat_map f xs)
-      ∙ ap (λ i. last_or None (take i (flat_map f xs))) (sym (first refl))
-  stands_before q (Some c) o is item next first =
-      let at : suc (place_index f xs (Some c)) ≡ place_index f xs q = omega arith in
-      is ∙ last_taken None (flat_map f xs) (place_index f xs (Some c)) (inside f xs c.k c.at item.chunk item.within) ∙ ap (λ i. last_or None (take i (flat_map f xs))) at
-
-  -- what stands at the place after is the next one
-  pub stands_after : (q r : Option Place) (o : Option X) → o ≡ slice_get (flat_map f xs) (place_index f xs r)
-      → IfSome q (λ c. place_index f xs r ≡ place_index f xs (Some c) + 1) → (q ≡ None → r ≡ None) → o ≡ slice_get (flat_map f xs) (place_index f xs q + 1)
-  stands_after None r o is next none =
-      is
-      ∙ ap (λ p. slice_get (flat_map f xs) (place_index f xs p)) (none refl)
-      ∙ none_behind (flat_map f xs) (length (flat_map f xs)) (omega arith)
-      ∙ sym (none_behind (flat_map f xs) (length (flat_map f xs) + 1) (omega arith))
-  stands_after (Some c) r o is next none = is ∙ ap (slice_get (flat_map f xs)) next
+-- the last of all is the last before the place behind them
+pub before_end : {X : Type 0} (all : List X) (o : Option X) → o ≡ slice_get all (length all - 1) → o ≡ last_or None (take (length all) all)
+before_end [] o is = is
+before_end (x ∷ xs) o is =
+    let last : length (x ∷ xs) - 1 ≡ length xs = omega arith in
+    is ∙ ap (slice_get (x ∷ xs)) last ∙ last_taken None (x ∷ xs) (length xs) (omega arith)

@@ -1,12 +1,13 @@
 //! What stands around a place of a list.
-ghost use Rattle.std.specs.Prelude.{◌≡◌, ◌+◌, None, length, slice_get, IfSome};
+ghost use Rattle.std.specs.Prelude.{◌≡◌, ◌+◌, None, Some, take, slice_get, IfSome};
+ghost use Rattle.std.specs.List.{last_or};
 ghost use Rattle.std.specs.Option.{option_copied};
 ghost use Rattle.shared_list.specs.Around.{IsAround};
 ghost use Rattle.shared_list.specs.Elements.{flattened};
 ghost use Rattle.shared_list.specs.Places.{IsItem, place_index};
 
 use crate::chunk::Chunk;
-use crate::place::{Place, item_at, last_place};
+use crate::place::{Place, last_item};
 use crate::spine::Spine;
 
 /// What stands around a place of a list: the element before it, the one that stands there, and the one after that.
@@ -17,59 +18,61 @@ pub struct Around<'a, T> {
     pub after: Option<&'a T>,
 }
 
-/// What stands around a place, or around the one behind all elements. It costs walks over the groups.
+/// What stands around a place, or around the one behind all elements. It costs a walk over the groups, or two where its chunk begins or
+/// ends there.
 pub(crate) fn around_place<T: Drop>(chunks: &Spine<Chunk<T>>, place: Option<Place>) -> Around<'_, T>
     requires { IfSome place (λ c. IsItem (λ v. v) chunks.now c.k c.at) }
     ensures { IsAround (flattened chunks.now) (place_index (λ v. v) chunks.now place) result }
 {
-    Around {
-        before: item_of(chunks, place_before(chunks, place)),
-        at: item_of(chunks, place),
-        after: item_of(chunks, place_after(chunks, place)),
-    }
-}
-
-/// The element at a place, or None at the one behind all elements. It costs walks over the groups.
-pub(crate) fn item_of<T: Drop>(chunks: &Spine<Chunk<T>>, place: Option<Place>) -> Option<&T>
-    requires { IfSome place (λ c. IsItem (λ v. v) chunks.now c.k c.at) }
-    ensures { option_copied result ≡ slice_get (flattened chunks.now) (place_index (λ v. v) chunks.now place) }
-{
-    Some(item_at(chunks, place?))
-}
-
-/// Where the element before a place stands, or before the one behind all elements; None where there is none. It costs walks over the
-/// groups.
-fn place_before<T: Drop>(chunks: &Spine<Chunk<T>>, place: Option<Place>) -> Option<Place>
-    requires { IfSome place (λ c. IsItem (λ v. v) chunks.now c.k c.at) }
-    ensures place { IfSome result (λ c. IsItem (λ v. v) chunks.now c.k c.at) }
-    ensures before { IfSome result (λ c. place_index (λ v. v) chunks.now place ≡ place_index (λ v. v) chunks.now (Some c) + 1) }
-    ensures none { result ≡ None → place_index (λ v. v) chunks.now place ≡ 0 }
-{
-    let Some(Place { k, at }) = place else {
-        return last_place(chunks);
+    let Some(place) = place else {
+        return Around {
+            before: last_item(chunks),
+            at: None,
+            after: None,
+        };
     };
-    if at > 0 {
-        return Some(Place { k, at: at - 1 });
+    let chunk = chunks.at(place.k);
+    Around {
+        before: item_before(chunks, chunk, place),
+        at: Some(chunk.get(place.at)),
+        after: item_after(chunks, chunk, place),
     }
-    let k = k.checked_sub(1)?;
-    let at = chunks.at(k).len() - 1;
-    Some(Place { k, at })
 }
 
-/// Where the element after the one at a place stands, or None where there is none. It costs walks over the groups.
-fn place_after<T: Drop>(chunks: &Spine<Chunk<T>>, place: Option<Place>) -> Option<Place>
-    requires { IfSome place (λ c. IsItem (λ v. v) chunks.now c.k c.at) }
-    ensures place { IfSome result (λ c. IsItem (λ v. v) chunks.now c.k c.at) }
-    ensures after { IfSome place (λ c. place_index (λ v. v) chunks.now result ≡ place_index (λ v. v) chunks.now (Some c) + 1) }
-    ensures none { place ≡ None → result ≡ None }
+/// The element before a place of this chunk, or None where there is none. Constant time, and a walk over the groups where the chunk
+/// begins there.
+fn item_before<'a, T: Drop>(
+    chunks: &'a Spine<Chunk<T>>,
+    chunk: &'a Chunk<T>,
+    place: Place,
+) -> Option<&'a T>
+    requires place { IsItem (λ v. v) chunks.now place.k place.at }
+    requires chunk { slice_get chunks.now place.k ≡ Some chunk.now }
+    ensures { option_copied result ≡ last_or None (take (place_index (λ v. v) chunks.now (Some place)) (flattened chunks.now)) }
 {
-    let Place { k, at } = place?;
-    if at < chunks.at(k).len() - 1 {
-        return Some(Place { k, at: at + 1 });
+    if place.at > 0 {
+        return Some(chunk.get(place.at - 1));
     }
-    if chunks.len() <= k + 1 {
+    let k = place.k.checked_sub(1)?;
+    Some(chunks.at(k).last())
+}
+
+/// The element after a place of this chunk, or None where there is none. Constant time, and a walk over the groups where the chunk ends
+/// there.
+fn item_after<'a, T: Drop>(
+    chunks: &'a Spine<Chunk<T>>,
+    chunk: &'a Chunk<T>,
+    place: Place,
+) -> Option<&'a T>
+    requires place { IsItem (λ v. v) chunks.now place.k place.at }
+    requires chunk { slice_get chunks.now place.k ≡ Some chunk.now }
+    ensures { option_copied result ≡ slice_get (flattened chunks.now) (place_index (λ v. v) chunks.now (Some place) + 1) }
+{
+    if place.at < chunk.len() - 1 {
+        return Some(chunk.get(place.at + 1));
+    }
+    if chunks.len() - 1 <= place.k {
         return None;
     }
-    prove!(chunks.at(k + 1).len() > 0);
-    Some(Place { k: k + 1, at: 0 })
+    Some(chunks.at(place.k + 1).first())
 }

@@ -1,7 +1,11 @@
 //! Chunks of a list, which change only where they have one owner.
-ghost use Rattle.std.specs.Prelude.{◌≡◌, Some, ◌+◌, ◌-◌, ◌<◌, ◌≤◌, ◌++◌, ◌∷◌, [], length, take, drop, insert, remove, slice_get, slice_set, IfOk, OnOk, OnErr};
+ghost use Rattle.std.specs.Prelude.{◌≡◌, Some, ◌+◌, ◌-◌, ◌<◌, ◌≤◌, ◌++◌, ◌∷◌, [], false, Bool, length, take, drop, insert, remove, slice_get, slice_set, IfOk, OnOk, OnErr};
+ghost use Rattle.std.specs.Fn.{ComputesKey};
+ghost use Rattle.shared_list.specs.Cuts.{IsCut};
 ghost use Rattle.shared_list.specs.Elements.{values};
+ghost use Rattle.shared_list.specs.Places.{ends};
 
+use crate::cut::cut_of;
 use std::alloc::{AllocError, Global};
 use std::marker::Model;
 use std::sync::Arc;
@@ -183,11 +187,36 @@ impl<T: Drop> Chunk<T> {
         Ok(Arc::new(alloc, Chunk { items })?)
     }
 
+    /// The first element. Constant time.
+    pub(crate) fn first(&self) -> &T
+        ensures { slice_get self.now 0 ≡ Some result.now }
+    {
+        &self.items[0]
+    }
+
     /// The last element. Constant time.
     pub fn last(&self) -> &T
         ensures { slice_get self.now (length self.now - 1) ≡ Some result.now }
     {
         &self.items[self.items.len() - 1]
+    }
+
+    /// Whether the last element passes a test. Constant time.
+    pub(crate) fn ends_before<P: Fn(&T) -> bool>(&self, test: &P) -> bool
+        requires { P.IsAlwaysCallable test.now }
+        ensures { (p : T → Bool) → ComputesKey P.FnMut p test.now → result ≡ ends p self.now }
+    {
+        test(self.last())
+    }
+
+    /// The index of the first element that doesn't pass a test, where those that pass come first. The last one isn't asked: it doesn't
+    /// pass. It costs the logarithm of their number.
+    pub(crate) fn point<P: Fn(&T) -> bool>(&self, test: &P) -> usize
+        requires { P.IsAlwaysCallable test.now }
+        ensures within { result < length self.now }
+        ensures cut { (p : T → Bool) → ComputesKey P.FnMut p test.now → ends p self.now ≡ false → IsCut p self.now result }
+    {
+        cut_of(&self.items[..self.items.len() - 1], test)
     }
 
     /// Its elements, in the owners that it has.

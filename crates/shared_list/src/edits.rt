@@ -17,11 +17,11 @@ pub fn push_item<T: Drop>(chunks: &mut Spine<Chunk<T>>, item: Arc<T>) -> Result<
     ensures ok { OnOk result (flattened chunks.new ≡ flattened chunks.old ++ item.value ∷ []) }
     ensures err { OnErr result (flattened chunks.new ≡ flattened chunks.old) }
 {
-    let count = chunks.len();
-    if count > 0 {
-        let at = chunks.at(count - 1).len();
+    if let Some(last) = chunks.last() {
+        let at = last.len();
         if at < CHUNK {
-            chunks.change(count - 1, Change::Put(at, item))?;
+            let end = chunks.len() - 1;
+            chunks.change(end, Change::Put(at, item))?;
             return Ok(());
         }
     }

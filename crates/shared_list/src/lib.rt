@@ -7,6 +7,7 @@
 mod around;
 mod change;
 mod chunk;
+mod cut;
 pub mod edits;
 mod iter;
 mod list;

@@ -8,11 +8,13 @@ ghost use Rattle.shared_list.specs.Around.{IsAround};
 ghost use Rattle.shared_list.specs.Elements.{flattened};
 ghost use Rattle.shared_list.specs.Left.{left};
 
-use crate::around::{Around, around_place, item_of};
+use crate::around::{Around, around_place};
 use crate::chunk::Chunk;
 use crate::edits::{cut_off, pour, push_item, remove_item, set_item, take_item};
 use crate::iter::Iter;
-use crate::place::{Place, index_of, item_at, last_place, partition_point, place_of};
+use crate::place::{
+    Place, first, index_of, item_at, last_item, last_place, partition_point, place_of,
+};
 use crate::spine::Spine;
 use std::alloc::{AllocError, Global};
 use std::marker::Model;
@@ -77,17 +79,15 @@ impl<T: Drop> SharedList<T> {
         Some(item_at(&self.chunks, place))
     }
 
-    /// The last element, or None where there is none. It costs a walk over the groups.
+    /// The last element, or None where there is none. Constant time.
     pub fn last(&self) -> Option<&T>
         ensures { option_copied result ≡ slice_get self.now (length self.now - 1) }
     {
-        let place = last_place(&self.chunks)?;
-        Some(item_at(&self.chunks, place))
+        last_item(&self.chunks)
     }
 
     /// The index of the first element that doesn't pass a test, where those that pass come first; the length, where all pass. It costs
-    /// the logarithm of the number of elements, with a walk over the groups for each step to a chunk, and a walk over the chunks before
-    /// that one.
+    /// the logarithm of the number of elements, and a walk over the chunks before that one.
     pub fn partition_point<P: Fn(&T) -> bool>(&self, test: P) -> usize
         requires { P.IsAlwaysCallable test }
         ensures bound { result ≤ length self.now }
@@ -100,16 +100,16 @@ impl<T: Drop> SharedList<T> {
     }
 
     /// The first element that doesn't pass a test, where those that pass come first, or None where all pass. It costs the logarithm of the
-    /// number of elements, with a walk over the groups for each step to a chunk.
+    /// number of elements.
     pub fn first<P: Fn(&T) -> bool>(&self, test: P) -> Option<&T>
         requires { P.IsAlwaysCallable test }
         ensures { (i : ℕ) × ((p : T → Bool) → ComputesKey P.FnMut p test → IsPartitionedBy p self.now → IsPartitionPoint (λ y. p y ≡ true) (λ y. p y ≡ false) self.now i) × (option_copied result ≡ slice_get self.now i) }
     {
-        item_of(&self.chunks, partition_point(&self.chunks, test))
+        first(&self.chunks, test)
     }
 
     /// The first element that doesn't pass a test, where those that pass come first, with the one before it and the one after it; each is
-    /// None where there is none. It costs the logarithm of the number of elements, with a walk over the groups for each step to a chunk.
+    /// None where there is none. It costs the logarithm of the number of elements, and at most four walks over the groups.
     pub fn around<P: Fn(&T) -> bool>(&self, test: P) -> Around<'_, T>
         requires { P.IsAlwaysCallable test }
         ensures { (i : ℕ) × ((p : T → Bool) → ComputesKey P.FnMut p test → IsPartitionedBy p self.now → IsPartitionPoint (λ y. p y ≡ true) (λ y. p y ≡ false) self.now i) × IsAround self.now i result }

@@ -1,13 +1,13 @@
 //! Where elements stand among chunks.
-ghost use Rattle.std.specs.Prelude.{◌≡◌, ◌+◌, ◌<◌, ◌≤◌, [], None, true, false, Bool, length, take, slice_get, IfSome};
+ghost use Rattle.std.specs.Prelude.{◌≡◌, ◌+◌, ◌-◌, ◌<◌, ℕ, [], None, Some, true, false, Bool, length, take, slice_get, IfSome};
 ghost use Rattle.std.specs.Fn.{ComputesKey};
 ghost use Rattle.std.specs.List.Sorted.{IsPartitionedBy, IsPartitionPoint};
-ghost use Rattle.shared_list.specs.Elements.{values, flattened};
+ghost use Rattle.std.specs.Option.{option_copied};
+ghost use Rattle.shared_list.specs.Elements.{flattened};
 ghost use Rattle.shared_list.specs.Places.{IsItem, ends, place_index};
 
 use crate::chunk::Chunk;
 use crate::spine::Spine;
-use std::sync::Arc;
 
 /// Where an element stands: the index of its chunk, and the element's index there.
 #[derive(Clone, Copy)]
@@ -34,19 +34,26 @@ pub(crate) fn place_of<T: Drop>(chunks: &Spine<Chunk<T>>, index: usize) -> Place
     unreachable!()
 }
 
-/// Where the last element stands, or None where there is none. It costs a walk over the groups.
+/// Where the last element stands, or None where there is none. Constant time.
 pub(crate) fn last_place<T: Drop>(chunks: &Spine<Chunk<T>>) -> Option<Place>
     ensures place { IfSome result (λ p. IsItem (λ v. v) chunks.now p.k p.at) }
     ensures last { IfSome result (λ p. length (flattened chunks.now) ≡ length (flattened (take p.k chunks.now)) + (p.at + 1)) }
     ensures none { result ≡ None → flattened chunks.now ≡ [] }
 {
-    let k = chunks.len().checked_sub(1)?;
-    let at = chunks.at(k).len() - 1;
+    let at = chunks.last()?.len() - 1;
+    let k = chunks.len() - 1;
     Some(Place { k, at })
 }
 
+/// The last element, or None where there is none. Constant time.
+pub(crate) fn last_item<T: Drop>(chunks: &Spine<Chunk<T>>) -> Option<&T>
+    ensures { option_copied result ≡ slice_get (flattened chunks.now) (length (flattened chunks.now) - 1) }
+{
+    Some(chunks.last()?.last())
+}
+
 /// Where the first element stands that a test doesn't pass, where those that pass come first, or None where all pass. It costs the
-/// logarithm of the number of elements, with a walk over the groups for each step to a chunk.
+/// logarithm of the number of elements, and a walk over the groups.
 pub fn partition_point<T: Drop, P: Fn(&T) -> bool>(
     chunks: &Spine<Chunk<T>>,
     test: P,
@@ -55,22 +62,29 @@ pub fn partition_point<T: Drop, P: Fn(&T) -> bool>(
     ensures place { IfSome result (λ c. IsItem (λ v. v) chunks.now c.k c.at) }
     ensures partitioned { (p : T → Bool) → ComputesKey P.FnMut p test → IsPartitionedBy p (flattened chunks.now) → IsPartitionPoint (λ y. p y ≡ true) (λ y. p y ≡ false) (flattened chunks.now) (place_index (λ v. v) chunks.now result) }
 {
-    let mut low = 0;
-    let mut high = chunks.len();
-    while low < high {
-        let mid = low + (high - low) / 2;
-        if ends_before(chunks.at(mid), &test) {
-            low = mid + 1;
-        } else {
-            high = mid;
-        }
-    }
-    if low >= chunks.len() {
-        return None;
-    }
-    let chunk = chunks.at(low);
-    let at = point_within(&chunk.items()[..chunk.len() - 1], &test);
-    Some(Place { k: low, at })
+    let (k, chunk) = chunks.point(
+        &|chunk: &Chunk<T>| -> bool
+            requires { P.IsAlwaysCallable test }
+            ensures { (p : T → Bool) → ComputesKey P.FnMut p test → result ≡ ends p chunk.now }
+        { chunk.ends_before(&test) },
+    )?;
+    let at = chunk.point(&test);
+    Some(Place { k, at })
+}
+
+/// The first element that a test doesn't pass, where those that pass come first, or None where all pass. It costs the logarithm of the
+/// number of elements.
+pub fn first<T: Drop, P: Fn(&T) -> bool>(chunks: &Spine<Chunk<T>>, test: P) -> Option<&T>
+    requires { P.IsAlwaysCallable test }
+    ensures { (i : ℕ) × ((p : T → Bool) → ComputesKey P.FnMut p test → IsPartitionedBy p (flattened chunks.now) → IsPartitionPoint (λ y. p y ≡ true) (λ y. p y ≡ false) (flattened chunks.now) i) × (option_copied result ≡ slice_get (flattened chunks.now) i) }
+{
+    let chunk = chunks.first(
+        &|chunk: &Chunk<T>| -> bool
+            requires { P.IsAlwaysCallable test }
+            ensures { (p : T → Bool) → ComputesKey P.FnMut p test → result ≡ ends p chunk.now }
+        { chunk.ends_before(&test) },
+    )?;
+    Some(chunk.get(chunk.point(&test)))
 }
 
 /// The element at a place. It costs a walk over the groups.
@@ -79,28 +93,6 @@ pub fn item_at<T: Drop>(chunks: &Spine<Chunk<T>>, place: Place) -> &T
     ensures { slice_get (flattened chunks.now) (place_index (λ v. v) chunks.now (Some place)) ≡ Some result.now }
 {
     chunks.at(place.k).get(place.at)
-}
-
-/// Whether the last element of a chunk passes.
-fn ends_before<T: Drop, P: Fn(&T) -> bool>(chunk: &Chunk<T>, test: &P) -> bool
-    requires { P.IsAlwaysCallable test.now }
-    ensures { (p : T → Bool) → ComputesKey P.FnMut p test.now → result ≡ ends p chunk.now }
-{
-    test(chunk.last())
-}
-
-/// The index of the first of these that doesn't pass, where those that pass come first.
-fn point_within<T: Drop, P: Fn(&T) -> bool>(items: &[Arc<T>], test: &P) -> usize
-    requires { P.IsAlwaysCallable test.now }
-    ensures bound { result ≤ length items.now }
-    ensures partitioned { (p : T → Bool) → ComputesKey P.FnMut p test.now → IsPartitionedBy p (values items.now) → IsPartitionPoint (λ y. p y ≡ true) (λ y. p y ≡ false) (values items.now) result }
-{
-    items.partition_point(
-        |item: &Arc<T>| -> bool
-            requires { P.IsAlwaysCallable test.now }
-            ensures { (p : T → Bool) → ComputesKey P.FnMut p test.entry.now → result ≡ p item.now.value }
-        { test(item) },
-    )
 }
 
 /// How many elements stand before a place of chunks that have so many. It costs a walk over the chunks before it.

@@ -1,7 +1,10 @@
 //! Elements in chunks which copies share: one level of what a list keeps.
-ghost use Rattle.std.specs.Prelude.{◌≡◌, ◌-◌, ◌<◌, ◌≤◌, ◌++◌, ◌∷◌, List, Some, [], length, take, drop, insert, remove, slice_get, slice_set, IfOk, OnOk, OnErr};
+ghost use Rattle.std.specs.Prelude.{◌≡◌, ◌-◌, ◌<◌, ◌≤◌, ◌++◌, ◌∷◌, ℕ, List, Some, None, Bool, [], length, take, drop, insert, remove, slice_get, slice_set, IfSome, IfOk, OnOk, OnErr};
+ghost use Rattle.std.specs.Fn.{ComputesKey};
+ghost use Rattle.std.specs.Option.{option_copied};
 ghost use Rattle.shared_list.specs.Ahead.{ahead};
 ghost use Rattle.shared_list.specs.Changes.{CanChange, changed};
+ghost use Rattle.shared_list.specs.Cuts.{IsCut};
 ghost use Rattle.shared_list.specs.Elements.{elements};
 
 mod edits;
@@ -13,7 +16,7 @@ use crate::chunk::Chunk;
 use crate::place::Place;
 use edits::{change_deep, copied, cut_off, insert_item, pour, push_item, remove_item, set_item};
 pub use iter::SpineIter;
-use place::{item_at, place_of};
+use place::{index_of, item_at, place_of, point};
 use std::alloc::{AllocError, Global};
 use std::marker::Model;
 use std::sync::Arc;
@@ -70,6 +73,36 @@ impl<T: Drop> Spine<T> {
         }
         let place = place_of(&self.chunks, index);
         item_at(&self.chunks, place)
+    }
+
+    /// The last element, or None where there is none. Constant time.
+    pub(crate) fn last(&self) -> Option<&T>
+        ensures { option_copied result ≡ slice_get self.now (length self.now - 1) }
+    {
+        let k = self.chunks.len().checked_sub(1)?;
+        Some(self.chunks[k].last())
+    }
+
+    /// The first element that a test doesn't pass, where those that pass come first, or None where all pass. It costs the logarithm of the
+    /// number of elements.
+    pub(crate) fn first<P: Fn(&T) -> bool>(&self, test: &P) -> Option<&T>
+        requires { P.IsAlwaysCallable test.now }
+        ensures { (i : ℕ) × ((p : T → Bool) → ComputesKey P.FnMut p test.now → IsCut p self.now i) × (option_copied result ≡ slice_get self.now i) }
+    {
+        let place = point(&self.chunks, test)?;
+        Some(item_at(&self.chunks, place))
+    }
+
+    /// The same element with its index, which costs a walk more.
+    pub(crate) fn point<P: Fn(&T) -> bool>(&self, test: &P) -> Option<(usize, &T)>
+        requires { P.IsAlwaysCallable test.now }
+        ensures item { IfSome result (λ r. slice_get self.now r.0 ≡ Some r.1.now) }
+        ensures cut { (p : T → Bool) → ComputesKey P.FnMut p test.now → IfSome result (λ r. IsCut p self.now r.0) }
+        ensures none { (p : T → Bool) → ComputesKey P.FnMut p test.now → result ≡ None → IsCut p self.now (length self.now) }
+    {
+        let place = point(&self.chunks, test)?;
+        let k = index_of(&self.chunks, place, self.len);
+        Some((k, item_at(&self.chunks, place)))
     }
 
     /// The elements, first to last. Constant time, and constant time for each element.

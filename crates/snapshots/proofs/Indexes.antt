@@ -1,4 +1,4 @@
--- An index of kept snapshots, as one more comes behind the others.
+-- An index of kept snapshots, as one more comes behind the others or before them.
 use Rattle.std.proofs.Common.{◌≡◌, ℕ, Bool, true, false, cond, List, [], ◌∷◌, ◌++◌, Option, Some, None, is_some, true≢false, refl, sym, ap, ◌∙◌}
 use Rattle.std.specs.Prelude.{if◌then◌else◌, Result, Ok, Err, OnOk}
 use Rattle.std.specs.Cmp.Lexicographic.{same_text}
@@ -18,49 +18,35 @@ find_more p (x ∷ ks) k = by (p x) (find_more p ks k)
     by true rest = refl
     by false rest = rest
 
--- a snapshot whose name is found is found by no name before that one
-pub index_stays : (b ks : List Kept) (k : Kept) → ((q : List ℕ) → find (λ x. same_name x.snapshot.name q) b ≡ find (λ x. same_name x.snapshot.name q) ks)
-    → is_some (find (λ x. same_name x.snapshot.name k.snapshot.name) b) ≡ true
-    → (q : List ℕ) → find (λ x. same_name x.snapshot.name q) b ≡ find (λ x. same_name x.snapshot.name q) (ks ++ k ∷ [])
-index_stays b ks k own there q = own q ∙ sym (find_more (λ x. same_name x.snapshot.name q) ks k ∙ by (same_name k.snapshot.name q) refl)
-  where
-    keep : (o : Option Kept) → is_some o ≡ true → option_or o (Some k) ≡ o
-    keep None h = absurd (true≢false (sym h))
-    keep (Some x) h = refl
-
-    drop : (o : Option Kept) → option_or o None ≡ o
-    drop None = refl
-    drop (Some x) = refl
-
-    by : (t : Bool) → same_name k.snapshot.name q ≡ t → option_or (find (λ x. same_name x.snapshot.name q) ks) (cond t (Some k) None) ≡ find (λ x. same_name x.snapshot.name q) ks
-    by true e =
-        let same : k.snapshot.name ≡ q = same_text k.snapshot.name q (sym e) in
-        keep (find (λ x. same_name x.snapshot.name q) ks) (ap is_some (sym (own q)) ∙ ap (λ n. is_some (find (λ x. same_name x.snapshot.name n) b)) (sym same) ∙ there)
-    by false e = drop (find (λ x. same_name x.snapshot.name q) ks)
-
--- one that wasn't is found by its name
-pub index_grows : (b c ks : List Kept) (k : Kept) → ((q : List ℕ) → find (λ x. same_name x.snapshot.name q) b ≡ find (λ x. same_name x.snapshot.name q) ks)
-    → find (λ x. same_name x.snapshot.name k.snapshot.name) b ≡ None
-    → ((q : List ℕ) → find (λ x. same_name x.snapshot.name q) c ≡ (if same_name k.snapshot.name q then Some k else find (λ x. same_name x.snapshot.name q) b))
+-- one more behind what an index is of, where by each name the index has the first
+pub index_behind : (b c ks : List Kept) (k : Kept) → ((q : List ℕ) → find (λ x. same_name x.snapshot.name q) b ≡ find (λ x. same_name x.snapshot.name q) ks)
+    → ((q : List ℕ) → find (λ x. same_name x.snapshot.name q) c ≡ option_or (find (λ x. same_name x.snapshot.name q) b) (if same_name k.snapshot.name q then Some k else None))
     → (q : List ℕ) → find (λ x. same_name x.snapshot.name q) c ≡ find (λ x. same_name x.snapshot.name q) (ks ++ k ∷ [])
-index_grows b c ks k own none more q = more q ∙ by (same_name k.snapshot.name q) refl ∙ sym (find_more (λ x. same_name x.snapshot.name q) ks k)
-  where
-    drop : (o : Option Kept) → o ≡ option_or o None
-    drop None = refl
-    drop (Some x) = refl
+index_behind b c ks k own more q =
+    more q
+    ∙ ap (λ o. option_or o (cond (same_name k.snapshot.name q) (Some k) None)) (own q)
+    ∙ sym (find_more (λ x. same_name x.snapshot.name q) ks k)
 
+-- none to fall back on
+pub or_none : (o : Option Kept) → option_or o None ≡ o
+or_none None = refl
+or_none (Some x) = refl
+
+-- and one more before it, where none has its name
+pub index_before : (b c ks : List Kept) (k : Kept) → ((q : List ℕ) → find (λ x. same_name x.snapshot.name q) b ≡ find (λ x. same_name x.snapshot.name q) ks)
+    → find (λ x. same_name x.snapshot.name k.snapshot.name) ks ≡ None
+    → ((q : List ℕ) → find (λ x. same_name x.snapshot.name q) c ≡ option_or (find (λ x. same_name x.snapshot.name q) b) (if same_name k.snapshot.name q then Some k else None))
+    → (q : List ℕ) → find (λ x. same_name x.snapshot.name q) c ≡ find (λ x. same_name x.snapshot.name q) (k ∷ ks)
+index_before b c ks k own none more q = more q ∙ ap (λ o. option_or o (cond (same_name k.snapshot.name q) (Some k) None)) (own q) ∙ by (same_name k.snapshot.name q) refl
+  where
     by : (t : Bool) → same_name k.snapshot.name q ≡ t
-        → cond t (Some k) (find (λ x. same_name x.snapshot.name q) b) ≡ option_or (find (λ x. same_name x.snapshot.name q) ks) (cond t (Some k) None)
+        → option_or (find (λ x. same_name x.snapshot.name q) ks) (cond t (Some k) None) ≡ cond t (Some k) (find (λ x. same_name x.snapshot.name q) ks)
     by true e =
         let same : k.snapshot.name ≡ q = same_text k.snapshot.name q (sym e) in
-        ap (λ o. option_or o (Some k)) (sym (sym (own q) ∙ ap (λ n. find (λ x. same_name x.snapshot.name n) b) (sym same) ∙ none))
-    by false e = own q ∙ drop (find (λ x. same_name x.snapshot.name q) ks)
+        ap (λ o. option_or o (Some k)) (ap (λ n. find (λ x. same_name x.snapshot.name n) ks) (sym same) ∙ none)
+    by false e = or_none (find (λ x. same_name x.snapshot.name q) ks)
 
--- a look-up that gives something, and one that gives nothing
-pub some_found : (r : Option (Bor Kept)) (f : Option Kept) → option_copied r ≡ f → is_some r ≡ true → is_some f ≡ true
-some_found None f is h = absurd (true≢false (sym h))
-some_found (Some k) f is h = ap is_some (sym is)
-
+-- a look-up that gives nothing
 pub none_found : (r : Option (Bor Kept)) (f : Option Kept) → option_copied r ≡ f → is_some r ≡ false → f ≡ None
 none_found None f is h = sym is
 none_found (Some k) f is h = absurd (true≢false h)

@@ -1,5 +1,5 @@
 -- Lists of entries in the order of their keys, by places.
-use Rattle.std.proofs.Common.{◌≡◌, ℕ, zero, suc, ◌<◌, ◌≤◌, Bool, true, false, cond, T, List, [], ◌∷◌, length, get_or, Option, Some, None, refl, sym, ap, subst, ◌∙◌, arith, true≢false}
+use Rattle.std.proofs.Common.{◌≡◌, ℕ, zero, suc, ◌<◌, ◌≤◌, Bool, true, false, cond, T, List, [], ◌∷◌, length, get_or, set, Option, Some, None, refl, sym, ap, subst, ◌∙◌, arith, true≢false}
 use Rattle.std.specs.declared.cmp.Ordering.{Ordering}
 use Rattle.std.specs.declared.cmp.Ordering.TheVariants.{Less, Equal, Greater}
 use Rattle.std.specs.Prelude.{◌&&◌, remove}
@@ -21,6 +21,11 @@ pub less_from : (r : Ordering) → T (is_lt r) → r ≡ Less
 less_from Less h = refl
 less_from Equal h = absurd h
 less_from Greater h = absurd h
+
+pub equal_from : (r : Ordering) → is_eq r ≡ true → r ≡ Equal
+equal_from Less h = absurd (true≢false (sym h))
+equal_from Equal h = refl
+equal_from Greater h = absurd (true≢false (sym h))
 
 pub T_left : (a b : Bool) → T (a && b) → T a
 T_left true b h = tt
@@ -78,6 +83,15 @@ module _ {K X : Type 0} {R : K → K → Ordering} (o : IsTotalOrder R) where
       let below : R e.0 (get_or es i d).0 ≡ Less = below_at e.0 es (T_left (below_all R e.0 es) (is_sorted R es) h) i d (omega arith) in
       ap (λ r. cond (is_eq r) (Some e.1) (find R (get_or es i d).0 es)) (turned o e.0 _ Less below) ∙ find_at es (T_right (below_all R e.0 es) (is_sorted R es) h) i d (omega arith)
 
+  -- another value at the key of a place stands at that place
+  pub put_at : (es : List (K × X)) → T (is_sorted R es) → (i : ℕ) (d : K × X) (v : X) → i < length es → put R (get_or es i d).0 v es ≡ set es i ((get_or es i d).0, v)
+  put_at [] h i d v lt = absurd (omega arith)
+  put_at (e ∷ es) h zero d v lt = ap (λ r. by_order r ((e.0, v) ∷ e ∷ es) ((e.0, v) ∷ es) (e ∷ put R e.0 v es)) (tied_itself o e.0)
+  put_at (e ∷ es) h (suc i) d v lt =
+      let k = (get_or es i d).0 in
+      let below : R e.0 k ≡ Less = below_at e.0 es (T_left (below_all R e.0 es) (is_sorted R es) h) i d (omega arith) in
+      ap (λ r. by_order r ((k, v) ∷ e ∷ es) ((e.0, v) ∷ es) (e ∷ put R k v es)) (turned o e.0 k Less below) ∙ ap (λ xs. e ∷ xs) (put_at es (T_right (below_all R e.0 es) (is_sorted R es) h) i d v (omega arith))
+
   -- a key with lower keys before a place and higher ones from there on is not found
   pub find_gap : (es : List (K × X)) (q : K) (i : ℕ)
       → ((j : ℕ) (d : K × X) → j < i → R (get_or es j d).0 q ≡ Less)
@@ -109,11 +123,6 @@ module _ {K X : Type 0} {R : K → K → Ordering} (o : IsTotalOrder R) where
 pub T_both : (a b : Bool) → T a → T b → T (a && b)
 T_both true b h k = k
 T_both false b h k = h
-
-is_equal : (r : Ordering) → is_eq r ≡ true → r ≡ Equal
-is_equal Less h = absurd (true≢false (sym h))
-is_equal Equal h = refl
-is_equal Greater h = absurd (true≢false (sym h))
 
 gone : {X : Type 0} (b : Bool) (x : X) (r : Option X) → (b ≡ true → r ≡ None) → r ≡ cond b None (cond b (Some x) r)
 gone true x r h = h refl
@@ -149,11 +158,11 @@ module _ {K X : Type 0} {R : K → K → Ordering} (o : IsTotalOrder R) where
   pub find_left : (es : List (K × X)) (i : ℕ) (d : K × X) → T (is_sorted R es) → i < length es → (q : K) → find R q (remove es i) ≡ cond (is_eq (R q (get_or es i d).0)) None (find R q es)
   find_left [] i d h lt q = absurd (omega arith)
   find_left (e ∷ es) zero d h lt q =
-      gone (is_eq (R q e.0)) e.1 (find R q es) (λ s. none_below q e.0 es (is_equal (R q e.0) s) (T_left (below_all R e.0 es) (is_sorted R es) h))
+      gone (is_eq (R q e.0)) e.1 (find R q es) (λ s. none_below q e.0 es (equal_from (R q e.0) s) (T_left (below_all R e.0 es) (is_sorted R es) h))
   find_left (e ∷ es) (suc i) d h lt q =
       ap (λ r. cond (is_eq (R q e.0)) (Some e.1) r) (find_left es i d (T_right (below_all R e.0 es) (is_sorted R es) h) (omega arith) q)
       ∙ passed (is_eq (R q e.0)) (is_eq (R q (get_or es i d).0)) e.1 (find R q es)
       (λ a b.
       let less : R e.0 (get_or es i d).0 ≡ Less = sorted_at o (e ∷ es) h zero (suc i) d (omega arith) (omega arith) in
-      let first : R q (get_or es i d).0 ≡ Less = o.congr q e.0 (get_or es i d).0 (is_equal (R q e.0) a) ∙ less in
+      let first : R q (get_or es i d).0 ≡ Less = o.congr q e.0 (get_or es i d).0 (equal_from (R q e.0) a) ∙ less in
       true≢false (sym b ∙ ap is_eq first))

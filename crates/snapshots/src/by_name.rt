@@ -1,8 +1,8 @@
 //! Kept snapshots by name.
-ghost use Rattle.std.specs.Prelude.{◌≡◌, [], None, true, false, IsTrue, IsSome, IfSome, if◌then◌else◌, ℕ, List, IfOk, IfErr, OnOk, OnErr};
+ghost use Rattle.std.specs.Prelude.{◌≡◌, [], None, Some, true, false, IsTrue, IsSome, IfSome, if◌then◌else◌, ℕ, List, IfOk, IfErr, OnOk, OnErr};
 ghost use Rattle.std.specs.List.{find};
 ghost use Rattle.std.specs.List.Sorted.{IsPartitionPoint};
-ghost use Rattle.std.specs.Option.{option_copied};
+ghost use Rattle.std.specs.Option.{option_copied, option_or};
 ghost use Rattle.shared_list.specs.Elements.{flattened};
 ghost use Rattle.shared_list.specs.Places.{IsItem, place_index};
 ghost use Rattle.base.specs.declared.refusal.Refusal.{Refusal};
@@ -12,7 +12,7 @@ ghost use Rattle.snapshots.specs.Order.{is_below, is_named, names_rise};
 use crate::kept::Kept;
 use base::refusal::Refusal;
 use shared_list::edits::{insert_item, push_item, remove_item, set_item};
-use shared_list::place::{Place, item_at, partition_point};
+use shared_list::place::{Place, first, item_at, partition_point};
 use shared_list::{Chunk, Spine};
 use std::alloc::Global;
 use std::marker::Model;
@@ -62,32 +62,33 @@ impl ByName {
         Ok(ByName { chunks })
     }
 
-    /// The snapshot of that name, or None where there is none. It costs the logarithm of their number, with a walk over the groups for
-    /// each step to a chunk.
+    /// The snapshot of that name, or None where there is none. It costs the logarithm of their number.
     pub fn get(&self, name: &[u8]) -> Option<&Kept>
         ensures { option_copied result ≡ find (λ k. same_name k.snapshot.name name.now) self.now }
     {
-        let place = place_of(&self.chunks, name)?;
-        let kept = item_at(&self.chunks, place);
+        let kept = first(&self.chunks, |kept: &Kept| is_below_name(kept, name))?;
         if has_name(kept, name) {
             return Some(kept);
         }
         None
     }
 
-    /// Puts in a snapshot of a name that isn't there, by the owner that is given. It costs the logarithm of their number, with a walk over
-    /// the groups for each step to a chunk, and at most two chunks and their groups; a chunk is changed in place where it and its group
-    /// have no other owner and it isn't full. NoMemory where memory is refused; then all is as it was.
+    /// Puts in a snapshot, by the owner that is given; where one of its name is there, that stays. It costs the logarithm of their number,
+    /// a few walks over the groups, and at most two chunks and their groups; a chunk is changed in place where it and its group have no
+    /// other owner and it isn't full. NoMemory where memory is refused; then all is as it was.
     pub fn insert(&mut self, kept: Arc<Kept>) -> Result<(), Refusal>
-        requires { find (λ k. same_name k.snapshot.name kept.value.snapshot.name) self.old ≡ None }
-        ensures ok { OnOk result ((name : List ℕ) → find (λ k. same_name k.snapshot.name name) self.new ≡ (if same_name kept.value.snapshot.name name then Some kept.value else find (λ k. same_name k.snapshot.name name) self.old)) }
+        ensures ok { OnOk result ((name : List ℕ) → find (λ k. same_name k.snapshot.name name) self.new ≡ option_or (find (λ k. same_name k.snapshot.name name) self.old) (if same_name kept.value.snapshot.name name then Some kept.value else None)) }
         ensures err { OnErr result (self.new ≡ self.old) }
         ensures only { IfErr result (λ e. e ≡ Refusal.NoMemory) }
     {
-        let Some(place) = place_of(&self.chunks, kept.snapshot.name().as_bytes()) else {
+        let name = kept.snapshot.name().as_bytes();
+        let Some(place) = place_of(&self.chunks, name) else {
             push_item(&mut self.chunks, kept)?;
             return Ok(());
         };
+        if has_name(item_at(&self.chunks, place), name) {
+            return Ok(());
+        }
         insert_item(&mut self.chunks, place.k, place.at, kept)?;
         Ok(())
     }

@@ -1,19 +1,14 @@
 //! Snapshots that change from one file system to another.
-ghost use Rattle.std.specs.Prelude.{◌≡◌, ◌≤◌, ◌++◌, ◌∷◌, None, List, length, take, drop, IfOk, IfErr};
-ghost use Rattle.std.specs.Arc.{arc_value};
-ghost use Rattle.std.specs.List.{find};
+ghost use Rattle.std.specs.Prelude.{◌≡◌, ◌≤◌, ◌++◌, length, take, drop, IfOk, IfErr};
 ghost use Rattle.base.specs.declared.refusal.Refusal.{Refusal};
-ghost use Rattle.base.specs.Names.{same_name};
-ghost use Rattle.snapshots.specs.declared.kept.Kept.{Kept};
 ghost use Rattle.snapshots.specs.Index.{IsIndex, AreNamesOnce};
 
 use crate::by_name::ByName;
 use crate::kept::Kept;
-use crate::snapshot_list::{SnapshotList, copy_of_index, forget};
+use crate::snapshot_list::{SnapshotList, copy_of_index, forget, index};
 use base::refusal::Refusal;
 use shared_list::SharedList;
 use std::alloc::Global;
-use std::sync::Arc;
 
 impl SnapshotList {
     /// The first `count` of them, and the others, where each name is one snapshot's. It costs the number of chunks, which is a 32nd of that
@@ -119,7 +114,7 @@ fn with(
 {
     let mut left = kept.copy()?;
     'kept: while let Some(kept) = left.pop_shared()? {
-        put_before(&mut by_name, kept);
+        index(&mut by_name, kept);
     }
     Ok(by_name)
 }
@@ -138,17 +133,4 @@ fn without(
         forget(&mut by_name, kept.snapshot.name().as_bytes());
     }
     by_name
-}
-
-// Puts a snapshot that comes before the others into their index, where none of them has its name. Where memory is refused there is no index
-// any more.
-fn put_before(by_name: &mut Option<ByName>, kept: Arc<Kept>)
-    ensures { (ks : List Kept) → find (λ k. same_name k.snapshot.name (arc_value kept).snapshot.name) ks ≡ None → IsIndex by_name.old ks → IsIndex by_name.new (arc_value kept ∷ ks) }
-{
-    let Some(index) = by_name else {
-        return;
-    };
-    if index.get(kept.snapshot.name().as_bytes()).is_some() || index.insert(kept).is_err() {
-        *by_name = None;
-    }
 }

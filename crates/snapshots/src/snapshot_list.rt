@@ -1,5 +1,5 @@
 //! The snapshots of one file system.
-ghost use Rattle.std.specs.Prelude.{◌≡◌, ◌-◌, ◌+◌, ◌<◌, ◌++◌, ◌∷◌, [], ℕ, Some, List, length, remove, IfOk, IfErr, IfSome, IsSome, OnOk, OnErr, slice_get, slice_set};
+ghost use Rattle.std.specs.Prelude.{◌≡◌, ◌-◌, ◌+◌, ◌<◌, ◌++◌, ◌∷◌, [], ℕ, None, Some, List, length, remove, IfOk, IfErr, IfSome, IsSome, OnOk, OnErr, slice_get, slice_set};
 ghost use Rattle.std.specs.Option.{option_copied, option_map};
 ghost use Rattle.std.specs.Arc.{arc_value};
 ghost use Rattle.std.specs.List.{find};
@@ -197,17 +197,15 @@ fn walk<'a>(kept: &'a SharedList<Kept>, name: &[u8]) -> Option<&'a Kept>
         .find(|kept| kept.snapshot.name().as_bytes() == name)
 }
 
-// Puts a snapshot that comes behind the others into their index. Where one of its name is there that stays; where memory is refused
-// there is no index any more.
-fn index(by_name: &mut Option<ByName>, kept: Arc<Kept>)
-    ensures { (ks : List Kept) → IsIndex by_name.old ks → IsIndex by_name.new (ks ++ arc_value kept ∷ []) }
+// Puts a snapshot into the index of others, where it comes behind them, or before them and none of them has its name. Where one of its name
+// is there that stays; where memory is refused there is no index any more.
+pub(crate) fn index(by_name: &mut Option<ByName>, kept: Arc<Kept>)
+    ensures behind { (ks : List Kept) → IsIndex by_name.old ks → IsIndex by_name.new (ks ++ arc_value kept ∷ []) }
+    ensures before { (ks : List Kept) → find (λ k. same_name k.snapshot.name (arc_value kept).snapshot.name) ks ≡ None → IsIndex by_name.old ks → IsIndex by_name.new (arc_value kept ∷ ks) }
 {
     let Some(index) = by_name else {
         return;
     };
-    if index.get(kept.snapshot.name().as_bytes()).is_some() {
-        return;
-    }
     if index.insert(kept).is_err() {
         *by_name = None;
     }

@@ -5,14 +5,6 @@ use Rattle.model.specs.declared.limits.Limit.TheVariants.{Quota as QuotaIs, RefQ
 use Rattle.model.specs.declared.request.Property.{Property}
 use Rattle.model.specs.declared.request.Property.TheVariants.{Available, UsedByDataset, UsedBySnapshots, UsedByChildren, UsedByRefReservation, Quota, RefQuota, Reservation, RefReservation}
 
--- a limit of a file system (zfsprops(7): quota, refquota, reservation, refreservation)
-abbrev pub is_limit : Property → Bool
-is_limit Quota = true
-is_limit RefQuota = true
-is_limit Reservation = true
-is_limit RefReservation = true
-is_limit _ = false
-
 -- a property of space that file systems alone have (zfsprops(7))
 abbrev pub is_of_live : Property → Bool
 is_of_live Available = true

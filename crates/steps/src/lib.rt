@@ -19,5 +19,5 @@ pub use crate::intake::{Intake, Present, intake_of};
 pub use crate::limiting::{over, recount, renew, settle};
 pub use limits::outlook::Outlook;
 pub use limits::{Ledger, Space};
-pub use lookups::{live_name, snapshot_named};
+pub use lookups::live_name;
 pub use sends::sources::sources_of;

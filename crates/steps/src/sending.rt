@@ -11,7 +11,6 @@ use base::meter::Meter;
 use base::name::Target;
 use base::refusal::Refusal;
 use datasets::Table;
-use lookups::snapshot_named;
 use model::reply::Reply;
 use sends::sources::start_of;
 use sends::stream_bytes;
@@ -39,7 +38,7 @@ pub(crate) fn send(
     let Target::Snapshot(name) = target else {
         unreachable!()
     };
-    let Some(snapshot) = snapshot_named(table, name.member()) else {
+    let Some(snapshot) = table.snapshot(name.member()) else {
         unreachable!()
     };
     let sent = stream_bytes(

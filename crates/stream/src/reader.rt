@@ -1,5 +1,5 @@
 //! The reader of streams.
-ghost use Rattle.std.specs.Prelude.{◌≡◌, ◌≢◌, ◌↔◌, ◌≤◌, ◌<◌, ◌^◌, ◌++◌, ◌∷◌, [], List, ℕ, length, IfOk, IfErr, OnOk, IfSome, IsErrOf, IsTrue, MatchBool};
+ghost use Rattle.std.specs.Prelude.{◌≡◌, ◌≢◌, ◌↔◌, ◌≤◌, ◌<◌, ◌++◌, ◌∷◌, [], List, ℕ, length, IfOk, IfErr, OnOk, IfSome, IsErrOf, IsTrue, MatchBool};
 ghost use Rattle.std.specs.List.{All, flat_map};
 ghost use Rattle.std.specs.Int.{to_be_bytes, w32};
 ghost use Rattle.std.specs.Io.KnownBytes.{Consumes, IsAtEnd};
@@ -7,7 +7,7 @@ ghost use Rattle.sha2.specs.Hashers.{Holds256};
 ghost use Rattle.base.specs.Failing.{HasRisen};
 ghost use Rattle.base.specs.Key.{IsKey};
 ghost use Rattle.stream.specs.declared.record.Record.TheVariants.{Write, Free};
-ghost use Rattle.stream.specs.Records.{start_of, end_of};
+ghost use Rattle.stream.specs.Records.{start_of};
 ghost use Rattle.stream.specs.Spelling.{header, record_bytes, spell, IsRecord, AreApartFrom, AreGuids, KeepsRules, IsStream, IsNoStream};
 ghost use Rattle.stream.specs.Reading.{Passes, HasNoHeader, HasNoWrite, HasNoFree, HasNoNext, HasNoRecords, FindsNext, ComesShort};
 

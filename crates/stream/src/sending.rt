@@ -1,5 +1,5 @@
 //! What a stream says, and why one could not be written or read.
-ghost use Rattle.std.specs.Prelude.{◌≡◌, ◌≤◌, ◌+◌, ◌^◌};
+ghost use Rattle.std.specs.Prelude.{◌≡◌};
 ghost use Rattle.base.specs.Failing.{HasRisen};
 
 use crate::record::Record;

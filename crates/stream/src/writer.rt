@@ -1,8 +1,7 @@
 //! The writer of streams.
-ghost use Rattle.std.specs.Prelude.{◌≡◌, ◌++◌, ◌∷◌, [], List, ℕ, OnOk, IsErrOf};
+ghost use Rattle.std.specs.Prelude.{OnOk, IsErrOf};
 ghost use Rattle.std.specs.List.{flat_map};
 ghost use Rattle.std.specs.Io.KnownBytes.{Appends};
-ghost use Rattle.sha2.specs.Hashers.{Holds256};
 ghost use Rattle.base.specs.Failing.{HasRisen};
 ghost use Rattle.stream.specs.Spelling.{header, record_bytes, spell};
 ghost use Rattle.stream.specs.Writing.{Puts};

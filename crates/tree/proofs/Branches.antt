@@ -1,27 +1,35 @@
 -- The map of a part that stands at a key, and those of the parts directly below.
-use Rattle.std.proofs.Common.{◌≡◌, ℕ, zero, suc, ◌+◌, ◌*◌, ◌/◌, ◌%◌, ◌-◌, ◌^◌, ◌<◌, ◌≤◌, Bool, true, false, cond, List, length, get_or, set, Option, Some, None, refl, sym, ap, subst, ◌∙◌, arith, ⊎_elim, true≢false, length-set, get_or-set_same, get_or-set_other}
-use Rattle.std.specs.Prelude.{◌==◌, ◌&&◌, nat_le, nat_lt, is_some}
+use Rattle.std.proofs.Common.{◌≡◌, ℕ, zero, suc, ◌+◌, ◌*◌, ◌/◌, ◌%◌, ◌-◌, ◌^◌, ◌<◌, ◌≤◌, Bool, true, false, cond, List, [], ◌∷◌, ◌++◌, length, get_or, reverse, Option, Some, None, refl, sym, ap, subst, ◌∙◌, arith, ⊎_elim, true≢false, length-append}
+use Rattle.std.specs.Prelude.{◌==◌, ◌&&◌, IfSome, nat_le, nat_lt, is_some}
+use Rattle.std.specs.Borrow.{Bor}
+use Rattle.std.specs.declared.alloc.Global.{Global}
+use Rattle.std.specs.declared.sync.Arc.{Arc}
+use Rattle.std.specs.List.{cons_option, filter_map, range_with_len}
 use Rattle.std.specs.Option.{option_map, option_and_then}
+use Rattle.std.proofs.lemmas.List.{length-reverse}
+use Rattle.std.proofs.lemmas.List.FromFn.{length-range_with_len}
 use Rattle.std.specs.FinMap as fin
 use Rattle.std.specs.FinMap.{get, retain_keys}
 use Rattle.std.proofs.lemmas.Bool.{cases_lt, eqb-true, eq-eqb, leb-true, le-leb, lt-ltb}
 use Rattle.std.proofs.Math.Nat.{div-lt_iff_lt-mul, pow-suc, mod-lt, mul-le-mul_left}
 use Rattle.std.proofs.lemmas.Nat.{pow-add}
-use borrow.Author.Count.{below_more}
 use Rattle.std.proofs.Math.Arith.{mod-mul}
 use Rattle.base.specs.declared.number.Key.{Key}
 use Rattle.base.specs.Key.{key_cmp, key_cmp_total, key_cmp-IsAntisymmetric, is_at_or_below, IsKey}
 use Rattle.base.specs.Map.{Map, Cell}
-use Rattle.tree.specs.Branch.{Branch, map_below, child_key, child_of}
+use Rattle.tree.specs.Branch.{Branch, map_below, child_key, child_of, branches_below}
 use Rattle.tree.specs.BranchParts.{branch_at}
 use Rattle.node.specs.Entries.{key_at, entries_from, width, IsWell, map_of}
 use Rattle.node.specs.Kid.{IsSound, IsKid, places}
-use Rattle.node.specs.Shape.{Part, grown, done, part_at, cell_below}
+use Rattle.node.specs.declared.pair.Pair.{Pair}
+use Rattle.node.specs.Node.{part_of_owner, part_of_slot, shared_part}
+use Rattle.node.specs.Pairs.{places_in}
+use Rattle.node.specs.Shape.{Part, grown, done, forest_of, part_at, cell_below}
 use Rattle.node.proofs.Digits.{high_digits, low_digits, eq_not}
 use Rattle.node.proofs.Find.{not_before, not_above, scale_lt, found, cell_in-past, cell_in-root}
-use Rattle.node.proofs.Options.{same_value}
+use Rattle.node.proofs.Options.{same_value, twice}
 use Rattle.node.proofs.Order.{entries_sorted, placed, span_positive}
-use Rattle.node.proofs.Places.{AreKids-at, kids_of, part_at-places}
+use Rattle.node.proofs.Places.{AreKids-at, kids_of, part_at-places, places-forest_of}
 use Rattle.node.proofs.Sameness.{place_in, rest_in}
 
 -- the map of a part at a key
@@ -236,24 +244,85 @@ child_is_key k i is a h =
     let power : 16 ^ (5 - (k.level - 1)) ≡ 16 ^ (5 - k.level) * 16 = ap (λ n. 16 ^ n) deep ∙ pow-suc 16 (5 - k.level) in
     record { level = omega (arith, low); index = omega (arith, power, within, h) }
 
--- the places before one have what they are to have, and the others nothing
-pub record IsFilled (bs : List (Option Branch)) (n : ℕ) (f : ℕ → Option Branch) : Type 0 where
-  pub wide : length bs ≡ 16
-  pub before : (i : ℕ) → i < n → get_or bs i None ≡ f i
-  pub after : (i : ℕ) → n ≤ i → get_or bs i None ≡ None
+-- what stands directly below from a place on
+unfoldable pub branches_from : Branch → ℕ → List Branch
+branches_from b n = filter_map (child_of b) (range_with_len n (16 - n))
 
-pub filled_some : (bs : List (Option Branch)) (n : ℕ) (f : ℕ → Option Branch) (b : Branch) → IsFilled bs n f → n < 16 → Some b ≡ f n → IsFilled (set bs n (Some b)) (n + 1) f
-filled_some bs n f b is h e =
-    let w = is.wide in
-    record {
-      wide = length-set bs n (Some b) ∙ w;
-      before = below_more _ n (λ i l. get_or-set_other bs n i (Some b) None (λ x. omega (arith, x)) ∙ is.before i l) (get_or-set_same bs n (Some b) None (omega (arith, w)) ∙ e);
-      after = λ i l. get_or-set_other bs n i (Some b) None (λ x. omega (arith, x)) ∙ is.after i (omega arith);
-    }
+pub from_first : (b : Branch) → branches_from b 0 ≡ branches_below b
+unfolding branches_from branches_below
+from_first b = refl
 
-pub filled_none : (bs : List (Option Branch)) (n : ℕ) (f : ℕ → Option Branch) → IsFilled bs n f → None ≡ f n → IsFilled bs (n + 1) f
-filled_none bs n f is e = record {
-  wide = is.wide;
-  before = below_more _ n is.before (is.after n (omega arith) ∙ e);
-  after = λ i l. is.after i (omega arith);
-}
+pub from_last : (b : Branch) → branches_from b 16 ≡ []
+unfolding branches_from
+from_last b = refl
+
+from_next : (b : Branch) (n : ℕ) → n < 16 → branches_from b n ≡ cons_option (child_of b n) (branches_from b (n + 1))
+unfolding branches_from
+from_next b n h = let e : 16 - n ≡ suc (16 - (n + 1)) = omega arith in ap (λ k. filter_map (child_of b) (range_with_len n k)) e
+
+cons-append : (o : Option Branch) (xs ys : List Branch) → cons_option o (xs ++ ys) ≡ cons_option o xs ++ ys
+cons-append None xs ys = refl
+cons-append (Some x) xs ys = refl
+
+-- one place more is put onto others
+pub one_put : (b : Branch) (n : ℕ) (o : Option Branch) (new mid old : List Branch) → 0 < n → n ≤ 16 → o ≡ child_of b (n - 1) → new ≡ cons_option o mid → mid ≡ branches_from b n ++ old → new ≡ branches_from b (n - 1) ++ old
+one_put b n o new mid old some few is put e =
+    let next : n - 1 + 1 ≡ n = omega arith in
+    put
+    ∙ (λ z. cons_option (is z) (e z))
+    ∙ cons-append (child_of b (n - 1)) (branches_from b n) old
+    ∙ ap (λ k. cons_option (child_of b (n - 1)) (branches_from b k) ++ old) (sym next)
+    ∙ ap (λ xs. xs ++ old) (sym (from_next b (n - 1) (omega arith)))
+
+-- all places are put onto others
+pub all_put : (b : Branch) (n : ℕ) (new old : List Branch) → ¬ (0 < n) → new ≡ branches_from b n ++ old → new ≡ branches_below b ++ old
+all_put b n new old none e = let first : n ≡ 0 = omega (arith, none) in e ∙ ap (λ k. branches_from b k ++ old) first ∙ ap (λ xs. xs ++ old) (from_first b)
+
+-- sixteen at most
+few_of : (f : ℕ → Option Branch) (xs : List ℕ) → length (filter_map f xs) ≤ length xs
+few_of f [] = omega arith
+few_of f (x ∷ xs) = by (f x) (few_of f xs)
+  where
+    by : (o : Option Branch) → length (filter_map f xs) ≤ length xs → length (cons_option o (filter_map f xs)) ≤ suc (length xs)
+    by None h = omega (arith, h)
+    by (Some b) h = omega (arith, h)
+
+few_branches : (b : Branch) → length (branches_below b) ≤ 16
+unfolding branches_below
+few_branches b = let few = few_of (child_of b) (range_with_len 0 16) in let all = length-range_with_len 0 16 in omega (arith, few, all)
+
+pub few_put : (b : Branch) (new old : List Branch) → reverse new ≡ branches_below b ++ reverse old → length new ≤ length old + 16
+few_put b new old e =
+    let few = few_branches b in
+    let all = sym (length-reverse new) ∙ ap length e ∙ length-append (branches_below b) (reverse old) in
+    let rest = length-reverse old in
+    omega (arith, few, all, rest)
+
+-- none below a leaf
+none_of : (f : ℕ → Option Branch) (xs : List ℕ) → ((i : ℕ) → f i ≡ None) → filter_map f xs ≡ []
+none_of f [] h = refl
+none_of f (x ∷ xs) h = ap (λ o. cons_option o (filter_map f xs)) (h x) ∙ none_of f xs h
+
+no_child : (b : Branch) (i : ℕ) → b.key.level ≡ 0 → child_of b i ≡ None
+no_child b i e = ap (λ n. cond (nat_lt 0 n && is_some (get b.map (child_key b.key i))) (Some (record { key = child_key b.key i; map = map_below b.map (child_key b.key i) })) None) e
+
+pub leaf_child : (k : Key) (p : Part) (i : ℕ) → k.level ≡ 0 → child_of (branch_at k p) i ≡ None
+leaf_child k p i e = no_child (branch_at k p) i (ap (λ (x : Key). x.level) (key-branch_at k p) ∙ e)
+
+pub leaf_below : (k : Key) (p : Part) → k.level ≡ 0 → branches_below (branch_at k p) ≡ []
+unfolding branches_below
+leaf_below k p e = none_of (child_of (branch_at k p)) (range_with_len 0 16) (λ i. leaf_child k p i e)
+
+-- the part at a place, by one more owner of it
+pub kept_kid : {C : Type 0} (f : C → Part) (ps : List (Pair C)) (i : ℕ) (r : Option (Bor (Arc C Global))) (o : Option (Arc C Global)) → option_map (λ a. a.now) r ≡ get_or (places_in ps) i None → part_of_slot f o ≡ part_of_owner f r
+    → part_of_slot f o ≡ part_at (forest_of (shared_part f) (places_in ps)) i
+kept_kid f ps i r o e k =
+    k
+    ∙ twice (λ b. b.now) (shared_part f) r
+    ∙ ap (option_map (shared_part f)) e
+    ∙ sym (places-forest_of (shared_part f) (places_in ps) i)
+    ∙ sym (part_at-places (forest_of (shared_part f) (places_in ps)) i)
+
+pub sound_kid : (l i : ℕ) (p : Part) (o : Option Part) → IsSound (suc l) p → o ≡ part_at p.below i → IfSome o (IsSound l)
+sound_kid l i p None s e = tt
+sound_kid l i p (Some q) s e = (kid_at l i p q s (sym e)).1

@@ -1,5 +1,6 @@
 -- What stands at and below one key of a map.
-use Rattle.std.specs.Prelude.{◌≡◌, ◌<◌, ◌⊎◌, ℕ, ◌+◌, ◌*◌, ◌-◌, ◌&&◌, cond, nat_lt, is_some, IsSome, Option, Some, None, List, []}
+use Rattle.std.specs.Prelude.{◌≡◌, ◌<◌, ◌⊎◌, ℕ, ◌+◌, ◌*◌, ◌-◌, ◌&&◌, cond, nat_lt, is_some, IsSome, Option, Some, None, List}
+use Rattle.std.specs.List.{filter_map, range_with_len}
 use Rattle.std.specs.FinMap.{get, retain_keys}
 use Rattle.base.specs.declared.number.Key.{Key}
 use Rattle.base.specs.Key.{is_at_or_below}
@@ -23,14 +24,13 @@ child_key k i = record { level = k.level - 1; index = 16 * k.index + i }
 abbrev pub child_of : Branch → ℕ → Option Branch
 child_of b i = cond (nat_lt 0 b.key.level && is_some (get b.map (child_key b.key i))) (Some (record { key = child_key b.key i; map = map_below b.map (child_key b.key i) })) None
 
+-- what stands directly below, in the order of the places (On-Disk Specification, chapter 3)
+unfoldable pub branches_below : Branch → List Branch
+branches_below b = filter_map (child_of b) (range_with_len 0 16)
+
 -- its blocks, in the order of its keys (On-Disk Specification, chapter 2)
 unfoldable pub branch_blocks : Branch → List Block
 branch_blocks b = blocks_of b.map
-
--- those of what stands at a place (profile)
-abbrev pub place_blocks : Option Branch → List Block
-place_blocks None = []
-place_blocks (Some b) = branch_blocks b
 
 -- a key of what stands at a place directly below (On-Disk Specification, chapter 3)
 pub record IsKeyBelow (b : Branch) (k : Key) : Type 0 where

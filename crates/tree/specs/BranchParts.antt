@@ -1,16 +1,15 @@
 -- What a shared node of any level stands for, as the top of a branch.
-use Rattle.std.specs.Prelude.{◌≡◌, ℕ, ◌<◌, List, Option, None, slice_index_or}
-use Rattle.std.specs.Option.{option_map}
+use Rattle.std.specs.Prelude.{◌≡◌, ℕ}
 use Rattle.std.specs.FinMap as finmap
 use Rattle.base.specs.declared.number.Key.{Key}
 use Rattle.base.specs.Key.{IsKey}
 use Rattle.tree.specs.declared.subtree.Node.{Node}
 use Rattle.tree.specs.declared.subtree.Node.TheVariants.{Leaf, First, Second, Third, Fourth, Root}
-use Rattle.tree.specs.Branch.{Branch, child_key}
+use Rattle.tree.specs.Branch.{Branch}
 use Rattle.node.specs.Entries.{entries_from}
 use Rattle.node.specs.Kid.{IsSound}
 use Rattle.node.specs.Node.{leaf_part, inner_part, shared_part, root_part}
-use Rattle.node.specs.Shape.{Part, grown, done, part_at}
+use Rattle.node.specs.Shape.{Part, grown, done}
 
 -- (profile)
 abbrev pub node_part : Node → Part
@@ -33,10 +32,6 @@ node_level (Root a) = 5
 -- the branch of a part that stands at a key (profile)
 unfoldable pub branch_at : Key → Part → Branch
 branch_at k p = record { key = k; map = finmap.from_sorted (entries_from k.level k.index (grown p.cell p.below done)) }
-
--- the branches of the parts directly below (profile)
-abbrev pub AreBelow : Key → Part → List (Option Branch) → Type 0
-AreBelow k p bs = (i : ℕ) → i < 16 → slice_index_or bs i None ≡ option_map (branch_at (child_key k i)) (part_at p.below i)
 
 -- the key is one of the node's level, and the node has the shape of its level (profile)
 pub record IsSoundBranch (k : Key) (n : Node) : Type 0 where

@@ -1,5 +1,5 @@
 //! Copies of nodes.
-ghost use Rattle.std.specs.Prelude.{◌≡◌, IfOk, OnOk, OnErr};
+ghost use Rattle.std.specs.Prelude.{◌≡◌, OnOk, OnErr};
 ghost use Rattle.base.specs.declared.refusal.Refusal.{Refusal};
 ghost use Rattle.node.specs.Node.{inner_part, shared_part};
 ghost use Rattle.node.specs.Pairs.{places_in};
@@ -19,16 +19,6 @@ fn keep_below<C: Level + Drop>(from: &[Pair<C>; 8], kids: &mut [Pair<C>; 8]) -> 
         kids[at] = from[at].copy()?;
     }
     Ok(())
-}
-
-/// One more owner of each part directly below a node. NoMemory where there is none for one.
-pub fn owners_below<C: Level + Drop>(node: &Inner<C>) -> Result<[Pair<C>; 8], Refusal>
-    ensures ok { IfOk result (λ kids. forest_of (shared_part C.part) (places_in kids) ≡ (inner_part C.part node.now).below) }
-    ensures err { OnErr result (result ≡ Err Refusal.NoMemory) }
-{
-    let mut kids = no_kids();
-    keep_below(&node.kids, &mut kids)?;
-    Ok(kids)
 }
 
 /// Has an owner of a node own it alone, where it can: where there are others, it comes to own a copy. At `Err` it owns what it did.

@@ -1,6 +1,6 @@
 //! Parts of a tree at and below one key.
-ghost use Rattle.std.specs.Prelude.{◌≡◌, ℕ, ◌+◌, ◌*◌, ◌-◌, ◌<◌, ◌≤◌, ◌∷◌, Option, Some, None, suc, IsSome, IfOk, IfErr, OnErr, IfSome, IfNone, slice_index_or, slice_set, length};
-ghost use Rattle.std.specs.List.{flat_map};
+ghost use Rattle.std.specs.Prelude.{◌≡◌, ℕ, ◌+◌, ◌++◌, ◌<◌, ◌≤◌, ◌∷◌, Some, suc, IsSome, IfOk, OnOk, OnErr, IfSome, IfNone, length, reverse};
+ghost use Rattle.std.specs.List.{cons_option, flat_map};
 ghost use Rattle.std.specs.Option.{option_map, option_copied};
 ghost use Rattle.std.specs.FinMap as finmap;
 ghost use Rattle.std.specs.FinMap.{get};
@@ -10,20 +10,17 @@ ghost use Rattle.base.specs.Map.{block_of};
 ghost use Rattle.base.specs.Surveys.{dead_block};
 ghost use Rattle.base.specs.declared.number.Key.{Key};
 ghost use Rattle.base.specs.declared.refusal.Refusal.{Refusal};
-ghost use Rattle.tree.specs.Branch.{child_of, child_key, branch_blocks, place_blocks, AreOwnOrBelow};
-ghost use Rattle.tree.specs.BranchParts.{branch_at, node_part, node_level, AreBelow, IsSoundBranch};
+ghost use Rattle.tree.specs.Branch.{child_of, child_key, branch_blocks, branches_below, AreOwnOrBelow};
+ghost use Rattle.tree.specs.BranchParts.{branch_at, node_part, node_level, IsSoundBranch};
 ghost use Rattle.node.specs.Kid.{IsSound};
-ghost use Rattle.node.specs.Node.{leaf_part, inner_part, shared_part};
-ghost use Rattle.node.specs.Pairs.{places_in};
-ghost use Rattle.node.specs.Shape.{Part, part_at, forest_of};
+ghost use Rattle.node.specs.Node.{leaf_part, inner_part, part_of_slot};
 ghost use Rattle.node.specs.Cells.{dead_of};
 
-use crate::copy::owners_below;
 use crate::tree::Tree;
 use base::meter::Meter;
 use base::number::{Dead, Group, Key};
 use base::refusal::Refusal;
-use node::{Inner, Leaf, Level, Pair, Root, replace_kid};
+use node::{Inner, Leaf, Level, Root, keep};
 use std::marker::Model;
 use std::sync::Arc;
 
@@ -121,78 +118,64 @@ impl Top for Inner<Inner<Inner<Inner<Leaf>>>> {
     }
 }
 
-/// A subtree by its top, which stands at the key.
-fn subtree_of<C: Top>(part: Arc<C>, key: Key) -> Subtree
-    requires key { IsKey key }
-    requires level { key.level ≡ C.height }
-    requires sound { IsSound C.height (C.part part.value) }
-    ensures { result ≡ branch_at key (C.part part.value) }
-{
-    Subtree {
-        key,
-        node: C::node(part),
-    }
-}
-
-/// Sixteen places with nothing.
-fn no_subtrees() -> [Option<Subtree>; 16]
-    ensures { (i : ℕ) → slice_index_or result i None ≡ None }
-{
-    [
-        None, None, None, None, None, None, None, None, None, None, None, None, None, None, None,
-        None,
-    ]
-}
-
-/// Puts a subtree at a place.
-fn put(subtrees: &mut [Option<Subtree>; 16], place: usize, subtree: Subtree)
-    requires { place < 16 }
-    ensures { subtrees.new ≡ slice_set subtrees.old place (Some subtree) }
-{
-    subtrees[place] = Some(subtree);
-}
-
-/// Subtrees of parts that stand side by side, directly below a key.
-fn subtrees_of<C: Top>(kids: [Pair<C>; 8], key: Key) -> [Option<Subtree>; 16]
+/// The subtree of what stands at a place directly below a key.
+fn kid_of<C: Top>(kid: Option<Arc<C>>, key: Key, place: u32) -> Option<Subtree>
     requires key { IsKey key }
     requires level { key.level ≡ suc C.height }
-    requires sound { (i : ℕ) (p : Part) → part_at (forest_of (shared_part C.part) (places_in kids)) i ≡ Some p → IsSound C.height p }
-    ensures { (i : ℕ) → i < 16 → slice_index_or result i None ≡ option_map (branch_at (child_key key i)) (part_at (forest_of (shared_part C.part) (places_in kids)) i) }
+    requires place { place < 16 }
+    requires sound { IfSome (part_of_slot C.part kid) (IsSound C.height) }
+    ensures { result ≡ option_map (branch_at (child_key key place)) (part_of_slot C.part kid) }
 {
-    let mut kids = kids;
-    let mut subtrees = no_subtrees();
-    for place in 0..16u32 {
-        if let Some(part) = replace_kid(&mut kids, place as usize, None) {
-            let below = Key {
+    match kid {
+        Some(part) => Some(Subtree {
+            key: Key {
                 level: key.level - 1,
                 index: 16 * key.index + place,
-            };
-            put(&mut subtrees, place as usize, subtree_of(part, below));
-        }
+            },
+            node: C::node(part),
+        }),
+        None => None,
     }
-    subtrees
 }
 
-/// The subtrees directly below a node: of the parts that it owned, where nobody else owns the node, and else of one more owner of
-/// each. The node comes back where one of these was refused memory.
-#[inline(never)]
-fn subtrees_below<C: Top>(
-    node: Arc<Inner<C>>,
-    key: Key,
-) -> Result<[Option<Subtree>; 16], Arc<Inner<C>>>
+/// The subtree at a place directly below a node, by one more owner of its top.
+fn child_at<C: Top>(node: &Inner<C>, key: Key, place: u32) -> Result<Option<Subtree>, Refusal>
     requires key { IsKey key }
     requires level { key.level ≡ suc C.height }
-    requires sound { IsSound (suc C.height) (inner_part C.part node.value) }
-    ensures ok { IfOk result (AreBelow key (inner_part C.part node.value)) }
-    ensures err { IfErr result (λ n. n.value ≡ node.value) }
+    requires place { place < 16 }
+    requires sound { IsSound (suc C.height) (inner_part C.part node.now) }
+    ensures ok { IfOk result (λ o. o ≡ child_of (branch_at key (inner_part C.part node.now)) place) }
+    ensures err { OnErr result (result ≡ Err Refusal.NoMemory) }
 {
-    match Arc::try_unwrap(node) {
-        Ok(node) => Ok(subtrees_of(node.kids, key)),
-        Err(node) => match owners_below(&node) {
-            Ok(kids) => Ok(subtrees_of(kids, key)),
-            Err(_) => Err(node),
-        },
+    Ok(kid_of(keep(node.owner(place as usize))?, key, place))
+}
+
+/// Puts a subtree onto others, if there is one.
+fn push_top(top: Option<Subtree>, tops: &mut Vec<Subtree>) -> Result<(), Refusal>
+    ensures ok { OnOk result (reverse tops.new.items ≡ cons_option top (reverse tops.old.items)) }
+    ensures err { OnErr result (result ≡ Err Refusal.NoMemory) }
+{
+    if let Some(top) = top {
+        tops.push(top)?;
     }
+    Ok(())
+}
+
+/// Puts the subtrees directly below a node onto others, the last place first, by one more owner of each.
+#[inline(never)]
+fn push_below<C: Top>(node: &Inner<C>, key: Key, tops: &mut Vec<Subtree>) -> Result<(), Refusal>
+    requires key { IsKey key }
+    requires level { key.level ≡ suc C.height }
+    requires sound { IsSound (suc C.height) (inner_part C.part node.now) }
+    ensures ok { OnOk result (reverse tops.new.items ≡ branches_below (branch_at key (inner_part C.part node.now)) ++ reverse tops.old.items) }
+    ensures err { OnErr result (result ≡ Err Refusal.NoMemory) }
+{
+    let mut place = 16;
+    while place > 0 {
+        place -= 1;
+        push_top(child_at(node, key, place)?, tops)?;
+    }
+    Ok(())
 }
 
 impl Node {
@@ -223,24 +206,6 @@ impl Node {
             Node::Third(node) => Ok(Node::Third(Arc::try_clone(node)?)),
             Node::Fourth(node) => Ok(Node::Fourth(Arc::try_clone(node)?)),
             Node::Root(node) => Ok(Node::Root(Arc::try_clone(node)?)),
-        }
-    }
-
-    /// The subtrees directly below, each at its place. The node comes back where one more owner of a part was refused memory.
-    fn below(self, key: Key) -> Result<[Option<Subtree>; 16], Node>
-        requires sound { IsSoundBranch key self }
-        ensures ok { IfOk result (AreBelow key (node_part self)) }
-        ensures sixteen { IfOk result (λ below. length below ≡ 16) }
-        ensures part { IfErr result (λ n. node_part n ≡ node_part self) }
-        ensures level { IfErr result (λ n. node_level n ≡ node_level self) }
-    {
-        match self {
-            Node::Leaf(_) => Ok(no_subtrees()),
-            Node::First(node) => subtrees_below(node, key).map_err(Node::First),
-            Node::Second(node) => subtrees_below(node, key).map_err(Node::Second),
-            Node::Third(node) => subtrees_below(node, key).map_err(Node::Third),
-            Node::Fourth(node) => subtrees_below(node, key).map_err(Node::Fourth),
-            Node::Root(node) => subtrees_below(node, key).map_err(Node::Root),
         }
     }
 }
@@ -276,36 +241,80 @@ impl Subtree {
         Ok(Subtree { key, node })
     }
 
-    /// Takes the top off, if it was born after a group (On-Disk Specification, chapter 2: no block is younger than the one that
-    /// points to it): its block, and each at its place the subtrees directly below. None where the top is no younger, and then
-    /// nothing below it is. Where nobody else owns the top, its own owners of what is below go over; else each gets one more, and
-    /// at NoMemory, where one was refused, the subtree comes back. It costs one node, with its sixteen places.
+    /// The block of its top. No block below is younger (On-Disk Specification, chapter 2), and each is one of a subtree directly
+    /// below. It costs one node.
+    pub fn block(&self, meter: &mut Meter) -> Dead
+        ensures block { option_map block_of (get self.now.map self.now.key) ≡ Some (dead_block result) }
+        ensures youngest { (k : Key) → IfSome (get self.now.map k) (λ c. c.birth ≤ result.birth.0) }
+        ensures keys { AreOwnOrBelow self.now }
+        ensures all { branch_blocks self.now ≡ dead_block result ∷ flat_map branch_blocks (branches_below self.now) }
+        ensures metered { meter.new ≡ counted meter.old 1 }
+    {
+        meter.add_one();
+        self.node.block()
+    }
+
+    /// The subtree at a place directly below, by one more owner of its top, if anything stands there: no block is visited. NoMemory
+    /// where there is none for that.
+    pub fn child(&self, place: u32) -> Result<Option<Subtree>, Refusal>
+        requires { place < 16 }
+        ensures ok { IfOk result (λ child. child ≡ child_of self.now place) }
+        ensures err { OnErr result (result ≡ Err Refusal.NoMemory) }
+    {
+        match &self.node {
+            Node::Leaf(_) => Ok(None),
+            Node::First(node) => child_at(node, self.key, place),
+            Node::Second(node) => child_at(node, self.key, place),
+            Node::Third(node) => child_at(node, self.key, place),
+            Node::Fourth(node) => child_at(node, self.key, place),
+            Node::Root(node) => child_at(node, self.key, place),
+        }
+    }
+
+    /// Puts the subtrees directly below onto others, the last place first, by one more owner of each.
+    fn push_below(&self, tops: &mut Vec<Subtree>) -> Result<(), Refusal>
+        ensures ok { OnOk result (reverse tops.new.items ≡ branches_below self.now ++ reverse tops.old.items) }
+        ensures err { OnErr result (result ≡ Err Refusal.NoMemory) }
+    {
+        match &self.node {
+            Node::Leaf(_) => Ok(()),
+            Node::First(node) => push_below(node, self.key, tops),
+            Node::Second(node) => push_below(node, self.key, tops),
+            Node::Third(node) => push_below(node, self.key, tops),
+            Node::Fourth(node) => push_below(node, self.key, tops),
+            Node::Root(node) => push_below(node, self.key, tops),
+        }
+    }
+
+    /// Takes the top off, if it was born after a group: its block comes back, and the subtrees directly below go onto others, the last
+    /// place first, so that the first place is the next to be popped. None where the top is no younger, and then nothing below it
+    /// is, and the others are as they were. Each of those below gets one more owner before the top goes. NoMemory where one was
+    /// refused, or there is none for the others to grow: then some of those below may have come onto the others, so that these are
+    /// of no use. It costs one node, with its sixteen places.
     pub fn peel(
         self,
         cut: Group,
+        tops: &mut Vec<Subtree>,
         meter: &mut Meter,
-    ) -> Result<Option<(Dead, [Option<Subtree>; 16])>, (Refusal, Subtree)>
-        ensures block { IfOk result (λ peeled. IfSome peeled (λ p. option_map block_of (get self.map self.key) ≡ Some (dead_block p.0))) }
-        ensures young { IfOk result (λ peeled. IfSome peeled (λ p. cut.0 < p.0.birth.0)) }
-        ensures below { IfOk result (λ peeled. IfSome peeled (λ p. (i : ℕ) → i < 16 → slice_index_or p.1 i None ≡ child_of self i)) }
-        ensures all { IfOk result (λ peeled. IfSome peeled (λ p. branch_blocks self ≡ dead_block p.0 ∷ flat_map place_blocks p.1)) }
-        ensures keys { IfOk result (λ peeled. IfSome peeled (λ p. AreOwnOrBelow self)) }
+    ) -> Result<Option<Dead>, Refusal>
+        ensures block { IfOk result (λ peeled. IfSome peeled (λ d. option_map block_of (get self.map self.key) ≡ Some (dead_block d))) }
+        ensures young { IfOk result (λ peeled. IfSome peeled (λ d. cut.0 < d.birth.0)) }
+        ensures below { IfOk result (λ peeled. IfSome peeled (λ _. reverse tops.new.items ≡ branches_below self ++ reverse tops.old.items)) }
+        ensures few { IfOk result (λ peeled. IfSome peeled (λ _. length tops.new.items ≤ length tops.old.items + 16)) }
+        ensures all { IfOk result (λ peeled. IfSome peeled (λ d. branch_blocks self ≡ dead_block d ∷ flat_map branch_blocks (branches_below self))) }
         ensures old { IfOk result (λ peeled. IfNone peeled ((k : Key) → IfSome (get self.map k) (λ c. c.birth ≤ cut.0))) }
+        ensures kept { IfOk result (λ peeled. IfNone peeled (tops.new.items ≡ tops.old.items)) }
         ensures metered { meter.new ≡ counted meter.old 1 }
-        ensures no_memory { IfErr result (λ e. e.0 ≡ Refusal.NoMemory) }
-        ensures back { IfErr result (λ e. e.1 ≡ self) }
+        ensures err { OnErr result (result ≡ Err Refusal.NoMemory) }
     {
-        meter.add_one();
-        let block = self.node.block();
+        let block = self.block(meter);
         if block.birth.0 <= cut.0 {
             return Ok(None);
         }
-        let Subtree { key, node } = self;
-        match node.below(key) {
-            Ok(below) => Ok(Some((block, below))),
-            Err(node) => Err((Refusal::NoMemory, Subtree { key, node })),
-        }
+        self.push_below(tops)?;
+        Ok(Some(block))
     }
+
     /// The bytes of its top, if that is a leaf. It costs one node.
     pub fn bytes(&self, meter: &mut Meter) -> Option<&[u8; 512]>
         ensures leaf { self.now.key.level ≡ 0 → option_copied result ≡ option_map (λ c. c.bytes) (get self.now.map self.now.key) }

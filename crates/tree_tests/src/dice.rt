@@ -1,5 +1,7 @@
 //! Trees under many changes, beside plain lists.
-use crate::rig::{FILLERS, PLACES, Rig, WAYS, Way, add, leaf_of, punch_at, rig_of, write_at};
+use crate::rig::{
+    Applied, BOTH_WAYS, FILLERS, PLACES, Rig, add, leaf_of, punch_at, rig_of, write_at,
+};
 use base::number::Group;
 use std::alloc::Global;
 use std::process::Abort;
@@ -57,7 +59,7 @@ fn update_of(leaf: u32, byte: u8) -> Update<'static> {
 /// A rig after so many batches, each in a group of its own.
 pub fn rig_of_batches(rt: &impl Abort, alloc: Global, dice: &mut Dice, groups: u64) -> Rig {
     let mut plain = [0; 128];
-    let mut rig = rig_of(rt, alloc, 1000, Way::AtOnce);
+    let mut rig = rig_of(rt, alloc, 1000, Applied::AtOnce);
     for round in 0..groups {
         let group = Group(round.saturating_add(1));
         let updates = throw(rt, alloc, dice, &mut plain);
@@ -72,10 +74,10 @@ fn batches_beside_a_plain_list(rt: HostRuntime) {
     let alloc = rt.alloc();
     let mut dice = Dice::new(2463534242);
     let mut plain = [0; 128];
-    let mut rig = rig_of(&rt, alloc, 1000, Way::AtOnce);
+    let mut rig = rig_of(&rt, alloc, 1000, Applied::AtOnce);
     for round in 0..400u64 {
         let group = Group(1 + round / 3);
-        rig.way = WAYS[(round % 2) as usize];
+        rig.way = BOTH_WAYS[(round % 2) as usize];
         let updates = throw(&rt, alloc, &mut dice, &mut plain);
         rig.put(&rt, alloc, &updates, group);
         rig.assert_same(&rt, &plain);

@@ -1,5 +1,5 @@
 //! Trees that are the same, and trees that aren't.
-use crate::rig::{Rig, Way, rig_of, write_at};
+use crate::rig::{Applied, Rig, rig_of, write_at};
 use base::number::Group;
 use std::alloc::Global;
 use std::process::Abort;
@@ -7,7 +7,7 @@ use tree::Tree;
 
 /// A rig with a leaf written in one group.
 pub fn rig_with(rt: &impl Abort, alloc: Global, leaf: u32, byte: u8, group: Group) -> Rig {
-    let mut rig = rig_of(rt, alloc, 20, Way::AtOnce);
+    let mut rig = rig_of(rt, alloc, 20, Applied::AtOnce);
     rig.put_one(rt, alloc, write_at(leaf, byte), group);
     rig
 }

@@ -1,6 +1,6 @@
 //! What changes would drop and make.
 use crate::ready::{is_batch, meter};
-use crate::rig::{Rig, Way, punch_at, rig_of, write_at};
+use crate::rig::{Applied, Rig, punch_at, rig_of, write_at};
 use base::number::Group;
 use std::alloc::Global;
 use std::process::Abort;
@@ -36,7 +36,7 @@ fn assert_forecast(
 #[test]
 fn forecasts(rt: HostRuntime) {
     let alloc = rt.alloc();
-    let mut rig = rig_of(&rt, alloc, 100, Way::AtOnce);
+    let mut rig = rig_of(&rt, alloc, 100, Applied::AtOnce);
     assert_forecast(&rt, alloc, &rig, &[write_at(3, 1)], (0, 0, 6));
     assert_forecast(&rt, alloc, &rig, &[punch_at(0, 3)], (0, 0, 0));
     rig.put_one(&rt, alloc, write_at(3, 1), Group(1));

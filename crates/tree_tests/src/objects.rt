@@ -2,7 +2,7 @@
 ghost use Rattle.std.specs.Prelude.{◌≤◌};
 
 use crate::ready::meter;
-use crate::rig::{Rig, Way, assert_counts, filler, rig_of};
+use crate::rig::{Applied, Rig, assert_counts, filler, rig_of};
 use base::number::Group;
 use base::refusal::Refusal;
 use std::alloc::Global;
@@ -54,7 +54,7 @@ fn updates_within_the_limits(rt: HostRuntime) {
 fn assert_takes(rt: &impl Abort, alloc: Global, numbers: u32, update: Update, taken: usize)
     requires { numbers ≤ MOST_BLOCKS }
 {
-    let mut rig = rig_of(rt, alloc, numbers, Way::OnACopy);
+    let mut rig = rig_of(rt, alloc, numbers, Applied::OnACopy);
     assert_counts(
         rt,
         alloc,
@@ -71,7 +71,7 @@ fn assert_takes(rt: &impl Abort, alloc: Global, numbers: u32, update: Update, ta
 fn refusal_of(rt: &impl Abort, alloc: Global, numbers: u32, update: Update) -> Option<Refusal>
     requires { numbers ≤ MOST_BLOCKS }
 {
-    let mut rig = rig_of(rt, alloc, numbers, Way::OnACopy);
+    let mut rig = rig_of(rt, alloc, numbers, Applied::OnACopy);
     rig.try_put(rt, alloc, &[update], Group(1), Group(1))
 }
 
@@ -120,7 +120,7 @@ fn change(rt: &impl Abort, alloc: Global, rig: &mut Rig, update: Result<Update, 
 #[test]
 fn blocks_of_two_objects(rt: HostRuntime) {
     let alloc = rt.alloc();
-    let mut rig = rig_of(&rt, alloc, 64, Way::AtOnce);
+    let mut rig = rig_of(&rt, alloc, 64, Applied::AtOnce);
     change(&rt, alloc, &mut rig, write_of(1, 2, &[7; 512]));
     change(&rt, alloc, &mut rig, write_of(1, 3, &[8; 512]));
     change(&rt, alloc, &mut rig, write_of(2, 0, &[9; 512]));

@@ -9,29 +9,6 @@ use std::alloc::Global;
 use std::process::Abort;
 use tree::{Subtree, Tree};
 
-/// Takes the top off a subtree, and lays what is below on the others, the last place first.
-fn peel_one(
-    rt: &impl Abort,
-    subtree: Subtree,
-    cut: Group,
-    meter: &mut Meter,
-    others: &mut Vec<Subtree>,
-    out: &mut Vec<Dead>,
-) -> Result<(), Refusal> {
-    let peeled = subtree.peel(cut, meter).ok().expect(rt, "memory to share");
-    let Some(peeled) = peeled else {
-        return Ok(());
-    };
-    out.push(peeled.0)?;
-    let mut below = peeled.1;
-    for place in 0..16 {
-        if let Some(kid) = below[15 - place].take() {
-            others.push(kid)?;
-        }
-    }
-    Ok(())
-}
-
 /// The blocks that come off a subtree, as far as it is younger than a group, each before those below it.
 fn peel_all(
     rt: &impl Abort,
@@ -49,7 +26,9 @@ fn peel_all(
         let Some(next) = others.pop() else {
             break;
         };
-        peel_one(rt, next, cut, meter, &mut others, &mut out)?;
+        if let Some(block) = next.peel(cut, &mut others, meter)? {
+            out.push(block)?;
+        }
     }
     assert!(rt; others.is_empty());
     Ok(out)

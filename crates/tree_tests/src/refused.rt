@@ -1,6 +1,6 @@
 //! Memory that is refused. Each test passes whichever allocation is the one that fails.
 use crate::ready::{is_batch, meter};
-use crate::rig::{Rig, Way, punch_at, write_at};
+use crate::rig::{Applied, Rig, punch_at, write_at};
 use base::number::Group;
 use base::refusal::Refusal;
 use std::alloc::Global;
@@ -32,7 +32,7 @@ fn blocks_after(rt: &impl Abort, refusal: Refusal, before: u32) -> u32 {
 }
 
 /// Three batches in a rig's way, of which each is done or refused.
-fn refused_in(rt: &impl Abort, alloc: Global, way: Way) {
+fn refused_in(rt: &impl Abort, alloc: Global, way: Applied) {
     let Ok(allocator) = Allocator::new(alloc, 100) else {
         return;
     };
@@ -73,6 +73,6 @@ fn walked_or_refused(rt: &impl Abort, alloc: Global, rig: &Rig) {
 
 #[test]
 fn refused_memory_changes_nothing(rt: HostRuntime) {
-    refused_in(&rt, rt.alloc(), Way::AtOnce);
-    refused_in(&rt, rt.alloc(), Way::OnACopy);
+    refused_in(&rt, rt.alloc(), Applied::AtOnce);
+    refused_in(&rt, rt.alloc(), Applied::OnACopy);
 }

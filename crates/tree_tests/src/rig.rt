@@ -18,25 +18,25 @@ pub const PLACES: usize = 128;
 
 /// How batches are put in force.
 #[derive(Clone, Copy)]
-pub enum Way {
+pub enum Applied {
     /// Each at once.
     AtOnce,
     /// Each on a copy of the tree, which then takes the tree's place.
     OnACopy,
 }
 
-pub const WAYS: [Way; 2] = [Way::AtOnce, Way::OnACopy];
+pub const BOTH_WAYS: [Applied; 2] = [Applied::AtOnce, Applied::OnACopy];
 
 /// A tree, and the numbers that it has.
 #[derive(Drop)]
 pub struct Rig {
     pub tree: Tree,
     pub allocator: Allocator,
-    pub way: Way,
+    pub way: Applied,
 }
 
 /// A rig of a pool with so many numbers, which puts batches in force in one way.
-pub fn rig_of(rt: &impl Abort, alloc: Global, numbers: u32, way: Way) -> Rig
+pub fn rig_of(rt: &impl Abort, alloc: Global, numbers: u32, way: Applied) -> Rig
     requires { numbers ≤ MOST_BLOCKS }
 {
     let allocator = Allocator::new(alloc, numbers).expect(rt, "memory for an allocator");
@@ -295,7 +295,7 @@ impl Rig {
         self.assert_asked(rt, alloc, updates, group, young)?;
         let mut nodes = meter();
         let done = match self.way {
-            Way::AtOnce => change(
+            Applied::AtOnce => change(
                 alloc,
                 &mut self.tree,
                 updates,
@@ -304,7 +304,7 @@ impl Rig {
                 &self.allocator,
                 &mut nodes,
             )?,
-            Way::OnACopy => self.change_copy(rt, alloc, updates, group, young, &mut nodes)?,
+            Applied::OnACopy => self.change_copy(rt, alloc, updates, group, young, &mut nodes)?,
         };
         self.settle(rt, &done.released, &done.taken, young);
         assert_made(rt, &self.tree, &done.made, group);

@@ -1,7 +1,7 @@
 //! How many numbers a batch needs.
 ghost use Rattle.std.specs.Prelude.{◌<◌, ◌≤◌};
 
-use crate::rig::{Rig, Way, add, punch_at, rig_of, write_at};
+use crate::rig::{Applied, Rig, add, punch_at, rig_of, write_at};
 use base::number::{BlockNo, Group};
 use base::refusal::Refusal;
 use std::alloc::Global;
@@ -37,7 +37,7 @@ fn second_of(
 ) -> Option<Refusal>
     requires { numbers ≤ MOST_BLOCKS }
 {
-    let mut rig = rig_of(rt, alloc, numbers, Way::AtOnce);
+    let mut rig = rig_of(rt, alloc, numbers, Applied::AtOnce);
     rig.put(rt, alloc, first, Group(1));
     refusal_of(rt, alloc, &mut rig, second, young)
 }
@@ -103,7 +103,7 @@ fn is_last_leaf(rt: &impl Abort, rig: &Rig) -> bool {
 #[test]
 fn object_is_freed_at_once(rt: HostRuntime) {
     let alloc = rt.alloc();
-    let mut rig = rig_of(&rt, alloc, 4377, Way::AtOnce);
+    let mut rig = rig_of(&rt, alloc, 4377, Applied::AtOnce);
     rig.put(&rt, alloc, &writes(&rt, alloc, 4097), Group(1));
     let was_whole = is_whole_object(&rig);
     rig.put_one(&rt, alloc, punch_at(3, 0), Group(2));
@@ -124,7 +124,7 @@ fn assert_same_states(rt: &impl Abort, one: &Allocator, other: &Allocator, numbe
 
 /// A rig with leaves 3 and 5, written in group 1.
 fn rig_of_pair(rt: &impl Abort, alloc: Global) -> Rig {
-    let mut rig = rig_of(rt, alloc, 20, Way::AtOnce);
+    let mut rig = rig_of(rt, alloc, 20, Applied::AtOnce);
     let pair = [write_at(3, 1), write_at(5, 2)];
     rig.put(rt, alloc, &pair, Group(1));
     rig

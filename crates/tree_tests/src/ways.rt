@@ -1,7 +1,7 @@
 //! Batches that are put in force at once, and batches that are put in force on a copy: both do the same.
 use crate::equality::rig_with;
 use crate::ready::meter;
-use crate::rig::{Counts, Rig, Way, assert_counts, byte_of, punch_at, rig_of, write_at};
+use crate::rig::{Applied, Counts, Rig, assert_counts, byte_of, punch_at, rig_of, write_at};
 use base::number::{Group, Key};
 use std::alloc::Global;
 use std::process::Abort;
@@ -64,8 +64,13 @@ fn assert_rows(rt: &impl Abort, alloc: Global, rig: &mut Rig, rows: &[Row]) {
 
 /// Puts the batches of rows in force on a tree without a block, in both ways.
 fn assert_both(rt: &impl Abort, alloc: Global, rows: &[Row]) {
-    assert_rows(rt, alloc, &mut rig_of(rt, alloc, 64, Way::AtOnce), rows);
-    assert_rows(rt, alloc, &mut rig_of(rt, alloc, 64, Way::OnACopy), rows);
+    assert_rows(rt, alloc, &mut rig_of(rt, alloc, 64, Applied::AtOnce), rows);
+    assert_rows(
+        rt,
+        alloc,
+        &mut rig_of(rt, alloc, 64, Applied::OnACopy),
+        rows,
+    );
 }
 
 /// In one group the present keys keep their numbers: only new keys take some, and only keys that go release theirs. Leaf 4096
@@ -147,6 +152,6 @@ fn assert_copy(rt: &impl Abort, alloc: Global, rig: &mut Rig) {
 #[test]
 fn copies(rt: HostRuntime) {
     let alloc = rt.alloc();
-    assert_copy(&rt, alloc, &mut rig_of(&rt, alloc, 64, Way::AtOnce));
-    assert_copy(&rt, alloc, &mut rig_of(&rt, alloc, 64, Way::OnACopy));
+    assert_copy(&rt, alloc, &mut rig_of(&rt, alloc, 64, Applied::AtOnce));
+    assert_copy(&rt, alloc, &mut rig_of(&rt, alloc, 64, Applied::OnACopy));
 }

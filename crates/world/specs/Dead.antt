@@ -38,11 +38,6 @@ pub record IsInLine (w : World) (d : Dataset) : Type 0 where
   pub kept : (b : Block) → Has (blocks (map_of w d)) b → Has (below_of w d) b ↔ (b.birth ≤ base_of w d)
   pub open_group : (b : Block) → Has (blocks (map_of w d)) b → b.birth ≤ w.group
 
--- one dataset alone brought a block in (profile)
-abbrev pub IsBroughtOnce : World → Type 0
-IsBroughtOnce w =
-    (d e : Dataset) (b : Block) → Has (blocks (map_of w d)) b → Has (blocks (map_of w e)) b → base_of w d < b.birth → base_of w e < b.birth → d ≡ e
-
 -- no file system is a clone of the snapshot (zfsprops(7): clones)
 abbrev pub HasNoCloneIn : FileSystems → SnapId → Type 0
 HasNoCloneIn ss id = (name : List ℕ) (s : FileSystem) → get ss name ≡ Some s → s.origin ≡ Some id → ⊥

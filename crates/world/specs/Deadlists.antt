@@ -1,12 +1,9 @@
 -- A deadlist as a list of entries, each block once.
 use Rattle.base.specs.Surveys.{AreDifferent}
-use Rattle.std.specs.Prelude.{◌≡◌, ℕ, List, ◌++◌, length, filter, Some, ltb, leb}
+use Rattle.std.specs.Prelude.{◌≡◌, ℕ, List, ◌++◌, length, filter, ltb, leb}
 use Rattle.std.specs.FinSet.{union, len, from_list}
 use Rattle.world.specs.Sets.{AreDisjoint}
 use Rattle.world.specs.Blocks.{Block, BlockSet, after, upto}
-use Rattle.world.specs.Lineage.{Row, spliced}
-use Rattle.world.specs.Shapes.{SnapId, Dataset, Shapes, lineages, IsGood}
-use Rattle.model.specs.World.{Snapped}
 
 -- the list has the set's blocks, each once (On-Disk Specification, chapter 4)
 pub record Lists (ds : List Block) (s : BlockSet) : Type 0 where
@@ -33,8 +30,3 @@ DeadCounts = (ds : List Block) (s : BlockSet) (cut : ℕ) → Lists ds s →
 -- two lists of sets that have no block in common, one after the other (On-Disk Specification, chapter 4)
 abbrev pub DeadJoin : Type 0
 DeadJoin = (xs ys : List Block) (s t : BlockSet) → Lists xs s → Lists ys t → AreDisjoint s t → Lists (xs ++ ys) (union s t)
-
--- the new deadlist of the one next after a snapshot that goes (On-Disk Specification, chapter 4)
-abbrev pub DeadSplice : Type 0
-DeadSplice = (m : Shapes) (g : ℕ) (id : SnapId) (d : Dataset) (k n : Row Dataset) (xs ys : List Block) → IsGood m g → lineages m g (Snapped id) k → lineages m g d n → n.prev ≡ Some (Snapped id)
-    → Lists xs k.dead → Lists ys n.dead → Lists (xs ++ entries_upto k.base ys) (spliced Dataset k n).dead

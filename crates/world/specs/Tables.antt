@@ -1,5 +1,5 @@
 -- What a table of datasets keeps beside what contracts see of it: the deadlists; and what its functions do.
-use Rattle.std.specs.Prelude.{◌≡◌, ◌<◌, ◌≤◌, ◌⊎◌, ◌++◌, ℕ, List, [], ◌∷◌, Some, IsSome, map}
+use Rattle.std.specs.Prelude.{◌≡◌, ◌<◌, ◌≤◌, ◌++◌, ℕ, List, [], ◌∷◌, Some, IsSome, map}
 use Rattle.std.specs.Coded.{Coded, code_by, coded×, coded_ℕ, coded_list}
 use Rattle.std.specs.FinMap.{FinMap, get, insert, remove}
 use Rattle.std.specs.FinMap as finmap
@@ -7,9 +7,9 @@ use Rattle.std.specs.FinSet.{empty, difference}
 use Rattle.std.proofs.Common.{refl}
 use Rattle.base.specs.declared.number.Dead.{Dead}
 use Rattle.base.specs.Names.{name_cmp, root_name}
-use Rattle.base.specs.Map.{Map, Block, BlockSet, blocks}
+use Rattle.base.specs.Map.{Block, BlockSet, blocks}
 use Rattle.base.specs.Surveys.{IsIn, dead_block}
-use Rattle.model.specs.World.{World, FileSystem, Snap, SnapId, Bookmark, Dataset, Live, id_of, same_id, snap_at, union_of}
+use Rattle.model.specs.World.{World, FileSystem, Snap, SnapId, Bookmark, Dataset, Live, id_of, same_id, union_of}
 use Rattle.model.specs.Codes.{file_system_code}
 use Rattle.model.specs.Edits.{with_file_system, with_tags, without_snaps}
 use Rattle.model.specs.requests.Destroy.{with_deferred}
@@ -18,7 +18,7 @@ use Rattle.world.specs.Deadlists.{Lists}
 use Rattle.world.specs.Worlds.{FileSystems, HasParent, AreFileSystems}
 use Rattle.world.specs.Outcomes.{Promotion, promotion_of, promoted_snaps}
 use Rattle.world.specs.Sums.{datasets_from}
-use Rattle.world.specs.Dead.{base_of, dead_of, HasNoCloneIn}
+use Rattle.world.specs.Dead.{base_of, dead_of}
 
 -- what contracts see of a table: its file systems, and the group that is open (profile)
 pub record Datasets : Type 0 where
@@ -74,11 +74,6 @@ without_system t name = record t { file_systems = remove t.file_systems name }
 abbrev pub IsLost : Datasets → Datasets → List Dead → Type 0
 IsLost old new ds = Lists (map dead_block ds) (lost_between old new)
 
--- the snapshot is there and has no clone (zfs-destroy(8))
-pub record CanSplice (t : Datasets) (id : SnapId) : Type 0 where
-  pub there : IsSome (snap_at (world_of t) id)
-  pub no_clone : HasNoCloneIn t.file_systems id
-
 -- the file system is there, without snapshots, and is neither the root nor a parent (zfs-destroy(8))
 pub record CanRemoveFileSystem (t : Datasets) (name : List ℕ) : Type 0 where
   pub system : FileSystem
@@ -86,13 +81,6 @@ pub record CanRemoveFileSystem (t : Datasets) (name : List ℕ) : Type 0 where
   pub bare : system.snaps ≡ []
   pub not_root : ¬ (root_name ≡ name)
   pub childless : (q : List ℕ) (p : HasParent t.file_systems q) → IsSome (get t.file_systems q) → p.parent ≡ name → ⊥
-
--- a live map may give way to this one: its new blocks are born in the open group, and no dataset has them (On-Disk Specification,
--- chapter 2)
-pub record CanWrite (t : Datasets) (name : List ℕ) (live : Map) : Type 0 where
-  pub system : FileSystem
-  pub there : get t.file_systems name ≡ Some system
-  pub new : (b : Block) → Has (blocks live) b → Has (blocks system.live) b ⊎ ((b.birth ≡ t.group) × ¬ (Has (union_of (world_of t)) b))
 
 -- a snapshot of the live map may be taken, of a group that has been closed, to which the live map's blocks were born (zfs-snapshot(8))
 pub record CanSnap (t : Datasets) (name : List ℕ) (s : Snap) : Type 0 where

@@ -86,9 +86,3 @@ WouldFree = (m : Shapes) (g : ℕ) (name : Name) (f : Shape) (q : Before) (older
     → ((t : SnapShape) → IsAmong range t → HasNoClone m t.id)
     → IsUnion Dataset (lineages m g) u → IsUnion Dataset (Outside Dataset (lineages m g) (IsInRange range)) u'
     → len (difference u u') ≡ dead_after (before_live q older).base (up_to_next g name f.live (before_live q older) range newer)
-
--- A dataset's own deadlist has no entry born after the group before it: so the first snapshot of a range adds nothing. Without an origin usedbydataset is what the live map has (On-Disk Specification, chapter 4)
-abbrev pub FreeTerms : Type 0
-FreeTerms = (m : Shapes) (g : ℕ) → IsGood m g →
-    ((d : Dataset) (n : Row Dataset) → lineages m g d n → len (after n.base n.dead) ≡ 0)
-    × ((s : BlockSet) → difference s empty ≡ s)

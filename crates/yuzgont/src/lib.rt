@@ -10,7 +10,9 @@
 //!     block: 0,
 //!     bytes: Data::new(alloc, &[97; 512])?,
 //! };
-//! match pool.apply(alloc, &write) {
+//! let mut reply = Reply::Done;
+//! pool.apply(alloc, &write, &mut reply);
+//! match reply {
 //!     Reply::Done => {}
 //!     Reply::Refused(why) => return Err(why),
 //!     _ => {}

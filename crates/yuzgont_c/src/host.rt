@@ -51,7 +51,8 @@ impl Host {
         ensures bytes { KeepsBytes self.old self.new }
     {
         let alloc = self.caller.alloc;
-        let reply = self.caller.pool.apply(alloc, &request);
+        let mut reply = Reply::Done;
+        self.caller.pool.apply(alloc, &request, &mut reply);
         drop(request);
         reply
     }

@@ -63,7 +63,7 @@ fn changed(alloc: Global, pool: &mut Pool, call: Call) -> Option<Owners>
     ensures none { IfNone result (pool.new.state ≡ pool.old.state) }
 {
     let mut reply = Reply::Done;
-    pool.answer(alloc, &call.kept.request, &mut reply);
+    pool.apply(alloc, &call.kept.request, &mut reply);
     if is_done(&reply) {
         drop(reply);
         let Call { kept, ours, theirs } = call;

@@ -1,5 +1,5 @@
 //! Edits of the chunks of a spine.
-ghost use Rattle.std.specs.Prelude.{◌≡◌, ◌<◌, ◌≤◌, List, Some, ◌+◌, ◌++◌, ◌∷◌, [], length, take, drop, insert, remove, slice_get, slice_set, IfOk, OnOk, OnErr};
+ghost use Rattle.std.specs.Prelude.{◌≡◌, ◌<◌, List, Some, ◌+◌, ◌++◌, ◌∷◌, [], length, take, drop, insert, remove, slice_get, slice_set, IfOk, OnOk, OnErr};
 ghost use Rattle.std.specs.Arc.{arc_value};
 ghost use Rattle.shared_list.specs.Changes.{CanChange, changed};
 ghost use Rattle.shared_list.specs.Elements.{elements};

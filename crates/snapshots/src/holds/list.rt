@@ -1,5 +1,5 @@
 //! The tags of a snapshot, in the order in which they were made.
-ghost use Rattle.std.specs.Prelude.{◌≡◌, ◌↔◌, ◌⊎◌, ◌≤◌, ◌++◌, ◌∷◌, [], true, false, not, Err, IfOk, IfErr, OnOk, OnErr, length};
+ghost use Rattle.std.specs.Prelude.{◌≡◌, ◌↔◌, ◌⊎◌, ◌≤◌, ◌++◌, ◌∷◌, [], true, false, Err, IfOk, IfErr, OnOk, OnErr, length};
 ghost use Rattle.base.specs.Surveys.{AreDifferent};
 ghost use Rattle.base.specs.declared.refusal.Refusal.{Refusal};
 ghost use Rattle.snapshots.specs.Tags.{tag_limit, has_tag, is_full, is_none, without_tag, texts};

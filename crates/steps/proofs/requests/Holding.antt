@@ -15,9 +15,9 @@ use Rattle.model.specs.requests.Hold.{hold_row, hold_rule}
 use Rattle.world.specs.Tables.{world_of}
 use Rattle.world.proofs.views.ViewedRequests.{row_false}
 use Rattle.steps.specs.Steady.{IsSteady}
-use Rattle.steps.specs.Edits.{datasets_of, put, StaysUnlimited, CanPut}
+use Rattle.steps.specs.Edits.{datasets_of, put, CanPut}
 use Rattle.marks.specs.Requests.{hold_refusal, held_in}
-use Rattle.steps.proofs.requests.Labelling.{label_can, label_unlimited}
+use Rattle.steps.proofs.requests.Labelling.{label_can}
 use Rattle.steps.proofs.numbers.Putting.{put_none}
 use Rattle.steps.proofs.numbers.Ruled.{no_choice, refused_by, no_memory_by, done_by}
 use Rattle.steps.proofs.requests.Tagging.{tagged, tagged_state, tagged_label, tagged_known}
@@ -45,10 +45,6 @@ module _ (s : State) (tag : List ℕ) (target : Target) where
     pub hold_can : CanPut s (held_in (datasets_of s) tag target) 0
     hold_can = label_can s steady (tagged (world_of (datasets_of s)) target longer).file_systems
         (tagged_label s target longer steady) (tagged_known s target longer steady undeferred)
-
-    -- where there was no limit, there is none
-    pub hold_unlimited : StaysUnlimited s (held_in (datasets_of s) tag target)
-    hold_unlimited = label_unlimited s steady (tagged (world_of (datasets_of s)) target longer).file_systems (tagged_label s target longer steady)
 
     -- and a hold that nothing refuses puts them there
     pub hold_done : Step s (Hold tag target) Done (put s (held_in (datasets_of s) tag target) 0)

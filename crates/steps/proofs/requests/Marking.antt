@@ -21,9 +21,9 @@ use Rattle.world.specs.Worlds.{IsTidy}
 use Rattle.world.proofs.lists.Maps.{same_value, key_cases, get-insert_same, get-insert_other}
 use Rattle.world.proofs.views.ViewedRequests.{from_placed}
 use Rattle.steps.specs.Steady.{IsSteady}
-use Rattle.steps.specs.Edits.{datasets_of, with_datasets, put, StaysUnlimited, CanPut}
+use Rattle.steps.specs.Edits.{datasets_of, with_datasets, put, CanPut}
 use Rattle.marks.specs.Requests.{bookmark_refusal, bookmarked_in}
-use Rattle.steps.proofs.requests.Labelling.{IsLabelled, same_label, label, label_can, label_unlimited}
+use Rattle.steps.proofs.requests.Labelling.{IsLabelled, same_label, label, label_can}
 use Rattle.steps.proofs.numbers.Putting.{put_none}
 use Rattle.steps.proofs.numbers.Ruled.{no_choice, refused_by, no_memory_by, done_by}
 use Rattle.steps.proofs.requests.Seeing.{closed}
@@ -88,10 +88,6 @@ module _ (s : State) (target : Target) (mark : Member) where
     -- the datasets with the bookmark can be put in place
     pub bookmark_can : CanPut s (bookmarked_in (datasets_of s) target mark) 0
     bookmark_can = label_can s steady (bookmarked_in (datasets_of s) target mark).file_systems bookmarked_label.0 bookmarked_label.1
-
-    -- where there was no limit, there is none
-    pub bookmark_unlimited : StaysUnlimited s (bookmarked_in (datasets_of s) target mark)
-    bookmark_unlimited = label_unlimited s steady (bookmarked_in (datasets_of s) target mark).file_systems bookmarked_label.0
 
   row_is : refusal_of s (bookmark_rule target mark) ≡ bookmark_refusal (datasets_of s) target mark
   unfolding refusal_of

@@ -10,15 +10,8 @@ use Rattle.world.specs.Tables.{Datasets, world_of}
 use Rattle.removals.specs.Requests.{with_marks}
 use Rattle.removals.proofs.Losses.{lost_then, lost_alike}
 use Rattle.removals.proofs.Marked.{marks_union}
-use Rattle.removals.proofs.Named.{names_once}
-use Rattle.removals.proofs.Rolled.{back_of, later_named}
+use Rattle.removals.proofs.Rolled.{back_of}
 use Rattle.removals.proofs.rolling.roll_back.Goals as goal
-
-pub remove_newer-requires-clause-no_clone : goal.remove_newer-requires-clause-no_clone
-remove_newer-requires-clause-no_clone c =
-    let r = entry_of c.args.file_system.now in
-    later_named c.args.edit.now.to (names_once c.args.edit.now.to c.facts.ensures.good) r c.requires.there c.args.group.0 r.1.snaps (λ u i. i)
-    ∙ c.requires.no_clone
 
 pub returns-in_err-lose_live-clause-err : goal.returns-in_err-lose_live-clause-err
 returns-in_err-lose_live-clause-err c =

@@ -1,4 +1,4 @@
-use Rattle.std.proofs.Common.{◌≡◌, List, [], Option, Some, None, Result, Ok, Err, sym, ap, subst}
+use Rattle.std.proofs.Common.{◌≡◌, Option, Some, None, Result, Ok, Err, sym, ap, subst}
 use Rattle.std.specs.Prelude.{IfOk}
 use Rattle.std.specs.Result.{result_ok}
 use Rattle.runner.proofs.beside.opened.Goals as goal

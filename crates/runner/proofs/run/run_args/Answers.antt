@@ -1,4 +1,4 @@
-use Rattle.std.proofs.Common.{◌≡◌, ◌≢◌, ◌<◌, ◌≤◌, ◌⊎◌, ◌&&◌, ℕ, zero, suc, Bool, true, false, not, Some, Result, Ok, Err, refl, sym, ◌∙◌, true≢false, inl, inr, ⊎_elim, arith, rules}
+use Rattle.std.proofs.Common.{◌≡◌, ◌≢◌, ◌<◌, ◌≤◌, ◌⊎◌, ◌&&◌, ℕ, zero, suc, true, false, not, Some, Result, Ok, Err, refl, sym, ◌∙◌, true≢false, inl, inr, ⊎_elim, arith, rules}
 use Rattle.std.specs.Prelude.{nat_le}
 use Rattle.std.proofs.lemmas.Bool.{le-leb, cases_lt}
 use Rattle.base.specs.declared.refusal.Refusal.TheVariants.{BadName, TooMany}

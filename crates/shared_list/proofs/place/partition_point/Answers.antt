@@ -1,48 +1,37 @@
-use Rattle.std.proofs.Common.{◌≡◌, ◌+◌, ◌-◌, ◌<◌, ◌≤◌, true, false, sym, ap, subst, ◌∙◌, length, take, arith}
-use Rattle.std.proofs.lemmas.List.{take-map, length-map, length-take-le}
-use Rattle.std.specs.List.Sorted.{IsPartitionedBy, IsPartitionPoint}
-use Rattle.shared_list.specs.Elements.{values}
-use Rattle.shared_list.proofs.Points.{IsCut, none_left, placed, parts_within, read_of}
+use Rattle.std.proofs.Common.{◌+◌, ◌<◌, ◌≤◌, length, take, refl, subst, arith}
+use Rattle.std.proofs.lemmas.Fn.{always_returns_same}
+use Rattle.std.proofs.lemmas.Option.{slice_get_within}
+use Rattle.shared_list.specs.Elements.{flattened}
+use Rattle.shared_list.specs.Places.{ends}
+use Rattle.shared_list.proofs.Points.{cut_within, last_fails, none_left, point_of, read_of}
 use Rattle.shared_list.proofs.place.partition_point.Goals as goal
 
-pub returns-then-low-len-clause-partitioned : goal.returns-then-low-len-clause-partitioned
-returns-then-low-len-clause-partitioned g c = λ p by parts.
+pub returns-in_err-k-clause-partitioned : goal.returns-in_err-k-clause-partitioned
+returns-in_err-k-clause-partitioned g c = λ p h parts.
     let xs = c.args.chunks.now in
-    let low = c.loop-low.low in
-    let same : c.loop-low.high ≡ low = omega (arith, c.loop-low.invariant.order) in
-    let cut = subst (λ m. IsCut (λ v. v) p xs low m) same (c.loop-low.invariant.cut p by) in
-    let end : low ≡ length xs = omega arith in
-    (none_left (λ v. v) p xs low parts end cut)
+    let all = flattened xs in
+    let cut = c.in_err-k.ensures.none (ends p) (always_returns_same _ _ _ (λ a r f' k. (k.met.0 p h, k.met.1))) refl in
+    let end : length xs ≤ length xs = omega arith in
+    rw c.from_residual.ensures (point_of p all (length all) parts (none_left (λ v. v) p xs (length xs) cut end))
 
 pub returns-clause-place : goal.returns-clause-place
 returns-clause-place g c =
     let xs = c.args.chunks.now in
-    let low = c.loop-low.low in
-    let a = c.at-chunk.result.now in
-    let i = c.point_within-at.result in
-    let n = c.len-2.result - 1 in
-    let fits : n ≤ length c.items.result.now = omega (arith, ap length c.items.ensures, length-map c.items.result.now (λ b. b.value), c.len-2.ensures.len) in
-    let within : i < length a = omega (arith, c.point_within-at.ensures.bound, length-take-le n c.items.result.now fits, c.len-2.ensures.len, c.len-2.ensures.some) in
+    let a = c.in_ok-k.chunk.now in
+    let is = c.in_ok-k.ensures.item in
     record {
-      chunk = omega arith;
-      within = λ d. subst (λ v. i < length v) (read_of xs low a (c.at-chunk.ensures) d) within;
+      chunk = slice_get_within xs c.in_ok-k.k a is;
+      within = λ d. subst (λ v. c.point-at.result < length v) (read_of xs c.in_ok-k.k a is d) c.point-at.ensures.within;
     }
 
 pub returns-clause-partitioned : goal.returns-clause-partitioned
-returns-clause-partitioned g c = λ p by parts.
+returns-clause-partitioned g c = λ p h parts.
     let xs = c.args.chunks.now in
-    let low = c.loop-low.low in
-    let i = c.point_within-at.result in
-    let a = c.at-chunk.result.now in
-    let n = c.len-2.result - 1 in
-    let same : c.loop-low.high ≡ low = omega (arith, c.loop-low.invariant.order) in
-    let cut = subst (λ m. IsCut (λ v. v) p xs low m) same (c.loop-low.invariant.cut p by) in
-    let h : low < length xs = omega arith in
-    let read = read_of xs low a (c.at-chunk.ensures) a in
-    let last : length a ≡ n + 1 = omega (arith, c.len-2.ensures.len, c.len-2.ensures.some) in
-    let are : values (take n c.items.result.now) ≡ take n a = sym (take-map (λ b. b.value) n c.items.result.now) ∙ ap (take n) c.items.ensures in
-    let fits : n ≤ length c.items.result.now = omega (arith, ap length c.items.ensures, length-map c.items.result.now (λ b. b.value)) in
-    let inner = subst (λ v. IsPartitionedBy p v) (sym are) (parts_within (λ v. v) p xs low i n a parts h read last) in
-    let point = subst (λ v. IsPartitionPoint (λ y. p y ≡ true) (λ y. p y ≡ false) v i) are (c.point_within-at.ensures.partitioned p by inner) in
-    let within : i ≤ n = omega (arith, c.point_within-at.ensures.bound, length-take-le n c.items.result.now fits) in
-    placed (λ v. v) p xs low i n a parts h read last i cut within point
+    let k = c.in_ok-k.k in
+    let a = c.in_ok-k.chunk.now in
+    let i = c.point-at.result in
+    let within = slice_get_within xs k a c.in_ok-k.ensures.item in
+    let read = read_of xs k a c.in_ok-k.ensures.item a in
+    let cut = c.in_ok-k.ensures.cut (ends p) (always_returns_same _ _ _ (λ a r f' k. (k.met.0 p h, k.met.1))) in
+    let inner = c.point-at.ensures.cut p h (last_fails (λ v. v) p xs k cut a within read) in
+    point_of p (flattened xs) (length (flattened (take k xs)) + i) parts (cut_within (λ v. v) p xs k cut a within read i c.point-at.ensures.within inner)

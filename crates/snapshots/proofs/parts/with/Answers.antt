@@ -9,4 +9,4 @@ pub kept-preserved : goal.kept-preserved
 kept-preserved c =
     let k : Kept = arc_value c.in-Some.kept in
     let last : c.kept.left ≡ c.pop_shared.new.self ++ k ∷ [] = c.in_ok-kept.ensures.ok ∙ ap (λ o. c.pop_shared.new.self ++ option_to_list (option_map arc_value o)) c.in-Some.is in
-    move_one c.args.kept.now c.kept.left c.pop_shared.new.self c.args.others.now k c.kept.by_name c.put_before.new.by_name last c.requires.once c.kept.invariant c.put_before.ensures
+    move_one c.args.kept.now c.kept.left c.pop_shared.new.self c.args.others.now k c.kept.by_name c.index.new.by_name last c.requires.once c.kept.invariant c.index.ensures.before

@@ -1,5 +1,5 @@
 use Rattle.std.proofs.Common.{◌≡◌, ◌++◌, length, refl}
-use Rattle.deadlist.specs.Segments.{AreCut, AreBornFrom, AreBornBy, entries_of}
+use Rattle.deadlist.specs.Segments.{AreCut, entries_of}
 use Rattle.deadlist.proofs.deadlist.Deadlist.new.Goals as goal
 
 pub invariant_of-result : goal.invariant_of-result

@@ -1,4 +1,4 @@
-use Rattle.std.proofs.Common.{length, arith, drop, nat_le}
+use Rattle.std.proofs.Common.{arith, nat_le}
 use Rattle.std.proofs.lemmas.List.{length-drop}
 use Rattle.deadlist.specs.Segments.{ended}
 use Rattle.deadlist.proofs.Places.{front_le}

@@ -1,5 +1,4 @@
-use Rattle.std.proofs.Common.{◌≡◌, ◌+◌, ◌<◌, ◌^◌, length, filter, arith, sym, ◌∙◌, nat_le}
-use Rattle.deadlist.specs.Segments.{uppers, ended}
+use Rattle.std.proofs.Common.{arith, sym, ◌∙◌, nat_le}
 use Rattle.deadlist.proofs.Places.{front_le}
 use Rattle.deadlist.proofs.Counts.{upto_cuts, has_cut_any}
 use Rattle.deadlist.proofs.parts.Parts.reached_upto.Goals as goal

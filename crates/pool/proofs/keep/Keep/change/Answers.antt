@@ -1,4 +1,4 @@
-use Rattle.std.proofs.Common.{◌≡◌, ℕ, List, [], ◌∷◌, Option, Result, Ok, Err, inl, sym, subst, ◌∙◌, rules}
+use Rattle.std.proofs.Common.{◌≡◌, ℕ, List, [], ◌∷◌, Option, Result, Ok, Err, inl, subst, ◌∙◌, rules}
 use Rattle.std.specs.Prelude.{IfOk}
 use Rattle.base.specs.declared.refusal.Refusal.{Refusal}
 use Rattle.batch.specs.Updates.{IsBatch}
@@ -8,7 +8,6 @@ use Rattle.tree.specs.declared.block.Root.{Root}
 use Rattle.images.specs.Writes.{IsLeftBy}
 use Rattle.images.specs.declared.writes.Writes.{Writes}
 use Rattle.steps.specs.Edits.{datasets_of, with_datasets}
-use Rattle.steps.specs.Handed.{IsAccounted}
 use Rattle.pool.specs.Pools.{state_in}
 use Rattle.pool.proofs.Commits.{few, sound_changed}
 use Rattle.pool.proofs.Limited.{state_with}

@@ -14,10 +14,10 @@ use Rattle.pool.proofs.keep.Keep.next_view_of.Goals as goal
 pub returns-in_default : goal.returns-in_default
 returns-in_default c = record { can = tt; ok = tt; err = open_other (state_in c.args.self.now c.args.world.now) c.args.self.now.numbers.present c.requires.sound c.args.target.now c.in_default.not-Snapshot }
 
-pub returns-in_default-snapshot_named-clause-err : goal.returns-in_default-snapshot_named-clause-err
-returns-in_default-snapshot_named-clause-err c =
+pub returns-in_default-snapshot-clause-err : goal.returns-in_default-snapshot-clause-err
+returns-in_default-snapshot-clause-err c =
     open_missing (state_in c.args.self.now c.args.world.now) c.args.self.now.numbers.present c.requires.sound c.args.target.now c.member.result.now (c.in-Snapshot.is ∙ ap OfSnapshot (sym c.member.ensures.value))
-    c.in_default-snapshot_named.ensures
+    c.in_default-snapshot.ensures
 
 pub returns-then-is_deferred-clause-err : goal.returns-then-is_deferred-clause-err
 returns-then-is_deferred-clause-err c =
