@@ -11,4 +11,5 @@ mod table;
 
 pub use clones::CloneName;
 pub use file_system::{Alone, FileSystem, Snapshot};
-pub use table::{FILE_SYSTEM_LIMIT, Table};
+pub use parent::parent_of;
+pub use table::{FILE_SYSTEM_LIMIT, LAST_GROUP, SNAPSHOT_LIMIT, Table};

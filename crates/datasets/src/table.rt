@@ -55,6 +55,12 @@ use zalloc::Allocator;
 /// A pool has at most this many file systems, the root among them (profile).
 pub const FILE_SYSTEM_LIMIT: usize = 1024;
 
+/// A pool has at most this many snapshots (profile).
+pub const SNAPSHOT_LIMIT: usize = 65536;
+
+/// The last group, which nothing closes (profile).
+pub const LAST_GROUP: u64 = 9223372036854775807;
+
 /// The datasets of a pool: its file systems with their snapshots, and the group that is open. The root `p` is always there, and so is
 /// the parent of every other file system. Copies share the file systems that none of them changed.
 pub struct Table {

@@ -20,6 +20,8 @@ mod marked;
 #[cfg(test)]
 mod now;
 #[cfg(test)]
+mod parents;
+#[cfg(test)]
 mod reached;
 #[cfg(test)]
 mod removing;

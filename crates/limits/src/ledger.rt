@@ -17,12 +17,11 @@ ghost use Rattle.limits.specs.Ledgers.{line_in, ledger_of, IsSpaceOf};
 use crate::charging::{charge_all, refill};
 use crate::line::Line;
 use crate::near::Near;
-use crate::parent::parent_of;
 use crate::place::place_seen;
 use crate::pool_space::Space;
 use base::name::DsName;
 use base::refusal::Refusal;
-use datasets::{FILE_SYSTEM_LIMIT, Table};
+use datasets::{FILE_SYSTEM_LIMIT, Table, parent_of};
 use std::alloc::Global;
 use std::marker::Model;
 

@@ -11,7 +11,6 @@ mod ledger;
 mod line;
 mod near;
 pub mod outlook;
-mod parent;
 mod place;
 mod pool_space;
 mod recount;

@@ -2,9 +2,8 @@
 ghost use Rattle.std.specs.Prelude.{◌≡◌, IfErr};
 ghost use Rattle.base.specs.declared.refusal.Refusal.{Refusal};
 
-use crate::parent::parent_of;
 use base::refusal::Refusal;
-use datasets::{FILE_SYSTEM_LIMIT, FileSystem};
+use datasets::{FILE_SYSTEM_LIMIT, FileSystem, parent_of};
 use std::alloc::Global;
 use std::sync::Arc;
 

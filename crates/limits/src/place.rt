@@ -5,8 +5,7 @@ ghost use Rattle.base.specs.Names.{parent_of as parent_name};
 ghost use Rattle.datasets.specs.Places.{IsAt, IsGapFor};
 ghost use Rattle.limits.specs.Places.{IsParentAt};
 
-use crate::parent::parent_of;
-use datasets::Table;
+use datasets::{Table, parent_of};
 
 /// Where the file system of this name stands, in byte order of the names, or else where it would. It costs the logarithm of their number.
 pub fn place_of(table: &Table, name: &[u8]) -> Result<usize, usize>

@@ -16,10 +16,9 @@ use crate::account::{Account, account_of};
 use crate::change::settle_from;
 use crate::ledger::Ledger;
 use crate::line::Line;
-use crate::parent::parent_of;
 use crate::place::{parent_place, place_of, place_seen};
 use base::name::DsName;
-use datasets::{FileSystem, Table};
+use datasets::{FileSystem, Table, parent_of};
 use model::limits::Limits;
 
 impl Ledger {

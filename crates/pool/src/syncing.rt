@@ -9,13 +9,11 @@ use crate::keep::{Keep, Meters};
 use crate::worlds::{World, copy_of};
 use base::meter::SegMeter;
 use base::refusal::Refusal;
+use datasets::LAST_GROUP;
 use destroyer::Slice;
 use removals::WorkingCopy;
 use std::alloc::Global;
 use steps::renew;
-
-/// The last group, which no sync closes (profile).
-const LAST_GROUP: u64 = 9223372036854775807;
 
 impl Keep {
     /// Closes the open group: a copy of the world in its next group is to be the last synced one. NoMemory where there is none for it, and the

@@ -11,14 +11,8 @@ ghost use Rattle.receives.specs.Requests.{receive_refusal};
 use base::name::{Component, Member};
 use base::number::Guid;
 use base::refusal::Refusal;
-use datasets::{FileSystem, Snapshot, Table};
+use datasets::{FileSystem, LAST_GROUP, SNAPSHOT_LIMIT, Snapshot, Table};
 use stream::Stream;
-
-// A pool has at most this many snapshots (profile).
-const SNAPSHOT_LIMIT: usize = 65536;
-
-// The last group (profile).
-const LAST_GROUP: u64 = 9223372036854775807;
 
 /// Why a receive of this stream as a snapshot of this name is refused, if it is, whatever the limits (zfs-receive(8)). It costs what
 /// `incremental_refusal` does.

@@ -13,15 +13,9 @@ ghost use Rattle.snap.specs.Taking.{naming_row};
 use crate::named::Named;
 use base::name::SnapName;
 use base::refusal::Refusal;
-use datasets::Table;
+use datasets::{LAST_GROUP, SNAPSHOT_LIMIT, Table};
 use std::alloc::Global;
 use std::collections::BTreeSet;
-
-// A pool has at most this many snapshots (profile).
-const SNAPSHOT_LIMIT: usize = 65536;
-
-// The last group, which nothing closes (profile).
-const LAST_GROUP: u64 = 9223372036854775807;
 
 // The last number of the counter (profile).
 const LAST_GUID: u64 = 4294967295;
