@@ -4,3 +4,4 @@ pub mod Presence
 pub mod LawProofs
 pub mod Contents
 pub mod Marks
+mod Compared

@@ -1,6 +1,9 @@
 //! Bytes as a value of their own.
 ghost use Rattle.std.specs.Prelude.{◌≡◌, ◌↔◌, IsTrue};
+ghost use Rattle.std.specs.Str.{bytes_eq};
+ghost use Rattle.base.specs.Names.{name_cmp};
 
+use std::cmp::Ordering;
 use std::marker::Model;
 
 /// Any bytes, as those of a printed name. Contracts see the list of them.
@@ -35,7 +38,7 @@ impl PartialEq for Bytes {
     ghost laws = { partial_equiv_from_equiv nat_list_eq_equiv };
 
     fn eq(&self, other: &Bytes) -> bool {
-        self.items.as_slice() == other.items.as_slice()
+        same_bytes(self.items.as_slice(), other.items.as_slice())
     }
 }
 
@@ -69,4 +72,52 @@ impl Bytes {
     {
         self == other
     }
+}
+
+/// Whether these are the same bytes. It looks at the lengths first and then at the bytes from the last one on, since names of one pool begin
+/// alike: it costs what is the same at their ends.
+pub fn same_bytes(one: &[u8], other: &[u8]) -> bool
+    ensures { result ≡ bytes_eq one.now other.now }
+{
+    if one.len() != other.len() {
+        return false;
+    }
+    let mut left = one.len();
+    while left > 0 {
+        left -= 1;
+        if one[left] != other[left] {
+            return false;
+        }
+    }
+    true
+}
+
+// Up to so many bytes a walk one by one costs less than one by groups (profile).
+const SHORT: usize = 32;
+
+/// How these bytes compare, byte by byte from the first one on. It costs what they have in common there.
+pub fn compare_bytes(one: &[u8], other: &[u8]) -> Ordering
+    ensures { result ≡ name_cmp one.now other.now }
+{
+    let both = one.len().min(other.len());
+    if both > SHORT {
+        return order(one, other);
+    }
+    let mut place = 0;
+    while place < both {
+        let (here, there) = (one[place], other[place]);
+        if here != there {
+            return here.cmp(&there);
+        }
+        place += 1;
+    }
+    one.len().cmp(&other.len())
+}
+
+// By groups of bytes. Kept apart, so that where names are short no caller grows by it.
+#[inline(never)]
+fn order(one: &[u8], other: &[u8]) -> Ordering
+    ensures { result ≡ name_cmp one.now other.now }
+{
+    one.cmp(&other)
 }

@@ -149,7 +149,7 @@ free_one i n Free xs ih h = ⊎_elim (λ e. let z : n - i ≡ 0 = omega arith in
 free_one i n Allocated xs ih h = free_later i n Allocated xs (ih h)
 free_one i n Waiting xs ih h = free_later i n Waiting xs (ih h)
 
-frees_in : (i n : ℕ) (xs : List BlockState) → IsIn (frees i xs) n → IsFreeIn i n xs
+pub frees_in : (i n : ℕ) (xs : List BlockState) → IsIn (frees i xs) n → IsFreeIn i n xs
 frees_in i n [] h = absurd h
 frees_in i n (x ∷ xs) h = free_one i n x xs (frees_in (i + 1) n xs) h
 
@@ -157,11 +157,11 @@ one_once : (i : ℕ) (xs : List BlockState) (b : Bool) → AreDifferent (frees (
 one_once i xs true a = ((λ h. let p = (frees_in (i + 1) i xs h).0 in absurd (omega arith)), a)
 one_once i xs false a = a
 
-frees_once : (i : ℕ) (xs : List BlockState) → AreDifferent (frees i xs)
+pub frees_once : (i : ℕ) (xs : List BlockState) → AreDifferent (frees i xs)
 frees_once i [] = tt
 frees_once i (x ∷ xs) = one_once i xs (is_free x) (frees_once (i + 1) xs)
 
-frees_count : (i : ℕ) (xs : List BlockState) → length (frees i xs) ≡ count_by is_free xs
+pub frees_count : (i : ℕ) (xs : List BlockState) → length (frees i xs) ≡ count_by is_free xs
 frees_count i [] = refl
 frees_count i (x ∷ xs) = by x (frees_count (i + 1) xs)
   where

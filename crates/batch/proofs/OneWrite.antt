@@ -1,6 +1,7 @@
 -- What one write alone does to a key on the way to its leaf, by what it does to the place below.
-use Rattle.std.proofs.Common.{◌≡◌, ℕ, suc, ◌+◌, ◌-◌, ◌*◌, ◌/◌, ◌%◌, ◌^◌, ◌≤◌, true, false, List, ◌++◌, length, get_or, Option, None, refl, sym, ap, ◌∙◌, arith, append_assoc, sub-one}
+use Rattle.std.proofs.Common.{◌≡◌, ℕ, zero, suc, ◌+◌, ◌-◌, ◌*◌, ◌/◌, ◌%◌, ◌^◌, ◌<◌, ◌≤◌, true, false, List, [], ◌∷◌, ◌++◌, length, get_or, set, Option, None, refl, sym, ap, ◌∙◌, arith, append_assoc, sub-one, get_or-set_other}
 use Rattle.std.specs.Prelude.{Bool, cond, is_some}
+use Rattle.std.proofs.lemmas.Grind.{get_or-set_at}
 use Rattle.base.specs.Counting.{counted}
 use Rattle.base.specs.declared.number.Dead.{Dead}
 use Rattle.node.specs.Entries.{key_at}
@@ -8,7 +9,8 @@ use Rattle.node.specs.Kid.{IsKid, places_of}
 use Rattle.node.specs.Shape.{Part}
 use Rattle.batch.specs.declared.findings.Claim.{Claim}
 use Rattle.batch.specs.Said.{Said, IsOneLeaf, IsWay}
-use Rattle.batch.specs.Touch.{touched, stays, claims, released, dropped, claim_of, let_go, own_block}
+use Rattle.batch.specs.Touch.{touched, stays, claims, released, dropped, claim_of, let_go, own_block, young_one}
+use Rattle.batch.specs.Way.{way_claims, way_released}
 use Rattle.batch.proofs.Metering.{part_counted}
 use Rattle.batch.proofs.OneLeaf.{next_index, on_touched, on_stays, claims_below, released_below, dropped_below}
 use Rattle.batch.proofs.TouchLaws.{own_claims, own_released, claims_at_leaf, released_at_leaf, claims_down, released_down, dropped_down}
@@ -69,3 +71,39 @@ module _ (s : ℕ → Said) (leaf : ℕ) (one : IsOneLeaf s leaf true) (l g j le
       let mine = let_go (touched s (suc l) j o) false y (own_block o) in
       let under = dropped_below s l g j place true way o k y ∙ (λ i. dropped s y l (same i) (sym there i)) in
       part_counted m own all (touched s (suc l) j o) b y o (dropped s y l below kid) (dropped s y (suc l) j o) (dropped_down s y l j o ∙ ap (λ ds. ds ++ mine) under) e h f
+
+-- ---- the blocks of the way, each at its level
+
+pub claims_alike : (y leaf : ℕ) (a b : List (Option Dead)) (n : ℕ) → ((i : ℕ) → i < n → get_or a i None ≡ get_or b i None) → way_claims y leaf a n ≡ way_claims y leaf b n
+unfolding way_claims
+claims_alike y leaf a b zero h = refl
+claims_alike y leaf a b (suc n) h = λ i. claims_alike y leaf a b n (λ k l. h k (omega arith)) i ++ record { key = key_at n (leaf / 16 ^ n); kept = young_one y (h n (omega arith) i) } ∷ []
+
+pub released_alike : (y : ℕ) (a b : List (Option Dead)) (n : ℕ) → ((i : ℕ) → i < n → get_or a i None ≡ get_or b i None) → way_released y a n ≡ way_released y b n
+unfolding way_released
+released_alike y a b zero h = refl
+released_alike y a b (suc n) h = λ i. released_alike y a b n (λ k l. h k (omega arith)) i ++ let_go true true y (h n (omega arith) i)
+
+pub no_claims : (y leaf : ℕ) (blocks : List (Option Dead)) (cs : List Claim) → way_claims y leaf blocks 0 ++ cs ≡ cs
+unfolding way_claims
+no_claims y leaf blocks cs = refl
+
+pub none_released : (y : ℕ) (blocks : List (Option Dead)) (ds : List Dead) → way_released y blocks 0 ++ ds ≡ ds
+unfolding way_released
+none_released y blocks ds = refl
+
+-- the block of one level more
+module _ (y leaf level l : ℕ) (blocks : List (Option Dead)) (own : Option Dead) (fits : level ≡ l) (within : level < length blocks) where
+  others : (i : ℕ) → i < l → get_or (set blocks level own) i None ≡ get_or blocks i None
+  others i h = get_or-set_other blocks level i own None (λ e. omega arith)
+
+  here : get_or (set blocks level own) l None ≡ own
+  here = get_or-set_at blocks level l own None (sym fits) within
+
+  pub claims_on_top : way_claims y leaf (set blocks level own) (suc l) ≡ way_claims y leaf blocks l ++ claim_of true true (record { level = level; index = leaf / 16 ^ level }) y own
+  unfolding way_claims
+  claims_on_top = λ i. claims_alike y leaf (set blocks level own) blocks l others i ++ record { key = record { level = sym fits i; index = leaf / 16 ^ sym fits i }; kept = young_one y (here i) } ∷ []
+
+  pub released_on_top : way_released y (set blocks level own) (suc l) ≡ way_released y blocks l ++ let_go true true y own
+  unfolding way_released
+  released_on_top = λ i. released_alike y (set blocks level own) blocks l others i ++ let_go true true y (here i)

@@ -1,5 +1,5 @@
 -- What is known of a root before a batch is drafted: the room, and how many blocks go and come.
-use Rattle.std.proofs.Common.{◌≡◌, ℕ, zero, suc, ◌+◌, ◌*◌, ◌^◌, ◌<◌, ◌≤◌, Bool, true, false, cond, List, [], ◌∷◌, length, map, Option, Some, None, refl, ap, arith, length-append}
+use Rattle.std.proofs.Common.{◌≡◌, ℕ, zero, suc, ◌+◌, ◌*◌, ◌^◌, ◌<◌, ◌≤◌, Bool, true, false, cond, List, [], ◌∷◌, length, map, Option, Some, None, Err, Result, refl, ap, arith, length-append}
 use Rattle.std.specs.Prelude.{slice_get, count_by, nat_le, not, ◌&&◌}
 use Rattle.std.specs.declared.sync.Arc.{Arc}
 use Rattle.std.specs.declared.alloc.Global.{Global}
@@ -33,6 +33,10 @@ use Rattle.batch.proofs.Remade.{rebuilt_sound, rebuilt_cells}
 use Rattle.batch.proofs.Standing.{stands_of}
 use Rattle.batch.proofs.TouchLaws.{released_down, released_at_leaf}
 use Rattle.batch.proofs.SaidLaws.{full_size}
+
+-- what is handed on is the same refusal
+pub same_error : {T E : Type 0} (x y : E) → (let r : Result T E = Err x in r) ≡ Err y → x ≡ y
+same_error x y e = cc
 
 -- no more blocks go than there are
 few_gone : (t p : Bool) (y : ℕ) (q : Option Part) → length (let_go t p y (own_block q)) + cell_count (forest_of (λ p. p) (places_of q)) ≤ cells q

@@ -9,3 +9,4 @@ pub mod Room
 pub mod Cost
 pub mod Draft
 pub mod Forecast
+pub mod Way

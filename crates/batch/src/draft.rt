@@ -1,5 +1,5 @@
 //! What a change is to make, before any node of it is made.
-ghost use Rattle.std.specs.Prelude.{◌≡◌, ◌≤◌, IfOk, IfErr, OnOk, OnErr, length};
+ghost use Rattle.std.specs.Prelude.{◌≡◌, ◌+◌, ◌^◌, ◌<◌, ◌≤◌, IfOk, IfErr, OnOk, length};
 ghost use Rattle.base.specs.Counting.{counted};
 ghost use Rattle.base.specs.declared.refusal.Refusal.{Refusal};
 ghost use Rattle.batch.specs.Cost.{CountsDropped};
@@ -13,9 +13,10 @@ ghost use Rattle.node.specs.Sound.{IsSoundTree};
 ghost use Rattle.batch.specs.Touch.{touched, claims, released, dropped};
 ghost use Rattle.batch.specs.Updates.{changes_of, IsBatch};
 
-use crate::findings::{Findings, Survey};
+use crate::findings::findings_of;
 use crate::numbers::{NewBlock, choose, fill, fresh_count};
 use crate::update::{Update, one_leaf, write_count};
+use crate::way::{Lists, find_way, number_way};
 use base::meter::Meter;
 use base::number::{BlockNo, Dead, Group};
 use base::refusal::Refusal;
@@ -35,45 +36,26 @@ pub struct Draft {
     pub made: Vec<NewBlock>,
 }
 
-/// The root, if there is one.
-fn root_of(root: &Option<Arc<Root>>) -> Option<&Root>
-    ensures { part_of_node root_part result ≡ whole root.now }
-{
-    match root {
-        Some(a) => Some(&**a),
-        None => None,
+impl Lists {
+    /// The draft with these lists, on a root with so many blocks.
+    fn draft(self, touched: bool, count: u32) -> Draft
+        requires few { length self.released.items ≤ count }
+        requires fits { count + length self.taken.items < 2 ^ 31 + length self.released.items }
+        requires low { count < 2 ^ 31 }
+        ensures touched { result.touched ≡ touched }
+        ensures count { result.count + length self.released.items ≡ count + length self.taken.items }
+        ensures released { result.released ≡ self.released }
+        ensures taken { result.taken ≡ self.taken }
+        ensures made { result.made ≡ self.made }
+    {
+        Draft {
+            touched,
+            count: count - self.released.len() as u32 + self.taken.len() as u32,
+            released: self.released,
+            taken: self.taken,
+            made: self.made,
+        }
     }
-}
-
-/// What a batch does to a root, with room for so many new blocks at first.
-pub(crate) fn findings_of(
-    alloc: Global,
-    root: &Option<Arc<Root>>,
-    updates: &[Update],
-    room: usize,
-    young: Group,
-    meter: &mut Meter,
-) -> Result<(Findings, bool), Refusal>
-    requires order { AreInOrder updates.now }
-    requires sound { IsSoundKid 5 (whole root.now) }
-    ensures touched { IfOk result (λ p. p.1 ≡ touched (said updates.now) 5 0 (whole root.now)) }
-    ensures claims { IfOk result (λ p. p.0.claims.items ≡ claims (said updates.now) young.0 5 0 (whole root.now)) }
-    ensures released { IfOk result (λ p. p.0.released.items ≡ released (said updates.now) young.0 5 0 (whole root.now)) }
-    ensures metered { OnOk result (counted meter.old (length (dropped (said updates.now) young.0 5 0 (whole root.now))) ≤ meter.new) }
-    ensures never_lower { meter.old ≤ meter.new }
-    ensures err { OnErr result (result ≡ Err Refusal.NoMemory) }
-{
-    let mut findings = Findings {
-        claims: Vec::with_capacity(alloc, room)?,
-        released: Vec::new(alloc),
-    };
-    let root = root_of(root);
-    if let Some((leaf, true)) = one_leaf(updates) {
-        Root::survey_write(root, 5, 0, leaf, young, &mut findings, meter)?;
-        return Ok((findings, true));
-    }
-    let fate = Root::survey(root, 5, 0, updates, young, &mut findings, meter)?;
-    Ok((findings, fate.touched))
 }
 
 /// The draft of a batch on a root with so many blocks. NoSpace where the numbers are fewer than the new blocks, NoMemory where
@@ -98,6 +80,14 @@ pub fn draft_of(
     ensures never_lower { meter.old ≤ meter.new }
 {
     let room = write_count(updates).saturating_add(5);
+    if let Some((leaf, true)) = one_leaf(updates) {
+        let mut blocks = [None; 6];
+        find_way(root, leaf, &mut blocks, meter);
+        return match number_way(alloc, &blocks, leaf, young, allocator) {
+            Ok(lists) => Ok(lists.draft(true, count)),
+            Err(refusal) => Err(refusal),
+        };
+    }
     let (findings, touched) = findings_of(alloc, root, updates, room, young, meter)?;
     let need = fresh_count(&findings.claims);
     let taken = match choose(alloc, allocator, &findings.released, young, need) {
@@ -105,11 +95,10 @@ pub fn draft_of(
         Err(refusal) => return Err(refusal),
     };
     let made = fill(alloc, &findings.claims, &taken)?;
-    Ok(Draft {
-        touched,
-        count: count - findings.released.len() as u32 + need as u32,
+    let lists = Lists {
         released: findings.released,
         taken,
         made,
-    })
+    };
+    Ok(lists.draft(touched, count))
 }

@@ -3,20 +3,19 @@ ghost use Rattle.std.specs.Prelude.{◌≡◌, ℕ, suc, ◌+◌, ◌-◌, ◌*�
 ghost use Rattle.base.specs.Counting.{counted};
 ghost use Rattle.base.specs.declared.refusal.Refusal.{Refusal};
 ghost use Rattle.node.specs.Kid.{IsSoundKid, places_of};
-ghost use Rattle.node.specs.Node.{inner_part, leaf_part, part_of_node};
+ghost use Rattle.node.specs.Node.{inner_part, leaf_part, root_part, part_of_node, whole};
 ghost use Rattle.batch.specs.Others.{HasOther};
 ghost use Rattle.batch.specs.Said.{Said, said, AreInOrder, IsOneLeaf};
 ghost use Rattle.batch.specs.Touch.{any_kid, later_first, touched, stays, claims, released, dropped, claim_of, let_go, own_block, young_one};
+ghost use Rattle.batch.specs.Way.{way_claims, way_released};
 
 use crate::update::{Update, Word, is_idle, split_at_leaf, way_of, word_of};
 use base::meter::Meter;
 use base::number::{Dead, Group, Key};
 use base::refusal::Refusal;
-use node::{Inner, Leaf, Level, span};
-
-/// How many keys are on the way to a leaf: its own, and one at each of the five levels above (On-Disk Specification, chapter 3; the number is
-/// profile).
-const WAY: usize = 6;
+use node::{Inner, Leaf, Level, Root, span};
+use std::alloc::Global;
+use std::sync::Arc;
 
 /// A key that is made, with the block that stays in its place, if one does.
 #[derive(Clone, Copy, Default, PartialEq, Eq, Debug)]
@@ -40,7 +39,7 @@ pub struct Findings {
 }
 
 /// The block, if it was born from a group on.
-fn if_young(own: Option<Dead>, young: Group) -> Option<Dead>
+pub(crate) fn if_young(own: Option<Dead>, young: Group) -> Option<Dead>
     ensures { result ≡ young_one young.0 own }
 {
     match own {
@@ -78,31 +77,6 @@ fn close(
         }
     }
     if let Some(dead) = own {
-        findings.released.push(dead)?;
-    }
-    Ok(())
-}
-
-/// Adds what becomes of a key on the way to a leaf that is written, and of its own block: the key is touched, and stays.
-fn close_written(
-    own: Option<Dead>,
-    key: Key,
-    young: Group,
-    findings: &mut Findings,
-) -> Result<(), Refusal>
-    ensures claims { OnOk result (findings.new.claims.items ≡ findings.old.claims.items ++ claim_of true true key young.0 own) }
-    ensures released { OnOk result (findings.new.released.items ≡ findings.old.released.items ++ let_go true true young.0 own) }
-    ensures err { OnErr result (result ≡ Err Refusal.NoMemory) }
-{
-    let kept = if_young(own, young);
-    findings.claims.push(Claim { key, kept })?;
-    if kept.is_some() {
-        return Ok(());
-    }
-    if let Some(dead) = own {
-        if findings.released.is_empty() {
-            findings.released.reserve(WAY)?;
-        }
         findings.released.push(dead)?;
     }
     Ok(())
@@ -173,27 +147,22 @@ pub trait Survey: Level {
         ensures never_lower { meter.old ≤ meter.new }
         ensures err { OnErr result (result ≡ Err Refusal.NoMemory) };
 
-    /// Adds to the findings what the write of one leaf alone does to the part with an index among those of its level, which covers that
-    /// leaf: the part is touched and stays, and so does each below it on the way. It looks at no other part, so at one a level. The meter
-    /// rises by at least one for each block whose key is touched.
-    fn survey_write(
+    /// Puts the blocks that the keys on the way to a leaf have, each at its level, from this part's down. It looks at no other part, so
+    /// at one a level. The meter rises by at least one for each block.
+    fn blocks_to(
         old: Option<&Self>,
         level: u8,
-        index: u32,
         leaf: u32,
-        young: Group,
-        findings: &mut Findings,
+        blocks: &mut [Option<Dead>; 6],
         meter: &mut Meter,
-    ) -> Result<(), Refusal>
+    )
         requires level { level ≡ Self.height }
         requires low { level ≤ 5 }
-        requires way { index ≡ leaf / 16 ^ level }
         requires sound { IsSoundKid Self.height (part_of_node Self.part old) }
-        ensures claims { OnOk result ((s : ℕ → Said) → IsOneLeaf s leaf true → findings.new.claims.items ≡ findings.old.claims.items ++ claims s young.0 Self.height index (part_of_node Self.part old.entry)) }
-        ensures released { OnOk result ((s : ℕ → Said) → IsOneLeaf s leaf true → findings.new.released.items ≡ findings.old.released.items ++ released s young.0 Self.height index (part_of_node Self.part old.entry)) }
-        ensures metered { OnOk result ((s : ℕ → Said) → IsOneLeaf s leaf true → counted meter.old (length (dropped s young.0 Self.height index (part_of_node Self.part old.entry))) ≤ meter.new) }
-        ensures never_lower { meter.old ≤ meter.new }
-        ensures err { OnErr result (result ≡ Err Refusal.NoMemory) };
+        ensures claims { (s : ℕ → Said) (y : ℕ) → IsOneLeaf s leaf true → claims s y Self.height (leaf / 16 ^ level) (part_of_node Self.part old.entry) ≡ way_claims y leaf blocks.new (suc Self.height) }
+        ensures released { (s : ℕ → Said) (y : ℕ) → IsOneLeaf s leaf true → released s y Self.height (leaf / 16 ^ level) (part_of_node Self.part old.entry) ≡ way_released y blocks.new (suc Self.height) }
+        ensures metered { (s : ℕ → Said) (y : ℕ) → IsOneLeaf s leaf true → counted meter.old (length (dropped s y Self.height (leaf / 16 ^ level) (part_of_node Self.part old.entry))) ≤ meter.new }
+        ensures never_lower { meter.old ≤ meter.new };
 }
 
 /// What becomes of a leaf.
@@ -256,18 +225,14 @@ impl Survey for Leaf {
         Ok(fate)
     }
 
-    fn survey_write(
+    fn blocks_to(
         old: Option<&Leaf>,
         level: u8,
-        index: u32,
         _leaf: u32,
-        young: Group,
-        findings: &mut Findings,
+        blocks: &mut [Option<Dead>; 6],
         meter: &mut Meter,
-    ) -> Result<(), Refusal> {
-        let own = block_of(old, meter);
-        close_written(own, Key { level, index }, young, findings)?;
-        Ok(())
+    ) {
+        blocks[level as usize] = block_of(old, meter);
     }
 }
 
@@ -397,21 +362,54 @@ impl<C: Survey> Survey for Inner<C> {
         Ok(fate)
     }
 
-    fn survey_write(
+    fn blocks_to(
         old: Option<&Inner<C>>,
         level: u8,
-        index: u32,
         leaf: u32,
-        young: Group,
-        findings: &mut Findings,
+        blocks: &mut [Option<Dead>; 6],
         meter: &mut Meter,
-    ) -> Result<(), Refusal> {
+    ) {
         let own = block_of(old, meter);
         let below = leaf / span(u32::from(level - 1));
         let place = below % 16;
         let kid = kid_at(old, place as usize);
-        C::survey_write(kid, level - 1, below, leaf, young, findings, meter)?;
-        close_written(own, Key { level, index }, young, findings)?;
-        Ok(())
+        C::blocks_to(kid, level - 1, leaf, blocks, meter);
+        blocks[level as usize] = own;
     }
+}
+
+/// The root, if there is one.
+pub(crate) fn root_of(root: &Option<Arc<Root>>) -> Option<&Root>
+    ensures { part_of_node root_part result ≡ whole root.now }
+{
+    match root {
+        Some(a) => Some(&**a),
+        None => None,
+    }
+}
+
+/// What a batch does to a root, with room for so many new blocks at first, and whether it touches any key.
+pub(crate) fn findings_of(
+    alloc: Global,
+    root: &Option<Arc<Root>>,
+    updates: &[Update],
+    room: usize,
+    young: Group,
+    meter: &mut Meter,
+) -> Result<(Findings, bool), Refusal>
+    requires order { AreInOrder updates.now }
+    requires sound { IsSoundKid 5 (whole root.now) }
+    ensures touched { IfOk result (λ p. p.1 ≡ touched (said updates.now) 5 0 (whole root.now)) }
+    ensures claims { IfOk result (λ p. p.0.claims.items ≡ claims (said updates.now) young.0 5 0 (whole root.now)) }
+    ensures released { IfOk result (λ p. p.0.released.items ≡ released (said updates.now) young.0 5 0 (whole root.now)) }
+    ensures metered { OnOk result (counted meter.old (length (dropped (said updates.now) young.0 5 0 (whole root.now))) ≤ meter.new) }
+    ensures never_lower { meter.old ≤ meter.new }
+    ensures err { OnErr result (result ≡ Err Refusal.NoMemory) }
+{
+    let mut findings = Findings {
+        claims: Vec::with_capacity(alloc, room)?,
+        released: Vec::new(alloc),
+    };
+    let fate = Root::survey(root_of(root), 5, 0, updates, young, &mut findings, meter)?;
+    Ok((findings, fate.touched))
 }

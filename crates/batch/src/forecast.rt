@@ -8,9 +8,9 @@ ghost use Rattle.node.specs.Entries.{map_of};
 ghost use Rattle.node.specs.Node.{root_forest};
 ghost use Rattle.node.specs.Sound.{IsSoundTree};
 
-use crate::draft::findings_of;
-use crate::findings::Claim;
-use crate::update::{Update, write_count};
+use crate::findings::{Claim, findings_of};
+use crate::update::{Update, one_leaf, write_count};
+use crate::way::{WAY, find_way, present};
 use base::meter::Meter;
 use base::number::{Dead, Group};
 use base::refusal::Refusal;
@@ -55,6 +55,12 @@ pub fn forecast_of(
     ensures never_lower { meter.old ≤ meter.new }
 {
     let room = write_count(updates).saturating_add(5);
+    if let Some((leaf, true)) = one_leaf(updates) {
+        let mut blocks = [None; 6];
+        find_way(root, leaf, &mut blocks, meter);
+        let dropped = present(alloc, &blocks)?;
+        return Ok(Forecast { dropped, made: WAY });
+    }
     let (findings, _touched) = findings_of(alloc, root, updates, room, Group(0), meter)?;
     let made = findings.claims.len();
     let mut dropped = findings.released;

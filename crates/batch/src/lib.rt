@@ -7,6 +7,7 @@ mod findings;
 mod forecast;
 mod numbers;
 mod update;
+mod way;
 
 pub use draft::{Draft, draft_of};
 pub use forecast::{Forecast, forecast_of};

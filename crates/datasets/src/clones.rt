@@ -12,6 +12,7 @@ ghost use Rattle.datasets.specs.CloneNames.{id_cmp, key_cmp, key_of, key_in, nam
 
 use base::name::DsName;
 use base::refusal::Refusal;
+use base::text::compare_bytes;
 use file_system::FileSystem;
 use model::snapshot_id::SnapshotId;
 use std::alloc::Global;
@@ -51,7 +52,7 @@ impl CloneName {
         ensures { result ≡ key_cmp (key_of self.now) (snap_id origin, name.now) }
     {
         match self.origin.cmp(&origin) {
-            Ordering::Equal => self.name.as_bytes().cmp(&name),
+            Ordering::Equal => compare_bytes(self.name.as_bytes(), name),
             other => other,
         }
     }

@@ -13,6 +13,9 @@ use std::alloc::Global;
 use std::sync::Arc;
 use tree::Subtree;
 
+/// How many subtrees there is room for at first where one is taken apart: few trees need more, and none more than 76.
+const TOPS: usize = 40;
+
 /// A piece of what is to be freed.
 #[derive(Drop)]
 pub(crate) enum Piece {
@@ -105,7 +108,7 @@ fn take_piece(
 {
     match piece {
         Piece::Tree { top, cut } => {
-            let mut tops = Vec::with_capacity(alloc, 1)?;
+            let mut tops = Vec::with_capacity(alloc, TOPS)?;
             let top = top.copy()?;
             tops.push_reserved(top);
             take_tops(&mut tops, *cut, wanted, taken, meter)?;
@@ -128,7 +131,7 @@ pub(crate) fn take_blocks(
     ensures count { IfOk result (λ taken. length taken.items ≡ wanted) }
     ensures err { OnErr result (result ≡ Err Refusal.NoMemory) }
 {
-    let mut taken = Vec::new(alloc);
+    let mut taken = Vec::with_capacity(alloc, wanted as usize)?;
     while (taken.len() as u64) < wanted {
         let Some(piece) = pieces.pop_shared()? else {
             return Ok(taken);

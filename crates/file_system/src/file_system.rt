@@ -40,6 +40,7 @@ use base::meter::{Meter, SegMeter};
 use base::name::{Component, DsName};
 use base::number::{Dead, Group, Guid};
 use base::refusal::Refusal;
+use base::text::{compare_bytes, same_bytes};
 use deadlist::deadlist::Deadlist;
 use model::limits::{Limit, Limits};
 use model::snapshot_id::SnapshotId;
@@ -313,14 +314,14 @@ impl FileSystem {
     pub fn compare(&self, name: &[u8]) -> Ordering
         ensures { result ≡ name_cmp self.now.name name.now }
     {
-        self.name.as_bytes().cmp(&name)
+        compare_bytes(self.name.as_bytes(), name)
     }
 
     /// Whether this is its name. Constant time where the lengths differ, and else it costs the length of the name.
     pub fn is_named(&self, name: &[u8]) -> bool
         ensures { IsTrue result ↔ (self.now.name ≡ name.now) }
     {
-        self.name.as_bytes() == name
+        same_bytes(self.name.as_bytes(), name)
     }
 
     // What is kept of the snapshot of this name, or none.

@@ -1,6 +1,6 @@
 -- Bytes with zeros behind them.
-use Rattle.std.proofs.Common.{◌≡◌, ℕ, ◌+◌, ◌-◌, ◌*◌, ◌%◌, ◌<◌, ◌≤◌, List, ◌++◌, length, take, drop, replicate, Vec, Global, sym, ap, ◌∙◌, arith, append-nil, append_assoc, length-append}
-use Rattle.std.proofs.lemmas.List.{replicate-append-replicate, length-replicate, take-append-le, drop-append-le, take-replicate, drop-replicate, length-drop}
+use Rattle.std.proofs.Common.{◌≡◌, ℕ, ◌+◌, ◌-◌, ◌*◌, ◌%◌, ◌<◌, ◌≤◌, List, [], ◌++◌, length, take, drop, replicate, Vec, Global, sym, ap, ◌∙◌, arith, append-nil, append_assoc, length-append}
+use Rattle.std.proofs.lemmas.List.{take_all, drop_all, replicate-append-replicate, length-replicate, take-append-le, drop-append-le, take-replicate, drop-replicate, length-drop}
 use Rattle.std.proofs.Math.Seq.{drop-append-add}
 use Rattle.image.specs.ImageBlocks.{block_at}
 use Rattle.image.specs.BlockWrites.{bytes_put}
@@ -44,6 +44,15 @@ put_padded size old bytes at h =
     ∙ append_assoc (take at old) (bytes ++ drop (at + length bytes) old) (zeros (size - length old))
     ∙ ap (λ xs. take at old ++ xs) (append_assoc bytes (drop (at + length bytes) old) (zeros (size - length old)))
     ∙ (λ i. sym (take-append-le at old (zeros (size - length old)) (omega arith)) i ++ (bytes ++ sym (drop-append-le (at + length bytes) old (zeros (size - length old)) h) i))
+
+-- what is put right behind the bytes, where there is no more
+pub put_behind : (old bytes : List ℕ) (at size : ℕ) → at ≡ length old → size ≡ at + length bytes → bytes_put (padded size old) at bytes ≡ old ++ bytes
+unfolding padded bytes_put
+put_behind old bytes at size end fits =
+    let front : take at (old ++ zeros (size - length old)) ≡ old = take-append-le at old (zeros (size - length old)) (omega arith) ∙ take_all at old (omega arith) in
+    let back : drop (at + length bytes) (old ++ zeros (size - length old)) ≡ [] =
+    drop_all (at + length bytes) (old ++ zeros (size - length old)) (omega (arith, length-append old (zeros (size - length old)), length-replicate {A = ℕ} (size - length old) 0)) in
+    (λ i. front i ++ (bytes ++ back i)) ∙ ap (λ xs. old ++ xs) (append-nil bytes)
 
 -- a block among the bytes
 pub block_written : (size : ℕ) (bytes : List ℕ) (b : ℕ) → 512 * b + 512 ≤ length bytes → block_at (padded size bytes) b ≡ block_at bytes b

@@ -11,17 +11,31 @@ use tree::{Block, Root};
 /// The zeros of one block, which is also one that points to no block.
 pub(crate) const ZEROS: [u8; 512] = [0; 512];
 
-/// Fills bytes up with zeros to a size, within the room that they have. It takes no memory. One block more, as numbers are taken in turn,
-/// is a copy of as many zeros.
+/// Fills bytes up with zeros to a size, within the room that they have. It takes no memory.
 pub(crate) fn fill(bytes: &mut Vec<u8>, size: usize)
     requires { size ≤ vec_capacity bytes.old }
     ensures items { bytes.new.items ≡ padded size bytes.old.items }
     ensures long { size ≤ length bytes.new.items }
     ensures capacity { vec_capacity bytes.old ≤ vec_capacity bytes.new }
 {
+    if bytes.len() < size {
+        lengthen(bytes, size);
+    }
+}
+
+/// The same where they are fewer. It stands apart, since mostly they aren't. One block more, as numbers are taken in turn, is a copy of as many
+/// zeros.
+#[inline(never)]
+fn lengthen(bytes: &mut Vec<u8>, size: usize)
+    requires fewer { length bytes.old.items < size }
+    requires room { size ≤ vec_capacity bytes.old }
+    ensures items { bytes.new.items ≡ padded size bytes.old.items }
+    ensures long { size ≤ length bytes.new.items }
+    ensures capacity { vec_capacity bytes.old ≤ vec_capacity bytes.new }
+{
     if size == bytes.len() + ZEROS.len() {
         let _longer = bytes.extend_from_slice(&ZEROS);
-    } else if bytes.len() < size {
+    } else {
         let _filled = bytes.resize(size, 0);
     }
 }
@@ -66,7 +80,8 @@ pub(crate) fn write_block(out: &mut [u8], block: &Block<'_>)
     }
 }
 
-/// Writes a block at its number, into the blocks that were written, with zeros for those between. It takes no memory.
+/// Writes a block at its number, into the blocks that were written, with zeros for those between. It takes no memory. Bytes that come right
+/// behind them are copied there at once, as numbers are taken in turn.
 pub(crate) fn put_block(written: &mut Vec<u8>, b: BlockNo, block: &Block<'_>)
     requires room { 512 * b.0 + 512 ≤ vec_capacity written.old }
     requires of_tree { IsOfTree block.now }
@@ -74,6 +89,12 @@ pub(crate) fn put_block(written: &mut Vec<u8>, b: BlockNo, block: &Block<'_>)
     ensures capacity { vec_capacity written.old ≤ vec_capacity written.new }
 {
     let at = 512 * b.0 as usize;
+    if let Block::Contents(bytes) = block
+        && at == written.len()
+    {
+        let _longer = written.extend_from_slice(bytes.as_slice());
+        return;
+    }
     fill(written, at + 512);
     write_block(&mut written[at..at + 512], block);
 }

@@ -1,4 +1,5 @@
 -- "profile" stands for a rule of this project's own.
+pub mod Contents
 pub mod Stored
 pub mod Opened
 pub mod Updates

@@ -26,22 +26,22 @@ use Rattle.images.specs.declared.writes.Writes.TheVariants.{Idle, OnPath, Each}
 -- the blocks that are written, each with its number, where the image has these blocks (On-Disk Specification, chapter 3)
 abbrev pub writes_in : (ℕ → List ℕ) → Writes → List (ℕ × List ℕ)
 writes_in image Idle = []
-writes_in image (OnPath path) = path_writes image path.value.leaf (block_on path.value.before) (block_on path.value.after) path.value.bytes 6
+writes_in image (OnPath path bytes) = path_writes image path.value.leaf (block_on path.value.before) (block_on path.value.after) bytes 6
 writes_in image (Each blocks) = map written_pair blocks.items
 
 -- they may be written: at numbers that the kept states don't have Allocated, each of a whole block, none before it is copied (profile)
 abbrev pub MayWrite : List BlockState → Writes → Type 0
 MayWrite kept Idle = Unit {0}
-MayWrite kept (OnPath path) = IsPathOpen kept (block_on path.value.before) (block_on path.value.after) × AreSourcesApart (block_on path.value.before) (block_on path.value.after) × (length path.value.bytes ≡ 512)
+MayWrite kept (OnPath path bytes) = IsPathOpen kept (block_on path.value.before) (block_on path.value.after) × AreSourcesApart (block_on path.value.before) (block_on path.value.after) × (length bytes ≡ 512)
 MayWrite kept (Each blocks) = AreAllOpen kept blocks.items × All (λ b. length b.1 ≡ 512) blocks.items
 
 -- where the blocks are that a map has on the path to a leaf, by their levels (On-Disk Specification, chapter 3)
 abbrev pub IsPathOf : Map → ℕ → (ℕ → Option Block) → Type 0
 IsPathOf m leaf path = (l : ℕ) → l ≤ 5 → path l ≡ option_map block_of (get m (key_over leaf l))
 
--- a path is that to the first leaf of an update, with the bytes that it writes (profile)
+-- a path is that to the first leaf of an update (profile)
 abbrev pub IsBegun : Update → ChangedPath → Type 0
-IsBegun u path = (path.leaf ≡ first_of u) × IsWritten u path.bytes × (length path.bytes ≡ 512)
+IsBegun u path = path.leaf ≡ first_of u
 
 -- what an update punches stands on the path to its first leaf (profile)
 abbrev pub IsThere : List (Option Root) → Update → Type 0
@@ -72,7 +72,7 @@ pub record HasMade (old : Map) (u : Update) (group : ℕ) (made : List NewBlock)
 -- chapter 3)
 abbrev pub IsWrittenAs : Map → Update → List (Option Root) → Writes → Type 0
 IsWrittenAs m u path Idle = IsMissing path u
-IsWrittenAs m u path (OnPath to) = IsBegun u to.value × (to.value.before ≡ path) × IsPathOf m to.value.leaf (block_on to.value.after) × IsThere path u
+IsWrittenAs m u path (OnPath to bytes) = (IsBegun u to.value × IsWritten u bytes × (length bytes ≡ 512)) × (to.value.before ≡ path) × IsPathOf m to.value.leaf (block_on to.value.after) × IsThere path u
 IsWrittenAs m u path (Each blocks) = ⊥
 
 -- what an update leaves to be written that has made these blocks in a group, where that was the path to its first leaf before, whatever the

@@ -3,8 +3,10 @@
 //! Its lemmas say that an image has the blocks of the present datasets and of those that the last sync left, and that each step keeps that.
 #![tactic(auto)]
 
+mod contents;
 mod roots;
 mod writes;
 
+pub use contents::Contents;
 pub use roots::{DatasetRoot, roots_of};
 pub use writes::{ChangedPath, Writes, blocks_in, path_before, write_down, writes_after};

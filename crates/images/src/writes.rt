@@ -10,6 +10,7 @@ ghost use Rattle.images.specs.Updates.{IsWritten};
 ghost use Rattle.tree.specs.ChangeParts.{made_pair};
 ghost use Rattle.images.specs.Writes.{writes_in, MayWrite, IsBegun, IsPathOf, IsThere, IsMissing, ArePresent, ArePlaced, IsLeftBy};
 
+use crate::contents::Contents;
 use base::meter::Meter;
 use base::name::DsName;
 use base::number::{BlockNo, Group};
@@ -20,36 +21,60 @@ use node::span;
 use std::alloc::Global;
 use tree::{NewBlock, Root, Update};
 
-/// The path to a leaf that one update changes: where its blocks are before and after, each at its level, and the bytes of the leaf, if that is
-/// there afterwards.
+// What a punch writes at a leaf, which isn't there afterwards.
+const ZEROS: [u8; 512] = [0; 512];
+
+/// The path to a leaf that one update changes: where its blocks are before and after, each at its level.
 #[derive(Drop)]
 pub struct ChangedPath {
     pub leaf: u32,
     pub before: [Option<Root>; 6],
     pub after: [Option<Root>; 6],
-    pub bytes: [u8; 512],
 }
 
 /// What a change of a live map leaves to be written.
 #[derive(Drop)]
-pub enum Writes {
+pub enum Writes<'a> {
     /// Nothing: the map is what it was.
     Idle,
-    /// The path that one update changed, in memory of its own: a move of it costs a pointer.
-    OnPath { path: Box<ChangedPath> },
+    /// The path that one update changed, in memory of its own, and the bytes of its leaf, if that is there afterwards: a move of it costs a
+    /// few words.
+    OnPath {
+        path: Box<ChangedPath>,
+        bytes: Contents<'a>,
+    },
     /// These blocks, each at its number.
-    Each { blocks: Vec<(BlockNo, [u8; 512])> },
+    Each {
+        blocks: Vec<(BlockNo, [u8; 512])>,
+    },
+}
+
+impl<'a> Writes<'a> {
+    /// The same with a copy of the bytes that are lent to it. NoMemory where there is none for it.
+    pub fn owned(self, alloc: Global) -> Result<Writes<'static>, Refusal>
+        ensures ok { IfOk result (λ w. w ≡ self.entry) }
+        ensures err { IfErr result (λ e. e ≡ Refusal.NoMemory) }
+    {
+        match self {
+            Writes::Idle => Ok(Writes::Idle),
+            Writes::OnPath { path, bytes } => {
+                let bytes = bytes.owned(alloc)?;
+                Ok(Writes::OnPath { path, bytes })
+            }
+            Writes::Each { blocks } => Ok(Writes::Each { blocks }),
+        }
+    }
 }
 
 /// Writes them. It takes no memory.
-pub fn write_down(image: &mut Image, writes: &Writes)
+pub fn write_down(image: &mut Image, writes: &Writes<'_>)
     requires { MayWrite image.old.kept writes.now }
     ensures { image.new ≡ record image.old { bytes = images_put image.old.bytes (writes_in (block_at image.old.bytes) writes.now) } }
 {
     match writes {
         Writes::Idle => {}
-        Writes::OnPath { path } => {
-            image.write_path(path.leaf, &path.before, &path.after, &path.bytes)
+        Writes::OnPath { path, bytes } => {
+            image.write_path(path.leaf, &path.before, &path.after, bytes.as_array())
         }
         Writes::Each { blocks } => image.write_all(blocks.as_slice()),
     }
@@ -91,26 +116,18 @@ fn is_missing(before: &[Option<Root>; 6], update: &Update) -> bool
     }
 }
 
-// A copy of a block's bytes.
-fn copied(bytes: &[u8; 512]) -> [u8; 512]
-    ensures same { result ≡ bytes.now }
-    ensures size { length result ≡ 512 }
-{
-    *bytes
-}
-
 // The bytes that an update writes; zeros where it punches.
-fn bytes_of(update: &Update) -> [u8; 512]
+fn bytes_of<'a>(update: &Update<'a>) -> Contents<'a>
     ensures written { IsWritten update.now result }
     ensures size { length result ≡ 512 }
 {
     match update {
-        Update::Write { bytes, .. } => copied(*bytes),
-        Update::Punch(_) => [0; 512],
+        Update::Write { bytes, .. } => Contents::lent(*bytes),
+        Update::Punch(_) => Contents::lent(&ZEROS),
     }
 }
 
-/// The path that an update of a live tree is to change, before it is in force. NoMemory where there is none for it. It takes 804 bytes, and
+/// The path that an update of a live tree is to change, before it is in force. NoMemory where there is none for it. It takes 296 bytes, and
 /// costs the logarithm of the number of file systems, and the path.
 pub fn path_before(
     alloc: Global,
@@ -129,7 +146,6 @@ pub fn path_before(
         leaf,
         before: path_in(table, name, leaf, meter),
         after: [None; 6],
-        bytes: bytes_of(update),
     };
     match Box::new(alloc, path) {
         Ok(path) => Ok(path),
@@ -137,11 +153,11 @@ pub fn path_before(
     }
 }
 
-// Where these new blocks of a group are, each at its level. It costs their number.
-fn path_of(made: &[NewBlock], group: Group) -> [Option<Root>; 6]
-    ensures { ArePlaced group.0 made.now (block_on result) }
+// Puts on a path where these new blocks of a group are, each at its level, and nothing else. It costs their number.
+fn place(path: &mut [Option<Root>; 6], made: &[NewBlock], group: Group)
+    ensures { ArePlaced group.0 made.now (block_on path.new) }
 {
-    let mut path = [None; 6];
+    *path = [None; 6];
     for new in made {
         let level = new.key.level as usize;
         if level < 6 {
@@ -151,17 +167,16 @@ fn path_of(made: &[NewBlock], group: Group) -> [Option<Root>; 6]
             });
         }
     }
-    path
 }
 
 /// What this update of a live tree leaves to be written once it is in force in this group, where this is the path that it was to change, and
 /// these are the new blocks that it has made. It reaches no node, and costs the new blocks.
-pub fn writes_after(
+pub fn writes_after<'a>(
     group: Group,
-    update: &Update,
+    update: &Update<'a>,
     path: Box<ChangedPath>,
     made: &[NewBlock],
-) -> Writes
+) -> Writes<'a>
     requires of_tree { IsOfTree update.now }
     requires begun { IsBegun update.now path.value }
     ensures { IsLeftBy update.now group.0 made.now path.value.before result }
@@ -170,8 +185,11 @@ pub fn writes_after(
         return Writes::Idle;
     }
     let mut path = path;
-    path.after = path_of(made, group);
-    Writes::OnPath { path }
+    place(&mut path.after, made, group);
+    Writes::OnPath {
+        path,
+        bytes: bytes_of(update),
+    }
 }
 
 /// The new blocks of a live tree, as they are to be written. NoMemory where there is none for them. It takes 516 bytes a block, and costs the

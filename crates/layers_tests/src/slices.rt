@@ -12,7 +12,7 @@ use deadlist::deadlist::Deadlist;
 use destroyer::{Freeing, Slice};
 use std::alloc::Global;
 use std::sync::Arc;
-use tree::{Tree, Update};
+use tree::{Subtree, Tree, Update};
 use tree_tests::ready::{is_batch, is_ready, meter, segment_meter};
 use zalloc::{Allocator, BlockState};
 
@@ -121,6 +121,34 @@ fn add_blocks(tree: &Tree, cut: Group, blocks: &mut Vec<Dead>) -> Result<(), Ref
         }
     }
     Ok(())
+}
+
+/// Whether a subtree is there whose top was born in this group.
+fn is_born_in(top: Option<&Subtree>, birth: Group) -> bool {
+    match top {
+        Some(top) => top.block(&mut meter()).birth.0 == birth.0,
+        None => false,
+    }
+}
+
+/// Whether the tree has below its root one subtree, and below that an older one and another, as it is walked.
+fn has_subtrees(tree: &Tree) -> Result<bool, Refusal> {
+    let Some(top) = tree.top()? else {
+        return Ok(false);
+    };
+    let Some(below) = top.child(0)? else {
+        return Ok(false);
+    };
+    let are_first = is_born_in(Some(&top), SECOND) && is_born_in(Some(&below), SECOND);
+    let are_below = is_born_in(below.child(0)?.as_ref(), FIRST)
+        && is_born_in(below.child(1)?.as_ref(), SECOND);
+    Ok(are_first && are_below && top.child(1)?.is_none() && below.child(2)?.is_none())
+}
+
+#[test]
+fn subtrees_of_a_tree(rt: HostRuntime) {
+    let tree = tree_of(rt.alloc()).expect(&rt, "memory for a tree");
+    assert!(rt; has_subtrees(&tree) == Ok(true));
 }
 
 /// How many blocks of a tree were born after a group.

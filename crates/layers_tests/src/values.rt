@@ -4,7 +4,7 @@ use base::laws::{order_laws, rewrite_laws};
 use base::limit::Blocks;
 use base::meter::{Meter, SegMeter};
 use base::refusal::Refusal;
-use base::text::Bytes;
+use base::text::{Bytes, compare_bytes, same_bytes};
 use std::alloc::{AllocError, Global};
 use std::process::Abort;
 use toll::Toll;
@@ -155,6 +155,15 @@ fn bytes_of_their_own(rt: HostRuntime) {
     assert!(rt; are_held(&rt, alloc, b"ab"));
     assert!(rt; are_alike(&rt, alloc, b"ab", b"ab") && !are_alike(&rt, alloc, b"ab", b"ac"));
     assert!(rt; are_equal(&rt, alloc, b"ab", b"ab") && !are_equal(&rt, alloc, b"ab", b"a"));
+}
+
+#[test]
+fn bytes_where_they_stand(rt: HostRuntime) {
+    assert!(rt;
+        same_bytes(b"p/ab", b"p/ab") && !same_bytes(b"p/ab", b"q/ab") && !same_bytes(b"p", b"pp")
+    );
+    assert!(rt; compare_bytes(b"p/a", b"p/b").is_lt() && compare_bytes(b"p/a", b"p").is_gt());
+    assert!(rt; compare_bytes(b"p", b"p").is_eq() && compare_bytes(&[112; 40], &[112; 41]).is_lt());
 }
 
 fn block_of(alloc: Global, byte: u8) -> Result<Data, Refusal> {

@@ -69,7 +69,7 @@ module _ (old : World) (good : IsHierarchy old.file_systems) (lines : List Line)
     pub line_little : used_in line ≤ 2 ^ 54
     line_little = let l = little old good modest place line way.within in let n = way.near.used in omega (arith, l, n)
 
-    pub are_counted : (p : ℕ) → IsParentAt (keys old.file_systems) place p → charge_in (get_or lines place line) ≤ (get_or lines p line).children
+    pub are_counted : (p : ℕ) (d : Line) → IsParentAt (keys old.file_systems) place p → charge_in (get_or lines place d) ≤ (get_or lines p d).children
     are_counted = way_counted old good modest name here referenced lines place line way (kept place)
 
     pub leads_on : (p : ℕ) (above : Line) → IsNext (keys old.file_systems) lines place line (p, above) → IsOnWay old name here referenced p above

@@ -1,5 +1,5 @@
 -- A binary search among the rows of a table finds the place of a name.
-use Rattle.std.proofs.Common.{◌≡◌, ℕ, ◌<◌, T, List, [], ◌∷◌, Option, Some, None, true, is_some, length, get_or, map, refl, sym, ap, subst, ◌∙◌, arith}
+use Rattle.std.proofs.Common.{◌≡◌, ℕ, ◌<◌, T, List, [], ◌∷◌, Option, Some, None, is_some, length, get_or, map, refl, sym, ap, subst, ◌∙◌, arith}
 use Rattle.std.specs.Prelude.{Result, Ok, Err, IfOk, IfErr, OnErr, IfSome, IfNone, IsTrue}
 use Rattle.std.specs.Option.{option_map}
 use Rattle.std.specs.Arc.{arc_value}
@@ -9,9 +9,8 @@ use Rattle.std.specs.Cmp.Lexicographic.{nat_list_cmp_total}
 use Rattle.std.specs.FinMap.{get, entries, keys, len, is_sorted, entries_sorted, get-entries, len-entries, find}
 use Rattle.std.specs.List.Sorted.{IsSearchInRange, IsBinarySearchResult}
 use Rattle.std.proofs.lemmas.List.{length-map, get_or-map}
-use Rattle.base.specs.Names.{name_cmp, same_name, parent_of}
+use Rattle.base.specs.Names.{name_cmp, parent_of}
 use Rattle.model.specs.Hierarchy.{FileSystems, IsHierarchy}
-use Rattle.world.proofs.lists.Finding.{one_name}
 use Rattle.world.proofs.lists.Maps.{no_value}
 use Rattle.datasets.specs.Rows.{Row, Entry, entry_of, entry_in}
 use Rattle.datasets.specs.Clones.{row_in}
@@ -63,7 +62,7 @@ module _ (m : FileSystems) (rows : List (Arc Row Global)) (all : map arc_value r
       ∙ sym (get_or-map (λ (x : Entry). x.0) (entries m) i (entry_in r) [] (omega (arith, e, lt)))
 
   -- a row that has the name stands at the name's place
-  pub near_at : (name : List ℕ) (i : ℕ) (r : Arc Row Global) → i < length rows → r ≡ get_or rows i r → same_name (arc_value r).name name ≡ true → IsAt (entries m) name i
+  pub near_at : (name : List ℕ) (i : ℕ) (r : Arc Row Global) → i < length rows → r ≡ get_or rows i r → (arc_value r).name ≡ name → IsAt (entries m) name i
   near_at name i r w is named =
       let l = rows_long in
       let e = len-entries m in
@@ -72,7 +71,7 @@ module _ (m : FileSystems) (rows : List (Arc Row Global)) (all : map arc_value r
         named = λ d.
             sym (get_or-map (λ (x : Entry). x.0) (entries m) i d [] (omega (arith, l, w)))
             ∙ sym (name_at i r (omega (arith, l, e, w)) is)
-            ∙ one_name (arc_value r).name name named;
+            ∙ named;
       }
 
   -- and is what the map has under it

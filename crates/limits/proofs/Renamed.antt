@@ -1,5 +1,5 @@
 -- The lines of an earlier world under the names of one that has a file system more, or one fewer, or the same.
-use Rattle.std.proofs.Common.{◌≡◌, ℕ, zero, suc, ◌+◌, ◌<◌, ◌≤◌, cond, T, List, [], ◌∷◌, length, get_or, map, Some, None, is_some, refl, sym, ap, subst, ◌∙◌, ◌⊎◌, ⊎_elim, arith, add-one}
+use Rattle.std.proofs.Common.{◌≡◌, ℕ, zero, suc, ◌+◌, ◌<◌, ◌≤◌, cond, T, List, [], ◌∷◌, length, get_or, map, Some, None, is_some, refl, sym, ap, subst, ◌∙◌, ⊎_elim, arith, add-one}
 use Rattle.std.specs.Prelude.{insert, remove}
 use Rattle.std.specs.declared.cmp.Ordering.{Ordering}
 use Rattle.std.specs.declared.cmp.Ordering.TheVariants.{Less, Equal, Greater}

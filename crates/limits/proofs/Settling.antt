@@ -1,5 +1,5 @@
 -- Each line on the way up is written, and then the lines are those of each world that they were behind.
-use Rattle.std.proofs.Common.{◌≡◌, ℕ, zero, suc, ◌+◌, ◌-◌, ◌≤◌, ◌<◌, ◌^◌, ◌≢◌, List, [], length, get_or, set, Option, Some, None, is_some, refl, sym, ap, subst, ◌∙◌, inl, inr, ◌⊎◌, ⊎_elim, arith}
+use Rattle.std.proofs.Common.{◌≡◌, ℕ, zero, suc, ◌+◌, ◌-◌, ◌≤◌, ◌<◌, ◌^◌, ◌≢◌, List, [], length, get_or, set, Option, Some, None, is_some, refl, sym, ap, subst, ◌∙◌, inl, inr, ⊎_elim, arith}
 use Rattle.std.specs.List.{All}
 use Rattle.std.specs.FinMap.{keys}
 use Rattle.std.proofs.lemmas.Bool.{cases_eq}
@@ -16,10 +16,14 @@ use Rattle.limits.specs.declared.line.Line.{Line}
 use Rattle.limits.specs.Lines.{used_in, charge_in}
 use Rattle.limits.specs.Ledgers.{ledger_of}
 use Rattle.limits.specs.Places.{IsParentAt}
-use Rattle.limits.specs.Changes.{IsModest, IsNext, IsTop, CanWalkUp, IsBehind, recharged}
+use Rattle.limits.specs.Changes.{IsModest, IsNext, IsTop, CanWalkUp, IsBehind, bare_line, line_with, recharged}
 use Rattle.limits.proofs.Order.{one_place, child_later, entry_at, place_in}
 use Rattle.limits.proofs.Changes.{above_parent, above_none, under_parent, under_above, under_alone}
 use Rattle.limits.proofs.Ways.{ledger_long, counted_at, modest_recharged}
+
+-- a line with other children, as it is written
+pub line_kept : (lines : List Line) (place children : ℕ) (d : Line) → place < length lines → line_with lines place children ≡ record { account = (get_or lines place d).account; children = children }
+line_kept lines place children d within = ap (λ (l : Line). record l { children = children }) (get_or_default lines place bare_line d within)
 
 module _ (m : FileSystems) (lines : List Line) (place : ℕ) (line : Line) where
   abbrev key : ℕ → List ℕ
@@ -34,8 +38,8 @@ module _ (m : FileSystems) (lines : List Line) (place : ℕ) (line : Line) where
     pub walk_used : used_in line ≤ 2 ^ 54
     walk_used = let u = can.used in let l = can.low place line can.within (under_itself (key place)) in omega (arith, u, l)
 
-    pub walk_counted : (p : ℕ) → IsParentAt (keys m) place p → charge_in (get_or lines place line) ≤ (get_or lines p line).children
-    walk_counted p parent = can.counted place p line can.within (under_itself (key place)) parent
+    pub walk_counted : (p : ℕ) (d : Line) → IsParentAt (keys m) place p → charge_in (get_or lines place d) ≤ (get_or lines p d).children
+    walk_counted p d parent = can.counted place p d can.within (under_itself (key place)) parent
 
     pub walk_little : All (λ l. used_in l ≤ 2 ^ 54) lines → All (λ l. used_in l ≤ 2 ^ 54) (set lines place line)
     walk_little h = All-set (λ l. used_in l ≤ 2 ^ 54) lines place line walk_used h
@@ -63,6 +67,10 @@ module _ (m : FileSystems) (lines : List Line) (place : ℕ) (line : Line) where
 
       parent_under : (j q : ℕ) → IsUnder (key j) (key p) → IsParentAt (keys m) j q → IsUnder (key q) (key p)
       parent_under j q u parent = under_child (key q) (key j) (key p) parent.named u
+
+      -- the parent's line is what it was, with other children
+      pub parent_stays : (children : ℕ) → line_with (set lines place line) p children ≡ line_with lines p children
+      parent_stays children = ap (λ (l : Line). record l { children = children }) (stays p bare_line (under_itself (key p)))
 
       -- and can go on at the parent
       pub can_go_on : All IsModest lines → CanWalkUp (keys m) (set lines place line) p up
@@ -95,7 +103,7 @@ module _ (m : FileSystems) (lines : List Line) (place : ℕ) (line : Line) where
 
           counted : charge_in (get_or lines place line) ≤ (get_or lines p up).children
           counted =
-              let c = walk_counted p on.parent in
+              let c = walk_counted p line on.parent in
               let e = ap (λ (l : Line). l.children) (get_or_default lines p line up p_within) in
               omega (arith, c, e)
 

@@ -15,7 +15,7 @@ use Rattle.limits.specs.declared.line.Line.{Line}
 use Rattle.limits.specs.Lines.{used_in, charge_in}
 use Rattle.limits.specs.Ledgers.{line_in, ledger_of}
 use Rattle.limits.specs.Places.{IsParentAt}
-use Rattle.limits.specs.Changes.{IsChanged, IsModest, IsNear, IsNext, IsTop, IsOnWay, amended, recharged}
+use Rattle.limits.specs.Changes.{IsChanged, IsModest, IsNear, IsNext, IsTop, IsOnWay, amended, bare_line, line_with, recharged}
 use Rattle.world.proofs.lists.Maps.{same_value}
 use Rattle.limits.proofs.Order.{no_entry, keys_long, entry_at, one_place, child_later}
 use Rattle.limits.proofs.Bounds.{charge_low, little_used}
@@ -108,11 +108,11 @@ module _ (old : World) (good : IsHierarchy old.file_systems) (modest : All IsMod
     parent_kept p parent d = kept p d parent.within (under_child (key p) (key place) (key place) parent.named (under_itself (key place)))
 
     -- what is asked of a step
-    pub way_counted : (p : ℕ) → IsParentAt (keys old.file_systems) place p → charge_in (get_or lines place line) ≤ (get_or lines p line).children
-    way_counted p parent =
-        let c = counted_at old good place p line line way.within parent in
-        let a = ap charge_in (here_kept line) in
-        let b = ap (λ (x : Line). x.children) (parent_kept p parent line) in
+    pub way_counted : (p : ℕ) (d : Line) → IsParentAt (keys old.file_systems) place p → charge_in (get_or lines place d) ≤ (get_or lines p d).children
+    way_counted p d parent =
+        let c = counted_at old good place p d d way.within parent in
+        let a = ap charge_in (here_kept d) in
+        let b = ap (λ (x : Line). x.children) (parent_kept p parent d) in
         omega (arith, c, a, b)
 
     -- a step leads on
@@ -158,37 +158,41 @@ module _ (old : World) (good : IsHierarchy old.file_systems) (modest : All IsMod
 
 -- ---- one step
 
-module _ (names : List (List ℕ)) (lines : List Line) (long : length lines ≡ length names) (place p : ℕ) (line at above : Line) (within : place < length lines)
-    (is_at : at ≡ get_or lines place at) (parent : IsParentAt names place p) (is_above : above ≡ get_or lines p above)
-    (counted : (q : ℕ) → IsParentAt names place q → charge_in (get_or lines place line) ≤ (get_or lines q line).children) (before : ℕ) (was : before ≡ charge_in at) where
+module _ (names : List (List ℕ)) (lines : List Line) (long : length lines ≡ length names) (place p : ℕ) (at d : Line) (within : place < length lines)
+    (is_at : at ≡ get_or lines place at) (parent : IsParentAt names place p)
+    (counted : (q : ℕ) (d : Line) → IsParentAt names place q → charge_in (get_or lines place d) ≤ (get_or lines q d).children) (before : ℕ) (was : before ≡ charge_in at) where
   parent_in : p < length lines
   parent_in = let w = parent.within in omega (arith, long, w)
 
-  at_is : (d : Line) → get_or lines place d ≡ at
-  at_is d = get_or_default lines place d at within ∙ sym is_at
+  at_is : (e : Line) → get_or lines place e ≡ at
+  at_is e = get_or_default lines place e at within ∙ sym is_at
 
-  above_is_at : (d : Line) → get_or lines p d ≡ above
-  above_is_at d = get_or_default lines p d above parent_in ∙ sym is_above
+  above_is : (e : Line) → get_or lines p e ≡ get_or lines p d
+  above_is e = get_or_default lines p e d parent_in
 
   -- what was charged is among what the parent's children use
-  pub step_low : before ≤ above.children
+  pub step_low : before ≤ (get_or lines p d).children
   step_low =
-      let c = counted p parent in
-      let a = ap charge_in (at_is line) in
-      let b = ap (λ (l : Line). l.children) (above_is_at line) in
-      omega (arith, c, a, b, was)
+      let c = counted p d parent in
+      let a = ap charge_in (at_is d) in
+      omega (arith, c, a, was)
 
-  module _ (after : ℕ) (now : after ≡ charge_in line) where
-    -- so the sum can be told
-    pub step_fits : All (λ l. used_in l ≤ 2 ^ 54) lines → used_in line ≤ 2 ^ 54 → after ≤ used_in line + 2 ^ 40 → above.children - before + after < 2 ^ 60
-    step_fits little small most =
-        let b = little p above parent_in in
-        let c = ap used_in (above_is_at above) in
-        omega (arith, b, c, small, most)
+  -- so the sum can be told
+  pub step_fits : All (λ l. used_in l ≤ 2 ^ 54) lines → (after : ℕ) → after ≤ 2 ^ 55 → (get_or lines p d).children - before + after < 2 ^ 60
+  step_fits little after small = let b = little p d parent_in in omega (arith, b, small)
 
-    -- and the parent's line is the next
-    pub step_next : IsNext names lines place line (p, record { account = above.account; children = above.children - before + after })
-    step_next = record {
-      parent = parent;
-      is = λ i. recharged (sym (above_is_at (record { account = above.account; children = above.children - before + after })) i) ((was ∙ ap charge_in (sym (at_is line))) i) (now i);
-    }
+  -- and the parent's line is the next
+  pub step_next : (after : ℕ) (line : Line) → charge_in line ≡ after → IsNext names lines place line (p, line_with lines p ((get_or lines p d).children - before + after))
+  step_next after line now = record { parent = parent; is = λ i. recharged_with (same i) (same_children i) ((was ∙ ap charge_in (sym (at_is line))) i) (sym now i) }
+    where
+      recharged_with : Line → ℕ → ℕ → ℕ → Line
+      recharged_with l children b a = record { account = l.account; children = children - b + a }
+
+      up : Line
+      up = line_with lines p ((get_or lines p d).children - before + after)
+
+      same : get_or lines p bare_line ≡ get_or lines p up
+      same = above_is bare_line ∙ sym (above_is up)
+
+      same_children : (get_or lines p d).children ≡ (get_or lines p up).children
+      same_children = ap (λ (l : Line). l.children) (sym (above_is up))

@@ -55,6 +55,10 @@ amended l here referenced = record l { account = record { here = here; reference
 abbrev pub recharged : Line → ℕ → ℕ → Line
 recharged l before after = record l { children = l.children - before + after }
 
+-- the line at a place, with so much for what its children use (zfsprops(7): usedbychildren)
+abbrev pub line_with : List Line → ℕ → ℕ → Line
+line_with lines place children = record (slice_index_or lines place bare_line) { children = children }
+
 -- what a file system has and keeps of its own, and what is kept for it, are so little that sums over a pool's can be told (profile)
 pub record IsModest (l : Line) : Type 0 where
   pub here : l.account.here < 2 ^ 42

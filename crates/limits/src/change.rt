@@ -14,7 +14,7 @@ ghost use Rattle.accounts.specs.Limits.{AreQuotasMet};
 ghost use Rattle.limits.specs.Lines.{used_in, charge_in, IsSmall};
 ghost use Rattle.limits.specs.Ledgers.{ledger_of, IsSpaceOf};
 ghost use Rattle.limits.specs.Places.{IsParentAt};
-ghost use Rattle.limits.specs.Changes.{IsChanged, IsModest, IsNext, IsTop, IsWithinQuotas, IsOverQuota, IsLedgerOf, CanWalkUp, IsBehind, amended};
+ghost use Rattle.limits.specs.Changes.{IsChanged, IsModest, IsNext, IsTop, IsWithinQuotas, IsOverQuota, IsLedgerOf, CanWalkUp, IsBehind, amended, line_with};
 
 use crate::account::Account;
 use crate::ledger::Ledger;
@@ -79,37 +79,41 @@ fn amended(line: &Line, here: u64, referenced: u64) -> Line
     }
 }
 
-// Where the line at a place becomes this one, the next line that changes: the place of its parent's, and what that becomes; none where what is
-// charged stays the same, or there is no parent. It costs the logarithm of the number of file systems, and the length of the name.
+// The line at a place, with so much for what its children use. Constant time.
+fn line_with(lines: &[Line], place: usize, children: u64) -> Line
+    requires { place < length lines.now }
+    ensures { result ≡ line_with lines.now place children }
+{
+    Line {
+        account: lines[place].account,
+        children,
+    }
+}
+
+// Where the file system at a place is charged so much from now on, the next line that changes: the place of its parent's, and what that one's
+// children use then; none where what is charged stays the same, or there is no parent. It costs the logarithm of the number of file systems,
+// and the length of the name.
 fn next_change(
     table: &Table,
     lines: &[Line],
     near: &Near,
     place: usize,
-    line: &Line,
-) -> Option<(usize, Line)>
+    after: u64,
+) -> Option<(usize, u64)>
     requires long { length lines.now ≡ len table.now.file_systems }
     requires within { place < length lines.now }
     requires little { All (λ l. used_in l ≤ 2 ^ 54) lines.now }
-    requires small { used_in line.now ≤ 2 ^ 54 }
-    requires counted { (parent : ℕ) → IsParentAt (keys table.now.file_systems) place parent → charge_in (slice_index_or lines.now place line.now) ≤ (slice_index_or lines.now parent line.now).children }
-    ensures some { IfSome result (IsNext (keys table.now.file_systems) lines.now place line.now) }
-    ensures none { IfNone result (IsTop (keys table.now.file_systems) lines.now place line.now) }
+    requires small { after ≤ 2 ^ 55 }
+    requires counted { (parent : ℕ) (d : Line) → IsParentAt (keys table.now.file_systems) place parent → charge_in (slice_index_or lines.now place d) ≤ (slice_index_or lines.now parent d).children }
+    ensures some { IfSome result (λ next. (line : Line) → charge_in line ≡ after → IsNext (keys table.now.file_systems) lines.now place line (next.0, line_with lines.now next.0 next.1)) }
+    ensures none { IfNone result ((line : Line) → charge_in line ≡ after → IsTop (keys table.now.file_systems) lines.now place line) }
 {
     let before = lines[place].charge();
-    let after = line.charge();
     if before == after {
         return None;
     }
     let parent = parent_place(table, place, near.parent(place))?;
-    let above = lines[parent];
-    Some((
-        parent,
-        Line {
-            account: above.account,
-            children: above.children - before + after,
-        },
-    ))
+    Some((parent, lines[parent].children - before + after))
 }
 
 // What the root is charged, where a line at a place becomes this one and no other changes above it. Constant time.
@@ -155,14 +159,14 @@ fn charge_after(
         if !line.is_in_quota() {
             return Err(Refusal::Quota);
         }
-        let Some((parent, above)) = next_change(table, lines, near, place, &line) else {
+        let Some((parent, children)) = next_change(table, lines, near, place, line.charge()) else {
             if own.is_in_refquota() {
                 return Ok(root_charge(lines, place, &line));
             }
             return Err(Refusal::RefQuota);
         };
         place = parent;
-        line = above;
+        line = line_with(lines, parent, children);
     }
 }
 
@@ -201,15 +205,32 @@ pub(crate) fn settle_from(table: &Table, lines: &mut [Line], near: &Near, place:
     ensures modest { All IsModest lines.new }
     ensures little { All (λ l. used_in l ≤ 2 ^ 54) lines.new }
 {
+    let next = next_change(table, lines, near, place, line.charge());
+    lines[place] = line;
+    if let Some((parent, children)) = next {
+        settle_above(table, lines, near, parent, children);
+    }
+}
+
+// The same where all that changes at the place is what its children use.
+fn settle_above(table: &Table, lines: &mut [Line], near: &Near, place: usize, children: u64)
+    requires can { CanWalkUp (keys table.now.file_systems) lines.old place (line_with lines.old place children) }
+    requires modest { All IsModest lines.old }
+    requires little { All (λ l. used_in l ≤ 2 ^ 54) lines.old }
+    ensures own { (new : World) → IsBehind new (keys table.now.file_systems) lines.old place (line_with lines.old place children) → lines.new ≡ ledger_of new }
+    ensures modest { All IsModest lines.new }
+    ensures little { All (λ l. used_in l ≤ 2 ^ 54) lines.new }
+{
     let mut place = place;
-    let mut line = line;
+    let mut children = children;
     loop {
-        let next = next_change(table, lines, near, place, &line);
-        lines[place] = line;
+        let after = line_with(lines, place, children).charge();
+        let next = next_change(table, lines, near, place, after);
+        lines[place].children = children;
         let Some((parent, above)) = next else {
             return;
         };
         place = parent;
-        line = above;
+        children = above;
     }
 }

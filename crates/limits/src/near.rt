@@ -91,7 +91,7 @@ impl Near {
 // Whether the file system at that place has this name.
 fn is_named(file_systems: &[Arc<FileSystem>], place: usize, name: &[u8]) -> bool {
     match file_systems.get(place) {
-        Some(file_system) => file_system.name().as_bytes() == name,
+        Some(file_system) => file_system.is_named(name),
         None => false,
     }
 }

@@ -33,7 +33,7 @@ fn place_near(table: &Table, name: &[u8], near: usize) -> Option<usize>
     ensures none { IfNone result (get table.now.file_systems name.now ≡ None) }
 {
     match table.file_systems().get(near) {
-        Some(file_system) if file_system.name().as_bytes() == name => Some(near),
+        Some(file_system) if file_system.is_named(name) => Some(near),
         _ => place_of(table, name).ok(),
     }
 }

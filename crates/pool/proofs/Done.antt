@@ -1,13 +1,15 @@
 -- What a pool keeps once a request is done.
-use Rattle.std.proofs.Common.{◌≡◌, List, Result, Ok, true, map, sym, ap, subst, ◌∙◌, ◌⊎◌, ⊎_elim}
-use Rattle.std.specs.Prelude.{IfOk}
+use Rattle.std.proofs.Common.{◌≡◌, List, Result, Ok, true, map, sym, ap, subst, ◌∙◌, ◌⊎◌, ⊎_elim, rules}
+use Rattle.std.specs.Prelude.{◌≢◌, IfOk}
 use Rattle.zalloc.specs.declared.BlockState.{BlockState}
 use Rattle.base.specs.declared.refusal.Refusal.{Refusal}
+use Rattle.base.specs.declared.refusal.Refusal.TheVariants.{NoMemory}
 use Rattle.model.specs.Edits.{with_now}
 use Rattle.model.specs.Ids.{snap_id}
 use Rattle.model.specs.State.{State}
 use Rattle.model.specs.Step.{Step}
 use Rattle.model.specs.declared.reply.Reply.{Reply}
+use Rattle.model.specs.declared.reply.Reply.TheVariants.{Refused}
 use Rattle.model.specs.declared.request.Request.{Request}
 use Rattle.removals.specs.Requests.{IsSweptBut}
 use Rattle.image.specs.Image.{ShownImage}
@@ -26,6 +28,10 @@ use Rattle.pool.proofs.Imaged.{images, are_writes, keeps_are, keeps_so}
 
 pub no_view : {P : Type 0} (k : Kind) → (k ≡ Change) ⊎ ((k ≡ Asking) × P) → k ≡ View → ⊥
 no_view k kind is = ⊎_elim (λ (e : k ≡ Change). let x = sym e ∙ is in absurd cc) (λ e. let x = sym e.0 ∙ is in absurd cc) kind
+
+-- what changes a world may lack memory for it
+pub no_memory : (s : State) (q : Request) (why : Refusal) → why ≡ NoMemory → kind_of q ≢ Question → kind_of q ≢ View → Step s q (Refused why) s
+no_memory s q why is no_question no_view = search rules
 
 -- what was performed, where it wasn't refused
 pub done_of : (s : State) (numbers : List BlockState) (w : World) (q : Request) (r : Result Effect Refusal) (e : Effect) → r ≡ Ok e → IsPerformed s numbers w q r → Settles s numbers w e × Step s q (reply_of e) (effected (with_now s (world_in w)) e)

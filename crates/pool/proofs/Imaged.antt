@@ -49,7 +49,7 @@ each_open kept (b ∷ bs) a l = ((a 0 b (omega arith), l 0 b (omega arith)), eac
 
 pub may_open : (kept : List BlockState) (image : List ℕ) (writes : Writes) → length image ≡ 512 * length kept → MayWrite kept writes → AreOpen kept (writes_in (block_at image) writes)
 may_open kept image Idle size may = tt
-may_open kept image (OnPath p) size may = path_open image p.value.bytes kept p.value.leaf (block_on p.value.before) (block_on p.value.after) size may.2 may.0 6 (omega arith)
+may_open kept image (OnPath p bytes) size may = path_open image bytes kept p.value.leaf (block_on p.value.before) (block_on p.value.after) size may.2 may.0 6 (omega arith)
 may_open kept image (Each blocks) size may = each_open kept blocks.items may.0 may.1
 
 length-images_put : (kept : List BlockState) (image : List ℕ) (ws : List (ℕ × List ℕ)) → length image ≡ 512 * length kept → AreOpen kept ws → length (images_put image ws) ≡ 512 * length kept

@@ -192,12 +192,12 @@ module _ (s : State) (numbers : List BlockState) (sound : IsSound s numbers) (na
   -- so may what is left to be written, and it leads there
   may_write : (writes : Writes) → IsWrittenAs has.change.new u path writes → MayWrite (synced_numbers s.size s.last) writes
   may_write Idle is = tt
-  may_write (OnPath p) is = path_may p.value.leaf p.value.before p.value.after p.value.bytes (is.0.0, is.1, is.2, is.0.1, is.0.2, is.3)
+  may_write (OnPath p bytes) is = path_may p.value.leaf p.value.before p.value.after bytes (is.0.0, is.1, is.2, is.0.1, is.0.2, is.3)
   may_write (Each blocks) is = absurd is
 
   leads_to : (writes : Writes) → IsWrittenAs has.change.new u path writes → LeadsTo s (with_datasets s new) writes
   leads_to Idle is = idle_leads is
-  leads_to (OnPath p) is = path_leads p.value.leaf p.value.before p.value.after p.value.bytes (is.0.0, is.1, is.2, is.0.1, is.0.2, is.3)
+  leads_to (OnPath p bytes) is = path_leads p.value.leaf p.value.before p.value.after bytes (is.0.0, is.1, is.2, is.0.1, is.0.2, is.3)
   leads_to (Each blocks) is = absurd is
 
   module _ (writes : Writes) (left : IsLeftBy u s.now.group done.made.items path writes) where

@@ -9,7 +9,7 @@ ghost use Rattle.pool.specs.Asked.{Asks};
 ghost use Rattle.pool.specs.Pools.{state_in, IsHeld};
 ghost use Rattle.pool.specs.Effects.{IsPerformed, WritesBlocks};
 
-use crate::effect::Effect;
+use crate::effect::{Effect, Performed};
 use crate::keep::{Keep, Meters};
 use crate::worlds::World;
 use base::name::{DsName, Target};
@@ -24,14 +24,14 @@ impl Keep {
     /// Puts this update of the live tree of a file system in force, once the limits hold with it. What it drops is released, its numbers are
     /// taken, and its blocks written, when the effect is settled. At `Err` the world is as it was. It costs the path to the leaf, or the
     /// object's nodes.
-    pub(crate) fn change(
+    pub(crate) fn change<'a>(
         &self,
         alloc: Global,
         world: &mut World,
         target: &Target,
-        update: Result<Update, Refusal>,
+        update: Result<Update<'a>, Refusal>,
         meters: &mut Meters,
-    ) -> Result<Effect, Refusal>
+    ) -> Performed<'a>
         requires held { IsHeld self.now world.old }
         requires batch { IfOk update (λ u. IsBatch (u ∷ [])) }
         ensures performed { (q : Request) → Asks q target.now update.entry → IsPerformed (state_in self.now world.old) self.now.numbers.present world.new q result }
@@ -67,7 +67,7 @@ impl Keep {
         )?;
         settle(&mut world.ledger, &world.table, name, outlook);
         let writes = writes_after(group, &update, path, &done.made);
-        Ok(Effect::Blocks { done, writes })
+        Ok(Effect::Blocks(done, writes))
     }
 
     // Why nothing is changed where no update is asked for, since numbers are outside their limits: that there is no such file system comes

@@ -4,19 +4,18 @@ ghost use Rattle.model.specs.declared.request.Request.{Request};
 ghost use Rattle.pool.specs.Pools.{state_in, IsHeld};
 ghost use Rattle.pool.specs.Effects.{IsPerformed};
 
-use crate::effect::Effect;
+use crate::effect::{Effect, Performed};
 use crate::keep::Keep;
 use crate::worlds::World;
 use base::meter::SegMeter;
 use base::name::{DsName, Target};
-use base::refusal::Refusal;
 use snap::clones::{clone_snapshot, promote};
 use std::alloc::Global;
 use steps::recount;
 
 impl Keep {
     /// Adds a file system of this name. At `Err` the world is as it was. It costs what `Table::create` does.
-    pub(crate) fn create(&self, world: &mut World, name: &DsName) -> Result<Effect, Refusal>
+    pub(crate) fn create(&self, world: &mut World, name: &DsName) -> Performed<'static>
         requires { IsHeld self.now world.old }
         ensures performed { IsPerformed (state_in self.now world.old) self.now.numbers.present world.new (Request.Create name.now) result }
         ensures unchanged { OnErr result (world.new ≡ world.old) }
@@ -35,7 +34,7 @@ impl Keep {
         world: &mut World,
         target: &Target,
         name: &DsName,
-    ) -> Result<Effect, Refusal>
+    ) -> Performed<'static>
         requires { IsHeld self.now world.old }
         ensures performed { IsPerformed (state_in self.now world.old) self.now.numbers.present world.new (Request.Clone target.now name.now) result }
         ensures unchanged { OnErr result (world.new ≡ world.old) }
@@ -53,7 +52,7 @@ impl Keep {
         world: &mut World,
         name: &DsName,
         segments: &mut SegMeter,
-    ) -> Result<Effect, Refusal>
+    ) -> Performed<'static>
         requires { IsHeld self.now world.old }
         ensures performed { IsPerformed (state_in self.now world.old) self.now.numbers.present world.new (Request.Promote name.now) result }
         ensures unchanged { OnErr result (world.old.ledger ≡ None → world.new ≡ world.old) }

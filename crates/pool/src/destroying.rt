@@ -13,12 +13,11 @@ ghost use Rattle.model.specs.declared.request.Request.{Request};
 ghost use Rattle.pool.specs.Pools.{state_in, IsHeld};
 ghost use Rattle.pool.specs.Effects.{IsPerformed};
 
-use crate::effect::Effect;
+use crate::effect::{Effect, Performed};
 use crate::keep::Keep;
 use crate::worlds::World;
 use base::meter::SegMeter;
 use base::name::Target;
-use base::refusal::Refusal;
 use datasets::Table;
 use removals::{destroy, rollback};
 use std::alloc::Global;
@@ -34,7 +33,7 @@ impl Keep {
         recursive: bool,
         defer: bool,
         segments: &mut SegMeter,
-    ) -> Result<Effect, Refusal>
+    ) -> Performed<'static>
         requires { IsHeld self.now world.old }
         ensures performed { IsPerformed (state_in self.now world.old) self.now.numbers.present world.new (Request.Destroy target.now recursive defer) result }
         ensures unchanged { OnErr result (world.new ≡ world.old) }
@@ -64,7 +63,7 @@ impl Keep {
         target: &Target,
         later: bool,
         segments: &mut SegMeter,
-    ) -> Result<Effect, Refusal>
+    ) -> Performed<'static>
         requires { IsHeld self.now world.old }
         ensures performed { IsPerformed (state_in self.now world.old) self.now.numbers.present world.new (Request.Rollback target.now later) result }
         ensures unchanged { OnErr result (world.old.ledger ≡ None → world.new ≡ world.old) }

@@ -74,36 +74,34 @@ impl Keep {
     /// Does what a request has left to be done once its world is in place; nothing else changes the states of numbers, or the image. It takes
     /// no memory. It costs the blocks that are released and written, and the numbers that are taken; a sync costs what waits, and what only the
     /// world before it reached; it and an abandon cost the numbers that have changed since the last sync.
-    pub(crate) fn settle(&mut self, effect: Effect)
+    pub(crate) fn settle(&mut self, effect: Effect<'_>)
         requires may { MaySettle (world_in self.old.last) self.old.size self.old.numbers.present effect }
         requires synced { self.old.numbers.synced ≡ synced_numbers self.old.size (world_in self.old.last) }
         requires image { self.old.image.kept ≡ synced_numbers self.old.size (world_in self.old.last) }
-        ensures state { (w : World) → state_in self.new w ≡ effected (state_in self.old w) effect }
-        ensures numbers { self.new.numbers.present ≡ numbers_after (world_in self.old.last) self.old.size self.old.numbers.present effect }
+        ensures state { (w : World) → state_in self.new w ≡ effected (state_in self.old w) effect.entry }
+        ensures numbers { self.new.numbers.present ≡ numbers_after (world_in self.old.last) self.old.size self.old.numbers.present effect.entry }
         ensures synced { self.new.numbers.synced ≡ synced_numbers self.new.size (world_in self.new.last) }
-        ensures image { self.new.image ≡ image_after self.old.size self.old.image effect }
+        ensures image { self.new.image ≡ image_after self.old.size self.old.image effect.entry }
         ensures swept { IsSweptBut self.old.last.table (map snap_id self.old.viewed.items) → IsSweptBut self.new.last.table (map snap_id self.new.viewed.items) }
         ensures kept { IsKept self.old.last → IsKept self.new.last }
         ensures below { AreBelow self.old.views.opened self.old.views.next → AreBelow self.new.views.opened self.new.views.next }
     {
         match effect {
             Effect::Nothing => {}
-            Effect::Guids { next } => self.next_guid = next,
-            Effect::Blocks { done, writes } => {
+            Effect::Guids(next) => self.next_guid = next,
+            Effect::Blocks(done, writes) => {
                 release_all(&mut self.numbers, &done.released, self.last.table.group());
                 take_all(&mut self.numbers, &done.taken);
                 write_down(&mut self.image, &writes);
             }
-            Effect::Taken { taken } => {
-                release_all(&mut self.numbers, &taken, self.last.table.group());
-            }
-            Effect::Synced { last, viewed } => {
+            Effect::Taken(taken) => release_all(&mut self.numbers, &taken, self.last.table.group()),
+            Effect::Synced(last, viewed) => {
                 self.last = Box::into_inner(last);
                 self.viewed = viewed;
                 self.image.keep_synced(&mut self.numbers);
             }
             Effect::Abandoned => self.numbers.restore(),
-            Effect::Closed { number } => self.views.close(number),
+            Effect::Closed(number) => self.views.close(number),
         }
     }
 }

@@ -16,7 +16,7 @@ ghost use Rattle.pool.specs.Kinds.{kind_of};
 ghost use Rattle.pool.specs.Reached.{IsMetered};
 ghost use Rattle.pool.specs.declared.kind.Kind.{Kind};
 
-use crate::effect::Effect;
+use crate::effect::{Effect, Performed};
 use crate::keep::{Keep, Meters};
 use crate::worlds::World;
 use base::limit::Blocks;
@@ -94,7 +94,7 @@ impl Keep {
         name: &DsName,
         limit: Limit,
         amount: Option<Blocks>,
-    ) -> Result<Effect, Refusal>
+    ) -> Performed<'static>
         requires { IsHeld self.now world.old }
         ensures performed { IsPerformed (state_in self.now world.old) self.now.numbers.present world.new (Request.Set name.now limit amount) result }
         ensures unchanged { OnErr result (world.new ≡ world.old) }

@@ -4,12 +4,11 @@ ghost use Rattle.model.specs.declared.request.Request.{Request};
 ghost use Rattle.pool.specs.Pools.{state_in, IsHeld};
 ghost use Rattle.pool.specs.Effects.{IsPerformed};
 
-use crate::effect::Effect;
+use crate::effect::{Effect, Performed};
 use crate::keep::Keep;
 use crate::worlds::World;
 use base::meter::SegMeter;
 use base::name::{MarkName, Tag, Target};
-use base::refusal::Refusal;
 use marks::{bookmark, hold, release};
 use std::alloc::Global;
 use steps::recount;
@@ -22,7 +21,7 @@ impl Keep {
         world: &mut World,
         tag: &Tag,
         target: &Target,
-    ) -> Result<Effect, Refusal>
+    ) -> Performed<'static>
         requires { IsHeld self.now world.old }
         ensures performed { IsPerformed (state_in self.now world.old) self.now.numbers.present world.new (Request.Hold tag.now target.now) result }
         ensures unchanged { OnErr result (world.new ≡ world.old) }
@@ -39,7 +38,7 @@ impl Keep {
         tag: &Tag,
         target: &Target,
         segments: &mut SegMeter,
-    ) -> Result<Effect, Refusal>
+    ) -> Performed<'static>
         requires { IsHeld self.now world.old }
         ensures performed { IsPerformed (state_in self.now world.old) self.now.numbers.present world.new (Request.Release tag.now target.now) result }
         ensures unchanged { OnErr result (world.new ≡ world.old) }
@@ -67,7 +66,7 @@ impl Keep {
         world: &mut World,
         target: &Target,
         mark: &MarkName,
-    ) -> Result<Effect, Refusal>
+    ) -> Performed<'static>
         requires { IsHeld self.now world.old }
         ensures performed { IsPerformed (state_in self.now world.old) self.now.numbers.present world.new (Request.Bookmark target.now mark.now) result }
         ensures unchanged { OnErr result (world.new ≡ world.old) }

@@ -7,10 +7,9 @@ ghost use Rattle.pool.specs.Effects.{IsPerformed, WritesBlocks};
 ghost use Rattle.pool.specs.Reached.{changes_blocks, reaches_lists};
 ghost use Rattle.pool.specs.declared.kind.Kind.{Kind};
 
-use crate::effect::Effect;
+use crate::effect::Performed;
 use crate::keep::{Keep, Meters};
 use crate::worlds::World;
-use base::refusal::Refusal;
 use model::request::Request;
 use std::alloc::Global;
 use tree::objset::{free_of, punch_of, write_of};
@@ -18,13 +17,13 @@ use tree::objset::{free_of, punch_of, write_of};
 impl Keep {
     /// Changes this world as the request asks, which changes one, and tells what is left to be done beside it. At `Err` the world is as it was,
     /// but of no use where the request asks limits of what it leads to, and the world has a ledger.
-    pub(crate) fn perform(
+    pub(crate) fn perform<'a>(
         &self,
         alloc: Global,
         world: &mut World,
-        request: &Request,
+        request: &'a Request,
         meters: &mut Meters,
-    ) -> Result<Effect, Refusal>
+    ) -> Performed<'a>
         requires held { IsHeld self.now world.old }
         requires no_question { kind_of request.now ≢ Kind.Question }
         requires no_view { kind_of request.now ≢ Kind.View }

@@ -78,7 +78,7 @@ impl Model for Pool {
 pub(crate) enum Plan {
     Nothing,
     Open { snapshot: SnapshotId },
-    Put { to: World, effect: Effect },
+    Put { to: World, effect: Effect<'static> },
 }
 
 /// A step that was prepared, with the pool as it was prepared on. One that is dropped has changed nothing.
@@ -159,8 +159,8 @@ impl Pool {
     }
 
     /// Makes all growths of a request, and its reply. The state stays as it is until `commit`. What changes file systems is made on a copy of
-    /// them, which costs a count for each file system; beside it a request costs what `apply` says. What only reads copies nothing, and nor does
-    /// the opening of a view.
+    /// them, which costs a count for each file system; beside it a request costs what `apply` says, and a write a copy of its bytes. What only
+    /// reads copies nothing, and nor does the opening of a view.
     pub fn prepare(&mut self, alloc: Global, request: &Request) -> (Reply, Ready)
         ensures same { self.new.state ≡ self.old.state }
         ensures same_numbers { self.new.numbers ≡ self.old.numbers }
@@ -240,10 +240,17 @@ impl Pool {
             Err(refusal) => return (Reply::Refused(refusal), Plan::Nothing),
         };
         let performed = self.keep.perform(alloc, &mut to, request, &mut self.meters);
-        match performed {
-            Ok(effect) => (effect.reply(), Plan::Put { to, effect }),
-            Err(refusal) => (Reply::Refused(refusal), Plan::Nothing),
-        }
+        let effect = match performed {
+            Ok(effect) => effect,
+            Err(refusal) => return (Reply::Refused(refusal), Plan::Nothing),
+        };
+        let effect = match effect.owned(alloc) {
+            Ok(effect) => effect,
+            Err(refusal) => return (Reply::Refused(refusal), Plan::Nothing),
+        };
+        let mut reply = Reply::Done;
+        effect.tell(&mut reply);
+        (reply, Plan::Put { to, effect })
     }
 
     /// Does what was just prepared. It takes no memory. It costs the blocks that it releases, takes and writes; a sync costs what waits, and what
@@ -425,13 +432,13 @@ fn make_done(reply: &mut Reply)
 {
     match reply {
         Reply::Done => {}
-        _ => forget(reply),
+        _ => clear(reply),
     }
 }
 
 // The same of one that isn't. It stands apart, since a reply takes room on the stack, which is filled first.
 #[inline(never)]
-fn forget(reply: &mut Reply)
+fn clear(reply: &mut Reply)
     ensures { reply.new ≡ Reply.Done }
 {
     *reply = Reply::Done;

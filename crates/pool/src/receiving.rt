@@ -4,11 +4,10 @@ ghost use Rattle.model.specs.declared.request.Request.{Request};
 ghost use Rattle.pool.specs.Pools.{state_in, IsHeld};
 ghost use Rattle.pool.specs.Effects.{IsPerformed, WritesBlocks};
 
-use crate::effect::Effect;
+use crate::effect::{Effect, Performed};
 use crate::keep::{Keep, Meters};
 use crate::worlds::World;
 use base::name::SnapName;
-use base::refusal::Refusal;
 use base::text::Bytes;
 use images::{Writes, blocks_in};
 use std::alloc::Global;
@@ -24,7 +23,7 @@ impl Keep {
         bytes: &Bytes,
         force: bool,
         meters: &mut Meters,
-    ) -> Result<Effect, Refusal>
+    ) -> Performed<'static>
         requires { IsHeld self.now world.old }
         ensures performed { IsPerformed (state_in self.now world.old) self.now.numbers.present world.new (Request.Receive snapshot.now bytes.now force) result }
         ensures blocks { IfOk result WritesBlocks }
@@ -54,6 +53,6 @@ impl Keep {
         world.table = to;
         world.freeing = freeing;
         recount(&mut world.ledger, &world.table, name);
-        Ok(Effect::Blocks { done, writes })
+        Ok(Effect::Blocks(done, writes))
     }
 }

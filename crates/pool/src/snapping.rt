@@ -4,10 +4,9 @@ ghost use Rattle.model.specs.declared.request.Request.{Request};
 ghost use Rattle.pool.specs.Pools.{state_in, IsHeld};
 ghost use Rattle.pool.specs.Effects.{IsPerformed};
 
-use crate::effect::Effect;
+use crate::effect::{Effect, Performed};
 use crate::keep::Keep;
 use crate::worlds::World;
-use base::refusal::Refusal;
 use model::snap_names::SnapNames;
 use snap::{Guids, snapshot};
 use std::alloc::Global;
@@ -21,7 +20,7 @@ impl Keep {
         world: &mut World,
         names: &SnapNames,
         recursive: bool,
-    ) -> Result<Effect, Refusal>
+    ) -> Performed<'static>
         requires { IsHeld self.now world.old }
         ensures performed { IsPerformed (state_in self.now world.old) self.now.numbers.present world.new (Request.Snapshot names.now recursive) result }
         ensures unchanged { OnErr result (world.old.ledger ≡ None → world.new ≡ world.old) }
@@ -36,9 +35,7 @@ impl Keep {
         }
         match self.over(world) {
             Some(refusal) => Err(refusal),
-            None => Ok(Effect::Guids {
-                next: self.next_guid + count as u64,
-            }),
+            None => Ok(Effect::Guids(self.next_guid + count as u64)),
         }
     }
 }

@@ -4,7 +4,7 @@ ghost use Rattle.model.specs.declared.request.Request.{Request};
 ghost use Rattle.pool.specs.Pools.{state_in, IsHeld};
 ghost use Rattle.pool.specs.Effects.{IsPerformed};
 
-use crate::effect::Effect;
+use crate::effect::{Effect, Performed};
 use crate::keep::{Keep, Meters};
 use crate::worlds::{World, copy_of};
 use base::meter::SegMeter;
@@ -18,7 +18,7 @@ use steps::renew;
 impl Keep {
     /// Closes the open group: a copy of the world in its next group is to be the last synced one. NoMemory where there is none for it, and the
     /// world is as it was at each `Err`. It costs what `World::copy` does, and the number of open views.
-    pub(crate) fn sync(&self, alloc: Global, world: &mut World) -> Result<Effect, Refusal>
+    pub(crate) fn sync(&self, alloc: Global, world: &mut World) -> Performed<'static>
         requires { IsHeld self.now world.old }
         ensures performed { IsPerformed (state_in self.now world.old) self.now.numbers.present world.new Request.Sync result }
         ensures unchanged { OnErr result (world.new ≡ world.old) }
@@ -31,7 +31,7 @@ impl Keep {
         last.table.close_group();
         let kept = Box::new(alloc, last)?;
         world.table.close_group();
-        Ok(Effect::Synced { last: kept, viewed })
+        Ok(Effect::Synced(kept, viewed))
     }
 
     /// Puts the last synced datasets in the place of those of this world, with what was to be freed then, and lets the snapshots go that only
@@ -42,7 +42,7 @@ impl Keep {
         alloc: Global,
         world: &mut World,
         segments: &mut SegMeter,
-    ) -> Result<Effect, Refusal>
+    ) -> Performed<'static>
         requires { IsHeld self.now world.old }
         ensures performed { IsPerformed (state_in self.now world.old) self.now.numbers.present world.new Request.Abandon result }
         ensures unchanged { OnErr result (world.new ≡ world.old) }
@@ -65,7 +65,7 @@ impl Keep {
         world: &mut World,
         count: u64,
         meters: &mut Meters,
-    ) -> Result<Effect, Refusal>
+    ) -> Performed<'static>
         requires { IsHeld self.now world.old }
         ensures performed { IsPerformed (state_in self.now world.old) self.now.numbers.present world.new (Request.Slice count) result }
         ensures unchanged { OnErr result (world.new ≡ world.old) }
@@ -75,6 +75,6 @@ impl Keep {
             .slice(count, &mut meters.blocks, &mut meters.segments)?;
         let Slice { rest, taken } = slice;
         world.freeing = rest;
-        Ok(Effect::Taken { taken })
+        Ok(Effect::Taken(taken))
     }
 }

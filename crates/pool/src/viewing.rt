@@ -15,7 +15,7 @@ ghost use Rattle.pool.specs.Pools.{state_in, IsHeld};
 ghost use Rattle.pool.specs.Effects.{IsPerformed};
 ghost use Rattle.pool.specs.Plans.{CanOpen};
 
-use crate::effect::Effect;
+use crate::effect::{Effect, Performed};
 use crate::keep::Keep;
 use crate::worlds::World;
 use base::meter::SegMeter;
@@ -72,7 +72,7 @@ impl Keep {
         world: &mut World,
         number: u64,
         segments: &mut SegMeter,
-    ) -> Result<Effect, Refusal>
+    ) -> Performed<'static>
         requires { IsHeld self.now world.old }
         ensures performed { IsPerformed (state_in self.now world.old) self.now.numbers.present world.new (Request.CloseView number) result }
         ensures unchanged { OnErr result (world.new ≡ world.old) }
@@ -90,7 +90,7 @@ impl Keep {
         )?;
         world.table.facts();
         follow_close(&mut world.ledger, &world.table, &gone);
-        Ok(Effect::Closed { number })
+        Ok(Effect::Closed(number))
     }
 }
 

@@ -7,5 +7,6 @@ pub mod NumberProofs
 pub mod NamesLemmas
 pub mod SnapWords
 pub mod Within
+pub mod WriteWords
 pub mod PartLemmas
 pub mod Zeros

@@ -1,12 +1,12 @@
 -- Lemmas on words.
-use Rattle.std.proofs.Common.{◌≡◌, ◌≢◌, ℕ, ◌+◌, ◌-◌, ◌<◌, ◌≤◌, eqb, List, [], ◌∷◌, ◌++◌, All, None, Some, Result, Ok, Err, length, take, drop, replicate, refl, sym, ap, subst, ◌∙◌, arith, append_assoc, take_all, length-drop, ◌*◌, ◌/◌, nat_lt, cond}
-use Rattle.std.proofs.lemmas.List.{take-append-drop, drop-replicate}
-use Rattle.std.proofs.lemmas.Bool.{le-ltb}
+use Rattle.std.proofs.Common.{◌≡◌, ◌≢◌, ℕ, ◌+◌, ◌-◌, ◌<◌, ◌≤◌, eqb, List, [], ◌∷◌, ◌++◌, All, None, Some, Result, Ok, Err, length, take, drop, replicate, refl, sym, ap, subst, ◌∙◌, arith, append_assoc, take_all, length-drop, ◌*◌, ◌/◌, nat_lt, cond, slice_index, inl, inr}
+use Rattle.std.proofs.lemmas.List.{take-append-drop, drop-replicate, get_or-drop}
+use Rattle.std.proofs.lemmas.Bool.{le-ltb, cases_lt}
 use Rattle.std.proofs.lemmas.List.Splits.{slice_split_none, slice_split_at}
 use Rattle.std.specs.Result.{MatchResult, is_ok}
 use Rattle.std.specs.Bool.{OnTrue, OnFalse}
 use Rattle.std.proofs.Common.{Bool, true, false, true≢false}
-use Rattle.memchr.specs.Find.{Nowhere, Passes, is_byte}
+use Rattle.memchr.specs.Find.{Nowhere, NoneBefore, Passes, is_byte}
 use Rattle.hex.specs.Hex.{decode_of}
 use Rattle.hex.specs.declared.error.FromHexError.{FromHexError}
 use Rattle.script.specs.Words.{words_of, filled, block_of_word}
@@ -65,3 +65,33 @@ block-filled true word block out low high len zeros h =
     let long : 512 - n ≡ 512 - length out = omega (arith, len) in
     block_of_word-ok word out low high h
     ∙ sym (ap (λ l. Some (out ++ drop n l)) zeros ∙ ap (λ l. Some (out ++ l)) (drop-replicate n 512 0 ∙ ap (λ k. replicate k 0) long))
+
+-- ---- the first space, in the bytes at hand and behind them
+
+module _ (line : List ℕ) (near : ℕ) where
+  abbrev behind : List ℕ
+  behind = take (length line - near) (drop near line)
+
+  later : (m : ℕ) → slice_index behind m ≡ slice_index line (near + m)
+  later m = ap (λ l. slice_index l m) (range_from line near) ∙ get_or-drop near line m 0
+
+  long : length behind ≡ length line - near
+  long = ap length (range_from line near) ∙ length-drop near line
+
+  none_later : Nowhere (Passes (is_byte 32) line) 0 near → (m : ℕ) → Nowhere (Passes (is_byte 32) behind) 0 m → Nowhere (Passes (is_byte 32) line) 0 (near + m)
+  none_later none m none' k low high hit =
+      elim (cases_lt k near) [
+        | inl within ↦ none k low within hit
+        | inr past ↦
+            let at : near + (k - near) ≡ k = omega arith in
+            none' (k - near) (omega arith) (omega arith) (ap (is_byte 32) (later (k - near) ∙ ap (slice_index line) at) ∙ hit)
+      ]
+
+  pub no_space : Nowhere (Passes (is_byte 32) line) 0 near → near ≤ length line → Nowhere (Passes (is_byte 32) behind) 0 (length behind) → Nowhere (Passes (is_byte 32) line) 0 (length line)
+  no_space none within none' k low high = none_later none (length behind) none' k low (omega (arith, long))
+
+  pub first_space : (m : ℕ) → Nowhere (Passes (is_byte 32) line) 0 near → near ≤ length line → NoneBefore (Passes (is_byte 32) behind) 0 (length behind) m × Passes (is_byte 32) behind m
+      → NoneBefore (Passes (is_byte 32) line) 0 (length line) (near + m) × Passes (is_byte 32) line (near + m)
+  first_space m none within (first, hit) =
+      let high = first.high in
+      (record { low = omega arith; high = omega (arith, high, long); before = none_later none m first.before }, ap (is_byte 32) (sym (later m)) ∙ hit)

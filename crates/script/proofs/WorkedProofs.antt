@@ -5,11 +5,11 @@ use Rattle.hex.proofs.OnLiterals.{hex_on_literals}
 use Rattle.base.specs.Reading.{name_of, component_of, snap_of, mark_of, tag_of, target_of}
 use Rattle.script.specs.Lines.{lines, line_limit}
 use Rattle.script.specs.Words.{number_up_to, number_of_word, block_of_word, bytes_of_word, property_of_word, pool_property_of_word, limit_of_word, amount_of_bytes, amount_of_word, word_within}
-use Rattle.script.specs.Meaning.{meaning, request_of, words_meaning, command_of, name_request_of, clone_of, tag_request_of, bookmark_of, write_of, block_request_of, free_object_of, snapshots_of, snapshot_of, target_request_of, rollback_of, destroyed_of, destroy_of, number_request_of, get_property_of, since_snap_of, since_word_of, written_since_of, get_of, would_free_of, set_of, send_from_of, send_whole_of, send_of, received_of, receive_of, pool_get_of}
+use Rattle.script.specs.Meaning.{meaning, request_of, words_meaning, command_of, name_request_of, clone_of, tag_request_of, bookmark_of, write_of, written_of, block_request_of, free_object_of, snapshots_of, snapshot_of, target_request_of, rollback_of, destroyed_of, destroy_of, number_request_of, get_property_of, since_snap_of, since_word_of, written_since_of, get_of, would_free_of, set_of, send_from_of, send_whole_of, send_of, received_of, receive_of, pool_get_of}
 use Rattle.script.specs.Examples.{WorkedLines}
 
 pub worked_lines : WorkedLines
-unfolding lines line_limit meaning request_of words_meaning command_of name_request_of clone_of tag_request_of bookmark_of write_of block_request_of free_object_of snapshots_of snapshot_of target_request_of rollback_of destroyed_of destroy_of number_request_of get_property_of since_snap_of since_word_of written_since_of get_of would_free_of set_of send_from_of send_whole_of send_of received_of receive_of pool_get_of number_up_to number_of_word block_of_word bytes_of_word property_of_word pool_property_of_word limit_of_word amount_of_bytes amount_of_word word_within name_of component_of snap_of mark_of tag_of target_of digits hex_on_literals
+unfolding lines line_limit meaning request_of words_meaning command_of name_request_of clone_of tag_request_of bookmark_of write_of written_of block_request_of free_object_of snapshots_of snapshot_of target_request_of rollback_of destroyed_of destroy_of number_request_of get_property_of since_snap_of since_word_of written_since_of get_of would_free_of set_of send_from_of send_whole_of send_of received_of receive_of pool_get_of number_up_to number_of_word block_of_word bytes_of_word property_of_word pool_property_of_word limit_of_word amount_of_bytes amount_of_word word_within name_of component_of snap_of mark_of tag_of target_of digits hex_on_literals
 worked_lines = record {
   three = refl;
   ended = refl;

@@ -1,11 +1,9 @@
 -- The digits of a block that ends in zeros.
-use Rattle.std.proofs.Common.{◌≡◌, ℕ, zero, suc, ◌+◌, ◌-◌, ◌*◌, ◌<◌, ◌≤◌, ◌==◌, ◌&&◌, Bool, true, false, Option, List, [], ◌∷◌, ◌++◌, length, take, drop, replicate, refl, sym, ap, subst, ◌∙◌, length-take, length-drop, slice_index_or, eqb-true, true≢false, arith}
+use Rattle.std.proofs.Common.{◌≡◌, ℕ, zero, suc, ◌+◌, ◌-◌, ◌*◌, ◌<◌, ◌≤◌, ◌==◌, ◌&&◌, Bool, true, false, List, [], ◌∷◌, ◌++◌, length, take, drop, replicate, slice_set, refl, sym, ap, ◌∙◌, length-take, length-drop, slice_index_or, eqb-true, true≢false, arith}
 use Rattle.std.specs.Prelude.{slice_range}
 use Rattle.std.specs.List.{list_all}
-use Rattle.std.specs.Io.KnownBytes.{Appends}
-use Rattle.std.proofs.KnownBytes.{Appends-trans}
 use Rattle.std.proofs.lemmas.List.Folds.{list_all_more}
-use Rattle.std.proofs.lemmas.List.{take-append-drop, drop-drop, drop-replicate, take_all, length-replicate}
+use Rattle.std.proofs.lemmas.List.{take-append-drop, drop-drop, drop-replicate, length-replicate, drop-append-le, append_assoc}
 use lib.ListN.{replicate-append-replicate}
 use Rattle.hex.specs.Hex.{encode_with, encode_lower, lower_digits}
 use Rattle.script.proofs.PartLemmas.{encode-append}
@@ -43,13 +41,18 @@ unfolding encode_with
 encode_zeros zero = refl
 encode_zeros (suc n) = let e : suc (suc (2 * n)) ≡ 2 * suc n = omega arith in ap (λ l. 48 ∷ 48 ∷ l) (encode_zeros n) ∙ ap (λ k. replicate k 48) e
 
--- the digits of what stands before the zeros, their own, and the line feed
-pub block_written : (a b c d : Option (List ℕ)) (bytes front digits : List ℕ) (end : ℕ) → end ≤ 512 → drop end bytes ≡ replicate (512 - end) 0 → front ≡ take end bytes → digits ≡ slice_range (replicate 1024 48) (2 * end) 1024
-    → Appends a b (encode_lower front) → Appends b c digits → Appends c d (10 ∷ []) → Appends a d (encode_lower bytes ++ 10 ∷ [])
-block_written a b c d bytes front digits end low zeros f z one two three =
+last_set : (n : ℕ) → slice_set {A = ℕ} (replicate (suc n) 48) n 10 ≡ replicate n 48 ++ 10 ∷ []
+last_set zero = refl
+last_set (suc n) = ap (λ l. 48 ∷ l) (last_set n)
+
+-- the line of a block of zeros, and the digits of what stands before the zeros over its front
+pub block_line : (bytes digits : List ℕ) (end : ℕ) → end ≤ 512 → drop end bytes ≡ replicate (512 - end) 0 → digits ≡ encode_lower (take end bytes)
+    → digits ++ drop (2 * end) (slice_set {A = ℕ} (replicate 1025 48) 1024 10) ≡ encode_lower bytes ++ 10 ∷ []
+block_line bytes digits end low zeros e =
     let wide : 1024 - 2 * end ≡ 2 * (512 - end) = omega arith in
-    let left : digits ≡ encode_lower (drop end bytes) =
-    z ∙ ap (take (1024 - 2 * end)) (drop-replicate (2 * end) 1024 48) ∙ take_all (1024 - 2 * end) (replicate (1024 - 2 * end) 48) (let n = length-replicate {A = ℕ} (1024 - 2 * end) 48 in omega (arith, n)) ∙ ap (λ n. replicate n 48) wide ∙ sym (encode_zeros (512 - end)) ∙ ap encode_lower (sym zeros) in
-    let all : encode_lower front ++ digits ≡ encode_lower bytes =
-    (λ i. encode_lower (f i) ++ left i) ∙ sym (encode-append lower_digits (take end bytes) (drop end bytes)) ∙ ap encode_lower (take-append-drop end bytes) in
-    subst (λ l. Appends a d (l ++ 10 ∷ [])) all (Appends-trans a c d _ _ (Appends-trans a b c _ _ one two) three)
+    let n = length-replicate {A = ℕ} 1024 48 in
+    let left : drop (2 * end) (slice_set {A = ℕ} (replicate 1025 48) 1024 10) ≡ encode_lower (drop end bytes) ++ 10 ∷ [] =
+    ap (drop (2 * end)) (last_set 1024) ∙ drop-append-le (2 * end) (replicate 1024 48) (10 ∷ []) (omega (arith, n, low))
+    ∙ ap (λ l. l ++ 10 ∷ []) (drop-replicate (2 * end) 1024 48 ∙ ap (λ k. replicate k 48) wide ∙ sym (encode_zeros (512 - end)) ∙ ap encode_lower (sym zeros)) in
+    (λ i. e i ++ left i) ∙ sym (append_assoc (encode_lower (take end bytes)) (encode_lower (drop end bytes)) (10 ∷ []))
+    ∙ ap (λ l. l ++ 10 ∷ []) (sym (encode-append lower_digits (take end bytes) (drop end bytes)) ∙ ap encode_lower (take-append-drop end bytes))

@@ -74,11 +74,15 @@ unfoldable pub bookmark_of : List (List ℕ) → Meaning
 bookmark_of operands =
     shaped (two_of operands) (λ w. named (target_of w.0) (λ target. named (mark_of w.1) (λ mark. Asks (Bookmark target mark))))
 
+-- the operands of `write` one by one (profile)
+unfoldable pub written_of : List ℕ → List ℕ → List ℕ → List ℕ → Meaning
+written_of target object block digits =
+    shaped (number_of_word object) (λ o. shaped (number_of_word block) (λ b. shaped (block_of_word digits) (λ bytes.
+    named (target_of target) (λ t. Asks (Write t o b bytes)))))
+
 -- `write TARGET NUM NUM HEX` (profile)
 unfoldable pub write_of : List (List ℕ) → Meaning
-write_of operands =
-    shaped (four_of operands) (λ w. shaped (number_of_word w.1) (λ object. shaped (number_of_word w.2) (λ block.
-    shaped (block_of_word w.3) (λ bytes. named (target_of w.0) (λ target. Asks (Write target object block bytes))))))
+write_of operands = shaped (four_of operands) (λ w. written_of w.0 w.1 w.2 w.3)
 
 -- `TARGET NUM NUM`: a request at a block (profile)
 unfoldable pub block_request_of : (Target → ℕ → ℕ → Request) → List (List ℕ) → Meaning

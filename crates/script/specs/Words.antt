@@ -1,5 +1,5 @@
 -- The words of a line, and what they say.
-use Rattle.std.specs.Prelude.{ℕ, ◌+◌, ◌-◌, ◌*◌, ◌/◌, ◌%◌, ◌^◌, ◌==◌, ◌&&◌, Bool, nat_lt, nat_le, List, [], ◌∷◌, ◌++◌, Option, Some, None, Result, Ok, Err, length, take, drop, replicate, if◌then◌else◌, codes}
+use Rattle.std.specs.Prelude.{ℕ, ◌+◌, ◌-◌, ◌*◌, ◌/◌, ◌%◌, ◌^◌, ◌==◌, ◌&&◌, Bool, true, not, nat_lt, nat_le, List, [], ◌∷◌, ◌++◌, Option, Some, None, Result, Ok, Err, length, take, drop, replicate, slice_index_or, if◌then◌else◌, codes}
 use Rattle.std.specs.List.{slice_split, position}
 use Rattle.std.specs.Option.{option_map, option_and_then}
 use Rattle.std.specs.Result.{result_ok}
@@ -29,6 +29,15 @@ words_of line = slice_split (λ b. b == 32) line
 -- a word has a byte (profile)
 abbrev pub is_word : List ℕ → Bool
 is_word word = nat_lt 0 (length word)
+
+-- bytes that a line may have, no two spaces side by side, and none in front behind a space
+abbrev pub joins : Bool → List ℕ → Bool
+joins after_space [] = true
+joins after_space (b ∷ bs) = is_printable b && (not (b == 32 && after_space) && joins (b == 32) bs)
+
+-- what stands from place n on, behind the byte before it, joins
+abbrev pub joins_from : ℕ → List ℕ → Bool
+joins_from n line = joins (slice_index_or line (n - 1) 0 == 32) (drop n line)
 
 -- the number of these digits after n, at most this one (profile)
 abbrev pub number_from : ℕ → ℕ → List ℕ → Option ℕ

@@ -7,17 +7,18 @@ ghost use Rattle.hex.specs.Hex.{decode_of};
 ghost use Rattle.base.specs.Reading.{Reads};
 ghost use Rattle.model.specs.declared.request.Request.{Request};
 ghost use Rattle.script.specs.Words.{words_of, number_of_word, number_up_to, number_without_zero, number_from, block_of_word, filled, pool_property_of_word};
-ghost use Rattle.script.specs.Meaning.{request_of, command_of, clone_of, tag_request_of, bookmark_of, name_request_of, write_of, block_request_of, free_object_of, snap_names_of, snapshots_of, snapshot_of, rollback_of, destroyed_of, destroy_of, number_request_of, target_request_of, pool_get_of, bare};
+ghost use Rattle.script.specs.Meaning.{request_of, command_of, clone_of, tag_request_of, bookmark_of, name_request_of, write_of, written_of, block_request_of, free_object_of, snap_names_of, snapshots_of, snapshot_of, rollback_of, destroyed_of, destroy_of, number_request_of, target_request_of, pool_get_of, bare};
 ghost use Rattle.script.specs.Reading.{words_left, Means, MeansBlock, MeansTagged, MeansTarget, MeansName, MeansNumber, MeansBare};
 
 use crate::lines::LINE_LIMIT;
 use crate::settings::set;
 use crate::space::{get, would_free};
 use crate::streams::{receive, send};
-use crate::words::{four, has_only_words, leading_option, next_word, one, three, two};
+use crate::words::{has_only_words, leading_option, next_word, one, three, three_and_more, two};
 use base::data::Data;
 use base::name::{DsName, MarkName, SnapName, Tag, Target};
 use base::refusal::Refusal;
+use base::text::same_bytes;
 use model::request::{PoolProperty, Request};
 use model::snap_names::SnapNames;
 use std::alloc::Global;
@@ -34,19 +35,19 @@ pub(crate) fn request_at(alloc: Global, line: &[u8]) -> Result<Request, Refusal>
         return Err(Refusal::BadLine);
     }
     let (command, operands) = next_word(line);
-    if command == b"create".as_slice() {
+    if same_bytes(command, b"create") {
         return create(alloc, operands);
-    } else if command == b"write".as_slice() {
+    } else if same_bytes(command, b"write") {
         return write(alloc, operands);
-    } else if command == b"punch".as_slice() {
+    } else if same_bytes(command, b"punch") {
         return punch(alloc, operands);
-    } else if command == b"rmobj".as_slice() {
+    } else if same_bytes(command, b"rmobj") {
         return free_object(alloc, operands);
-    } else if command == b"snapshot".as_slice() {
+    } else if same_bytes(command, b"snapshot") {
         return snapshot(alloc, operands);
-    } else if command == b"read".as_slice() {
+    } else if same_bytes(command, b"read") {
         return read(alloc, operands);
-    } else if command == b"get".as_slice() {
+    } else if same_bytes(command, b"get") {
         return get(alloc, operands);
     }
     other_command_at(alloc, command, operands)
@@ -70,43 +71,43 @@ fn other_command_at(
     requires get { bytes_eq command.now (codes "get") ≡ false }
     ensures { Means result (command_of command.now (words_left (option_copied operands.entry))) }
 {
-    if command == b"pget".as_slice() {
+    if same_bytes(command, b"pget") {
         return pool_get(operands);
-    } else if command == b"list".as_slice() {
+    } else if same_bytes(command, b"list") {
         return list(operands);
-    } else if command == b"rollback".as_slice() {
+    } else if same_bytes(command, b"rollback") {
         return rollback(alloc, operands);
-    } else if command == b"destroy".as_slice() {
+    } else if same_bytes(command, b"destroy") {
         return destroy(alloc, operands);
-    } else if command == b"clone".as_slice() {
+    } else if same_bytes(command, b"clone") {
         return clone(alloc, operands);
-    } else if command == b"promote".as_slice() {
+    } else if same_bytes(command, b"promote") {
         return promote(alloc, operands);
-    } else if command == b"slice".as_slice() {
+    } else if same_bytes(command, b"slice") {
         return slice(operands);
-    } else if command == b"sync".as_slice() {
+    } else if same_bytes(command, b"sync") {
         return sync(operands);
-    } else if command == b"abandon".as_slice() {
+    } else if same_bytes(command, b"abandon") {
         return abandon(operands);
-    } else if command == b"view".as_slice() {
+    } else if same_bytes(command, b"view") {
         return open_view(alloc, operands);
-    } else if command == b"unview".as_slice() {
+    } else if same_bytes(command, b"unview") {
         return close_view(operands);
-    } else if command == b"hold".as_slice() {
+    } else if same_bytes(command, b"hold") {
         return hold(alloc, operands);
-    } else if command == b"release".as_slice() {
+    } else if same_bytes(command, b"release") {
         return release(alloc, operands);
-    } else if command == b"holds".as_slice() {
+    } else if same_bytes(command, b"holds") {
         return holds(alloc, operands);
-    } else if command == b"bookmark".as_slice() {
+    } else if same_bytes(command, b"bookmark") {
         return bookmark(alloc, operands);
-    } else if command == b"wouldfree".as_slice() {
+    } else if same_bytes(command, b"wouldfree") {
         return would_free(alloc, operands);
-    } else if command == b"set".as_slice() {
+    } else if same_bytes(command, b"set") {
         return set(alloc, operands);
-    } else if command == b"send".as_slice() {
+    } else if same_bytes(command, b"send") {
         return send(alloc, operands);
-    } else if command == b"receive".as_slice() {
+    } else if same_bytes(command, b"receive") {
         return receive(alloc, operands);
     }
     Err(Refusal::BadLine)
@@ -195,13 +196,26 @@ fn bookmark(alloc: Global, operands: Option<&[u8]>) -> Result<Request, Refusal>
 }
 
 #[inline(never)]
-#[tactic(auto, unfolding(crate::specs::Meaning::write_of))]
 fn write(alloc: Global, operands: Option<&[u8]>) -> Result<Request, Refusal>
     ensures { Means result (write_of (words_left (option_copied operands.entry))) }
 {
-    let Some((target, object, block, digits)) = four(operands) else {
+    let Some((target, object, block, digits)) = three_and_more(operands) else {
         return Err(Refusal::BadLine);
     };
+    write_at(alloc, target, object, block, digits)
+}
+
+// A write to a place. A space is no digit, so where another word stands after the digits, they are none either.
+#[tactic(auto, unfolding(crate::specs::Meaning::written_of))]
+fn write_at(
+    alloc: Global,
+    target: &[u8],
+    object: &[u8],
+    block: &[u8],
+    digits: &[u8],
+) -> Result<Request, Refusal>
+    ensures { Means result (written_of target.now object.now block.now digits.now) }
+{
     let Some(object) = number(object) else {
         return Err(Refusal::BadLine);
     };
@@ -456,17 +470,17 @@ fn abandon(operands: Option<&[u8]>) -> Result<Request, Refusal>
 fn pool_property_named(word: &[u8]) -> Option<PoolProperty>
     ensures { result ≡ pool_property_of_word word.now }
 {
-    if word == b"size".as_slice() {
+    if same_bytes(word, b"size") {
         Some(PoolProperty::Size)
-    } else if word == b"allocated".as_slice() {
+    } else if same_bytes(word, b"allocated") {
         Some(PoolProperty::Allocated)
-    } else if word == b"free".as_slice() {
+    } else if same_bytes(word, b"free") {
         Some(PoolProperty::Free)
-    } else if word == b"freeing".as_slice() {
+    } else if same_bytes(word, b"freeing") {
         Some(PoolProperty::Freeing)
-    } else if word == b"waiting".as_slice() {
+    } else if same_bytes(word, b"waiting") {
         Some(PoolProperty::Waiting)
-    } else if word == b"group".as_slice() {
+    } else if same_bytes(word, b"group") {
         Some(PoolProperty::Group)
     } else {
         None
@@ -491,7 +505,7 @@ pub(crate) fn number_up_to(word: &[u8], most: u64) -> Option<u64>
     ensures value { result ≡ number_up_to most word.now }
     ensures within { IfSome result (λ n. n ≤ most) }
 {
-    if word == b"0".as_slice() {
+    if same_bytes(word, b"0") {
         return Some(0);
     }
     number_over_zero(word, most)

@@ -11,6 +11,7 @@ use crate::words::two;
 use base::limit::Blocks;
 use base::name::DsName;
 use base::refusal::Refusal;
+use base::text::same_bytes;
 use model::limits::Limit;
 use model::request::Request;
 use std::alloc::Global;
@@ -69,13 +70,13 @@ fn equals_place(word: &[u8]) -> Option<usize>
 fn limit_named(word: &[u8]) -> Option<Limit>
     ensures { result ≡ limit_of_word word.now }
 {
-    if word == b"quota".as_slice() {
+    if same_bytes(word, b"quota") {
         Some(Limit::Quota)
-    } else if word == b"refquota".as_slice() {
+    } else if same_bytes(word, b"refquota") {
         Some(Limit::RefQuota)
-    } else if word == b"reservation".as_slice() {
+    } else if same_bytes(word, b"reservation") {
         Some(Limit::Reservation)
-    } else if word == b"refreservation".as_slice() {
+    } else if same_bytes(word, b"refreservation") {
         Some(Limit::RefReservation)
     } else {
         None
@@ -87,7 +88,7 @@ fn limit_named(word: &[u8]) -> Option<Limit>
 fn amount(size: &[u8]) -> Option<Option<Blocks>>
     ensures { result ≡ amount_of_word size.now }
 {
-    if size == b"none".as_slice() {
+    if same_bytes(size, b"none") {
         return Some(None);
     }
     amount_of(number_up_to(size, SIZE_LIMIT)?)

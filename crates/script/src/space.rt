@@ -9,6 +9,7 @@ ghost use Rattle.script.specs.Reading.{words_left, Means};
 use crate::words::{three, two};
 use base::name::{Component, DsName, NAME_LIMIT, SnapName, Target};
 use base::refusal::Refusal;
+use base::text::same_bytes;
 use model::request::{Property, Request};
 use std::alloc::Global;
 
@@ -128,41 +129,41 @@ fn word_within(alloc: Global, file_system: &DsName, word: &[u8]) -> Result<Compo
 fn property_named(word: &[u8]) -> Option<Property>
     ensures { result ≡ property_of_word word.now }
 {
-    if word == b"used".as_slice() {
+    if same_bytes(word, b"used") {
         Some(Property::Used)
-    } else if word == b"available".as_slice() {
+    } else if same_bytes(word, b"available") {
         Some(Property::Available)
-    } else if word == b"referenced".as_slice() {
+    } else if same_bytes(word, b"referenced") {
         Some(Property::Referenced)
-    } else if word == b"written".as_slice() {
+    } else if same_bytes(word, b"written") {
         Some(Property::Written)
-    } else if word == b"usedbydataset".as_slice() {
+    } else if same_bytes(word, b"usedbydataset") {
         Some(Property::UsedByDataset)
-    } else if word == b"usedbysnapshots".as_slice() {
+    } else if same_bytes(word, b"usedbysnapshots") {
         Some(Property::UsedBySnapshots)
-    } else if word == b"usedbychildren".as_slice() {
+    } else if same_bytes(word, b"usedbychildren") {
         Some(Property::UsedByChildren)
-    } else if word == b"usedbyrefreservation".as_slice() {
+    } else if same_bytes(word, b"usedbyrefreservation") {
         Some(Property::UsedByRefReservation)
-    } else if word == b"quota".as_slice() {
+    } else if same_bytes(word, b"quota") {
         Some(Property::Quota)
-    } else if word == b"refquota".as_slice() {
+    } else if same_bytes(word, b"refquota") {
         Some(Property::RefQuota)
-    } else if word == b"reservation".as_slice() {
+    } else if same_bytes(word, b"reservation") {
         Some(Property::Reservation)
-    } else if word == b"refreservation".as_slice() {
+    } else if same_bytes(word, b"refreservation") {
         Some(Property::RefReservation)
-    } else if word == b"guid".as_slice() {
+    } else if same_bytes(word, b"guid") {
         Some(Property::Guid)
-    } else if word == b"createtxg".as_slice() {
+    } else if same_bytes(word, b"createtxg") {
         Some(Property::CreateTxg)
-    } else if word == b"origin".as_slice() {
+    } else if same_bytes(word, b"origin") {
         Some(Property::Origin)
-    } else if word == b"clones".as_slice() {
+    } else if same_bytes(word, b"clones") {
         Some(Property::Clones)
-    } else if word == b"userrefs".as_slice() {
+    } else if same_bytes(word, b"userrefs") {
         Some(Property::UserRefs)
-    } else if word == b"defer_destroy".as_slice() {
+    } else if same_bytes(word, b"defer_destroy") {
         Some(Property::DeferDestroy)
     } else {
         None

@@ -1,5 +1,5 @@
 //! Replies as lines.
-ghost use Rattle.std.specs.Prelude.{◌≡◌, ◌==◌, ◌-◌, ◌++◌, ◌∷◌, ◌<◌, ◌≤◌, [], Some, OnOk, length, drop, replicate};
+ghost use Rattle.std.specs.Prelude.{◌≡◌, ◌==◌, ◌-◌, ◌*◌, ◌++◌, ◌∷◌, ◌<◌, ◌≤◌, [], Some, OnOk, length, drop, replicate};
 ghost use Rattle.std.specs.List.{list_all};
 ghost use Rattle.std.specs.Fmt.{decimal};
 ghost use Rattle.std.specs.Io.KnownBytes.{Appends};
@@ -35,12 +35,17 @@ pub(crate) fn write_reply<W: Write>(writer: &mut W, reply: &Reply) -> io::Result
     }
 }
 
-// A number's line. It stands apart, since what prints it takes room on the stack, which is filled first.
+/// Room for the digits of a number.
+const NUMBER_ROOM: usize = 20;
+
+// A number's line. It stands apart, since its digits take room on the stack, which is filled first.
 #[inline(never)]
 fn write_number<W: Write>(writer: &mut W, number: u64) -> io::Result<()>
     ensures { OnOk result (Appends (W.contents writer.old) (W.contents writer.new) (decimal number ++ 10 ∷ [])) }
 {
-    writeln!(writer, "{number}")
+    let mut line = [b'\n'; NUMBER_ROOM + 1];
+    let start = itoa::write_digits(number, &mut line, NUMBER_ROOM);
+    writer.write_all(&line[start..])
 }
 
 // A refusal's line, which stands apart too.
@@ -51,9 +56,6 @@ fn write_refusal<W: Write>(writer: &mut W, refusal: Refusal) -> io::Result<()>
     let (number, name) = (refusal.number(), refusal.name());
     writeln!(writer, "error {number} {name}")
 }
-
-/// The digits of a block of zeros.
-const ZERO_DIGITS: [u8; 1024] = [b'0'; 1024];
 
 // Whether these are zeros alone. It looks at each of them, wherever the first other byte stands, which lets a compiler look at many at a time.
 fn are_zeros(bytes: &[u8]) -> bool
@@ -90,15 +92,26 @@ fn end_of(bytes: &[u8; 512]) -> usize
     end_by(bytes, end, 8)
 }
 
+/// Digits of a block.
+const BLOCK_DIGITS: usize = 1024;
+
 // A block's line. A block often ends in zeros, whose digits are there before. It stands apart, since its digits take room on the stack.
 #[inline(never)]
 fn write_block<W: Write>(writer: &mut W, bytes: &[u8; 512]) -> io::Result<()>
     ensures { OnOk result (Appends (W.contents writer.old) (W.contents writer.new) (data_text (Some bytes.now) ++ 10 ∷ [])) }
 {
     let end = end_of(bytes);
-    write_part(writer, &bytes[..end])?;
-    writer.write_all(&ZERO_DIGITS[2 * end..])?;
-    writer.write_all(b"\n")
+    let mut line = [b'0'; BLOCK_DIGITS + 1];
+    line[BLOCK_DIGITS] = b'\n';
+    put_digits(&bytes[..end], &mut line[..2 * end]);
+    writer.write_all(&line)
+}
+
+fn put_digits(part: &[u8], digits: &mut [u8])
+    requires { length digits.old ≡ 2 * length part.now }
+    ensures { digits.new ≡ encode_lower part.now }
+{
+    let _ = hex::encode_to_slice(part, digits);
 }
 
 fn write_truth<W: Write>(writer: &mut W, is_so: bool) -> io::Result<()>
@@ -157,6 +170,6 @@ fn write_part<W: Write>(writer: &mut W, part: &[u8]) -> io::Result<()>
 {
     let mut text = [0u8; 2 * PART];
     let digits = &mut text[..2 * part.len()];
-    let _ = hex::encode_to_slice(part, digits);
+    put_digits(part, digits);
     writer.write_all(digits)
 }

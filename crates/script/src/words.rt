@@ -1,35 +1,88 @@
 //! The words of a line.
-ghost use Rattle.std.specs.Prelude.{◌≡◌, ◌∷◌, ◌&&◌};
+ghost use Rattle.std.specs.Prelude.{◌≡◌, ◌≤◌, ◌<◌, ◌∷◌, ◌&&◌, None, MatchOption, length};
 ghost use Rattle.std.specs.Option.{option_map, option_copied};
 ghost use Rattle.std.specs.List.{list_all};
-ghost use Rattle.script.specs.Words.{is_printable, is_word, words_of};
+ghost use Rattle.memchr.specs.Find.{IsFirstByte, is_byte};
+ghost use Rattle.script.specs.Words.{is_printable, is_word, words_of, joins, joins_from};
 ghost use Rattle.script.specs.Meaning.{has_option, after_option, one_of, two_of, three_of, four_of};
 ghost use Rattle.script.specs.Reading.{words_left};
 
+use base::text::same_bytes;
 use memchr::memchr;
 
-/// Whether each byte is one that a line may have, 0x20 to 0x7e, and single spaces join the words (profile). It looks at each byte once,
-/// wherever the first fault stands, which lets a compiler look at many at a time.
+/// Whether each byte is one that a line may have, 0x20 to 0x7e, and single spaces join the words (profile).
 pub(crate) fn has_only_words(line: &[u8]) -> bool
     ensures { result ≡ (list_all is_printable line.now && list_all is_word (words_of line.now)) }
 {
+    let len = line.len();
+    if len == 0 || !goes_on(&line[..1], true) {
+        return false;
+    }
+    let seen = goes_on_by(line, 1, 16);
+    let seen = goes_on_by(line, seen, 8);
+    goes_on(&line[seen..], line[seen - 1] == b' ') & (line[len - 1] != b' ')
+}
+
+// How far a line goes on well behind the bytes before a place: it looks at so many at a time.
+fn goes_on_by(line: &[u8], from: usize, step: usize) -> usize
+    requires behind { 0 < from }
+    requires within { from ≤ length line.now }
+    requires steps { 0 < step }
+    ensures behind { 0 < result }
+    ensures within { result ≤ length line.now }
+    ensures left { joins_from result line.now ≡ joins_from from line.now }
+{
+    let mut seen = from;
+    while step <= line.len() - seen && goes_on(&line[seen..seen + step], line[seen - 1] == b' ') {
+        seen += step;
+    }
+    seen
+}
+
+// Whether bytes go on well behind a space or another byte. It looks at each of them once, wherever the first fault stands, which lets a
+// compiler look at many at a time.
+fn goes_on(bytes: &[u8], after_space: bool) -> bool
+    ensures { result ≡ joins after_space bytes.now }
+{
     let mut is_well = true;
-    let mut is_after_space = true;
-    for byte in line {
+    let mut is_after_space = after_space;
+    for byte in bytes {
         let is_space = *byte == b' ';
         is_well = is_well & (b' ' <= *byte) & (*byte <= b'~') & !(is_space & is_after_space);
         is_after_space = is_space;
     }
-    is_well & !is_after_space
+    is_well
 }
 
 /// The first word, and what stands after its space.
 pub(crate) fn next_word(line: &[u8]) -> (&[u8], Option<&[u8]>)
     ensures { words_of line.now ≡ result.0.now ∷ words_left (option_copied result.1) }
 {
-    match memchr(b' ', line) {
+    match space_place(line) {
         Some(end) => (&line[..end], Some(&line[end + 1..])),
         None => (line, None),
+    }
+}
+
+/// Most words are short: so many bytes are looked at in place, before a search that takes longer to begin.
+const NEAR: usize = 16;
+
+// The place of the first space.
+fn space_place(line: &[u8]) -> Option<usize>
+    ensures { IsFirstByte (is_byte 32) line.now result }
+{
+    let near = line.len().min(NEAR);
+    for i in 0..near {
+        if line[i] == b' ' {
+            return Some(i);
+        }
+    }
+    if near == line.len() {
+        return None;
+    }
+    match memchr(b' ', &line[near..]) {
+        Some(place) => Some(near + place),
+        None => None,
     }
 }
 
@@ -72,19 +125,15 @@ pub(crate) fn three(rest: Option<&[u8]>) -> Option<(&[u8], &[u8], &[u8])>
     Some((a, b, c))
 }
 
-/// The operands of a request that has four.
-pub(crate) fn four(rest: Option<&[u8]>) -> Option<(&[u8], &[u8], &[u8], &[u8])>
-    ensures { option_map (λ w. (w.0.now, w.1.now, w.2.now, w.3.now)) result ≡ four_of (words_left (option_copied rest.entry)) }
+/// The first three operands of a request that has four, and what stands after their spaces: the fourth, or more words.
+pub(crate) fn three_and_more(rest: Option<&[u8]>) -> Option<(&[u8], &[u8], &[u8], &[u8])>
+    ensures { MatchOption result (four_of (words_left (option_copied rest.entry)) ≡ None)
+        (λ w. words_left (option_copied rest.entry) ≡ w.0.now ∷ w.1.now ∷ w.2.now ∷ words_of w.3.now) }
 {
     let (a, rest) = next_word(rest?);
     let (b, rest) = next_word(rest?);
     let (c, rest) = next_word(rest?);
-    let (d, rest) = next_word(rest?);
-    if let Some(more) = rest {
-        let _ = next_word(more);
-        return None;
-    }
-    Some((a, b, c, d))
+    Some((a, b, c, rest?))
 }
 
 /// Whether an option stands before the operands, and what stands after it, or all of them.
@@ -96,7 +145,7 @@ pub(crate) fn leading_option<'a>(rest: Option<&'a [u8]>, word: &[u8]) -> (bool, 
         return (false, None);
     };
     let (first, later) = next_word(words);
-    if first == word {
+    if same_bytes(first, word) {
         (true, later)
     } else {
         (false, rest)

@@ -51,9 +51,9 @@ fn is_taken(table: &Table, name: &Named) -> bool
         .is_some()
 }
 
-/// Whether a snapshot of one of these names is there. It costs, for each name, the logarithm of the number of file systems and that of
-/// the number of snapshots of its own.
-pub fn any_taken(table: &Table, all: &[Named]) -> bool
+// Whether a snapshot of one of these names is there. It costs, for each name, the logarithm of the number of file systems and that of
+// the number of snapshots of its own.
+fn any_taken(table: &Table, all: &[Named]) -> bool
     ensures { result ≡ list_any (λ m. is_some (snap_named (world_of table.now) m)) all.now }
 {
     all.iter().any(|name| is_taken(table, name))

@@ -14,7 +14,6 @@ pub mod clones;
 mod named;
 mod take;
 
-pub use crate::check::any_taken;
 use crate::check::{any_missing, check};
 pub use crate::named::{Named, expand, is_in_family};
 use crate::take::{take_all, take_one};

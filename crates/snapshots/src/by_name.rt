@@ -11,6 +11,7 @@ ghost use Rattle.snapshots.specs.Order.{is_below, is_named, names_rise};
 
 use crate::kept::Kept;
 use base::refusal::Refusal;
+use base::text::{compare_bytes, same_bytes};
 use shared_list::edits::{insert_item, push_item, remove_item, set_item};
 use shared_list::place::{Place, first, item_at, partition_point};
 use shared_list::{Chunk, Spine};
@@ -128,13 +129,13 @@ impl ByName {
 fn is_below_name(kept: &Kept, name: &[u8]) -> bool
     ensures { result ≡ is_below name.now kept.now }
 {
-    kept.snapshot.name().as_bytes().cmp(&name).is_lt()
+    compare_bytes(kept.snapshot.name().as_bytes(), name).is_lt()
 }
 
 fn has_name(kept: &Kept, name: &[u8]) -> bool
     ensures { result ≡ is_named name.now kept.now }
 {
-    kept.snapshot.name().as_bytes() == name
+    same_bytes(kept.snapshot.name().as_bytes(), name)
 }
 
 /// Where the first snapshot stands whose name isn't below that one, or None where all are.

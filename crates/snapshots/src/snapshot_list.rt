@@ -12,6 +12,7 @@ use crate::by_name::ByName;
 use crate::kept::Kept;
 use base::name::Component;
 use base::refusal::Refusal;
+use base::text::same_bytes;
 use shared_list::SharedList;
 use std::alloc::Global;
 use std::marker::Model;
@@ -194,7 +195,7 @@ fn walk<'a>(kept: &'a SharedList<Kept>, name: &[u8]) -> Option<&'a Kept>
     ensures { option_copied result ≡ find (λ k. same_name k.snapshot.name name.now) kept.now }
 {
     kept.iter()
-        .find(|kept| kept.snapshot.name().as_bytes() == name)
+        .find(|kept| same_bytes(kept.snapshot.name().as_bytes(), name))
 }
 
 // Puts a snapshot into the index of others, where it comes behind them, or before them and none of them has its name. Where one of its name

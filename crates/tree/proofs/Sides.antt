@@ -1,5 +1,5 @@
 -- The two places of a pair, among those of a node.
-use Rattle.std.proofs.Common.{◌≡◌, ◌≢◌, ℕ, zero, suc, ◌+◌, ◌*◌, ◌/◌, ◌%◌, ◌<◌, List, length, get_or, set, Option, None, sym, ap, ◌∙◌, arith, get_or-set_other, ⊎_elim, length-set}
+use Rattle.std.proofs.Common.{◌≡◌, ◌≢◌, ℕ, zero, suc, ◌+◌, ◌*◌, ◌/◌, ◌%◌, ◌<◌, List, [], ◌∷◌, length, get_or, set, replicate, Option, None, refl, sym, ap, ◌∙◌, arith, get_or-set_other, ⊎_elim, length-set}
 use Rattle.std.specs.Option.{option_map}
 use Rattle.std.proofs.lemmas.List.{get_or_default, get_or-set_same, set-set}
 use Rattle.std.proofs.lemmas.Bool.{cases_lt}
@@ -84,3 +84,20 @@ alike_more f ps qs n q w h a i b =
     let e : get_or (set ps n q) i Neither ≡ q = ap (λ k. get_or (set ps n q) k Neither) s ∙ get_or-set_same ps n q Neither w in
     (ap (λ p. option_map f (left_of p)) e ∙ a.0 ∙ ap (λ k. option_map f (left_of (get_or qs k Neither))) (sym s), ap (λ p. option_map f (right_of p)) e ∙ a.1 ∙ ap (λ k. option_map f (right_of (get_or qs k Neither))) (sym s)))
     (cases_lt i n)
+
+-- pairs at whose places nothing stands
+all_same : {A : Type 0} (n k : ℕ) (a : A) → get_or (replicate n a) k a ≡ a
+all_same zero k a = refl
+all_same (suc n) zero a = refl
+all_same (suc n) (suc k) a = all_same n k a
+
+nothing_in : {C : Type 0} (ps : List (Pair C)) (n : ℕ) → ((k : ℕ) → get_or (places_in ps) k None ≡ None) → (left_of (get_or ps n Neither) ≡ None) × (right_of (get_or ps n Neither) ≡ None)
+nothing_in [] n h = (refl, refl)
+nothing_in (p ∷ ps) zero h = (h 0, h 1)
+nothing_in (p ∷ ps) (suc n) h = nothing_in ps n (λ k. h (suc (suc k)))
+
+pub nothing_at : {C : Type 0} (empty ps : List (Pair C)) (n : ℕ) (d : Pair C) → n < length ps → places_in empty ≡ replicate 16 None → get_or ps n Neither ≡ get_or empty n Neither → (left_of (get_or ps n d) ≡ None) × (right_of (get_or ps n d) ≡ None)
+nothing_at empty ps n d w e s =
+    let none = nothing_in empty n (λ k. ap (λ xs. get_or xs k None) e ∙ all_same 16 k None) in
+    let same : get_or ps n d ≡ get_or empty n Neither = sym (get_or_default ps n Neither d w) ∙ s in
+    (ap left_of same ∙ none.0, ap right_of same ∙ none.1)

@@ -1,8 +1,8 @@
 //! Copies of nodes.
-ghost use Rattle.std.specs.Prelude.{◌≡◌, OnOk, OnErr};
+ghost use Rattle.std.specs.Prelude.{◌≡◌, None, OnOk, OnErr, replicate};
 ghost use Rattle.base.specs.declared.refusal.Refusal.{Refusal};
-ghost use Rattle.node.specs.Node.{inner_part, shared_part};
-ghost use Rattle.node.specs.Pairs.{places_in};
+ghost use Rattle.node.specs.Node.{inner_part, part_of_slot, shared_part};
+ghost use Rattle.node.specs.Pairs.{left_of, right_of, places_in};
 ghost use Rattle.node.specs.Shape.{forest_of};
 
 use base::refusal::Refusal;
@@ -10,13 +10,29 @@ use node::{Inner, Level, Pair, no_kids};
 use std::alloc::Global;
 use std::sync::Arc;
 
-/// Puts into eight pairs one more owner of each part that others have. NoMemory where there is none for one.
+/// Puts into a pair that has nothing one more owner of each part that another has. NoMemory where there is none for one.
+fn keep_pair<C: Level + Drop>(from: &Pair<C>, pair: &mut Pair<C>) -> Result<(), Refusal>
+    requires left { left_of pair.old ≡ None }
+    requires right { right_of pair.old ≡ None }
+    ensures left { OnOk result (part_of_slot C.part (left_of pair.new) ≡ part_of_slot C.part (left_of from.now)) }
+    ensures right { OnOk result (part_of_slot C.part (right_of pair.new) ≡ part_of_slot C.part (right_of from.now)) }
+    ensures err { OnErr result (result ≡ Err Refusal.NoMemory) }
+{
+    match from {
+        Pair::Neither => {}
+        kept => *pair = kept.copy()?,
+    }
+    Ok(())
+}
+
+/// Puts into eight pairs that have nothing one more owner of each part that others have. NoMemory where there is none for one.
 fn keep_below<C: Level + Drop>(from: &[Pair<C>; 8], kids: &mut [Pair<C>; 8]) -> Result<(), Refusal>
+    requires empty { places_in kids.old ≡ replicate 16 None }
     ensures ok { OnOk result (forest_of (shared_part C.part) (places_in kids.new) ≡ forest_of (shared_part C.part) (places_in from.now)) }
     ensures err { OnErr result (result ≡ Err Refusal.NoMemory) }
 {
     for at in 0..8 {
-        kids[at] = from[at].copy()?;
+        keep_pair(&from[at], &mut kids[at])?;
     }
     Ok(())
 }

@@ -82,5 +82,8 @@ fn are_name_bytes(bytes: &[u8]) -> bool
 fn is_name_byte_of(b: u8) -> bool
     ensures { result ≡ is_name_byte b }
 {
-    matches!(b, b'a'..=b'z' | b'A'..=b'Z' | b'0'..=b':' | b'-' | b'.' | b'_')
+    if b >= b'a' {
+        return b <= b'z';
+    }
+    matches!(b, b'A'..=b'Z' | b'0'..=b':' | b'-' | b'.' | b'_')
 }

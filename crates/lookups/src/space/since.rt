@@ -14,6 +14,7 @@ use base::meter::SegMeter;
 use base::name::{DsName, Member, Target};
 use base::number::Group;
 use base::refusal::Refusal;
+use base::text::same_bytes;
 use datasets::{FileSystem, Snapshot, Table};
 use model::snapshot_id::SnapshotId;
 
@@ -66,7 +67,7 @@ fn count_of(file_system: &FileSystem, dataset: Option<&Snapshot>) -> u32
 fn is_named(file_system: &FileSystem, name: &DsName) -> bool
     ensures { result ≡ same_name file_system.now.name name.now }
 {
-    file_system.name().as_bytes() == name.as_bytes()
+    same_bytes(file_system.name().as_bytes(), name.as_bytes())
 }
 
 // Whether they are one snapshot's.

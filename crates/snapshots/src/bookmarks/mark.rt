@@ -7,6 +7,7 @@ ghost use Rattle.snapshots.specs.Marks.{bookmark_of, entry_of, order_key};
 
 use base::name::Component;
 use base::refusal::Refusal;
+use base::text::compare_bytes;
 use model::snapshot_id::SnapshotId;
 use std::cmp::Ordering;
 
@@ -32,7 +33,7 @@ impl Mark {
     pub(crate) fn compare(&self, name: &[u8]) -> Ordering
         ensures { result ≡ name_cmp self.now.name name.now }
     {
-        self.name.as_bytes().cmp(&name)
+        compare_bytes(self.name.as_bytes(), name)
     }
 
     /// How it compares with another bookmark by their groups, and then by their names (profile). It costs the shorter name.

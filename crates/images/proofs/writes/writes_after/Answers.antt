@@ -1,7 +1,7 @@
 use Rattle.std.proofs.Common.{[], ◌∷◌, sym, ap, subst, ◌∙◌, arith, true≢false}
 use Rattle.batch.specs.Updates.{IsBatch}
 use Rattle.image.specs.PathWrites.{block_on}
-use Rattle.images.specs.Writes.{IsBegun, IsMissing, IsPathOf, IsThere}
+use Rattle.images.specs.Writes.{IsMissing, IsPathOf, IsThere}
 use Rattle.images.specs.declared.writes.ChangedPath.{ChangedPath}
 use Rattle.images.proofs.OnePath.{path_known}
 use Rattle.images.proofs.Standing.{there_some}
@@ -16,10 +16,11 @@ returns c n old new tree has was =
     let u = c.args.update.now in
     let there = subst (λ (p : ChangedPath). IsThere p.before u) c.deref.ensures (c.is_missing.ensures.there (λ t. true≢false (sym t ∙ c.if-is_missing.false))) in
     let batch : IsBatch (u ∷ []) = (omega arith, c.requires.of_tree, tt) in
-    let known = path_known n old new tree u batch c.args.group.0 has.number has.new_is (there_some old c.args.path.value.before u batch was there) c.args.made.now has.each (block_on c.path_of.result) c.path_of.ensures in
-    let same = c.deref_mut.ensures.value in (
-      subst (λ (p : ChangedPath). IsBegun u p) (sym same) c.requires.begun,
+    let known = path_known n old new tree u batch c.args.group.0 has.number has.new_is (there_some old c.args.path.value.before u batch was there) c.args.made.now has.each (block_on c.place.new.path) c.place.ensures in
+    let same = c.deref_mut.ensures.value in
+    let begun = ap (λ (p : ChangedPath). p.leaf) same ∙ c.requires.begun in (
+      (begun, c.bytes_of.ensures.written, c.bytes_of.ensures.size),
       ap (λ (p : ChangedPath). p.before) same,
-      subst (λ leaf. IsPathOf new leaf (block_on c.path_of.result)) (sym (ap (λ (p : ChangedPath). p.leaf) same ∙ c.requires.begun.0)) known,
+      subst (λ leaf. IsPathOf new leaf (block_on c.place.new.path)) (sym begun) known,
       there,
     )

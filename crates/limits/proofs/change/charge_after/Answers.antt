@@ -1,5 +1,6 @@
-use Rattle.std.proofs.Common.{sym, ◌∙◌, arith}
+use Rattle.std.proofs.Common.{sym, subst, ◌∙◌, arith}
 use Rattle.world.specs.Tables.{world_of}
+use Rattle.limits.specs.Changes.{IsOnWay, line_with}
 use Rattle.limits.proofs.Order.{keys_count}
 use Rattle.limits.proofs.Starts.{start_within, start_named}
 use Rattle.limits.proofs.Asking.{as_long, all_little, line_little, are_counted, leads_on, leads_down, begins, asked_starts, asked_on, within_quotas, over_refquota, over_quota}
@@ -39,6 +40,12 @@ returns-then-not-is_in_quota-clause-err c = λ new ch met.
     over_quota (world_of c.args.table.now) c.facts.ensures.good.hierarchy c.args.lines.now c.requires.own c.requires.modest c.args.name.now c.args.here c.args.referenced
     new ch c.loop-own.place c.loop-own.line c.loop-own.invariant.way (sym c.is_in_quota.ensures ∙ c.if-not-is_in_quota.true)
 
+pub charge-requires : goal.charge-requires
+charge-requires c =
+    let l = line_little (world_of c.args.table.now) c.facts.ensures.good.hierarchy c.args.lines.now c.requires.own c.requires.modest c.args.name.now c.args.here c.args.referenced
+    c.loop-own.place c.loop-own.line c.loop-own.invariant.way in
+    omega (arith, l)
+
 pub next_change-requires-clause-long : goal.next_change-requires-clause-long
 next_change-requires-clause-long c =
     as_long (world_of c.args.table.now) c.facts.ensures.good.hierarchy c.args.lines.now c.requires.own c.requires.modest c.args.name.now c.args.here c.args.referenced
@@ -56,8 +63,10 @@ next_change-requires-clause-little c =
 
 pub next_change-requires-clause-small : goal.next_change-requires-clause-small
 next_change-requires-clause-small c =
-    line_little (world_of c.args.table.now) c.facts.ensures.good.hierarchy c.args.lines.now c.requires.own c.requires.modest c.args.name.now c.args.here c.args.referenced
-    c.loop-own.place c.loop-own.line c.loop-own.invariant.way
+    let l = line_little (world_of c.args.table.now) c.facts.ensures.good.hierarchy c.args.lines.now c.requires.own c.requires.modest c.args.name.now c.args.here c.args.referenced
+    c.loop-own.place c.loop-own.line c.loop-own.invariant.way in
+    let m = c.charge.ensures.most in
+    omega (arith, l, m)
 
 pub next_change-requires-clause-counted : goal.next_change-requires-clause-counted
 next_change-requires-clause-counted c =
@@ -88,7 +97,7 @@ returns-then-is_in_refquota-clause-ok c = λ new ch met.
     c.requires.small c.in-Some.start c.index-lines-start.result c.amended-own.result w is c.index-lines-start.is c.amended-own.ensures in
     within_quotas (world_of c.args.table.now) c.facts.ensures.good.hierarchy c.args.lines.now c.requires.own c.requires.modest c.args.name.now c.args.here c.args.referenced
     new ch met c.in-Some.start w is c.amended-own.result first c.loop-own.place c.loop-own.line c.loop-own.invariant.way (c.loop-own.invariant.asked new ch met)
-    (sym c.is_in_quota.ensures ∙ c.if-not-is_in_quota.false) c.in_default-next_change.ensures.none (sym c.is_in_refquota.ensures ∙ c.if-is_in_refquota.true)
+    (sym c.is_in_quota.ensures ∙ c.if-not-is_in_quota.false) (c.in_default-next_change.ensures.none c.loop-own.line (sym c.charge.ensures.value)) (sym c.is_in_refquota.ensures ∙ c.if-is_in_refquota.true)
     c.root_charge.result c.root_charge.ensures.own c.root_charge.ensures.other
 
 pub returns-in_default-next_change-clause-err : goal.returns-in_default-next_change-clause-err
@@ -99,18 +108,30 @@ returns-in_default-next_change-clause-err c = λ new ch met.
     c.requires.small c.in-Some.start c.index-lines-start.result c.amended-own.result w is c.index-lines-start.is c.amended-own.ensures in
     over_refquota (world_of c.args.table.now) c.facts.ensures.good.hierarchy c.args.lines.now c.requires.own c.requires.modest c.args.name.now c.args.here c.args.referenced
     new ch met c.in-Some.start w is c.amended-own.result first c.loop-own.place c.loop-own.line c.loop-own.invariant.way (c.loop-own.invariant.asked new ch met)
-    (sym c.is_in_quota.ensures ∙ c.if-not-is_in_quota.false) c.in_default-next_change.ensures.none (sym c.is_in_refquota.ensures ∙ c.if-is_in_refquota.false)
+    (sym c.is_in_quota.ensures ∙ c.if-not-is_in_quota.false) (c.in_default-next_change.ensures.none c.loop-own.line (sym c.charge.ensures.value)) (sym c.is_in_refquota.ensures ∙ c.if-is_in_refquota.false)
 
 pub loop-own-smaller : goal.loop-own-smaller
 loop-own-smaller c =
     leads_down (world_of c.args.table.now) c.facts.ensures.good.hierarchy c.args.lines.now c.requires.own c.requires.modest c.args.name.now c.args.here c.args.referenced
-    c.loop-own.place c.loop-own.line c.loop-own.invariant.way c.in-Some-next_change.parent c.in-Some-next_change.above c.in-Some-next_change.ensures.some
+    c.loop-own.place c.loop-own.line c.loop-own.invariant.way c.in-Some-next_change.parent (line_with c.args.lines.now c.in-Some-next_change.parent c.in-Some-next_change.children)
+    (c.in-Some-next_change.ensures.some c.loop-own.line (sym c.charge.ensures.value))
+
+pub line_with-line-requires : goal.line_with-line-requires
+line_with-line-requires c =
+    let next = c.in-Some-next_change.ensures.some c.loop-own.line (sym c.charge.ensures.value) in
+    let w = next.parent.within in
+    let l = as_long (world_of c.args.table.now) c.facts.ensures.good.hierarchy c.args.lines.now c.requires.own c.requires.modest c.args.name.now c.args.here c.args.referenced in
+    omega (arith, w, l)
 
 pub loop-own-preserved : goal.loop-own-preserved
-loop-own-preserved c = record {
-  way = leads_on (world_of c.args.table.now) c.facts.ensures.good.hierarchy c.args.lines.now c.requires.own c.requires.modest c.args.name.now c.args.here c.args.referenced
-      c.loop-own.place c.loop-own.line c.loop-own.invariant.way c.in-Some-next_change.parent c.in-Some-next_change.above c.in-Some-next_change.ensures.some;
-  asked = λ new ch met j d lt. asked_on (world_of c.args.table.now) c.facts.ensures.good.hierarchy c.args.lines.now c.requires.own c.requires.modest c.args.name.now c.args.here c.args.referenced
-      new ch met c.loop-own.place c.loop-own.line c.loop-own.invariant.way (sym c.is_in_quota.ensures ∙ c.if-not-is_in_quota.false)
-      c.in-Some-next_change.parent c.in-Some-next_change.above c.in-Some-next_change.ensures.some j d lt (c.loop-own.invariant.asked new ch met j d lt);
-}
+loop-own-preserved c =
+    let above = line_with c.args.lines.now c.in-Some-next_change.parent c.in-Some-next_change.children in
+    let next = c.in-Some-next_change.ensures.some c.loop-own.line (sym c.charge.ensures.value) in
+    record {
+      way = subst (IsOnWay (world_of c.args.table.now) c.args.name.now c.args.here c.args.referenced c.in-Some-next_change.parent) (sym c.line_with-line.ensures)
+          (leads_on (world_of c.args.table.now) c.facts.ensures.good.hierarchy c.args.lines.now c.requires.own c.requires.modest c.args.name.now c.args.here c.args.referenced
+          c.loop-own.place c.loop-own.line c.loop-own.invariant.way c.in-Some-next_change.parent above next);
+      asked = λ new ch met j d lt. asked_on (world_of c.args.table.now) c.facts.ensures.good.hierarchy c.args.lines.now c.requires.own c.requires.modest c.args.name.now c.args.here c.args.referenced
+          new ch met c.loop-own.place c.loop-own.line c.loop-own.invariant.way (sym c.is_in_quota.ensures ∙ c.if-not-is_in_quota.false)
+          c.in-Some-next_change.parent above next j d lt (c.loop-own.invariant.asked new ch met j d lt);
+    }

@@ -18,22 +18,28 @@ bounds-lines-parent c =
     let k = keys_count c.args.table.now.file_systems in
     omega (arith, w, l, k)
 
+pub bounds-lines-parent-in_ok-parent : goal.bounds-lines-parent-in_ok-parent
+bounds-lines-parent-in_ok-parent c =
+    let w = c.in_ok-parent.ensures.some.within in
+    let l = c.requires.long in
+    let k = keys_count c.args.table.now.file_systems in
+    omega (arith, w, l, k)
+
 pub overflow_sub-result : goal.overflow_sub-result
 overflow_sub-result c =
     step_low (keys c.args.table.now.file_systems) c.args.lines.now (c.requires.long ∙ keys_count c.args.table.now.file_systems) c.args.place c.in_ok-parent.parent
-    c.args.line.now c.index-lines-place.result c.index-lines-parent.result c.requires.within c.index-lines-place.is c.in_ok-parent.ensures.some c.index-lines-parent.is
+    c.index-lines-place.result c.index-lines-parent.result c.requires.within c.index-lines-place.is c.in_ok-parent.ensures.some
     c.requires.counted c.charge-before.result c.charge-before.ensures.value
 
 pub overflow_add-result : goal.overflow_add-result
 overflow_add-result c =
     let f = step_fits (keys c.args.table.now.file_systems) c.args.lines.now (c.requires.long ∙ keys_count c.args.table.now.file_systems) c.args.place c.in_ok-parent.parent
-    c.args.line.now c.index-lines-place.result c.index-lines-parent.result c.requires.within c.index-lines-place.is c.in_ok-parent.ensures.some c.index-lines-parent.is
-    c.requires.counted c.charge-before.result c.charge-before.ensures.value c.charge-after.result c.charge-after.ensures.value c.requires.little c.requires.small
-    c.charge-after.ensures.most in
+    c.index-lines-place.result c.index-lines-parent.result c.requires.within c.index-lines-place.is c.in_ok-parent.ensures.some
+    c.requires.counted c.charge-before.result c.charge-before.ensures.value c.requires.little c.args.after c.requires.small in
     omega (arith, f)
 
 pub returns-clause-some : goal.returns-clause-some
 returns-clause-some c =
     step_next (keys c.args.table.now.file_systems) c.args.lines.now (c.requires.long ∙ keys_count c.args.table.now.file_systems) c.args.place c.in_ok-parent.parent
-    c.args.line.now c.index-lines-place.result c.index-lines-parent.result c.requires.within c.index-lines-place.is c.in_ok-parent.ensures.some c.index-lines-parent.is
-    c.requires.counted c.charge-before.result c.charge-before.ensures.value c.charge-after.result c.charge-after.ensures.value
+    c.index-lines-place.result c.index-lines-parent.result c.requires.within c.index-lines-place.is c.in_ok-parent.ensures.some
+    c.requires.counted c.charge-before.result c.charge-before.ensures.value c.args.after

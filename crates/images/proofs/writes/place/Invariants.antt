@@ -2,7 +2,7 @@
 use Rattle.std.proofs.Common.{◌≡◌, length, take}
 use Rattle.image.specs.PathWrites.{block_on}
 use Rattle.images.specs.Writes.{ArePlaced}
-use Rattle.images.proofs.writes.path_of.Given as goal
+use Rattle.images.proofs.writes.place.Given as goal
 
 abbrev pub invariant-loop-new : goal.invariant-loop-new
 invariant-loop-new l = record { placed : ArePlaced l.group.0 (take l.new-index l.made) (block_on l.path); long : length l.path ≡ 6 }

@@ -5,8 +5,8 @@ use Rattle.image.specs.PathWrites.{block_on}
 use Rattle.images.specs.Writes.{ArePlaced}
 use Rattle.tree.specs.declared.block.Root.{Root}
 use Rattle.images.proofs.Placing.{one_placed, none_more}
-use Rattle.images.proofs.writes.path_of.Goals.{then-level-lt6, else-level-lt6}
-use Rattle.images.proofs.writes.path_of.Goals as goal
+use Rattle.images.proofs.writes.place.Goals.{then-level-lt6, else-level-lt6}
+use Rattle.images.proofs.writes.place.Goals as goal
 
 pub loop-new-preserved : goal.loop-new-preserved
 loop-new-preserved c =

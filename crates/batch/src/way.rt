@@ -1,0 +1,146 @@
+//! What the write of one leaf alone does to the keys on the way to it.
+ghost use Rattle.std.specs.Prelude.{◌≡◌, ℕ, ◌+◌, ◌<◌, ◌≤◌, ◌++◌, IfOk, IfErr, OnOk, OnErr, [], ◌∷◌, length, count_by, true};
+ghost use Rattle.base.specs.Counting.{counted};
+ghost use Rattle.base.specs.declared.refusal.Refusal.{Refusal};
+ghost use Rattle.batch.specs.Build.{is_fresh};
+ghost use Rattle.batch.specs.Forecast.{kept_of};
+ghost use Rattle.batch.specs.Numbers.{frees_from};
+ghost use Rattle.batch.specs.Room.{IsNoSpaceOrNoMemory};
+ghost use Rattle.batch.specs.Said.{Said, IsOneLeaf};
+ghost use Rattle.batch.specs.Touch.{claims, released, dropped, let_go, young_one};
+ghost use Rattle.batch.specs.Way.{way_claims, way_released, IsAdded, IsNumbered};
+ghost use Rattle.node.specs.Kid.{IsSoundKid};
+ghost use Rattle.node.specs.Node.{root_part, whole, part_of_node};
+ghost use Rattle.zalloc.specs.States.{is_free};
+
+use crate::findings::{Survey, if_young, root_of};
+use crate::numbers::NewBlock;
+use base::meter::Meter;
+use base::number::{BlockNo, Dead, Group, Key};
+use base::refusal::Refusal;
+use node::Root;
+use std::alloc::Global;
+use std::sync::Arc;
+use zalloc::Allocator;
+
+/// How many keys are on the way to a leaf: its own, and one at each of the five levels above (On-Disk Specification, chapter 3; the number is
+/// profile).
+pub(crate) const WAY: usize = 6;
+
+/// The blocks that go, the numbers that are taken, and the new blocks with their numbers, from the last key to the first.
+#[derive(Drop)]
+pub(crate) struct Lists {
+    pub released: Vec<Dead>,
+    pub taken: Vec<BlockNo>,
+    pub made: Vec<NewBlock>,
+}
+
+/// Puts the blocks of the keys on the way to a leaf, each at its level. The meter rises by at least one for each.
+pub(crate) fn find_way(
+    root: &Option<Arc<Root>>,
+    leaf: u32,
+    blocks: &mut [Option<Dead>; 6],
+    meter: &mut Meter,
+)
+    requires sound { IsSoundKid 5 (whole root.now) }
+    requires within { leaf < 1048576 }
+    ensures claims { (s : ℕ → Said) (y : ℕ) → IsOneLeaf s leaf true → claims s y 5 0 (whole root.now) ≡ way_claims y leaf blocks.new 6 }
+    ensures released { (s : ℕ → Said) (y : ℕ) → IsOneLeaf s leaf true → released s y 5 0 (whole root.now) ≡ way_released y blocks.new 6 }
+    ensures metered { (s : ℕ → Said) (y : ℕ) → IsOneLeaf s leaf true → counted meter.old (length (dropped s y 5 0 (whole root.now))) ≤ meter.new }
+    ensures never_lower { meter.old ≤ meter.new }
+{
+    Root::blocks_to(root_of(root), 5, leaf, blocks, meter);
+}
+
+/// Adds to a list that has one item for each key of the way at most. It asks for memory once.
+fn push_of_way<T: Copy>(list: &mut Vec<T>, item: T) -> Result<(), Refusal>
+    ensures items { OnOk result (list.new.items ≡ list.old.items ++ item ∷ []) }
+    ensures err { OnErr result (result ≡ Err Refusal.NoMemory) }
+{
+    if list.is_empty() {
+        list.reserve(WAY)?;
+    }
+    list.push(item)?;
+    Ok(())
+}
+
+impl Lists {
+    /// Adds a key on the way to a leaf that is written: with the number of its own block where that is young, and else with the first Free
+    /// number from one on. Gives the number from which the next one is looked for.
+    fn add(
+        &mut self,
+        key: Key,
+        own: Option<Dead>,
+        young: Group,
+        allocator: &Allocator,
+        from: u32,
+    ) -> Result<u32, Refusal>
+        ensures numbered { IfOk result (λ next. IsAdded (record { key = key; kept = young_one young.0 own }) allocator.now from next self.old self.new) }
+        ensures released { OnOk result (self.new.released.items ≡ self.old.released.items ++ let_go true true young.0 own) }
+        ensures no_space { result ≡ Err Refusal.NoSpace → (frees_from from allocator.now ≡ []) × (young_one young.0 own ≡ None) }
+        ensures only { IfErr result IsNoSpaceOrNoMemory }
+    {
+        if let Some(kept) = if_young(own, young) {
+            self.made.push(NewBlock {
+                key,
+                block: kept.block,
+            })?;
+            return Ok(from);
+        }
+        let Some(block) = allocator.find(from) else {
+            return Err(Refusal::NoSpace);
+        };
+        if let Some(dead) = own {
+            push_of_way(&mut self.released, dead)?;
+        }
+        push_of_way(&mut self.taken, block)?;
+        self.made.push(NewBlock { key, block })?;
+        Ok(block.0 + 1)
+    }
+}
+
+/// The keys on the way to a leaf that is written, with the numbers of their new blocks, by the blocks that they have. NoSpace where there
+/// are too few Free numbers.
+pub(crate) fn number_way(
+    alloc: Global,
+    blocks: &[Option<Dead>; 6],
+    leaf: u32,
+    young: Group,
+    allocator: &Allocator,
+) -> Result<Lists, Refusal>
+    ensures numbered { IfOk result (λ lists. (next : ℕ) × IsNumbered (way_claims young.0 leaf blocks.now 6) allocator.now next lists) }
+    ensures released { IfOk result (λ lists. lists.released.items ≡ way_released young.0 blocks.now 6) }
+    ensures no_space { result ≡ Err Refusal.NoSpace → count_by is_free allocator.now < count_by is_fresh (way_claims young.0 leaf blocks.now 6) }
+    ensures only { IfErr result IsNoSpaceOrNoMemory }
+{
+    let mut lists = Lists {
+        released: Vec::new(alloc),
+        taken: Vec::new(alloc),
+        made: Vec::with_capacity(alloc, WAY)?,
+    };
+    let mut from = 0;
+    let mut index = leaf;
+    for level in 0..6u8 {
+        let key = Key { level, index };
+        from = match lists.add(key, blocks[level as usize], young, allocator, from) {
+            Ok(next) => next,
+            Err(refusal) => return Err(refusal),
+        };
+        index /= 16;
+    }
+    Ok(lists)
+}
+
+/// The blocks of the keys on the way to a leaf, in a list.
+pub(crate) fn present(alloc: Global, blocks: &[Option<Dead>; 6]) -> Result<Vec<Dead>, Refusal>
+    ensures ok { IfOk result (λ v. (leaf : ℕ) → v.items ≡ kept_of (way_claims 0 leaf blocks.now 6)) }
+    ensures err { OnErr result (result ≡ Err Refusal.NoMemory) }
+{
+    let mut out = Vec::with_capacity(alloc, WAY)?;
+    for own in blocks {
+        if let Some(dead) = *own {
+            out.push(dead)?;
+        }
+    }
+    Ok(out)
+}

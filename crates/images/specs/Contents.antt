@@ -1,0 +1,9 @@
+-- The bytes of a leaf that is to be written.
+use Rattle.std.specs.Prelude.{ℕ, List}
+use Rattle.images.specs.declared.contents.Held.{Held}
+use Rattle.images.specs.declared.contents.Held.TheVariants.{Lent, Own}
+
+-- they are lent, or a copy (profile)
+abbrev pub held_bytes : Held → List ℕ
+held_bytes (Lent bytes) = bytes.now
+held_bytes (Own bytes) = bytes
