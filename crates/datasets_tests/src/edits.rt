@@ -19,9 +19,9 @@ fn with_one(alloc: Global) -> Result<Table, Refusal> {
     Ok(table)
 }
 
-/// An edit of a table with nothing to be freed.
+/// An edit of a table, with nothing to be freed.
 fn edit_of(alloc: Global, table: &Table) -> Result<WorkingCopy, Refusal>
-    ensures { IfOk result (λ e. e.freeing ≡ set.empty) }
+    ensures { IfOk result (λ e. (e.to ≡ table.now) × (e.freeing ≡ set.empty)) }
 {
     let freeing = Freeing::new(alloc);
     WorkingCopy::of(table, &freeing)

@@ -1,13 +1,11 @@
 -- Blocks of pieces as they are taken off.
-use Rattle.std.proofs.Common.{◌≡◌, ℕ, zero, suc, ◌+◌, ◌-◌, ◌<◌, List, [], ◌∷◌, ◌++◌, take, drop, sym, ap, ◌∙◌, arith, append_assoc, append-nil}
+use Rattle.std.proofs.Common.{◌≡◌, ℕ, zero, suc, ◌+◌, ◌-◌, ◌<◌, List, [], ◌∷◌, ◌++◌, take, drop, sym, ap, ◌∙◌, arith, append_assoc}
 use Rattle.std.specs.List.{flat_map}
 use Rattle.std.proofs.lemmas.List.{reverse-append, map-append, take-append-drop, drop-drop}
 use Rattle.base.specs.declared.number.Dead.{Dead}
 use Rattle.base.specs.Map.{Block}
 use Rattle.base.specs.Surveys.{dead_block}
 use Rattle.destroyer.specs.declared.piece.Piece.{Piece}
-use Rattle.destroyer.specs.declared.piece.Piece.TheVariants.{Tree}
-use Rattle.base.specs.declared.number.Group.{Group}
 use Rattle.tree.specs.Branch.{Branch}
 use Rattle.destroyer.proofs.Peeling.{last_top}
 use Rattle.destroyer.specs.Members.{dead_blocks, piece_blocks, members, born_after, tops_after}
@@ -44,26 +42,21 @@ one_more ds olds news later d whole count counter lt put is e =
 pub entries_left : (xs : List Dead) (first count : ℕ) → take count (drop first xs) ++ drop (first + count) xs ≡ drop first xs
 entries_left xs first count = ap (λ ys. take count (drop first xs) ++ ys) (sym (drop-drop count first xs)) ∙ take-append-drop count (drop first xs)
 
--- what is left of a tree goes back
-pub tree_off : (cut : ℕ) (top : Branch) (olds news tops kept_old kept_new : List Block) → news ++ tops ≡ olds ++ (born_after cut top ++ []) → kept_new ≡ tops ++ kept_old
-    → news ++ kept_new ≡ olds ++ (born_after cut top ++ kept_old)
-tree_off cut top olds news tops kept_old kept_new e kept =
+-- what is left of some blocks goes back
+pub some_off : (olds news left all kept_old kept_new : List Block) → news ++ left ≡ olds ++ all → kept_new ≡ left ++ kept_old
+    → news ++ kept_new ≡ olds ++ (all ++ kept_old)
+some_off olds news left all kept_old kept_new e kept =
     ap (λ xs. news ++ xs) kept
-    ∙ sym (append_assoc news tops kept_old)
-    ∙ ap (λ xs. xs ++ kept_old) (e ∙ ap (λ xs. olds ++ xs) (append-nil (born_after cut top)))
-    ∙ append_assoc olds (born_after cut top) kept_old
+    ∙ sym (append_assoc news left kept_old)
+    ∙ ap (λ xs. xs ++ kept_old) e
+    ∙ append_assoc olds all kept_old
 
--- a tree's tops go back one by one
-pub top_kept : (cut : Group) (done : List Branch) (top : Branch) (now new old : List Piece) → new ≡ now ++ Tree top cut ∷ [] → members now ≡ tops_after cut.0 done ++ members old
-    → members new ≡ tops_after cut.0 (done ++ top ∷ []) ++ members old
-top_kept cut done top now new old put e =
-    ap members put
-    ∙ last_piece now (Tree top cut)
-    ∙ ap (λ xs. born_after cut.0 top ++ xs) e
-    ∙ sym (append_assoc (born_after cut.0 top) (tops_after cut.0 done) (members old))
-    ∙ ap (λ xs. xs ++ members old) (sym (last_top cut.0 done top))
-
--- one more is not none
-pub not_nil : {A : Type 0} (xs : List A) (x : A) → ¬ (xs ++ x ∷ [] ≡ [])
-not_nil [] x e = cc
-not_nil (y ∷ xs) x e = cc
+-- one more subtree to be put away, beside others and the pieces so far
+pub one_top : (cut : ℕ) (few done : List Branch) (top : Branch) (now old : List Block) → tops_after cut few ++ now ≡ tops_after cut done ++ old
+    → tops_after cut (few ++ top ∷ []) ++ now ≡ tops_after cut (done ++ top ∷ []) ++ old
+one_top cut few done top now old e =
+    ap (λ xs. xs ++ now) (last_top cut few top)
+    ∙ append_assoc (born_after cut top) (tops_after cut few) now
+    ∙ ap (λ xs. born_after cut top ++ xs) e
+    ∙ sym (append_assoc (born_after cut top) (tops_after cut done) old)
+    ∙ ap (λ xs. xs ++ old) (sym (last_top cut done top))

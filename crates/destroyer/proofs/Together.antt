@@ -1,5 +1,5 @@
 -- Lists of different blocks, and the sets that they are of.
-use Rattle.std.proofs.Common.{◌≡◌, ℕ, List, [], ◌∷◌, ◌++◌, length, map, refl, sym, ap, subst, ◌∙◌, inl, inr, ⊎_elim}
+use Rattle.std.proofs.Common.{◌≡◌, ℕ, List, [], ◌∷◌, ◌++◌, length, map, refl, sym, ap, subst, ◌∙◌, inl, inr, ⊎_elim, append-nil}
 use Rattle.std.specs.FinMap as finmap
 use Rattle.std.specs.FinMap.{values, entries}
 use Rattle.std.specs.FinSet as set
@@ -19,7 +19,7 @@ use Rattle.world.proofs.lineage.Deadlists.{dead_counts}
 use Rattle.world.proofs.lists.Lists.{in_listed, from_listed, from_list-append, once_append, stands_left, stands_right, stands_either, len-from_list}
 use Rattle.world.proofs.lists.Maps.{at_entry, entries_apart}
 use Rattle.world.proofs.lists.SetCounts.{no-empty, same_members, in_union_left, in_union_right, from_union, in_difference, from_difference, from_retain}
-use Rattle.destroyer.specs.Members.{born_after}
+use Rattle.destroyer.specs.Members.{born_after, tops_after}
 
 -- the blocks of a map of different numbers are different
 in_values : (es : List (Key × Cell)) (b : Block) → IsIn (map block_of (map (λ e. e.1) es)) b → (k : Key) × (x : Cell) × IsEntry es k x × (block_of x ≡ b)
@@ -40,6 +40,12 @@ tree_lists m top cut unique is =
     let once = values_different (entries m) (entries_apart key_order m) (λ j k x y h g e. unique.one j k x y (at_entry key_order m j x h) (at_entry key_order m k y g) (ap (λ (z : Block). z.number) e)) in
     let all = dead_counts (map block_of (values m)) (blocks m) cut (record { once = once; is = refl }) in
     subst (λ (n : Map). Lists (entries_after cut (map block_of (values n))) (after cut (blocks m)) × (length (entries_after cut (map block_of (values n))) ≡ len (after cut (blocks m)))) (sym is) (all.3, all.1)
+
+-- those of the tree's top, as the only one of several
+pub top_lists : (m : Map) (top : Branch) (tops : List Branch) (cut : ℕ) → tops ≡ top ∷ [] → IsUnique m → top.map ≡ m
+    → Lists (tops_after cut tops) (after cut (blocks m)) × (length (tops_after cut tops) ≡ len (after cut (blocks m)))
+top_lists m top tops cut one unique is =
+    subst (λ bs. Lists bs (after cut (blocks m)) × (length bs ≡ len (after cut (blocks m)))) (sym (ap (tops_after cut) one ∙ append-nil (born_after cut top))) (tree_lists m top cut unique is)
 
 -- an empty tree has none
 pub none_added : (s : BlockSet) (m : Map) (cut : ℕ) → m ≡ finmap.empty → s ≡ union s (after cut (blocks m))

@@ -8,7 +8,7 @@ use Rattle.base.specs.Surveys.{dead_block}
 use Rattle.tree.specs.Branch.{Branch, branch_blocks}
 use Rattle.world.specs.Deadlists.{entries_after}
 use Rattle.destroyer.specs.declared.piece.Piece.{Piece}
-use Rattle.destroyer.specs.declared.piece.Piece.TheVariants.{Tree, Dead as DeadPiece}
+use Rattle.destroyer.specs.declared.piece.Piece.TheVariants.{Trees, Dead as DeadPiece}
 
 -- the blocks of entries (On-Disk Specification, chapter 4: dead lists)
 abbrev pub dead_blocks : List Dead → List Block
@@ -26,9 +26,9 @@ born_after cut b = entries_after cut (branch_blocks b)
 abbrev pub tops_after : ℕ → List Branch → List Block
 tops_after cut bs = flat_map (born_after cut) (reverse bs)
 
--- the blocks of a piece: of a tree those born after its cut, of a dead list the entries that are left (zpool-features(7): async_destroy)
+-- the blocks of a piece: of subtrees those born after their cut, of a dead list the entries that are left (zpool-features(7): async_destroy)
 abbrev pub piece_blocks : Piece → List Block
-piece_blocks (Tree top cut) = born_after cut.0 top
+piece_blocks (Trees tops cut) = tops_after cut.0 tops.items
 piece_blocks (DeadPiece list first) = dead_blocks (drop first list.value.entries)
 
 -- those of several, the last one's first (profile)

@@ -116,7 +116,9 @@ impl Freeing {
         let Some(top) = tree.top()? else {
             return Ok(());
         };
-        self.pieces.push(Piece::Tree { top, cut })?;
+        let mut tops = Vec::with_capacity(self.alloc, 1)?;
+        tops.push_reserved(top);
+        self.pieces.push(Piece::Trees { tops, cut })?;
         self.len = len;
         Ok(())
     }
@@ -149,7 +151,8 @@ impl Freeing {
     /// that it visits, each with its sixteen places, and the other meter counts them. Over a run of slices, each of what the one before
     /// has left, no node is visited twice: those of the blocks that are taken, and tops that are no younger than their cut, each of them a
     /// tree's root or one of the at most sixteen below a block that is taken. So one slice alone may visit more than sixteen for a block
-    /// that it takes. A tree of which blocks are left goes back as at most 76 pieces.
+    /// that it takes. A tree of which blocks are left goes back as at most 7 pieces of at most 12 subtrees each, and each piece that is taken
+    /// costs one more owner of its subtrees.
     pub fn slice(
         &self,
         n: u64,

@@ -10,31 +10,62 @@ use base::refusal::Refusal;
 use deadlist::deadlist::Deadlist;
 use shared_list::SharedList;
 use std::alloc::Global;
+use std::mem;
 use std::sync::Arc;
 use tree::Subtree;
 
-/// How many subtrees there is room for at first where one is taken apart: few trees need more, and none more than 76.
-const TOPS: usize = 40;
+/// How many subtrees there is room for at first where some are taken apart: as many as fit into 1,032 bytes, the most that glibc's `malloc`
+/// keeps at hand. A tree leaves at most 76.
+const ROOM: usize = 43;
+
+/// How many subtrees a piece has at most (profile): a slice takes owners of those alone of the pieces that it takes apart.
+const PIECE_TOPS: usize = 12;
 
 /// A piece of what is to be freed.
 #[derive(Drop)]
 pub(crate) enum Piece {
-    /// The blocks of a subtree that were born after a cut.
-    Tree { top: Subtree, cut: Group },
+    /// The blocks of subtrees that were born after a cut, the last subtree's first.
+    Trees { tops: Vec<Subtree>, cut: Group },
 
     /// The blocks of the entries of a dead list, but for that many of the first.
     Dead { list: Arc<Deadlist>, first: u64 },
 }
 
-/// Puts subtrees behind the pieces.
-fn keep_tops(pieces: &mut SharedList<Piece>, tops: Vec<Subtree>, cut: Group) -> Result<(), Refusal>
+/// The same subtrees again, by one more owner of each, with room for more.
+fn copy_of_tops(alloc: Global, tops: &[Subtree]) -> Result<Vec<Subtree>, Refusal>
+    ensures ok { IfOk result (λ v. v.items ≡ tops.now) }
+    ensures err { OnErr result (result ≡ Err Refusal.NoMemory) }
+{
+    let mut copies = Vec::with_capacity(alloc, ROOM)?;
+    for top in tops {
+        copies.push(top.copy()?)?;
+    }
+    Ok(copies)
+}
+
+/// Puts subtrees behind the pieces, at most `PIECE_TOPS` in each.
+fn keep_tops(
+    pieces: &mut SharedList<Piece>,
+    alloc: Global,
+    tops: Vec<Subtree>,
+    cut: Group,
+) -> Result<(), Refusal>
     ensures blocks { OnOk result (members pieces.new ≡ tops_after cut.0 tops.items ++ members pieces.old) }
     ensures none { tops.items ≡ [] → pieces.new ≡ pieces.old }
     ensures err { OnErr result (result ≡ Err Refusal.NoMemory) }
 {
-    for top in tops {
-        pieces.push(Piece::Tree { top, cut })?;
+    if tops.is_empty() {
+        return Ok(());
     }
+    let mut few = Vec::with_capacity(alloc, PIECE_TOPS)?;
+    for top in tops {
+        if few.len() >= PIECE_TOPS {
+            let tops = mem::replace(&mut few, Vec::with_capacity(alloc, PIECE_TOPS)?);
+            pieces.push(Piece::Trees { tops, cut })?;
+        }
+        few.push(top)?;
+    }
+    pieces.push(Piece::Trees { tops: few, cut })?;
     Ok(())
 }
 
@@ -107,12 +138,10 @@ fn take_piece(
     ensures err { OnErr result (result ≡ Err Refusal.NoMemory) }
 {
     match piece {
-        Piece::Tree { top, cut } => {
-            let mut tops = Vec::with_capacity(alloc, TOPS)?;
-            let top = top.copy()?;
-            tops.push_reserved(top);
+        Piece::Trees { tops, cut } => {
+            let mut tops = copy_of_tops(alloc, tops)?;
             take_tops(&mut tops, *cut, wanted, taken, meter)?;
-            keep_tops(pieces, tops, *cut)
+            keep_tops(pieces, alloc, tops, *cut)
         }
         Piece::Dead { list, first } => take_dead(pieces, list, *first, wanted, taken, segments),
     }

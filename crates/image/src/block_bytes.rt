@@ -9,7 +9,7 @@ use byteorder::{BigEndian, ByteOrder};
 use tree::{Block, Root};
 
 /// The zeros of one block, which is also one that points to no block.
-pub(crate) const ZEROS: [u8; 512] = [0; 512];
+pub const ZEROS: [u8; 512] = [0; 512];
 
 /// Fills bytes up with zeros to a size, within the room that they have. It takes no memory.
 pub(crate) fn fill(bytes: &mut Vec<u8>, size: usize)

@@ -20,6 +20,7 @@ mod new_blocks;
 mod path;
 mod walk;
 
+pub use block_bytes::ZEROS;
 pub use image::Image;
 pub use laws::image_laws;
 pub use new_blocks::blocks_of;

@@ -1,13 +1,15 @@
 //! The bytes of a leaf that is to be written.
-ghost use Rattle.std.specs.Prelude.{◌≡◌, IfOk, IfErr, length};
+ghost use Rattle.std.specs.Prelude.{◌≡◌, IfOk, IfErr, length, replicate};
 ghost use Rattle.base.specs.declared.refusal.Refusal.{Refusal};
 
 use base::data::Data;
 use base::refusal::Refusal;
+use image::ZEROS;
 use std::alloc::Global;
 use std::marker::Model;
 
-/// The bytes of a leaf: lent by whoever asks to write them, or a copy of them. Contracts see the list of them.
+/// The bytes of a leaf: lent by whoever asks to write them, or a copy of them, or the zeros of a leaf that isn't there. Contracts see the
+/// list of them.
 #[derive(Drop)]
 pub struct Contents<'a> {
     held: Held<'a>,
@@ -18,6 +20,7 @@ pub struct Contents<'a> {
 enum Held<'a> {
     Lent(&'a [u8; 512]),
     Own(Data),
+    Zeros,
 }
 
 impl<'a> Model for Contents<'a> {
@@ -40,6 +43,13 @@ impl<'a> Contents<'a> {
         }
     }
 
+    /// Those of a leaf that isn't there: zeros. Constant time.
+    pub(crate) fn zeros() -> Contents<'a>
+        ensures { result ≡ replicate 512 0 }
+    {
+        Contents { held: Held::Zeros }
+    }
+
     /// The bytes. Constant time.
     pub(crate) fn as_array(&self) -> &[u8; 512]
         ensures { result.now ≡ self.now }
@@ -47,17 +57,20 @@ impl<'a> Contents<'a> {
         match &self.held {
             Held::Lent(bytes) => *bytes,
             Held::Own(bytes) => bytes.as_array(),
+            Held::Zeros => &ZEROS,
         }
     }
 
-    /// The same bytes as a copy. NoMemory where there is none for it.
+    /// The same bytes, of which those that are lent are copied. NoMemory where there is none for the copy.
     pub(crate) fn owned(self, alloc: Global) -> Result<Contents<'static>, Refusal>
         ensures ok { IfOk result (λ c. c ≡ self.entry) }
         ensures err { IfErr result (λ e. e ≡ Refusal.NoMemory) }
     {
-        let bytes = Data::new(alloc, self.as_array())?;
-        Ok(Contents {
-            held: Held::Own(bytes),
-        })
+        let held = match self.held {
+            Held::Lent(bytes) => Held::Own(Data::new(alloc, bytes)?),
+            Held::Own(bytes) => Held::Own(bytes),
+            Held::Zeros => Held::Zeros,
+        };
+        Ok(Contents { held })
     }
 }

@@ -21,9 +21,6 @@ use node::span;
 use std::alloc::Global;
 use tree::{NewBlock, Root, Update};
 
-// What a punch writes at a leaf, which isn't there afterwards.
-const ZEROS: [u8; 512] = [0; 512];
-
 /// The path to a leaf that one update changes: where its blocks are before and after, each at its level.
 #[derive(Drop)]
 pub struct ChangedPath {
@@ -50,7 +47,7 @@ pub enum Writes<'a> {
 }
 
 impl<'a> Writes<'a> {
-    /// The same with a copy of the bytes that are lent to it. NoMemory where there is none for it.
+    /// The same with a copy of the bytes that are lent to it, if any. NoMemory where there is none for it.
     pub fn owned(self, alloc: Global) -> Result<Writes<'static>, Refusal>
         ensures ok { IfOk result (λ w. w ≡ self.entry) }
         ensures err { IfErr result (λ e. e ≡ Refusal.NoMemory) }
@@ -123,7 +120,7 @@ fn bytes_of<'a>(update: &Update<'a>) -> Contents<'a>
 {
     match update {
         Update::Write { bytes, .. } => Contents::lent(*bytes),
-        Update::Punch(_) => Contents::lent(&ZEROS),
+        Update::Punch(_) => Contents::zeros(),
     }
 }
 

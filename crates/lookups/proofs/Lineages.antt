@@ -1,6 +1,6 @@
 -- The walk down a lineage, a file system at a time.
 use Rattle.std.proofs.Common.{◌≡◌, ℕ, ◌+◌, ◌<◌, ◌≤◌, ◌^◌, ◌||◌, true, false, List, [], ◌∷◌, ◌++◌, Option, Some, None, map, refl, sym, ap, subst, ◌∙◌, true≢false, inl, inr, ⊎_elim, append_assoc, append-nil, length, arith}
-use Rattle.std.specs.Prelude.{min, nat_lt, IfNone, ◌-◌}
+use Rattle.std.specs.Prelude.{Bool, ◌↔◌, IsTrue, min, nat_lt, IfNone, ◌-◌}
 use Rattle.std.specs.List.{list_any, sum_by}
 use Rattle.std.specs.Option.{option_map, option_map_or}
 use Rattle.std.specs.FinMap.{get}
@@ -35,6 +35,11 @@ use Rattle.lookups.proofs.Between.{IsStretch, first_group, stretch_until, gone_b
 pub if_none : {A P : Type 0} (x : Option A) → P → IfNone x P
 if_none None p = p
 if_none (Some a) p = tt
+
+-- a test that says whether two names are equal tells them apart by their bytes
+pub named_is : {p q r : List ℕ} (b : Bool) → IsTrue b ↔ (p ≡ q) → q ≡ r → b ≡ same_name p r
+named_is {p} {q} {r} true h e = sym (ap (same_name p) (sym e ∙ sym (h.0 refl)) ∙ name_itself p)
+named_is {p} {q} {r} false h e = sym (false_from_ne_true (same_name p r) (λ t. true≢false (sym (h.1 (one_name p r t ∙ sym e)))))
 
 -- none of some snapshots is the one in question
 none_is : (id : SnapId) (us : List Snap) → ((x : Snap) → IsIn us x → same_id id (id_of x) ≡ false) → list_any (same_id id) (map id_of us) ≡ false

@@ -8,7 +8,7 @@ ghost use Rattle.model.specs.World.{union_of};
 ghost use Rattle.world.specs.Sets.{AreDisjoint};
 ghost use Rattle.world.specs.Tables.{world_of, without_snap};
 ghost use Rattle.removals.specs.Edits.{HasLost};
-ghost use Rattle.removals.specs.Named.{has_clone};
+ghost use Rattle.removals.specs.Needs.{has_clone};
 ghost use Rattle.removals.specs.Requests.{swept, IsSweptBy};
 ghost use Rattle.marks.specs.Requests.{released_in, release_refusal, is_due_with};
 

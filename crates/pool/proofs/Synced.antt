@@ -24,7 +24,7 @@ use Rattle.world.specs.Tables.{Datasets, world_of, lost_between}
 use Rattle.world.proofs.changes.Kept.{union-fields}
 use Rattle.accounts.specs.Limits.{IsUnlimited}
 use Rattle.removals.specs.Edits.{HasLost}
-use Rattle.removals.specs.Named.{has_clone}
+use Rattle.removals.specs.Needs.{has_clone}
 use Rattle.removals.specs.Requests.{swept, IsSweptBy, IsSweptBut}
 use Rattle.steps.specs.Edits.{datasets_of, lose, synced, closed, CanLose, CanSync}
 use Rattle.steps.specs.Handed.{IsAccounted, Line}

@@ -14,7 +14,7 @@ use Rattle.world.specs.Tables.{Datasets, world_of, without_system}
 use Rattle.world.proofs.lists.Maps.{no_value, key_cases, at_entry, get-remove_same, get-remove_other}
 use Rattle.world.proofs.lists.Finding.{found_none, is_same_id}
 use Rattle.world.proofs.lineage.Bridge.{from_entries, from_snap_at, in_snaps}
-use Rattle.removals.specs.Named.{has_clone, is_held, is_kept}
+use Rattle.removals.specs.Needs.{has_clone, is_held, is_kept}
 use Rattle.removals.specs.Families.{has_deferred_origin}
 use Rattle.removals.specs.Requests.{swept, without_family, IsSweptBy}
 use Rattle.removals.proofs.Clones.{uncloned_is}

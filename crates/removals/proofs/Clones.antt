@@ -15,7 +15,7 @@ use Rattle.world.proofs.lists.Maps.{at_entry}
 use Rattle.world.proofs.lineage.Bridge.{from_entries}
 use Rattle.world.proofs.lists.Finding.{same_id_is}
 use Rattle.world.proofs.steps.States.{positive, in_clones}
-use Rattle.removals.specs.Named.{has_clone}
+use Rattle.removals.specs.Needs.{has_clone}
 use Rattle.removals.proofs.Needed.{none_kept, any_alike}
 
 -- ---- whether one is there

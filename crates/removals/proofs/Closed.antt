@@ -16,7 +16,7 @@ use Rattle.world.proofs.lists.Maps.{no_value, same_value}
 use Rattle.world.proofs.lists.Finding.{same_id_is, is_same_id}
 use Rattle.world.proofs.lineage.Bridge.{from_snap_at, snap_is_at, one_snap}
 use Rattle.world.proofs.removals.WithoutSnaps.{get-without, without_none}
-use Rattle.removals.specs.Named.{without_owned, has_clone, is_kept}
+use Rattle.removals.specs.Needs.{has_clone, is_kept}
 use Rattle.removals.specs.Families.{unneeded}
 use Rattle.removals.specs.Requests.{swept, gone_with, IsSweptBy}
 use Rattle.datasets.specs.Holders.{snap_in_system}
@@ -110,9 +110,3 @@ module _ (t : Datasets) (good : AreFileSystems t.file_systems t.group) (views : 
             → option_map (λ (f : FileSystem). record f { snaps = filter (λ u. not (same_id (id_of u) (id_of p.1))) f.snaps }) x ≡ option_map (λ (f : FileSystem). record f { snaps = filter (λ u. not (goes u)) f.snaps }) x
         by_system n None at = refl
         by_system n (Some f) at = ap (λ l. Some (record f { snaps = l })) (filter_alike (λ u. same_id (id_of u) (id_of p.1)) goes f.snaps (λ u i. alike n f u at i))
-
--- the same of its file system
-pub goes_owned : (t : Datasets) → AreFileSystems t.file_systems t.group → (views : Views) → IsSweptBy t views → (number : ℕ) (p : Name × Snap) → gone_with t views number ≡ Some p
-    → without_owned t p.0 (id_of p.1) ≡ swept t (remove views number)
-goes_owned t good views clean number p is =
-    ap (λ b. cond b (without_snap t (id_of p.1)) t) (goes_there t good views clean number p is) ∙ one_goes t good views clean number p is

@@ -1,6 +1,5 @@
 -- Snapshots whose destroy is deferred.
 use Rattle.std.proofs.Common.{◌≡◌, Bool, true, false, cond, not, ◌||◌, List, [], ◌∷◌, map, Option, Some, None, refl, sym, ap, subst, ◌∙◌, inl, inr}
-use Rattle.std.specs.Prelude.{is_some}
 use Rattle.std.specs.List.{filter}
 use Rattle.std.specs.Option.{option_map}
 use Rattle.std.specs.FinMap.{get, same_map}
@@ -18,9 +17,7 @@ use Rattle.world.proofs.changes.Views.{same_maps_mapped}
 use Rattle.world.proofs.lineage.Bridge.{in_union_of, from_union_of}
 use Rattle.world.proofs.removals.Sweep.{get-with_file_systems}
 use Rattle.world.proofs.removals.WithoutSnaps.{get-without}
-use Rattle.datasets.specs.Holders.{snap_in_system}
 use Rattle.removals.specs.Edits.{HasLost}
-use Rattle.removals.specs.Named.{deferred_owned}
 use Rattle.removals.proofs.Losses.{lost_alike}
 
 -- a snapshot, where it is one of some
@@ -126,9 +123,6 @@ module _ (w : World) (p : Snap → Bool) where
       (subst (λ l. IsIn l r.2) (sym (maps_stay r.1)) r.4) r.5)
 
 -- what has been lost stays so
-pub lost_deferred : (t u v : Datasets) (freeing after : BlockSet) (name : Name) (id : SnapId) → v ≡ deferred_owned u name id → HasLost t freeing u after → HasLost t freeing v after
-lost_deferred t u v freeing after name id to lost = subst (λ x. HasLost t freeing x after) (sym to) (by_test (is_some (snap_in_system u name id)))
-  where
-    by_test : (b : Bool) → HasLost t freeing (cond b (deferred_snap u id) u) after
-    by_test true = lost_alike t u (deferred_snap u id) freeing after (union_stays (world_of u) (λ w. same_id (id_of w) id)) lost
-    by_test false = lost
+pub lost_deferred : (t u v : Datasets) (freeing after : BlockSet) (id : SnapId) → v ≡ deferred_snap u id → HasLost t freeing u after → HasLost t freeing v after
+lost_deferred t u v freeing after id to lost =
+    subst (λ x. HasLost t freeing x after) (sym to) (lost_alike t u (deferred_snap u id) freeing after (union_stays (world_of u) (λ w. same_id (id_of w) id)) lost)

@@ -6,7 +6,6 @@ use Rattle.std.specs.List.Sorted.{IsPermutation, IsNonDecreasingBy}
 use Rattle.std.specs.Option.{option_map, option_map_or}
 use Rattle.std.specs.FinMap.{get, insert, entries, same_map}
 use Rattle.std.specs.FinSet.{union}
-use Rattle.std.proofs.lemmas.Bool.{lt-ltb}
 use Rattle.std.proofs.lemmas.List.Sorted.{IsPermutation-sym}
 use Rattle.base.specs.Map.{BlockSet}
 use Rattle.base.specs.Surveys.{IsIn}
@@ -21,20 +20,20 @@ use Rattle.world.specs.Worlds.{AreFileSystems, AreRising}
 use Rattle.world.specs.Tables.{Datasets, world_of, with_system, lost_between}
 use Rattle.world.proofs.lineage.Bridge.{from_entries, start, starts, start_is, rising, rising_above}
 use Rattle.world.proofs.changes.Drawn.{union_from}
-use Rattle.world.proofs.lists.Finding.{from_filter, in_filter, filter_all}
+use Rattle.world.proofs.lists.Finding.{from_filter, in_filter}
 use Rattle.world.proofs.lists.Listed.{map_in}
 use Rattle.world.proofs.lists.Maps.{key_cases, no_value, same_value, entry_of, at_entry}
 use Rattle.world.proofs.lineage.Put.{put_here, put_other, put_maps}
 use Rattle.world.proofs.lineage.Shuffled.{stays_in}
 use Rattle.world.proofs.removals.Sweep.{get-with_file_systems}
-use Rattle.removals.specs.Edits.{HasLost}
+use Rattle.removals.specs.Edits.{HasLost, with_snaps_upto}
 use Rattle.removals.specs.Families.{emptied, AreClonesInside, IsBareFamily}
-use Rattle.removals.specs.Named.{without_all, later_ids, has_clone, has_clone_and_is_later}
+use Rattle.removals.specs.Needs.{has_clone, has_clone_and_is_later}
 use Rattle.removals.specs.Requests.{without_family}
 use Rattle.removals.proofs.Clones.{is_uncloned}
-use Rattle.removals.proofs.Identified.{none_owned}
 use Rattle.removals.proofs.Losses.{has_lost}
-use Rattle.removals.proofs.Rolled.{insert_twice, last_go}
+use Rattle.removals.proofs.Once.{name_in, names_once, once_filtered, not_again}
+use Rattle.removals.proofs.Rolled.{insert_twice, all_later, upto_at}
 use Rattle.removals.proofs.SystemsGone.{in_entries, get-family}
 
 -- ---- one file system
@@ -44,37 +43,25 @@ abbrev pub bare_at : Datasets → Entry → Datasets
 bare_at t r = record t { file_systems = insert t.file_systems r.0 (record r.1 { snaps = [] }) }
 
 -- all its snapshots are of a later group than 0
-pub bare_is : (t : Datasets) (good : AreFileSystems t.file_systems t.group) (r : Entry) → get t.file_systems r.0 ≡ Some r.1 → without_all t r.0 (later_ids 0 r.1.snaps) ≡ bare_at t r
+bare_is : (t : Datasets) (good : AreFileSystems t.file_systems t.group) (r : Entry) → get t.file_systems r.0 ≡ Some r.1 → with_snaps_upto t r.0 0 ≡ bare_at t r
 bare_is t good r at =
-    ap (λ l. without_all t r.0 (map {A = Snap} id_of l)) (filter_all (λ (s : Snap). nat_lt 0 s.group) r.1.snaps (λ u i.
-    let l = rising_above (start t.file_systems t.group good.lines r.0 r.1 at).base r.1.snaps u (rising t.file_systems t.group good.lines r.0 r.1 at) i in
-    lt-ltb 0 u.group (omega (arith, l))))
-    ∙ last_go t good r at [] r.1.snaps refl
+    upto_at t r at 0
+    ∙ ap (λ l. record t { file_systems = insert t.file_systems r.0 (record r.1 { snaps = l }) })
+    (all_later 0 (start t.file_systems t.group good.lines r.0 r.1 at).base r.1.snaps (omega arith) (rising t.file_systems t.group good.lines r.0 r.1 at)).0
 
--- what is empty has none of them
-already_bare : (t : Datasets) (r : Entry) → get t.file_systems r.0 ≡ Some empty_file_system → without_all t r.0 (later_ids 0 r.1.snaps) ≡ t
-already_bare t r at = none_owned (later_ids 0 r.1.snaps) t r.0 (ap (λ (x : Option FileSystem). option_map_or (λ (f : FileSystem). f.snaps) x []) at)
-
-module _ (t : Datasets) (good : AreFileSystems t.file_systems t.group) (r : Entry) (state : (get t.file_systems r.0 ≡ Some r.1) ⊎ (get t.file_systems r.0 ≡ Some empty_file_system))
-    (u : Datasets) (to : u ≡ without_all t r.0 (later_ids 0 r.1.snaps)) where
+module _ (t : Datasets) (good : AreFileSystems t.file_systems t.group) (r : Entry) (at : get t.file_systems r.0 ≡ Some r.1) (u : Datasets) (to : u ≡ with_snaps_upto t r.0 0) where
   pub one_there : IsSome (get u.file_systems r.0)
-  one_there = ⊎_elim
-      (λ at. ap (λ (v : Datasets). is_some (get v.file_systems r.0)) (to ∙ bare_is t good r at) ∙ ap is_some (put_here t.file_systems r.0 (record r.1 { snaps = [] })))
-      (λ at. ap (λ (v : Datasets). is_some (get v.file_systems r.0)) (to ∙ already_bare t r at) ∙ ap is_some at)
-      state
+  one_there = ap (λ (v : Datasets). is_some (get v.file_systems r.0)) (to ∙ bare_is t good r at) ∙ ap is_some (put_here t.file_systems r.0 (record r.1 { snaps = [] }))
 
   pub one_bare : snaps_at u.file_systems r.0 ≡ []
-  one_bare = ⊎_elim
-      (λ at. ap (λ (v : Datasets). snaps_at v.file_systems r.0) (to ∙ bare_is t good r at) ∙ ap (λ (x : Option FileSystem). option_map_or (λ (f : FileSystem). f.snaps) x []) (put_here t.file_systems r.0 (record r.1 { snaps = [] })))
-      (λ at. ap (λ (v : Datasets). snaps_at v.file_systems r.0) (to ∙ already_bare t r at) ∙ ap (λ (x : Option FileSystem). option_map_or (λ (f : FileSystem). f.snaps) x []) at)
-      state
+  one_bare =
+      ap (λ (v : Datasets). snaps_at v.file_systems r.0) (to ∙ bare_is t good r at)
+      ∙ ap (λ (x : Option FileSystem). option_map_or (λ (f : FileSystem). f.snaps) x []) (put_here t.file_systems r.0 (record r.1 { snaps = [] }))
 
   pub one_emptied : (v : Datasets) → v ≡ with_system u r.0 empty_file_system → v ≡ with_system t r.0 empty_file_system
-  one_emptied v is = is ∙ ⊎_elim
-      (λ at. ap (λ (w : Datasets). with_system w r.0 empty_file_system) (to ∙ bare_is t good r at)
-      ∙ ap (λ ss. record t { file_systems = ss }) (insert_twice t.file_systems r.0 (record r.1 { snaps = [] }) empty_file_system))
-      (λ at. ap (λ (w : Datasets). with_system w r.0 empty_file_system) (to ∙ already_bare t r at))
-      state
+  one_emptied v is =
+      is ∙ ap (λ (w : Datasets). with_system w r.0 empty_file_system) (to ∙ bare_is t good r at)
+      ∙ ap (λ ss. record t { file_systems = ss }) (insert_twice t.file_systems r.0 (record r.1 { snaps = [] }) empty_file_system)
 
 -- an empty file system has no block of its own
 fewer_vacated : (t : Datasets) → AreFileSystems t.file_systems t.group → (name : Name) → IsSubset (union_of (world_of (with_system t name empty_file_system))) (union_of (world_of t))
@@ -91,7 +78,7 @@ lost_vacated (Err e) t u freeing after lost good apart name to is joined = tt
 
 -- What is left where these of the family have been emptied
 pub record IsStage (t : Datasets) (name : Name) (u : Datasets) (rows : List Entry) : Type 0 where
-  pub each : (n : Name) → (get u.file_systems n ≡ get t.file_systems n) ⊎ ((is_in_family name n ≡ true) × IsSome (get t.file_systems n) × (get u.file_systems n ≡ Some empty_file_system))
+  pub each : (n : Name) → (get u.file_systems n ≡ get t.file_systems n) ⊎ ((is_in_family name n ≡ true) × IsSome (get t.file_systems n) × (get u.file_systems n ≡ Some empty_file_system) × IsIn (map name_in rows) n)
   pub done : (r : Entry) → IsIn rows r → get u.file_systems r.0 ≡ Some empty_file_system
   pub group : u.group ≡ t.group
 
@@ -106,10 +93,11 @@ next_stage t name u done s r at within v is = subst (λ w. IsStage t name w (r �
         ap (is_in_family name) same ∙ within,
         ap (λ m. is_some (get t.file_systems m)) same ∙ ap is_some at,
         ap (get (insert u.file_systems r.0 empty_file_system)) same ∙ put_here u.file_systems r.0 empty_file_system,
+        inl same,
       ))
       (λ (ne : ¬ (n ≡ r.0)). ⊎_elim
       (λ e. inl (put_other u.file_systems r.0 empty_file_system n ne ∙ e))
-      (λ e. inr (e.0, e.1, put_other u.file_systems r.0 empty_file_system n ne ∙ e.2))
+      (λ e. inr (e.0, e.1, put_other u.file_systems r.0 empty_file_system n ne ∙ e.2, inr e.3))
       (s.each n))
       (key_cases name_order n r.0);
   done = λ q i. ⊎_elim
@@ -154,9 +142,6 @@ none_any p (x ∷ xs) each = ap (λ b. b || list_any p xs) (each x (inl refl)) �
 module _ (t : Datasets) (good : AreFileSystems t.file_systems t.group) (name : Name) (inside : AreClonesInside t name) (u : Datasets) (done : List Entry) (stage : IsStage t name u done)
     (r : Entry) (at : get t.file_systems r.0 ≡ Some r.1) (within : is_in_family name r.0 ≡ true)
     (left : (q : Entry) → IsIn (entries t.file_systems) q → is_in_family name q.0 ≡ true → IsIn done q ⊎ (origin_group q.1.origin ≤ origin_group r.1.origin)) where
-  pub as_was : (get u.file_systems r.0 ≡ Some r.1) ⊎ (get u.file_systems r.0 ≡ Some empty_file_system)
-  as_was = ⊎_elim (λ e. inl (e ∙ at)) (λ k. inr k.2) (stage.each r.0)
-
   no_origin : (f : FileSystem) (id : SnapId) → ◌≡◌ {A = Option FileSystem} (Some empty_file_system) (Some f) → f.origin ≡ Some id → ⊥
   no_origin f id e o = no_value id (ap (λ (y : FileSystem). y.origin) (same_value empty_file_system f e) ∙ o)
 
@@ -245,8 +230,12 @@ module _ {A : Type 0} (value : A → Entry) (t : Datasets) (good : AreFileSystem
             (subst (λ y. origin_group (value (get_or xs j a)).1.origin ≤ origin_group (value y).1.origin) (sym item) le)
 
     module _ (u : Datasets) (stage : IsStage t name u (map value (drop left xs))) where
-      pub turn_as : (get u.file_systems (value a).0 ≡ Some (value a).1) ⊎ (get u.file_systems (value a).0 ≡ Some empty_file_system)
-      turn_as = as_was t good name inside u (map value (drop left xs)) stage (value a) there its.1 latest
+      pub turn_as : get u.file_systems (value a).0 ≡ Some (value a).1
+      turn_as = ⊎_elim
+          (λ e. e ∙ there)
+          (λ k. absurd (not_again value family xs (once_filtered name_in (λ (r : Entry). is_in_family name r.0) (entries t.file_systems) (names_once t.file_systems)) all
+          (left - 1) a (drop left xs) (here ∙ ap (λ n. a ∷ drop n xs) next) k.3))
+          (stage.each (value a).0)
 
       pub turn_uncloned : list_any (has_clone_and_is_later u 0) (value a).1.snaps ≡ false
       turn_uncloned = none_cloned t good name inside u (map value (drop left xs)) stage (value a) there its.1 latest

@@ -2,6 +2,7 @@ pub use Rattle.snap.proofs.Turns
 pub use Rattle.snap.proofs.Rooms
 pub mod Losses
 pub mod Identified
+pub mod Once
 pub mod Yielded
 pub mod Rolled
 pub mod Destroyed

@@ -19,7 +19,7 @@ use Rattle.world.specs.Tables.{Datasets, world_of}
 use Rattle.world.proofs.lists.Maps.{no_value, same_value}
 use Rattle.world.proofs.lists.Finding.{or_none, from_find, found_none, is_same_id}
 use Rattle.world.proofs.lineage.Bridge.{from_snap_at, snap_is_at}
-use Rattle.removals.specs.Named.{has_clone, is_held, is_held_after, is_kept}
+use Rattle.removals.specs.Needs.{has_clone, is_held, is_held_after, is_kept}
 use Rattle.removals.specs.Families.{unneeded}
 use Rattle.removals.proofs.Seen.{any_later}
 

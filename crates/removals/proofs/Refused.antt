@@ -23,7 +23,7 @@ use Rattle.snap.specs.Taking.{is_in_family}
 use Rattle.world.proofs.lists.Maps.{some_of, entry_of, at_entry}
 use Rattle.world.proofs.lists.Listed.{map_in}
 use Rattle.world.proofs.lists.Finding.{in_filter, filter_all, name_itself}
-use Rattle.removals.specs.Named.{is_held_after}
+use Rattle.removals.specs.Needs.{is_held_after}
 use Rattle.removals.specs.Families.{family_refusal, is_outside_clone, AreClonesInside}
 use Rattle.removals.specs.Requests.{destroy_refusal}
 use Rattle.removals.proofs.Needed.{is_held_at, later_held}

@@ -4,7 +4,7 @@ use Rattle.std.specs.Prelude.{nat_le, nat_lt, is_some, ◌&&◌, ◌||◌}
 use Rattle.base.specs.declared.refusal.Refusal.{Refusal}
 use Rattle.base.specs.declared.refusal.Refusal.TheVariants.{NoDataset, NotNewest, Busy, HasClones}
 use Rattle.std.specs.List.{find, filter, last_or, list_any}
-use Rattle.std.proofs.lemmas.Bool.{lt-ltb, ltb-true}
+use Rattle.std.proofs.lemmas.Bool.{cases_lt, lt-ltb, ltb-true, le-ltb, le-leb, leb-true}
 use Rattle.std.specs.Option.{option_map, option_map_or, option_and_then}
 use Rattle.std.specs.FinMap as finmap
 use Rattle.std.specs.FinMap.{get, insert, same_map}
@@ -17,7 +17,7 @@ use Rattle.base.specs.Map.{Map}
 use Rattle.model.specs.World.{World, FileSystem, Snap, SnapId, id_of}
 use Rattle.model.specs.Edits.{without_snaps, with_file_system}
 use Rattle.model.specs.State.{Views}
-use Rattle.model.specs.requests.Rollback.{snaps_after, back_at, after_rollback, placed, newer_snaps}
+use Rattle.model.specs.requests.Rollback.{snaps_upto, snaps_after, back_at, after_rollback, placed, newer_snaps}
 use Rattle.datasets.specs.Losses.{newest_map}
 use Rattle.datasets.specs.Origins.{origin_group}
 use Rattle.datasets.specs.Writes.{newest_group}
@@ -29,17 +29,19 @@ use Rattle.world.specs.Tables.{Datasets, world_of}
 use Rattle.world.proofs.lists.Maps.{key_cases, same_value, no_value}
 use Rattle.world.proofs.lists.Listed.{in_map, map_in, length-mapped}
 use Rattle.world.proofs.lists.Finding.{from_find, filter_front, filter_all, in_filter, from_filter, in_right}
-use Rattle.world.proofs.changes.Promotions.{split_at, upto_is, after_is, append_assoc}
+use Rattle.world.proofs.changes.Promotions.{split_at, upto_is}
 use Rattle.world.proofs.lineage.Put.{put_here, put_other}
 use Rattle.world.proofs.lineage.Bridge.{start, rising, rising_above, one_snap, snap_is_at, in_middle}
 use Rattle.world.proofs.removals.WithoutSnaps.{get-without, any_in, any_from}
-use Rattle.removals.specs.Named.{without_all, later_ids, has_clone, is_held_after, has_clone_and_is_later}
+use Rattle.removals.specs.Edits.{with_snaps_upto}
+use Rattle.removals.specs.Needs.{has_clone, is_held_after, has_clone_and_is_later}
 use Rattle.removals.specs.Requests.{rolled, rollback_refusal, refusal_at, with_marks}
 use Rattle.removals.proofs.Clones.{outside_is}
-use Rattle.removals.proofs.Identified.{all_go}
+use Rattle.removals.proofs.Identified.{without_ids}
 use Rattle.removals.proofs.Marked.{marks_put}
 use Rattle.removals.proofs.Needed.{is_held_at, later_held}
 use Rattle.removals.proofs.Seen.{any_later}
+use Rattle.removals.proofs.Yielded.{later_ids}
 
 -- the last snapshots of one file system go
 module _ (t : Datasets) (good : AreFileSystems t.file_systems t.group) (r : Entry) (at : get t.file_systems r.0 ≡ Some r.1) (older newer : List Snap) (is : r.1.snaps ≡ older ++ newer) where
@@ -91,8 +93,40 @@ module _ (t : Datasets) (good : AreFileSystems t.file_systems t.group) (r : Entr
       by_old n ne None e = ap (option_map (λ (s : FileSystem). record s { snaps = filter (λ t. not (is_one_of ids t)) s.snaps })) e ∙ sym e
       by_old n ne (Some x) e = ap (option_map (λ (s : FileSystem). record s { snaps = filter (λ t. not (is_one_of ids t)) s.snaps })) e ∙ ap (λ l. Some (record x { snaps = l })) (elsewhere n x ne e) ∙ sym e
 
-  pub last_go : without_all t r.0 (map {A = Snap} id_of newer) ≡ record t { file_systems = insert t.file_systems r.0 (record r.1 { snaps = older }) }
-  last_go = all_go t good r.0 r.1 at newer (λ u i. subst (λ l. IsIn l u) (sym is) (in_right older newer u i)) ∙ ap (λ ss. record t { file_systems = ss }) shorter
+  last_go : without_ids t (map {A = Snap} id_of newer) ≡ record t { file_systems = insert t.file_systems r.0 (record r.1 { snaps = older }) }
+  last_go = ap (λ ss. record t { file_systems = ss }) shorter
+
+-- the snapshots up to a group, and then the others
+pub all_later : (g base : ℕ) (ts : List Snap) → g ≤ base → AreRising base ts → (filter (λ (u : Snap). nat_le u.group g) ts ≡ []) × (filter (λ (u : Snap). nat_lt g u.group) ts ≡ ts)
+all_later g base ts le up = (
+  filter_front (λ (u : Snap). nat_le u.group g) [] ts (λ u i. absurd i) (λ u i e. let l = leb-true u.group g e in let m = rising_above base ts u up i in absurd (omega (arith, l, m, le))),
+  filter_all (λ (u : Snap). nat_lt g u.group) ts (λ u i. let m = rising_above base ts u up i in lt-ltb g u.group (omega (arith, m, le))),
+)
+
+two_parts : (g base : ℕ) (ts : List Snap) → AreRising base ts → ts ≡ filter (λ (u : Snap). nat_le u.group g) ts ++ filter (λ (u : Snap). nat_lt g u.group) ts
+two_parts g base [] up = refl
+two_parts g base (t ∷ ts) up = ⊎_elim
+    (λ l. let parts = all_later g g (t ∷ ts) (omega arith) (l, up.1) in sym (λ i. parts.0 i ++ parts.1 i))
+    (λ l.
+    let upto : nat_le t.group g ≡ true = le-leb t.group g l in
+    let later : nat_lt g t.group ≡ false = le-ltb g t.group l in
+    ap (λ us. t ∷ us) (two_parts g t.group ts up.1)
+    ∙ sym (λ i. cond (upto i) (t ∷ filter (λ (u : Snap). nat_le u.group g) ts) (filter (λ (u : Snap). nat_le u.group g) ts)
+    ++ cond (later i) (t ∷ filter (λ (u : Snap). nat_lt g u.group) ts) (filter (λ (u : Snap). nat_lt g u.group) ts)))
+    (cases_lt g t.group)
+
+-- a file system that is there has its snapshots up to a group
+module _ (t : Datasets) (r : Entry) (at : get t.file_systems r.0 ≡ Some r.1) (g : ℕ) where
+  pub upto_at : with_snaps_upto t r.0 g ≡ record t { file_systems = insert t.file_systems r.0 (record r.1 { snaps = snaps_upto r.1 g }) }
+  upto_at = ap (λ x. record t { file_systems = (option_map_or (λ (f : FileSystem). record w { file_systems = insert w.file_systems r.0 (record f { snaps = snaps_upto f g }) }) x w).file_systems }) at
+    where
+      w : World
+      w = world_of t
+
+  pub later_gone : AreFileSystems t.file_systems t.group → without_ids t (later_ids g r.1.snaps) ≡ with_snaps_upto t r.0 g
+  later_gone good =
+      last_go t good r at (snaps_upto r.1 g) (filter (λ (u : Snap). nat_lt g u.group) r.1.snaps) (two_parts g (start t.file_systems t.group good.lines r.0 r.1 at).base r.1.snaps (rising t.file_systems t.group good.lines r.0 r.1 at))
+      ∙ sym upto_at
 
 pub insert_twice : (ss : FileSystems) (name : Name) (a b : FileSystem) → insert (insert ss name a) name b ≡ insert ss name b
 insert_twice ss name a b = same_map name_order.total name_order.exact _ _ (λ q. ⊎_elim
@@ -113,11 +147,11 @@ module _ (t : Datasets) (good : AreFileSystems t.file_systems t.group) (r : Entr
   rises : AreRising (start t.file_systems t.group good.lines r.0 r.1 at).base (older ++ s ∷ newer)
   rises = subst (AreRising (start t.file_systems t.group good.lines r.0 r.1 at).base) is (rising t.file_systems t.group good.lines r.0 r.1 at)
 
-  newer_gone : without_all t r.0 (later_ids s.group r.1.snaps) ≡ record t { file_systems = insert t.file_systems r.0 (record r.1 { snaps = older ++ s ∷ [] }) }
-  newer_gone =
-      ap (λ l. without_all t r.0 (later_ids s.group l)) is
-      ∙ ap (λ l. without_all t r.0 (map {A = Snap} id_of l)) (after_is _ older s newer rises)
-      ∙ last_go t good r at (older ++ s ∷ []) newer (is ∙ sym (append_assoc older (s ∷ []) newer))
+  kept_is : snaps_upto r.1 s.group ≡ older ++ s ∷ []
+  kept_is = ap (filter (λ (u : Snap). nat_le u.group s.group)) is ∙ upto_is _ older s newer rises
+
+  newer_gone : with_snaps_upto t r.0 s.group ≡ record t { file_systems = insert t.file_systems r.0 (record r.1 { snaps = older ++ s ∷ [] }) }
+  newer_gone = upto_at t r at s.group ∙ ap (λ l. record t { file_systems = insert t.file_systems r.0 (record r.1 { snaps = l }) }) kept_is
 
   abbrev back : FileSystem
   back = record r.1 { live = s.map; snaps = older ++ s ∷ [] }
@@ -127,8 +161,7 @@ module _ (t : Datasets) (good : AreFileSystems t.file_systems t.group) (r : Entr
   up_to marks = without_newer marks s.group
 
   back_is : back_at r.1 s ≡ record r.1 { live = s.map; snaps = older ++ s ∷ []; bookmarks = without_newer r.1.bookmarks s.group }
-  back_is = ap (λ l. record r.1 { live = s.map; snaps = l; bookmarks = without_newer r.1.bookmarks s.group })
-      (ap (filter (λ (u : Snap). nat_le u.group s.group)) is ∙ upto_is _ older s newer rises)
+  back_is = ap (λ l. record r.1 { live = s.map; snaps = l; bookmarks = without_newer r.1.bookmarks s.group }) kept_is
 
   there : IsIn r.1.snaps s
   there = subst (λ l. IsIn l s) (sym is) (in_middle older s newer)
@@ -144,7 +177,7 @@ module _ (t : Datasets) (good : AreFileSystems t.file_systems t.group) (r : Entr
       w : World
       w = world_of t
 
-  module _ (u : Datasets) (to : u ≡ without_all t r.0 (later_ids s.group r.1.snaps)) where
+  module _ (u : Datasets) (to : u ≡ with_snaps_upto t r.0 s.group) where
     shorter_there : get u.file_systems r.0 ≡ Some (record r.1 { snaps = older ++ s ∷ [] })
     shorter_there = ap (λ (x : Datasets). get x.file_systems r.0) (to ∙ newer_gone) ∙ put_here t.file_systems r.0 (record r.1 { snaps = older ++ s ∷ [] })
 
@@ -209,7 +242,7 @@ is_newer g base low (t ∷ ts) s i up = by_list (filter (λ (u : Snap). nat_lt g
 
 pub back_of : (t : Datasets) → AreFileSystems t.file_systems t.group → (r : Entry) → get t.file_systems r.0 ≡ Some r.1 → (component : List ℕ) (g : ℕ)
     → option_map (λ (u : Snap). u.group) (find (λ (v : Snap). same_name v.name component) r.1.snaps) ≡ Some g
-    → (u : Datasets) → u ≡ without_all t r.0 (later_ids g r.1.snaps)
+    → (u : Datasets) → u ≡ with_snaps_upto t r.0 g
     → (length (snaps_at u.file_systems r.0) ≡ 0 → ⊥)
     × ((v : Datasets) → v ≡ record u { file_systems = with_live u.file_systems r.0 (newest_map (live_of u.file_systems r.0) (snaps_at u.file_systems r.0)) }
     → with_marks v r.0 (λ marks. without_newer marks g) ≡ rolled t (OfSnapshot (record { file_system = r.0; component = component })))
@@ -224,7 +257,7 @@ back_of t good r at component g told u to = by_snap (find (λ (v : Snap). same_n
         let there = (from_find (λ (v : Snap). same_name v.name component) r.1.snaps s e).0 in
         let parts = split_at r.1.snaps s there in
         let same : g ≡ s.group = sym (same_value s.group g k) in
-        let to' : u ≡ without_all t r.0 (later_ids s.group r.1.snaps) = to ∙ ap (λ n. without_all t r.0 (later_ids n r.1.snaps)) same in (
+        let to' : u ≡ with_snaps_upto t r.0 s.group = to ∙ ap (with_snaps_upto t r.0) same in (
           has_snaps t good r at parts.0 s parts.1 parts.2 u to',
           λ v is. ap (λ n. with_marks v r.0 (λ marks. without_newer marks n)) same ∙ rolled_is t good r at parts.0 s parts.1 parts.2 u to' component e v is,
         )

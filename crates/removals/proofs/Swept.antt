@@ -24,7 +24,7 @@ use Rattle.world.proofs.lineage.Bridge.{from_entries, from_snap_at, in_snaps, on
 use Rattle.world.proofs.lists.Listed.{in_map}
 use Rattle.world.proofs.removals.Sweep.{get-with_file_systems}
 use Rattle.world.proofs.removals.WithoutSnaps.{get-without, from_without, without_twice, without_none}
-use Rattle.removals.specs.Named.{without_owned, has_clone, is_held, is_kept}
+use Rattle.removals.specs.Needs.{has_clone, is_held, is_kept}
 use Rattle.removals.specs.Families.{ArePartOf, unneeded, without_unneeded, removed_origin, without_origin}
 use Rattle.removals.specs.Requests.{swept, destroyed, IsSweptBut, IsSweptBy}
 use Rattle.removals.proofs.Clones.{uncloned_is, is_uncloned}
@@ -367,8 +367,10 @@ module _ (t : Datasets) (views : Views) (id : SnapId) (p : Name × Snap) (is : u
   pub unneeded_uncloned : has_clone t id ≡ false
   unneeded_uncloned = ap (has_clone t) (sym there_with.3) ∙ (kept_parts t views p.1 (unneeded_parts t views id p is).2).2
 
-  pub unneeded_goes : without_owned t p.0 id ≡ without_unneeded t views id
+  pub unneeded_there : is_some (snap_in_system t p.0 id) ≡ true
+  unneeded_there = ap (λ i. is_some (snap_in_system t p.0 i)) (sym there_with.3) ∙ found_there t p.0 there_with.0 p.1 there_with.1 there_with.2
+
+  pub unneeded_goes : without_snap t id ≡ without_unneeded t views id
   unneeded_goes =
-      ap (λ b. cond b (without_snap t id) t) (ap (λ i. is_some (snap_in_system t p.0 i)) (sym there_with.3) ∙ found_there t p.0 there_with.0 p.1 there_with.1 there_with.2)
-      ∙ ap (without_snap t) (sym there_with.3)
+      ap (without_snap t) (sym there_with.3)
       ∙ sym (ap (λ (x : Option (Name × Snap)). option_map_or (λ q. without_snap t (id_of q.1)) x t) is)

@@ -12,7 +12,7 @@ use Rattle.model.specs.Edits.{with_file_systems}
 use Rattle.datasets.specs.Rows.{Entry}
 use Rattle.snap.specs.Taking.{is_in_family}
 use Rattle.world.specs.Tables.{Datasets, world_of, without_snap}
-use Rattle.removals.specs.Named.{is_kept, is_held_after}
+use Rattle.removals.specs.Needs.{is_kept, is_held_after}
 
 -- the datasets where the file systems of a family are empty (zfs-destroy(8), -r)
 abbrev pub emptied : Datasets → List ℕ → Datasets

@@ -1,18 +1,14 @@
 -- The snapshots that a destroy finds by their names, each beside the name of its file system, and what becomes of them.
-use Rattle.std.specs.Prelude.{ℕ, Bool, not, ◌&&◌, List, [], ◌∷◌, Option, None, Some, length, nat_lt, if◌then◌else◌}
-use Rattle.std.specs.List.{flat_map, list_any}
+use Rattle.std.specs.Prelude.{ℕ, Bool, not, ◌&&◌, List, [], ◌∷◌}
+use Rattle.std.specs.List.{flat_map}
 use Rattle.std.specs.Option.{option_map_or}
 use Rattle.base.specs.Surveys.{IsIn}
-use Rattle.base.specs.declared.refusal.Refusal.{Refusal}
-use Rattle.base.specs.declared.refusal.Refusal.TheVariants.{NoDataset, Busy, HasClones}
 use Rattle.base.specs.declared.name.member.Member.{Member}
-use Rattle.model.specs.World.{Snap, SnapId, id_of, snap_named}
-use Rattle.model.specs.State.{Views}
+use Rattle.model.specs.World.{Snap, SnapId, snap_named}
 use Rattle.model.specs.Edits.{without_snaps}
 use Rattle.model.specs.requests.Destroy.{is_one_of, with_deferred}
 use Rattle.datasets.specs.Rows.{snaps_at}
 use Rattle.world.specs.Tables.{Datasets, world_of}
-use Rattle.removals.specs.Named.{is_held, has_clone}
 
 -- the snapshots of these names that are there (zfs-destroy(8), -r)
 abbrev pub found_in : Datasets → List Member → List (List ℕ × Snap)
@@ -21,13 +17,6 @@ found_in t ms = flat_map (λ m. option_map_or (λ s. (m.file_system, s) ∷ []) 
 -- each of them is of the file system beside it (On-Disk Specification, chapter 4)
 abbrev pub AreThere : Datasets → List (List ℕ × Snap) → Type 0
 AreThere t all = (p : List ℕ × Snap) → IsIn all p → IsIn (snaps_at t.file_systems p.0) p.1
-
--- why they aren't destroyed, if they aren't (zfs-destroy(8); the view is profile)
-abbrev pub found_refusal : Datasets → Views → Bool → List (List ℕ × Snap) → Option Refusal
-found_refusal t views defer all =
-    if not (nat_lt 0 (length all))
-    then Some NoDataset
-    else if not defer && list_any (λ p. is_held views p.1) all then Some Busy else if not defer && list_any (λ p. has_clone t (id_of p.1)) all then Some HasClones else None
 
 -- the datasets where of the snapshots of these identities those are gone that aren't needed, and the destroy of the others is deferred
 -- (zfs-destroy(8), -d)

@@ -19,7 +19,7 @@ use Rattle.model.specs.requests.Rollback.{rolled_back, back_row}
 use Rattle.model.specs.requests.Destroy.{file_systems_named, without_file_systems, after_destroy, destroy_row}
 use Rattle.world.specs.Tables.{Datasets, world_of}
 use Rattle.snapshots.specs.Marks.{Marks, has_newer}
-use Rattle.removals.specs.Named.{is_held_after, has_clone, has_clone_and_is_later}
+use Rattle.removals.specs.Needs.{is_held_after, has_clone, has_clone_and_is_later}
 use Rattle.removals.specs.Families.{unneeded}
 
 -- the datasets after a rollback (zfs-rollback(8))

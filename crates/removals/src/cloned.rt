@@ -6,7 +6,7 @@ ghost use Rattle.datasets.specs.Rows.{entry_in};
 ghost use Rattle.datasets.specs.CloneNames.{name_of};
 ghost use Rattle.snap.specs.Taking.{is_in_family};
 ghost use Rattle.removals.specs.Families.{is_cloned_outside, is_outside_clone};
-ghost use Rattle.removals.specs.Named.{has_clone_and_is_later};
+ghost use Rattle.removals.specs.Needs.{has_clone_and_is_later};
 
 use base::name::DsName;
 use base::number::Group;

@@ -1,5 +1,5 @@
 //! File systems that are emptied before they go.
-ghost use Rattle.std.specs.Prelude.{◌≡◌, ◌⊎◌, [], false, Some, IsSome, IfOk, IfErr, OnOk, map};
+ghost use Rattle.std.specs.Prelude.{◌≡◌, [], false, Some, IsSome, IfOk, IfErr, OnOk, map};
 ghost use Rattle.std.specs.List.{filter, list_any};
 ghost use Rattle.std.specs.List.Sorted.{IsPermutation, IsNonDecreasingBy};
 ghost use Rattle.std.specs.FinMap.{get, entries};
@@ -12,7 +12,7 @@ ghost use Rattle.world.specs.Sets.{AreDisjoint};
 ghost use Rattle.world.specs.Tables.{world_of, with_system};
 ghost use Rattle.removals.specs.Edits.{HasLost};
 ghost use Rattle.removals.specs.Families.{emptied, AreClonesInside};
-ghost use Rattle.removals.specs.Named.{has_clone_and_is_later};
+ghost use Rattle.removals.specs.Needs.{has_clone_and_is_later};
 
 use crate::working_copy::WorkingCopy;
 use base::meter::SegMeter;
@@ -84,8 +84,8 @@ fn vacate(edit: &mut WorkingCopy, alloc: Global, name: &DsName) -> Result<(), Re
         .add_tree(&lost.tree, lost.after, u64::from(lost.count))
 }
 
-// Empties this file system, which is as it was or empty already, with its snapshots, none of which has a clone. NoMemory where there is
-// none for it, and then the edit is of no use. It costs what `WorkingCopy::remove_newer` does.
+// Empties this file system, which is as the edit has it, with its snapshots, none of which has a clone. NoMemory where there is none for
+// it, and then the edit is of no use. It costs what `WorkingCopy::remove_newer` does.
 fn empty_one(
     edit: &mut WorkingCopy,
     alloc: Global,
@@ -93,7 +93,7 @@ fn empty_one(
     segments: &mut SegMeter,
 ) -> Result<(), Refusal>
     requires apart { AreDisjoint (union_of (world_of edit.old.to)) edit.old.freeing }
-    requires there { (get edit.old.to.file_systems file_system.now.name ≡ Some file_system.now.system) ⊎ (get edit.old.to.file_systems file_system.now.name ≡ Some empty_file_system) }
+    requires there { get edit.old.to.file_systems file_system.now.name ≡ Some file_system.now.system }
     requires no_clone { list_any (has_clone_and_is_later edit.old.to 0) file_system.now.system.snaps ≡ false }
     ensures ok { OnOk result (edit.new.to ≡ with_system edit.old.to file_system.now.name empty_file_system) }
     ensures lost { OnOk result (HasLost edit.old.to edit.old.freeing edit.new.to edit.new.freeing) }

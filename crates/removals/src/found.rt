@@ -1,13 +1,17 @@
 //! The snapshots that a destroy finds by their names.
-ghost use Rattle.std.specs.Prelude.{◌≡◌, ◌&&◌, map, IfOk, IfErr};
+ghost use Rattle.std.specs.Prelude.{◌≡◌, ◌&&◌, Bool, map, IfOk, IfErr};
 ghost use Rattle.std.specs.List.{list_any};
 ghost use Rattle.base.specs.declared.refusal.Refusal.{Refusal};
+ghost use Rattle.base.specs.Surveys.{AreDifferent};
+ghost use Rattle.base.specs.declared.name.member.Member.{Member};
+ghost use Rattle.base.specs.declared.name.target.Target.{Target};
 ghost use Rattle.model.specs.Outcome.{is_needed};
 ghost use Rattle.model.specs.World.{id_of};
 ghost use Rattle.model.specs.requests.Destroy.{snaps_named};
 ghost use Rattle.world.specs.Tables.{world_of};
-ghost use Rattle.removals.specs.Found.{found_in, found_refusal, AreThere};
-ghost use Rattle.removals.specs.Named.{is_held, has_clone};
+ghost use Rattle.removals.specs.Found.{found_in, AreThere};
+ghost use Rattle.removals.specs.Requests.{destroy_refusal};
+ghost use Rattle.removals.specs.Needs.{is_held, has_clone};
 
 use crate::held::is_held;
 use base::name::{DsName, SnapName};
@@ -62,7 +66,8 @@ fn found_of<'a>(
     Ok(all)
 }
 
-/// The snapshot of this name, or with `recursive` those of that name of its file system and of each descendant, as far as they are there.
+/// The snapshot of this name, or with `recursive` those of that name of its file system and of each descendant, as far as they are there:
+/// each is of another file system.
 /// NoMemory where there is none for them. With `recursive` it costs the number of file systems; and for each name the logarithm of that, and
 /// that of the number of snapshots of one.
 pub(crate) fn find_all<'a>(
@@ -73,6 +78,7 @@ pub(crate) fn find_all<'a>(
 ) -> Result<Vec<Found<'a>>, Refusal>
     ensures ids { IfOk result (λ all. map (λ p. id_of p.1) all.items ≡ snaps_named (world_of table.now) name.now recursive) }
     ensures there { IfOk result (λ all. AreThere table.now all.items) }
+    ensures once { IfOk result (λ all. AreDifferent (map (λ p. p.0) all.items)) }
     ensures err { IfErr result (λ e. e ≡ Refusal.NoMemory) }
 {
     let names = expand(alloc, table, from_ref(name), recursive)?;
@@ -93,17 +99,19 @@ fn any_cloned(table: &Table, all: &[Found]) -> bool
     all.iter().any(|found| table.has_clone(found.snapshot.id()))
 }
 
-/// Why these snapshots of the table aren't destroyed, if they aren't: NoDataset where there is none; else, where not `defer`, Busy where a
-/// tag or an open view keeps one of them, else HasClones where one of them has a clone. Where not `defer` it costs for each the number of
-/// open views and the logarithm of that of clones.
+/// Why these snapshots of the table, which are those of a name, aren't destroyed, if they aren't (zfs-destroy(8)): NoDataset where there is
+/// none; else, where not `defer`, Busy where a tag or an open view keeps one of them, else HasClones where one of them has a clone. Where not
+/// `defer` it costs for each the number of open views and the logarithm of that of clones.
 pub(crate) fn refusal_of(
     table: &Table,
     views: &Views,
     all: &[Found],
     defer: bool,
 ) -> Option<Refusal>
-    ensures { result ≡ found_refusal table.now views.now.opened defer all.now }
+    requires there { AreThere table.now all.now }
+    ensures { (name : Member) (recursive : Bool) → map (λ p. id_of p.1) all.now ≡ snaps_named (world_of table.now) name recursive → result ≡ destroy_refusal table.now views.now.opened (Target.Snapshot name) recursive defer }
 {
+    table.facts();
     if all.is_empty() {
         return Some(Refusal::NoDataset);
     }

@@ -4,7 +4,7 @@ ghost use Rattle.std.specs.List.{list_any};
 ghost use Rattle.std.specs.FinMap.{entries};
 ghost use Rattle.datasets.specs.Rows.{entry_in};
 ghost use Rattle.snap.specs.Taking.{is_in_family};
-ghost use Rattle.removals.specs.Named.{is_held, is_held_after};
+ghost use Rattle.removals.specs.Needs.{is_held, is_held_after};
 
 use base::name::DsName;
 use base::number::Group;

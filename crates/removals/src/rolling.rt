@@ -14,7 +14,7 @@ ghost use Rattle.model.specs.requests.Rollback.{placed};
 ghost use Rattle.world.specs.Sets.{AreDisjoint};
 ghost use Rattle.world.specs.Tables.{world_of};
 ghost use Rattle.removals.specs.Edits.{HasLost};
-ghost use Rattle.removals.specs.Named.{has_clone_and_is_later};
+ghost use Rattle.removals.specs.Needs.{has_clone_and_is_later};
 ghost use Rattle.removals.specs.Requests.{rolled, rollback_refusal, refusal_at};
 
 use crate::bookmark::remove_newer_bookmarks;

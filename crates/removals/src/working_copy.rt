@@ -1,17 +1,20 @@
 //! A table from which datasets go.
-ghost use Rattle.std.specs.Prelude.{◌≡◌, ◌⊎◌, ◌↔◌, ◌&&◌, false, not, map, IfOk, IfErr, OnOk, length};
+ghost use Rattle.std.specs.Prelude.{◌≡◌, ◌⊎◌, ◌↔◌, ◌&&◌, true, false, not, map, Some, is_some, IfOk, IfErr, OnOk, length};
 ghost use Rattle.std.specs.List.{list_any};
+ghost use Rattle.std.specs.FinMap.{get};
 ghost use Rattle.base.specs.declared.refusal.Refusal.{Refusal};
+ghost use Rattle.base.specs.Surveys.{AreDifferent};
+ghost use Rattle.datasets.specs.Holders.{snap_in_system};
 ghost use Rattle.datasets.specs.Losses.{newest_map};
 ghost use Rattle.datasets.specs.Rows.{live_of, snaps_at, with_live};
 ghost use Rattle.model.specs.Ids.{snap_id};
 ghost use Rattle.model.specs.Outcome.{is_needed};
 ghost use Rattle.model.specs.World.{id_of, union_of};
 ghost use Rattle.world.specs.Sets.{AreDisjoint};
-ghost use Rattle.world.specs.Tables.{world_of};
-ghost use Rattle.removals.specs.Edits.{HasLost};
+ghost use Rattle.world.specs.Tables.{world_of, without_snap, deferred_snap};
+ghost use Rattle.removals.specs.Edits.{HasLost, with_snaps_upto};
 ghost use Rattle.removals.specs.Found.{AreThere, removed_or_deferred};
-ghost use Rattle.removals.specs.Named.{without_owned, without_all, deferred_owned, has_clone, has_clone_and_is_later, later_ids};
+ghost use Rattle.removals.specs.Needs.{has_clone, has_clone_and_is_later};
 
 use crate::found::{Found, has_to_wait};
 use base::meter::SegMeter;
@@ -55,8 +58,8 @@ impl WorkingCopy {
         *freeing = left;
     }
 
-    /// Lets the snapshot of this identity go from this file system, and nothing where that hasn't it; it has no clone (zfs-destroy(8)). The
-    /// blocks that no dataset has any more are to be freed. NoMemory where there is none for it, and then the edit is of no use. It costs what
+    /// Lets the snapshot of this identity go from this file system, which has it; it has no clone (zfs-destroy(8)). The blocks that no
+    /// dataset has any more are to be freed. NoMemory where there is none for it, and then the edit is of no use. It costs what
     /// `Table::remove_snapshot` does.
     pub fn remove_snapshot(
         &mut self,
@@ -66,17 +69,14 @@ impl WorkingCopy {
         segments: &mut SegMeter,
     ) -> Result<(), Refusal>
         requires apart { AreDisjoint (union_of (world_of self.old.to)) self.old.freeing }
+        requires there { is_some (snap_in_system self.old.to file_system.now (snap_id id)) ≡ true }
         requires no_clone { has_clone self.old.to (snap_id id) ≡ false }
-        ensures ok { OnOk result (self.new.to ≡ without_owned self.old.to file_system.now (snap_id id)) }
+        ensures ok { OnOk result (self.new.to ≡ without_snap self.old.to (snap_id id)) }
         ensures lost { OnOk result (HasLost self.old.to self.old.freeing self.new.to self.new.freeing) }
         ensures err { IfErr result (λ e. e ≡ Refusal.NoMemory) }
     {
         self.to.facts();
-        let lost = match self.to.remove_snapshot(alloc, file_system, id, segments) {
-            Ok(lost) => lost,
-            Err(Refusal::NoDataset) => return Ok(()),
-            Err(refusal) => return Err(refusal),
-        };
+        let lost = self.to.remove_snapshot(alloc, file_system, id, segments)?;
         let lost = Arc::new(alloc, lost)?;
         self.freeing.add_dead(lost)
     }
@@ -102,22 +102,20 @@ impl WorkingCopy {
             .add_tree(&lost.tree, lost.after, u64::from(lost.count))
     }
 
-    // From now on the destroy of the snapshot of this identity of this file system is deferred, where that has it. NoMemory where there is
-    // none for it, and then the edit is of no use. It costs what `Table::defer` does.
+    // From now on the destroy of the snapshot of this identity of this file system, which has it, is deferred. NoMemory where there is none
+    // for it, and then the edit is of no use. It costs what `Table::defer` does.
     fn defer(&mut self, alloc: Global, file_system: &DsName, id: SnapshotId) -> Result<(), Refusal>
-        ensures ok { OnOk result (self.new.to ≡ deferred_owned self.old.to file_system.now (snap_id id)) }
+        requires there { is_some (snap_in_system self.old.to file_system.now (snap_id id)) ≡ true }
+        ensures ok { OnOk result (self.new.to ≡ deferred_snap self.old.to (snap_id id)) }
         ensures same { OnOk result (self.new.freeing ≡ self.old.freeing) }
         ensures err { IfErr result (λ e. e ≡ Refusal.NoMemory) }
     {
-        match self.to.defer(alloc, file_system, id) {
-            Err(Refusal::NoDataset) => Ok(()),
-            outcome => outcome,
-        }
+        self.to.defer(alloc, file_system, id)
     }
 
-    // Lets these snapshots go, which are the table's; with `defer` those stay that a tag, one of these views or a clone needs, and their
-    // destroy is deferred. Where not `defer`, none of them has a clone. NoMemory where there is none for it, and then the edit is of no use.
-    // It costs for each what `remove_snapshot` or `Table::defer` does, and with `defer` the number of open views.
+    // Lets these snapshots go, which are the table's, each of another file system; with `defer` those stay that a tag, one of these views or
+    // a clone needs, and their destroy is deferred. Where not `defer`, none of them has a clone. NoMemory where there is none for it, and then
+    // the edit is of no use. It costs for each what `remove_snapshot` or `Table::defer` does, and with `defer` the number of open views.
     pub(crate) fn remove_or_defer(
         &mut self,
         alloc: Global,
@@ -130,6 +128,7 @@ impl WorkingCopy {
         requires apart { AreDisjoint (union_of (world_of self.old.to)) self.old.freeing }
         requires same { self.old.to ≡ table.now }
         requires there { AreThere table.now all.now }
+        requires once { AreDifferent (map (λ p. p.0) all.now) }
         requires no_clone { (not defer && list_any (λ p. has_clone table.now (id_of p.1)) all.now) ≡ false }
         ensures ok { OnOk result (self.new.to ≡ removed_or_deferred table.now (λ u. defer && is_needed (world_of table.now) views.now.opened u) (map (λ p. id_of p.1) all.now)) }
         ensures lost { OnOk result (HasLost self.old.to self.old.freeing self.new.to self.new.freeing) }
@@ -147,7 +146,7 @@ impl WorkingCopy {
         Ok(())
     }
 
-    // Lets the snapshots go that this file system has of a later group than this one, where they are there; none of them has a clone.
+    // Lets the snapshots go that this file system has of a later group than this one; it is as the edit has it, and none of them has a clone.
     // NoMemory where there is none for it, and then the edit is of no use. It costs what `remove_snapshot` does for each, and the number of
     // the file system's snapshots.
     pub(crate) fn remove_newer(
@@ -158,8 +157,9 @@ impl WorkingCopy {
         segments: &mut SegMeter,
     ) -> Result<(), Refusal>
         requires apart { AreDisjoint (union_of (world_of self.old.to)) self.old.freeing }
+        requires there { get self.old.to.file_systems file_system.now.name ≡ Some file_system.now.system }
         requires no_clone { list_any (has_clone_and_is_later self.old.to group.0) file_system.now.system.snaps ≡ false }
-        ensures ok { OnOk result (self.new.to ≡ without_all self.old.to file_system.now.name (later_ids group.0 file_system.now.system.snaps)) }
+        ensures ok { OnOk result (self.new.to ≡ with_snaps_upto self.old.to file_system.now.name group.0) }
         ensures lost { OnOk result (HasLost self.old.to self.old.freeing self.new.to self.new.freeing) }
         ensures err { IfErr result (λ e. e ≡ Refusal.NoMemory) }
     {

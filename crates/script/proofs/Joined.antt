@@ -3,16 +3,20 @@ use Rattle.std.proofs.Common.{◌≡◌, ℕ, ◌<◌, ◌≤◌, ◌+◌, ◌-�
 use Rattle.std.specs.List.{list_all, onto_first}
 use Rattle.std.proofs.lemmas.Bool.{lt-ltb}
 use Rattle.std.proofs.lemmas.List.{get_or-drop, drop-drop}
-use Rattle.script.specs.Words.{is_printable, is_word, words_of, joins, joins_from}
+use Rattle.script.specs.Words.{is_printable, may_follow, is_word, words_of, joins, joins_from}
 
 -- bytes join behind a space or another byte, and no space is the last
 abbrev joined : Bool → List ℕ → Bool
 joined after_space [] = not after_space
-joined after_space (b ∷ bs) = is_printable b && (not (nat_eq b 32 && after_space) && joined (nat_eq b 32) bs)
+joined after_space (b ∷ bs) = may_follow (after_space, b) && joined (nat_eq b 32) bs
 
 none_with : (x : Bool) → (x && false) ≡ false
 none_with false = refl
 none_with true = refl
+
+all_with : (x : Bool) → (x && true) ≡ x
+all_with false = refl
+all_with true = refl
 
 three : (x y z : Bool) → (x && (y && z)) ≡ ((x && y) && z)
 three false y z = refl
@@ -30,17 +34,17 @@ others b (word ∷ words) = refl
 -- after a space each word is looked at, and within one those after it
 module _ (b : ℕ) (bs : List ℕ) where
   after_space : (s : Bool) → joined false bs ≡ (list_all is_printable bs && list_all is_word (drop 1 (words_of bs)))
-      → (is_printable b && (not (s && true) && joined s bs)) ≡ ((is_printable b && list_all is_printable bs) && list_all is_word (cond s ([] ∷ words_of bs) (onto_first b (words_of bs))))
-  after_space true e = none_with (is_printable b) ∙ sym (none_with (is_printable b && list_all is_printable bs))
+      → ((is_printable b && not (s && true)) && joined s bs) ≡ ((is_printable b && list_all is_printable bs) && list_all is_word (cond s ([] ∷ words_of bs) (onto_first b (words_of bs))))
+  after_space true e = ap (λ x. x && joined true bs) (none_with (is_printable b)) ∙ sym (none_with (is_printable b && list_all is_printable bs))
   after_space false e =
-      ap (λ x. is_printable b && x) e ∙ three (is_printable b) (list_all is_printable bs) (list_all is_word (drop 1 (words_of bs)))
+      (λ i. all_with (is_printable b) i && e i) ∙ three (is_printable b) (list_all is_printable bs) (list_all is_word (drop 1 (words_of bs)))
       ∙ ap (λ x. (is_printable b && list_all is_printable bs) && x) (sym (longer b (words_of bs)))
 
   within : (s : Bool) → joined true bs ≡ (list_all is_printable bs && list_all is_word (words_of bs)) → joined false bs ≡ (list_all is_printable bs && list_all is_word (drop 1 (words_of bs)))
-      → (is_printable b && (not (s && false) && joined s bs)) ≡ ((is_printable b && list_all is_printable bs) && list_all is_word (drop 1 (cond s ([] ∷ words_of bs) (onto_first b (words_of bs)))))
-  within true e f = ap (λ x. is_printable b && x) e ∙ three (is_printable b) (list_all is_printable bs) (list_all is_word (words_of bs))
+      → ((is_printable b && not (s && false)) && joined s bs) ≡ ((is_printable b && list_all is_printable bs) && list_all is_word (drop 1 (cond s ([] ∷ words_of bs) (onto_first b (words_of bs)))))
+  within true e f = (λ i. all_with (is_printable b) i && e i) ∙ three (is_printable b) (list_all is_printable bs) (list_all is_word (words_of bs))
   within false e f =
-      ap (λ x. is_printable b && x) f ∙ three (is_printable b) (list_all is_printable bs) (list_all is_word (drop 1 (words_of bs)))
+      (λ i. all_with (is_printable b) i && f i) ∙ three (is_printable b) (list_all is_printable bs) (list_all is_word (drop 1 (words_of bs)))
       ∙ ap (λ x. (is_printable b && list_all is_printable bs) && list_all is_word x) (sym (others b (words_of bs)))
 
 both : (bs : List ℕ) → (joined true bs ≡ (list_all is_printable bs && list_all is_word (words_of bs))) × (joined false bs ≡ (list_all is_printable bs && list_all is_word (drop 1 (words_of bs))))
@@ -50,12 +54,7 @@ both (b ∷ bs) = (after_space b bs (nat_eq b 32) (both bs).1, within b bs (nat_
 joined_words : (line : List ℕ) → joined true line ≡ (list_all is_printable line && list_all is_word (words_of line))
 joined_words line = (both line).0
 
-four : (x y z w : Bool) → (x && (y && (z && w))) ≡ ((x && (y && z)) && w)
-four false y z w = refl
-four true false z w = refl
-four true true z w = refl
-
-spread : (o x y n j : Bool) → ((((o && x) && y) && n) && j) ≡ (o && ((x && y) && (n && j)))
+spread : (o x y n j : Bool) → ((((o && x) && y) && n) && j) ≡ (o && (((x && y) && n) && j))
 spread false x y n j = refl
 spread true false y n j = refl
 spread true true false n j = refl
@@ -101,15 +100,15 @@ cut : (n : ℕ) (after : Bool) (bs : List ℕ) → n ≤ length bs → joins aft
 cut zero after bs h = refl
 cut (suc n) after [] h = absurd (omega (arith, h))
 cut (suc n) after (b ∷ bs) h =
-    ap (λ x. is_printable b && (not (nat_eq b 32 && after) && x)) (cut n (nat_eq b 32) bs (omega (arith, h)) ∙ ap (λ s. joins (nat_eq b 32) (take n bs) && joins s (drop n bs)) (behind_next after b bs n))
-    ∙ four (is_printable b) (not (nat_eq b 32 && after)) (joins (nat_eq b 32) (take n bs)) (joins (behind after (b ∷ bs) (suc n)) (drop n bs))
+    ap (λ x. may_follow (after, b) && x) (cut n (nat_eq b 32) bs (omega (arith, h)) ∙ ap (λ s. joins (nat_eq b 32) (take n bs) && joins s (drop n bs)) (behind_next after b bs n))
+    ∙ three (may_follow (after, b)) (joins (nat_eq b 32) (take n bs)) (joins (behind after (b ∷ bs) (suc n)) (drop n bs))
 
 -- no space stands at the end of bytes that join
 whole : (after : Bool) (bs : List ℕ) → joined after bs ≡ (joins after bs && not (behind after bs (length bs)))
 whole after [] = refl
 whole after (b ∷ bs) =
-    ap (λ x. is_printable b && (not (nat_eq b 32 && after) && x)) (whole (nat_eq b 32) bs ∙ ap (λ s. joins (nat_eq b 32) bs && not s) (behind_next after b bs (length bs)))
-    ∙ four (is_printable b) (not (nat_eq b 32 && after)) (joins (nat_eq b 32) bs) (not (behind after (b ∷ bs) (suc (length bs))))
+    ap (λ x. may_follow (after, b) && x) (whole (nat_eq b 32) bs ∙ ap (λ s. joins (nat_eq b 32) bs && not s) (behind_next after b bs (length bs)))
+    ∙ three (may_follow (after, b)) (joins (nat_eq b 32) bs) (not (behind after (b ∷ bs) (suc (length bs))))
 
 behind_at : (after : Bool) (bs : List ℕ) (n : ℕ) → 0 < n → behind after bs n ≡ nat_eq (slice_index_or bs (n - 1) 0) 32
 behind_at after bs zero h = absurd (omega (arith, h))

@@ -1,6 +1,6 @@
 -- The words of a line, and what they say.
-use Rattle.std.specs.Prelude.{ℕ, ◌+◌, ◌-◌, ◌*◌, ◌/◌, ◌%◌, ◌^◌, ◌==◌, ◌&&◌, Bool, true, not, nat_lt, nat_le, List, [], ◌∷◌, ◌++◌, Option, Some, None, Result, Ok, Err, length, take, drop, replicate, slice_index_or, if◌then◌else◌, codes}
-use Rattle.std.specs.List.{slice_split, position}
+use Rattle.std.specs.Prelude.{ℕ, ◌+◌, ◌-◌, ◌*◌, ◌/◌, ◌%◌, ◌^◌, ◌==◌, ◌&&◌, Bool, not, nat_lt, nat_le, List, [], ◌∷◌, ◌++◌, Option, Some, None, Result, Ok, Err, length, take, drop, map, replicate, slice_index_or, if◌then◌else◌, codes}
+use Rattle.std.specs.List.{list_all, slice_split, position, zip}
 use Rattle.std.specs.Option.{option_map, option_and_then}
 use Rattle.std.specs.Result.{result_ok}
 use Rattle.std.specs.Str.{bytes_eq}
@@ -30,12 +30,15 @@ words_of line = slice_split (λ b. b == 32) line
 abbrev pub is_word : List ℕ → Bool
 is_word word = nat_lt 0 (length word)
 
--- bytes that a line may have, no two spaces side by side, and none in front behind a space
-abbrev pub joins : Bool → List ℕ → Bool
-joins after_space [] = true
-joins after_space (b ∷ bs) = is_printable b && (not (b == 32 && after_space) && joins (b == 32) bs)
+-- a byte that a line may have, and no space where one stands before it (profile)
+abbrev pub may_follow : Bool × ℕ → Bool
+may_follow p = is_printable p.1 && not (p.1 == 32 && p.0)
 
--- what stands from place n on, behind the byte before it, joins
+-- each byte may follow the one before it, the first a space or another byte (profile)
+abbrev pub joins : Bool → List ℕ → Bool
+joins after_space bytes = list_all may_follow (zip (after_space ∷ map (λ b. b == 32) bytes) bytes)
+
+-- what stands from place n on, behind the byte before it, joins (profile)
 abbrev pub joins_from : ℕ → List ℕ → Bool
 joins_from n line = joins (slice_index_or line (n - 1) 0 == 32) (drop n line)
 

@@ -4,7 +4,6 @@
 
 mod lineage;
 mod list;
-mod place;
 mod shown;
 mod source;
 mod start;

@@ -68,7 +68,7 @@ impl<T: Drop> Chunk<T> {
         ensures { IfOk result (λ c. c.value ≡ insert self.now at item.value) }
     {
         let alloc = *self.items.allocator();
-        let mut items = Vec::with_capacity(alloc, self.items.len() + 1)?;
+        let mut items = Vec::with_capacity(alloc, room_for(self.items.len() + 1))?;
         share(&mut items, &self.items[..at])?;
         items.push(item)?;
         share(&mut items, &self.items[at..])?;
@@ -94,7 +94,7 @@ impl<T: Drop> Chunk<T> {
         ensures { IfOk result (λ c. c.value ≡ remove self.now index) }
     {
         let alloc = *self.items.allocator();
-        let mut items = Vec::with_capacity(alloc, self.items.len() - 1)?;
+        let mut items = Vec::with_capacity(alloc, room_for(self.items.len() - 1))?;
         share(&mut items, &self.items[..index])?;
         share(&mut items, &self.items[index + 1..])?;
         Ok(Arc::new(alloc, Chunk { items })?)
@@ -117,7 +117,7 @@ impl<T: Drop> Chunk<T> {
         ensures { IfOk result (λ c. c.value ≡ slice_set self.now at item.value) }
     {
         let alloc = *self.items.allocator();
-        let mut items = Vec::with_capacity(alloc, self.items.len())?;
+        let mut items = Vec::with_capacity(alloc, room_for(self.items.len()))?;
         share(&mut items, &self.items)?;
         items[at] = item;
         Ok(Arc::new(alloc, Chunk { items })?)
@@ -147,10 +147,10 @@ impl<T: Drop> Chunk<T> {
         ensures { IfOk result (λ p. (p.0.value ≡ take index self.now) × (p.1.value ≡ drop index self.now)) }
     {
         let alloc = *self.items.allocator();
-        let mut low = Vec::with_capacity(alloc, index)?;
+        let mut low = Vec::with_capacity(alloc, room_for(index))?;
         share(&mut low, &self.items[..index])?;
         let low = Arc::new(alloc, Chunk { items: low })?;
-        let mut high = Vec::with_capacity(alloc, self.items.len() - index)?;
+        let mut high = Vec::with_capacity(alloc, room_for(self.items.len() - index))?;
         share(&mut high, &self.items[index..])?;
         let high = Arc::new(alloc, Chunk { items: high })?;
         Ok((low, high))
@@ -181,7 +181,7 @@ impl<T: Drop> Chunk<T> {
         ensures { IfOk result (λ c. c.value ≡ self.now ++ other.now) }
     {
         let alloc = *self.items.allocator();
-        let mut items = Vec::with_capacity(alloc, self.items.len() + other.items.len())?;
+        let mut items = Vec::with_capacity(alloc, room_for(self.items.len() + other.items.len()))?;
         share(&mut items, &self.items)?;
         share(&mut items, &other.items)?;
         Ok(Arc::new(alloc, Chunk { items })?)
@@ -224,6 +224,17 @@ impl<T: Drop> Chunk<T> {
         ensures { values result.now ≡ self.now }
     {
         &self.items
+    }
+}
+
+/// The room that a chunk with so many elements is made with: a few sizes alone (profile), so that the next chunk is made where the last one
+/// was, and a few more elements need no other room.
+fn room_for(len: usize) -> usize {
+    match len {
+        0..=4 => 8,
+        5..=12 => 16,
+        13..=28 => 32,
+        _ => CHUNK,
     }
 }
 

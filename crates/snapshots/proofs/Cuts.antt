@@ -1,16 +1,21 @@
 -- What an edit at a name's place leaves.
 use Rattle.std.proofs.Common.{◌≡◌, ℕ, ◌<◌, ◌≤◌, Bool, true, false, List, [], ◌∷◌, ◌++◌, length, set, slice_get, Option, Some, None, cond, refl, sym, ap, subst, ◌∙◌, arith}
-use Rattle.std.specs.Prelude.{insert, remove}
+use Rattle.std.specs.Prelude.{IfSome, insert, remove}
 use Rattle.std.specs.List.{find}
 use Rattle.std.specs.List.Sorted.{IsPartitionPoint}
 use Rattle.std.specs.Cmp.Lexicographic.{same_text}
 use Rattle.std.specs.Option.{IsSome, option_or}
 use Rattle.std.proofs.lemmas.List.Edits.{insert_end}
+use Rattle.std.proofs.lemmas.Option.{slice_get_within}
 use Rattle.base.specs.Names.{same_name}
 use Rattle.snapshots.specs.declared.kept.Kept.{Kept}
-use Rattle.snapshots.specs.Order.{is_below, is_named, names_rise}
+use Rattle.shared_list.specs.declared.place.Place.{Place}
+use Rattle.shared_list.specs.Elements.{flattened}
+use Rattle.shared_list.specs.Places.{IsItem, place_index}
+use Rattle.shared_list.proofs.Points.{behind_all, inside}
+use Rattle.snapshots.specs.Order.{IsPlaceFor, if_named, is_below, is_named, names_rise}
 use Rattle.snapshots.proofs.Indexes.{or_none}
-use Rattle.snapshots.proofs.Names.{IsPlaceFor, place_at, found, found_none, none_past, rises_after, found_after, rises_with, found_with, removed_rises, found_without, is_inside}
+use Rattle.snapshots.proofs.Names.{place_at, found, found_none, none_past, rises_after, found_after, rises_with, found_with, removed_rises, found_without, is_inside}
 
 -- a snapshot is there by its name, and the others are as they were
 pub record IsPut (ks new : List Kept) (y : Kept) : Type 0 where
@@ -47,61 +52,92 @@ pub record IsTaken (ks new : List Kept) (q : List ℕ) : Type 0 where
   pub rises : names_rise new ≡ true
   pub finds : (n : List ℕ) → find (is_named n) new ≡ cond (same_name q n) None (find (is_named n) ks)
 
--- a point behind all is the end
-pub end_of : (q : List ℕ) (ks : List Kept) (i : ℕ) → length ks ≤ i → IsPartitionPoint (λ j. is_below q j ≡ true) (λ j. is_below q j ≡ false) ks i → IsPartitionPoint (λ j. is_below q j ≡ true) (λ j. is_below q j ≡ false) ks (length ks)
-end_of q ks i past point = ((λ k d ge lt. point.0 k d ge (omega arith)), (λ k d ge lt. absurd (omega arith)))
+-- what the first that isn't below a name says of it
+pub nearest_is : (q : List ℕ) (ks : List Kept) (i : ℕ) (o : Option Kept) → names_rise ks ≡ true → IsPartitionPoint (λ k. is_below q k ≡ true) (λ k. is_below q k ≡ false) ks i → o ≡ slice_get ks i → find (is_named q) ks ≡ if_named q o
+nearest_is q ks i None rises point is =
+    let past = behind_all ks i (sym is) in
+    let end = place_at q ks (length ks) (omega arith) ((λ k d ge lt. point.0 k d ge (omega (arith, past, lt))), (λ k d ge lt. absurd (omega (arith, ge, lt)))) in
+    found_none q ks (length ks) end.before (none_past ks (length ks) (omega arith))
+nearest_is q ks i (Some k) rises point is =
+    let lt = slice_get_within ks i k (sym is) in
+    let place = place_at q ks i (omega (arith, lt)) point in
+    found q ks i k rises place.before place.after (sym is)
 
-module _ (q : List ℕ) (ks : List Kept) (rises : names_rise ks ≡ true) where
-  module _ (point : IsPartitionPoint (λ j. is_below q j ≡ true) (λ j. is_below q j ≡ false) ks (length ks)) where
+-- a place isn't behind the end
+pub within : (xs : List (List Kept)) (o : Option Place) → IfSome o (λ p. IsItem (λ v. v) xs p.k p.at) → place_index (λ v. v) xs o ≤ length (flattened xs)
+within xs None item = omega arith
+within xs (Some p) item = let lt = inside (λ v. v) xs p.k p.at item.chunk item.within in omega (arith, lt)
+
+-- snapshots in chunks, and what an edit at the place of a name leaves of them
+module _ (xs : List (List Kept)) (ks : List Kept) (all : flattened xs ≡ ks) (invariant : names_rise (flattened xs) ≡ true) (q : List ℕ) where
+  rises : names_rise ks ≡ true
+  rises = ap names_rise (sym all) ∙ invariant
+
+  -- behind them
+  module _ (point : IsPlaceFor q (flattened xs) (length (flattened xs))) where
     end : IsPlaceFor q ks (length ks)
-    end = place_at q ks (length ks) (omega arith) point
+    end = subst (λ l. IsPlaceFor q l (length l)) all point
 
-    pub absent : find (is_named q) ks ≡ None
+    absent : find (is_named q) ks ≡ None
     absent = found_none q ks (length ks) end.before (none_past ks (length ks) (omega arith))
 
     pub not_past : IsSome (find (is_named q) ks) → ⊥
     not_past there = is_inside ks q (length ks) rises end there (omega arith)
 
-    pub put_end : (y : Kept) (new : List Kept) → q ≡ y.snapshot.name → new ≡ ks ++ y ∷ [] → IsAdded ks new y
+    pub put_end : (y : Kept) (new : List Kept) → q ≡ y.snapshot.name → new ≡ flattened xs ++ y ∷ [] → IsAdded ks new y
     put_end y new its put =
-        let behind : new ≡ insert ks (length ks) y = put ∙ sym (insert_end ks y) in
+        let behind : new ≡ insert ks (length ks) y = put ∙ ap (λ l. l ++ y ∷ []) all ∙ sym (insert_end ks y) in
         let none : find (is_named y.snapshot.name) ks ≡ None = ap (λ n. find (is_named n) ks) (sym its) ∙ absent in
         added_new ks new y none record {
           rises = rises_after ks new q y (length ks) rises its end none behind;
           finds = found_after ks new q y (length ks) rises its end none behind;
         }
 
-  module _ (i : ℕ) (lt : i < length ks) (point : IsPartitionPoint (λ j. is_below q j ≡ true) (λ j. is_below q j ≡ false) ks i) where
+  -- at the place of one of them
+  module _ (p : Place) (item : IsItem (λ v. v) xs p.k p.at) (point : IsPlaceFor q (flattened xs) (place_index (λ v. v) xs (Some p))) where
+    abbrev i : ℕ
+    i = place_index (λ v. v) xs (Some p)
+
+    lt : i < length ks
+    lt = subst (λ l. i < length l) all (inside (λ v. v) xs p.k p.at item.chunk item.within)
+
     place : IsPlaceFor q ks i
-    place = place_at q ks i (omega arith) point
+    place = subst (λ l. IsPlaceFor q l i) all point
 
-    -- what a search finds by it
-    pub got : (y : Kept) → slice_get ks i ≡ Some y → find (is_named q) ks ≡ cond (is_named q y) (Some y) None
-    got y is = found q ks i y rises place.before place.after is
+    got : (x : Kept) → slice_get (flattened xs) i ≡ Some x → find (is_named q) ks ≡ cond (is_named q x) (Some x) None
+    got x at = found q ks i x rises place.before place.after (ap (λ l. slice_get l i) (sym all) ∙ at)
 
-    -- one is put in where the one that stands there has another name
-    pub put_in : (x y : Kept) (new : List Kept) → slice_get ks i ≡ Some x → is_named q x ≡ false → q ≡ y.snapshot.name → new ≡ insert ks i y → IsAdded ks new y
-    put_in x y new is other its put =
-        let none : find (is_named y.snapshot.name) ks ≡ None = ap (λ n. find (is_named n) ks) (sym its) ∙ got x is ∙ ap (λ b. cond b (Some x) None) other in
-        added_new ks new y none record {
-          rises = rises_after ks new q y i rises its place none put;
-          finds = found_after ks new q y i rises its place none put;
-        }
+    module _ (x y : Kept) (at : slice_get (flattened xs) i ≡ Some x) (its : q ≡ y.snapshot.name) where
+      named : find (is_named y.snapshot.name) ks ≡ cond (is_named q x) (Some x) None
+      named = ap (λ n. find (is_named n) ks) (sym its) ∙ got x at
 
-    -- and stays out where that one has its name
-    pub put_none : (x y : Kept) → slice_get ks i ≡ Some x → is_named q x ≡ true → q ≡ y.snapshot.name → IsAdded ks ks y
-    put_none x y is named its = added_none ks x y rises (ap (λ n. find (is_named n) ks) (sym its) ∙ got x is ∙ ap (λ b. cond b (Some x) None) named)
+      -- one is put in where the one that stands there has another name
+      pub put_in : is_named q x ≡ false → (new : List Kept) → new ≡ insert (flattened xs) i y → IsAdded ks new y
+      put_in other new put =
+          let none : find (is_named y.snapshot.name) ks ≡ None = named ∙ ap (λ b. cond b (Some x) None) other in
+          let in_place : new ≡ insert ks i y = put ∙ ap (λ l. insert l i y) all in
+          added_new ks new y none record {
+            rises = rises_after ks new q y i rises its place none in_place;
+            finds = found_after ks new q y i rises its place none in_place;
+          }
 
-    pub set_in : (y : Kept) (new : List Kept) → q ≡ y.snapshot.name → IsSome (find (is_named y.snapshot.name) ks) → new ≡ set ks i y → IsPut ks new y
-    set_in y new its there put =
+      -- and stays out where that one has its name
+      pub put_none : is_named q x ≡ true → IsAdded ks ks y
+      put_none same = added_none ks x y rises (named ∙ ap (λ b. cond b (Some x) None) same)
+
+    pub set_in : (y : Kept) → q ≡ y.snapshot.name → IsSome (find (is_named y.snapshot.name) ks) → (new : List Kept) → new ≡ set (flattened xs) i y → IsPut ks new y
+    set_in y its there new put =
         let there_too : IsSome (find (is_named q) ks) = subst (λ n. IsSome (find (is_named n) ks)) (sym its) there in
+        let in_place : new ≡ set ks i y = put ∙ ap (λ l. set l i y) all in
         record {
-          rises = rises_with ks q i rises place there_too new y its lt put;
-          finds = found_with ks q i rises place there_too new y its lt put;
+          rises = rises_with ks q i rises place there_too new y its lt in_place;
+          finds = found_with ks q i rises place there_too new y its lt in_place;
         }
 
-    pub taken : (new : List Kept) → IsSome (find (is_named q) ks) → new ≡ remove ks i → IsTaken ks new q
-    taken new there rest = record {
-      rises = ap names_rise rest ∙ removed_rises ks i rises;
-      finds = found_without ks q i rises place there new lt rest;
-    }
+    pub taken : IsSome (find (is_named q) ks) → (new : List Kept) → new ≡ remove (flattened xs) i → IsTaken ks new q
+    taken there new rest =
+        let in_place : new ≡ remove ks i = rest ∙ ap (λ l. remove l i) all in
+        record {
+          rises = ap names_rise in_place ∙ removed_rises ks i rises;
+          finds = found_without ks q i rises place there new lt in_place;
+        }

@@ -1,3 +1,4 @@
+pub mod Heads
 pub mod Cuts
 pub mod Names
 pub mod Indexes

@@ -11,7 +11,7 @@ use Rattle.std.specs.Cmp.Lexicographic.{nat_list_cmp_total, texts_ties, same_tex
 use Rattle.std.proofs.lemmas.List.{take-append-drop}
 use Rattle.base.specs.Names.{name_cmp, same_name}
 use Rattle.snapshots.specs.declared.kept.Kept.{Kept}
-use Rattle.snapshots.specs.Order.{is_below, is_named, names_rise}
+use Rattle.snapshots.specs.Order.{IsPlaceFor, is_below, is_named, names_rise}
 
 -- tests
 both_so : (a b : Bool) → a ≡ true → b ≡ true → (a && b) ≡ true
@@ -74,12 +74,7 @@ parted q (x ∷ ks) r zero (suc j) d le lt e =
 parted q (x ∷ ks) r (suc i) zero d le lt e = absurd (omega arith)
 parted q (x ∷ ks) r (suc i) (suc j) d le lt e = parted q ks (right_so (list_all (λ j. is_below j.snapshot.name x) ks) (names_rise ks) r) i j d (omega arith) (omega arith) e
 
--- the names before place i are below, and none from there on
-pub record IsPlaceFor (name : List ℕ) (ks : List Kept) (i : ℕ) : Type 0 where
-  pub within : i ≤ length ks
-  pub before : list_all (is_below name) (take i ks) ≡ true
-  pub after : list_all (λ k. not (is_below name k)) (drop i ks) ≡ true
-
+-- a place that tells those below a name from the others
 all_before : (p : Kept → Bool) (ks : List Kept) (i : ℕ) → i ≤ length ks → ((k : ℕ) (d : Kept) → k < i → p (get_or ks k d) ≡ true) → list_all p (take i ks) ≡ true
 all_before p ks zero le h = refl
 all_before p [] (suc i) le h = absurd (omega arith)

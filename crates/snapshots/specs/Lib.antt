@@ -1,3 +1,4 @@
+pub mod Heads
 pub mod Order
 pub mod Index
 pub mod Snaps

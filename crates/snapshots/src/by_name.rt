@@ -1,17 +1,17 @@
 //! Kept snapshots by name.
 ghost use Rattle.std.specs.Prelude.{◌≡◌, [], None, Some, true, false, IsTrue, IsSome, IfSome, if◌then◌else◌, ℕ, List, IfOk, IfErr, OnOk, OnErr};
 ghost use Rattle.std.specs.List.{find};
-ghost use Rattle.std.specs.List.Sorted.{IsPartitionPoint};
 ghost use Rattle.std.specs.Option.{option_copied, option_or};
 ghost use Rattle.shared_list.specs.Elements.{flattened};
 ghost use Rattle.shared_list.specs.Places.{IsItem, place_index};
 ghost use Rattle.base.specs.declared.refusal.Refusal.{Refusal};
 ghost use Rattle.base.specs.Names.{same_name};
-ghost use Rattle.snapshots.specs.Order.{is_below, is_named, names_rise};
+ghost use Rattle.snapshots.specs.Heads.{name_head};
+ghost use Rattle.snapshots.specs.Order.{IsPlaceFor, if_named, is_below, is_named, names_rise};
 
+use crate::head::{head_of, is_lower, is_same};
 use crate::kept::Kept;
 use base::refusal::Refusal;
-use base::text::{compare_bytes, same_bytes};
 use shared_list::edits::{insert_item, push_item, remove_item, set_item};
 use shared_list::place::{Place, first, item_at, partition_point};
 use shared_list::{Chunk, Spine};
@@ -67,7 +67,7 @@ impl ByName {
     pub fn get(&self, name: &[u8]) -> Option<&Kept>
         ensures { option_copied result ≡ find (λ k. same_name k.snapshot.name name.now) self.now }
     {
-        let kept = first(&self.chunks, |kept: &Kept| is_below_name(kept, name))?;
+        let kept = nearest(&self.chunks, name)?;
         if has_name(kept, name) {
             return Some(kept);
         }
@@ -82,7 +82,7 @@ impl ByName {
         ensures err { OnErr result (self.new ≡ self.old) }
         ensures only { IfErr result (λ e. e ≡ Refusal.NoMemory) }
     {
-        let name = kept.snapshot.name().as_bytes();
+        let name = name_of(&kept);
         let Some(place) = place_of(&self.chunks, name) else {
             push_item(&mut self.chunks, kept)?;
             return Ok(());
@@ -103,7 +103,7 @@ impl ByName {
         ensures err { OnErr result (self.new ≡ self.old) }
         ensures only { IfErr result (λ e. e ≡ Refusal.NoMemory) }
     {
-        let Some(place) = place_of(&self.chunks, kept.snapshot.name().as_bytes()) else {
+        let Some(place) = place_of(&self.chunks, name_of(&kept)) else {
             unreachable!()
         };
         set_item(&mut self.chunks, place.k, place.at, kept)?;
@@ -126,23 +126,49 @@ impl ByName {
     }
 }
 
-fn is_below_name(kept: &Kept, name: &[u8]) -> bool
+// Whether its name is below that one, which has this head.
+fn is_below_name(kept: &Kept, name: &[u8], head: u64) -> bool
+    requires { head ≡ name_head name.now }
     ensures { result ≡ is_below name.now kept.now }
 {
-    compare_bytes(kept.snapshot.name().as_bytes(), name).is_lt()
+    let snapshot = &kept.snapshot;
+    is_lower(snapshot.name().as_bytes(), snapshot.head(), name, head)
 }
 
 fn has_name(kept: &Kept, name: &[u8]) -> bool
     ensures { result ≡ is_named name.now kept.now }
 {
-    same_bytes(kept.snapshot.name().as_bytes(), name)
+    let snapshot = &kept.snapshot;
+    is_same(
+        snapshot.name().as_bytes(),
+        snapshot.head(),
+        name,
+        head_of(name),
+    )
 }
 
-/// Where the first snapshot stands whose name isn't below that one, or None where all are.
+// The bytes of its name.
+fn name_of(kept: &Arc<Kept>) -> &[u8]
+    ensures { result.now ≡ kept.now.value.snapshot.name }
+{
+    kept.snapshot.name().as_bytes()
+}
+
+/// The first snapshot whose name isn't below that one, or None where all are.
+fn nearest<'a>(chunks: &'a Spine<Chunk<Kept>>, name: &[u8]) -> Option<&'a Kept>
+    requires { IsTrue (names_rise (flattened chunks.now)) }
+    ensures { find (is_named name.now) (flattened chunks.now) ≡ if_named name.now (option_copied result) }
+{
+    let head = head_of(name);
+    first(chunks, |kept: &Kept| is_below_name(kept, name, head))
+}
+
+/// Where that snapshot stands.
 fn place_of(chunks: &Spine<Chunk<Kept>>, name: &[u8]) -> Option<Place>
     requires { IsTrue (names_rise (flattened chunks.now)) }
-    ensures place { IfSome result (λ c. IsItem (λ v. v) chunks.now c.k c.at) }
-    ensures point { IsPartitionPoint (λ k. is_below name.now k ≡ true) (λ k. is_below name.now k ≡ false) (flattened chunks.now) (place_index (λ v. v) chunks.now result) }
+    ensures item { IfSome result (λ p. IsItem (λ v. v) chunks.now p.k p.at) }
+    ensures place { IsPlaceFor name.now (flattened chunks.now) (place_index (λ v. v) chunks.now result) }
 {
-    partition_point(chunks, |kept: &Kept| is_below_name(kept, name))
+    let head = head_of(name);
+    partition_point(chunks, |kept: &Kept| is_below_name(kept, name, head))
 }

@@ -3,6 +3,7 @@
 
 pub mod bookmarks;
 mod by_name;
+mod head;
 pub mod holds;
 mod kept;
 mod parts;

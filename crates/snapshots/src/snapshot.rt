@@ -7,7 +7,9 @@ ghost use Rattle.snapshots.specs.Tags.{texts};
 ghost use Rattle.model.specs.World.{id_of};
 ghost use Rattle.model.specs.Ids.{snap_id};
 ghost use Rattle.snapshots.specs.Snaps.{plain_snap};
+ghost use Rattle.snapshots.specs.Heads.{name_head};
 
+use crate::head::head_of;
 use crate::holds::Holds;
 use base::name::Component;
 use base::number::{Group, Guid};
@@ -22,6 +24,7 @@ use tree::Tree;
 /// (On-Disk Specification, chapter 4; zfs-hold(8); zfs-destroy(8), -d). Its map never changes. Copies share the map and the tags.
 pub struct Snapshot {
     name: Component,
+    head: u64,
     tree: Tree,
     guid: Guid,
     group: Group,
@@ -34,6 +37,7 @@ impl Drop for Snapshot {
     fn drop(self) {
         let Snapshot {
             name,
+            head: _,
             tree,
             guid: _,
             group: _,
@@ -51,7 +55,9 @@ impl Model for Snapshot {
     ghost use Rattle.model.specs.Codes.{snap_code};
     ghost use Rattle.std.specs.Arc.{arc_value};
     ghost use Rattle.std.specs.Option.{option_map};
+    ghost use Rattle.std.specs.Prelude.{◌≡◌};
     ghost use Rattle.snapshots.specs.Snaps.{plain_snap, tags_in};
+    ghost use Rattle.snapshots.specs.Heads.{name_head};
 
     ghost Value = { Snap };
 
@@ -61,6 +67,8 @@ impl Model for Snapshot {
       deferred = s.deferred;
       tags = tags_in (option_map arc_value s.tags);
     } };
+
+    ghost invariant = { λ s. s.head ≡ name_head s.name };
 }
 
 impl Snapshot {
@@ -68,8 +76,10 @@ impl Snapshot {
     pub fn new(name: Component, tree: Tree, guid: Guid, group: Group) -> Snapshot
         ensures { result ≡ plain_snap name tree guid.0 group.0 }
     {
+        let head = head_of(name.as_bytes());
         Snapshot {
             name,
+            head,
             tree,
             guid,
             group,
@@ -86,6 +96,7 @@ impl Snapshot {
     {
         Ok(Snapshot {
             name: self.name.clone()?,
+            head: self.head,
             tree: self.tree.copy()?,
             guid: self.guid,
             group: self.group,
@@ -168,6 +179,13 @@ impl Snapshot {
         ensures { result.now ≡ self.now.name }
     {
         &self.name
+    }
+
+    /// The first eight bytes of its name as a number. Constant time.
+    pub(crate) fn head(&self) -> u64
+        ensures { result ≡ name_head self.now.name }
+    {
+        self.head
     }
 
     /// The tree of its blocks. Constant time.

@@ -3,7 +3,6 @@ ghost use Rattle.std.specs.Prelude.{◌≡◌, ◌-◌, Some, None, IfSome, IfNo
 ghost use Rattle.std.specs.Option.{option_map, option_map_or, option_copied};
 ghost use Rattle.std.specs.FinSet.{len};
 ghost use Rattle.base.specs.Map.{blocks};
-ghost use Rattle.base.specs.Names.{same_name};
 ghost use Rattle.model.specs.Ids.{snap_id};
 ghost use Rattle.lookups.specs.Places.{dataset_at, map_at, IsPlace, IsHome};
 ghost use Rattle.lookups.specs.Since.{since_refusal, written_named, is_before, IsDeadSince, HasReached, HasReachedNamed};
@@ -14,7 +13,6 @@ use base::meter::SegMeter;
 use base::name::{DsName, Member, Target};
 use base::number::Group;
 use base::refusal::Refusal;
-use base::text::same_bytes;
 use datasets::{FileSystem, Snapshot, Table};
 use model::snapshot_id::SnapshotId;
 
@@ -61,13 +59,6 @@ fn count_of(file_system: &FileSystem, dataset: Option<&Snapshot>) -> u32
         Some(snapshot) => snapshot.tree().node_count(),
         None => file_system.live().node_count(),
     }
-}
-
-// Whether that is the file system's name.
-fn is_named(file_system: &FileSystem, name: &DsName) -> bool
-    ensures { result ≡ same_name file_system.now.name name.now }
-{
-    same_bytes(file_system.name().as_bytes(), name.as_bytes())
 }
 
 // Whether they are one snapshot's.
@@ -118,7 +109,7 @@ fn gone_since(
     let group = since.group;
     let (mut passed, mut until) = (file_system, group_at(dataset));
     let mut gone: u64 = 0;
-    'lineage: while !is_named(passed, owner) {
+    'lineage: while !passed.is_named(owner.as_bytes()) {
         let origin = passed.origin()?;
         let rest = passed.gone_upto(None, until, group, segments);
         gone = gone.saturating_add(rest);

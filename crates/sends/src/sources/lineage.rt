@@ -5,7 +5,6 @@ ghost use Rattle.model.specs.World.{Snapped, id_of, same_id};
 ghost use Rattle.lookups.specs.Places.{IsPlace, IsHome};
 ghost use Rattle.lookups.specs.Since.{is_before};
 
-use crate::sources::place::is_named;
 use base::name::DsName;
 use datasets::{FileSystem, Snapshot, Table};
 use model::snapshot_id::SnapshotId;
@@ -26,7 +25,7 @@ pub fn is_older(
 {
     table.facts();
     let (mut passed, mut until) = (file_system, snapshot.group());
-    'lineage: while !is_named(passed, owner) {
+    'lineage: while !passed.is_named(owner.as_bytes()) {
         let Some(origin) = passed.origin() else {
             return false;
         };

@@ -12,7 +12,6 @@ ghost use Rattle.world.specs.Tables.{world_of};
 ghost use Rattle.sends.specs.Starts.{start_at};
 
 use crate::sources::lineage::is_older;
-use crate::sources::place::is_named;
 use base::name::{Member, Target};
 use base::number::{Group, Guid};
 use base::refusal::Refusal;
@@ -143,7 +142,7 @@ fn start_from_bookmark(
     ensures { result ≡ start_of (sources_of (world_of table.now) (id_of snapshot.now)) (Some (Target.Bookmark source.now)) }
 {
     table.facts();
-    if !is_named(file_system, &source.file_system) {
+    if !file_system.is_named(source.file_system.as_bytes()) {
         return None;
     }
     let id = file_system.bookmarks().get(source.component.as_bytes())?;

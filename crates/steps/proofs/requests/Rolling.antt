@@ -33,7 +33,7 @@ use Rattle.steps.specs.Steady.{IsSteady}
 use Rattle.steps.specs.Asked.{asked_by_rollback}
 use Rattle.steps.specs.Edits.{datasets_of, lose, StaysUnlimited, CanLose}
 use Rattle.accounts.specs.Limits.{IsUnlimited}
-use Rattle.removals.specs.Named.{has_clone}
+use Rattle.removals.specs.Needs.{has_clone}
 use Rattle.removals.specs.Requests.{rolled, rollback_refusal}
 use Rattle.steps.proofs.quotas.Bounded.{first_left, first_after, IsUnasked, asked_steady, unasked_fits}
 use Rattle.steps.proofs.requests.Losing.{lost_unasked}

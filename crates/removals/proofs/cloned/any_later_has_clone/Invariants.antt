@@ -1,7 +1,7 @@
 use Rattle.std.proofs.Common.{◌≡◌, Bor, map, false}
 use Rattle.std.specs.List.{list_any}
 use Rattle.snapshots.specs.declared.kept.Kept.{Kept}
-use Rattle.removals.specs.Named.{has_clone_and_is_later}
+use Rattle.removals.specs.Needs.{has_clone_and_is_later}
 use Rattle.removals.proofs.cloned.any_later_has_clone.Given as goal
 
 -- none of those so far

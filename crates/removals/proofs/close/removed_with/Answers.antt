@@ -3,7 +3,7 @@ use Rattle.std.specs.FinMap.{remove}
 use Rattle.std.specs.Option.{option_and_then}
 use Rattle.model.specs.Ids.{snap_id}
 use Rattle.removals.specs.Families.{unneeded}
-use Rattle.removals.specs.Named.{has_clone}
+use Rattle.removals.specs.Needs.{has_clone}
 use Rattle.removals.proofs.Needed.{needed_stays, unneeded_found}
 use Rattle.removals.proofs.close.removed_with.Goals as goal
 use Rattle.removals.proofs.close.removed_with.Goals.{then-is_viewed_beside-via-then-is_viewed_beside, then-is_viewed_beside-via-else-is_viewed_beside+then-has_clone}

@@ -6,35 +6,27 @@ use Rattle.model.specs.Outcome.{is_needed}
 use Rattle.model.specs.World.{Snap, id_of}
 use Rattle.world.specs.Shapes.{Name}
 use Rattle.world.specs.Tables.{world_of}
-use Rattle.removals.specs.Found.{found_refusal, removed_or_deferred}
-use Rattle.removals.proofs.Destroyed.{refusal_is, none_cloned}
+use Rattle.removals.specs.Found.{AreThere, removed_or_deferred}
+use Rattle.removals.proofs.Destroyed.{none_cloned}
 use Rattle.removals.proofs.Losses.{lost_put}
 use Rattle.removals.proofs.gone.destroy_snapshots.Goals as goal
 
 pub returns-in-Some-clause-only : goal.returns-in-Some-clause-only
 returns-in-Some-clause-only c =
-    let t = c.args.table.now in
-    let views = c.args.views.now.opened in
-    inl (refusal_is t c.facts.ensures.good views c.args.name.now c.args.recursive c.args.defer c.in_ok-all.all.items c.in_ok-all.ensures.ids c.in_ok-all.ensures.there
-    ∙ sym (c.refusal_of.ensures ∙ ap (found_refusal t views c.args.defer) c.deref.ensures.value)
-    ∙ c.in-Some.is)
+    inl (sym (c.refusal_of.ensures c.args.name.now c.args.recursive (ap (map (λ (p : Name × Snap). id_of p.1)) c.deref.ensures.value ∙ c.in_ok-all.ensures.ids)) ∙ c.in-Some.is)
 
 pub returns-in-Some-clause-refused : goal.returns-in-Some-clause-refused
 returns-in-Some-clause-refused c =
-    let t = c.args.table.now in
-    let views = c.args.views.now.opened in
     subst (λ (x : Option Refusal). IfSome x (λ e. (◌≡◌ {A = Result (Unit {0}) Refusal} (Err c.in-Some.refusal) (Err e)) ⊎ (◌≡◌ {A = Result (Unit {0}) Refusal} (Err c.in-Some.refusal) (Err NoMemory))))
-    (sym (refusal_is t c.facts.ensures.good views c.args.name.now c.args.recursive c.args.defer c.in_ok-all.all.items c.in_ok-all.ensures.ids c.in_ok-all.ensures.there
-    ∙ sym (c.refusal_of.ensures ∙ ap (found_refusal t views c.args.defer) c.deref.ensures.value)
-    ∙ c.in-Some.is))
+    (sym (sym (c.refusal_of.ensures c.args.name.now c.args.recursive (ap (map (λ (p : Name × Snap). id_of p.1)) c.deref.ensures.value ∙ c.in_ok-all.ensures.ids)) ∙ c.in-Some.is))
     (inl refl)
 
 pub remove_or_defer-requires-clause-no_clone : goal.remove_or_defer-requires-clause-no_clone
 remove_or_defer-requires-clause-no_clone c =
-    let t = c.args.table.now in
-    let views = c.args.views.now.opened in
-    none_cloned t views c.args.defer c.deref-2.result.now
-    (ap (found_refusal t views c.args.defer) (c.deref-2.ensures.value ∙ sym c.deref.ensures.value) ∙ sym c.refusal_of.ensures ∙ c.in_default.is)
+    let ids = ap (map (λ (p : Name × Snap). id_of p.1)) c.deref-2.ensures.value ∙ c.in_ok-all.ensures.ids in
+    none_cloned c.args.table.now c.facts.ensures.good c.args.views.now.opened c.args.name.now c.args.recursive c.args.defer c.deref-2.result.now ids
+    (subst (AreThere c.args.table.now) (sym c.deref-2.ensures.value) c.in_ok-all.ensures.there)
+    (sym (c.refusal_of.ensures c.args.name.now c.args.recursive (ap (map (λ (p : Name × Snap). id_of p.1)) c.deref.ensures.value ∙ c.in_ok-all.ensures.ids)) ∙ c.in_default.is)
 
 pub returns-clause-ok : goal.returns-clause-ok
 returns-clause-ok c =
@@ -50,18 +42,10 @@ returns-clause-lost c =
 
 pub returns-clause-can : goal.returns-clause-can
 returns-clause-can c =
-    let t = c.args.table.now in
-    let views = c.args.views.now.opened in
-    refusal_is t c.facts.ensures.good views c.args.name.now c.args.recursive c.args.defer c.in_ok-all.all.items c.in_ok-all.ensures.ids c.in_ok-all.ensures.there
-    ∙ sym (c.refusal_of.ensures ∙ ap (found_refusal t views c.args.defer) c.deref.ensures.value)
-    ∙ c.in_default.is
+    sym (c.refusal_of.ensures c.args.name.now c.args.recursive (ap (map (λ (p : Name × Snap). id_of p.1)) c.deref.ensures.value ∙ c.in_ok-all.ensures.ids)) ∙ c.in_default.is
 
 pub returns-clause-refused : goal.returns-clause-refused
 returns-clause-refused c =
-    let t = c.args.table.now in
-    let views = c.args.views.now.opened in
     subst (λ (x : Option Refusal). IfSome x (λ e. (◌≡◌ {A = Result (Unit {0}) Refusal} (Ok (tt {0})) (Err e)) ⊎ (◌≡◌ {A = Result (Unit {0}) Refusal} (Ok (tt {0})) (Err NoMemory))))
-    (sym (refusal_is t c.facts.ensures.good views c.args.name.now c.args.recursive c.args.defer c.in_ok-all.all.items c.in_ok-all.ensures.ids c.in_ok-all.ensures.there
-    ∙ sym (c.refusal_of.ensures ∙ ap (found_refusal t views c.args.defer) c.deref.ensures.value)
-    ∙ c.in_default.is))
+    (sym (sym (c.refusal_of.ensures c.args.name.now c.args.recursive (ap (map (λ (p : Name × Snap). id_of p.1)) c.deref.ensures.value ∙ c.in_ok-all.ensures.ids)) ∙ c.in_default.is))
     tt

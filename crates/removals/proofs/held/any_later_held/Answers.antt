@@ -4,7 +4,7 @@ use Rattle.std.specs.List.{list_any}
 use Rattle.snapshots.specs.declared.kept.Kept.{Kept}
 use Rattle.shared_list.specs.Left.{left}
 use Rattle.datasets.specs.Dead.{snaps_in}
-use Rattle.removals.specs.Named.{is_held, is_held_after}
+use Rattle.removals.specs.Needs.{is_held, is_held_after}
 use Rattle.removals.proofs.Yielded.{gt_is, yielded_all, yielded_front, snaps_yielded}
 use Rattle.removals.proofs.Seen.{any_pushed, any_here, any_value}
 use Rattle.removals.proofs.held.any_later_held.Goals as goal

@@ -1,7 +1,7 @@
 use Rattle.std.proofs.Common.{◌≡◌, Bor, map, false}
 use Rattle.std.specs.List.{list_any}
 use Rattle.snapshots.specs.declared.kept.Kept.{Kept}
-use Rattle.removals.specs.Named.{is_held_after}
+use Rattle.removals.specs.Needs.{is_held_after}
 use Rattle.removals.proofs.held.any_later_held.Given as goal
 
 -- none of those so far

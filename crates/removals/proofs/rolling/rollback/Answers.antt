@@ -13,7 +13,7 @@ use Rattle.model.specs.State.{Views}
 use Rattle.model.specs.requests.Rollback.{placed}
 use Rattle.world.specs.Worlds.{AreFileSystems}
 use Rattle.world.specs.Tables.{Datasets, world_of}
-use Rattle.removals.specs.Named.{has_clone_and_is_later}
+use Rattle.removals.specs.Needs.{has_clone_and_is_later}
 use Rattle.removals.specs.Requests.{rolled, rollback_refusal, refusal_at}
 use Rattle.world.proofs.lists.Finding.{from_find}
 use Rattle.removals.proofs.Losses.{apart_copied, lost_put}

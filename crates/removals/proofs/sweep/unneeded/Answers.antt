@@ -1,6 +1,6 @@
 use Rattle.std.proofs.Common.{◌||◌, sym, ap, ◌∙◌}
 use Rattle.model.specs.Ids.{snap_id}
-use Rattle.removals.specs.Named.{has_clone}
+use Rattle.removals.specs.Needs.{has_clone}
 use Rattle.removals.proofs.Needed.{needed_stays, unneeded_found}
 use Rattle.removals.proofs.sweep.unneeded.Goals as goal
 use Rattle.removals.proofs.sweep.unneeded.Goals.{then-is_viewed-via-then-is_viewed, then-is_viewed-via-else-is_viewed+then-has_clone}

@@ -1,12 +1,12 @@
-use Rattle.std.proofs.Common.{◌≡◌, ◌+◌, sym, ap, subst, ◌∙◌, arith, length, length-append}
+use Rattle.std.proofs.Common.{◌≡◌, ◌+◌, ◌++◌, ◌∷◌, [], sym, ap, subst, ◌∙◌, arith, length, length-append}
 use Rattle.std.specs.FinSet.{union, from_list, empty_of_len}
 use Rattle.base.specs.Map.{BlockSet, blocks}
 use Rattle.base.specs.Surveys.{AreDifferent}
 use Rattle.world.specs.Blocks.{after}
 use Rattle.world.specs.Sets.{AreDisjoint}
-use Rattle.destroyer.specs.Members.{members, born_after}
+use Rattle.destroyer.specs.Members.{members, tops_after}
 use Rattle.destroyer.proofs.Pieces.{last_piece}
-use Rattle.destroyer.proofs.Together.{tree_lists, none_added, nothing_added, added}
+use Rattle.destroyer.proofs.Together.{top_lists, none_added, nothing_added, added}
 use Rattle.destroyer.proofs.freeing.Freeing.add_tree.Goals as goal
 
 pub returns-in_default-2-clause-ok : goal.returns-in_default-2-clause-ok
@@ -19,10 +19,10 @@ returns-then-count-eq0-clause-ok c =
 pub invariant_of-self-2 : goal.invariant_of-self-2
 invariant_of-self-2 c =
     let old = members c.self.inside.pieces in
-    let new = born_after c.args.cut.0 c.in-Some-2.top in
+    let new = tops_after c.args.cut.0 c.push_reserved.new.self.items in
     let born = after c.args.cut.0 (blocks c.args.tree.now) in
     let whole = ap members c.in_ok-push.ensures.ok ∙ last_piece c.self.inside.pieces _ in
-    let own = tree_lists c.args.tree.now c.in-Some-2.top c.args.cut.0 c.node_count-count.ensures.unique (rw c.in-Some-2.is at c.in_ok-top.ensures.map) in
+    let own = top_lists c.args.tree.now c.in-Some-2.top c.push_reserved.new.self.items c.args.cut.0 (c.push_reserved.ensures.items ∙ ap (λ ts. ts ++ c.in-Some-2.top ∷ []) c.in_ok-tops.ensures.items) c.node_count-count.ensures.unique (rw c.in-Some-2.is at c.in_ok-top.ensures.map) in
     let apart = subst (λ s. AreDisjoint s born) (sym c.self.view_is) c.requires.apart in
     let a = added new old born own.0 c.self.invariant.0 apart in
     let long : length (members c.push.new.self) ≡ length new + length old = ap length whole ∙ length-append new old in
@@ -36,9 +36,9 @@ invariant_of-self-2 c =
 pub returns-clause-ok : goal.returns-clause-ok
 returns-clause-ok c =
     let old = members c.self.inside.pieces in
-    let new = born_after c.args.cut.0 c.in-Some-2.top in
+    let new = tops_after c.args.cut.0 c.push_reserved.new.self.items in
     let born = after c.args.cut.0 (blocks c.args.tree.now) in
-    let own = tree_lists c.args.tree.now c.in-Some-2.top c.args.cut.0 c.node_count-count.ensures.unique (rw c.in-Some-2.is at c.in_ok-top.ensures.map) in
+    let own = top_lists c.args.tree.now c.in-Some-2.top c.push_reserved.new.self.items c.args.cut.0 (c.push_reserved.ensures.items ∙ ap (λ ts. ts ++ c.in-Some-2.top ∷ []) c.in_ok-tops.ensures.items) c.node_count-count.ensures.unique (rw c.in-Some-2.is at c.in_ok-top.ensures.map) in
     let apart = subst (λ s. AreDisjoint s born) (sym c.self.view_is) c.requires.apart in
     ap (λ bs. from_list bs) (ap members c.in_ok-push.ensures.ok ∙ last_piece c.self.inside.pieces _)
     ∙ (added new old born own.0 c.self.invariant.0 apart).1

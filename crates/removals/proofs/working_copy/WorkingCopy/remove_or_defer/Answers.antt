@@ -1,15 +1,16 @@
 use Rattle.std.proofs.Common.{◌&&◌, Bool, List, map, take, sym, ap, subst, ◌∙◌, arith}
+use Rattle.std.specs.Prelude.{is_some}
+use Rattle.datasets.specs.Holders.{snap_in_system}
 use Rattle.model.specs.Outcome.{is_needed}
 use Rattle.model.specs.World.{Snap, SnapId, id_of}
 use Rattle.world.specs.Shapes.{Name}
-use Rattle.world.specs.Tables.{world_of}
+use Rattle.world.specs.Tables.{world_of, without_snap, deferred_snap}
 use Rattle.removals.specs.declared.working_copy.WorkingCopy.{WorkingCopy}
 use Rattle.removals.specs.Edits.{HasLost}
 use Rattle.removals.specs.Found.{removed_or_deferred}
-use Rattle.removals.specs.Named.{has_clone, without_owned, deferred_owned}
+use Rattle.removals.specs.Needs.{has_clone}
 use Rattle.removals.proofs.Deferring.{lost_deferred}
-use Rattle.removals.proofs.Destroyed.{parted_none, parted_clones, parted_left, deferred_more, removed_more, goes_uncloned, more_ids, in_place, whole_ids}
-use Rattle.removals.proofs.Identified.{owned_goes, owned_deferred}
+use Rattle.removals.proofs.Destroyed.{parted_none, parted_clones, turn_there, deferred_more, removed_more, goes_uncloned, more_ids, in_place, whole_ids}
 use Rattle.removals.proofs.Losses.{lost_none, lost_then}
 use Rattle.removals.proofs.Needed.{system_at}
 use Rattle.removals.proofs.working_copy.WorkingCopy.remove_or_defer.Goals as goal
@@ -20,6 +21,26 @@ loop-found-init c = record {
   so_far = c.requires.same ∙ sym (parted_none c.args.table.now c.facts.ensures.good (λ u. c.args.defer && is_needed (world_of c.args.table.now) c.args.views.now.opened u));
   lost = lost_none c.args.self.now.to c.args.self.now.freeing c.requires.apart;
 }
+
+pub defer-requires : goal.defer-requires
+defer-requires c =
+    let needed : Snap → Bool = λ u. c.args.defer && is_needed (world_of c.args.table.now) c.args.views.now.opened u in
+    let name = ap (λ (q : Name × Snap). q.0) c.found.view_is in
+    let id = c.id-id.ensures ∙ ap (λ (q : Name × Snap). id_of q.1) c.found.view_is in
+    record {
+      there = (λ i. is_some (snap_in_system c.loop-found.self.to (name i) (id i)))
+          ∙ turn_there c.args.table.now c.facts.ensures.good needed c.args.all.now c.requires.there c.requires.once c.loop-found.found-index c.found-item.result c.loop-found-test.true c.found-item.is
+          c.loop-found.self.to c.loop-found.invariant.so_far;
+    }
+
+pub remove_snapshot-requires-clause-there : goal.remove_snapshot-requires-clause-there
+remove_snapshot-requires-clause-there c =
+    let needed : Snap → Bool = λ u. c.args.defer && is_needed (world_of c.args.table.now) c.args.views.now.opened u in
+    let name = ap (λ (q : Name × Snap). q.0) c.found.view_is in
+    let id = c.id-id.ensures ∙ ap (λ (q : Name × Snap). id_of q.1) c.found.view_is in
+    (λ i. is_some (snap_in_system c.loop-found.self.to (name i) (id i)))
+    ∙ turn_there c.args.table.now c.facts.ensures.good needed c.args.all.now c.requires.there c.requires.once c.loop-found.found-index c.found-item.result c.loop-found-test.true c.found-item.is
+    c.loop-found.self.to c.loop-found.invariant.so_far
 
 pub remove_snapshot-requires-clause-no_clone : goal.remove_snapshot-requires-clause-no_clone
 remove_snapshot-requires-clause-no_clone c =
@@ -41,7 +62,6 @@ loop-found-preserved c =
     let needed : Snap → Bool = λ u. c.args.defer && is_needed (world_of t) c.args.views.now.opened u in
     let ids : List SnapId = map (λ (q : Name × Snap). id_of q.1) (take c.loop-found.found-index c.args.all.now) in
     let p : Name × Snap = c.found-item.result in
-    let name = ap (λ (q : Name × Snap). q.0) c.found.view_is in
     let snap = ap (λ (q : Name × Snap). q.1) c.found.view_is in
     let id = c.id-id.ensures ∙ ap id_of snap in
     let at = system_at t p.0 p.1 (c.requires.there p (in_place c.args.all.now c.loop-found.found-index p c.loop-found-test.true c.found-item.is)) in
@@ -49,20 +69,18 @@ loop-found-preserved c =
     let shown = ap needed (sym snap) ∙ sym c.has_to_wait.ensures in
     elim c.if-has_to_wait.branch [
       | then-has_to_wait+in_ok-defer w ↦
-          let goes = w.in_ok-defer.ensures.ok ∙ (λ i. deferred_owned u (name i) (id i)) in
+          let goes = w.in_ok-defer.ensures.ok ∙ ap (deferred_snap u) id in
           record {
             so_far = ap (λ (e : WorkingCopy). e.to) w.self-is ∙ goes
-                ∙ ap (λ v. deferred_owned v p.0 (id_of p.1)) c.loop-found.invariant.so_far
-                ∙ owned_deferred t (removed_or_deferred t needed ids) c.facts.ensures.good (parted_left t c.facts.ensures.good needed ids) p.0 at.0 p.1 at.1 at.2
+                ∙ ap (λ v. deferred_snap v (id_of p.1)) c.loop-found.invariant.so_far
                 ∙ deferred_more t c.facts.ensures.good needed ids p.0 at.0 p.1 at.1 at.2 (shown ∙ w.if-has_to_wait.true)
                 ∙ ap (removed_or_deferred t needed) (sym more);
             lost = subst (λ (e : WorkingCopy). HasLost from.to from.freeing e.to e.freeing) (sym w.self-is)
                 (subst (λ f. HasLost from.to from.freeing w.defer.new.self.to f) (sym w.in_ok-defer.ensures.same)
-                (lost_deferred from.to u w.defer.new.self.to from.freeing c.loop-found.self.freeing p.0 (id_of p.1) goes c.loop-found.invariant.lost));
+                (lost_deferred from.to u w.defer.new.self.to from.freeing c.loop-found.self.freeing (id_of p.1) goes c.loop-found.invariant.lost));
           }
       | else-has_to_wait+in_ok-remove_snapshot w ↦ record {
-        so_far = ap (λ (e : WorkingCopy). e.to) w.self-is ∙ w.in_ok-remove_snapshot.ensures.ok ∙ (λ i. without_owned (c.loop-found.invariant.so_far i) (name i) (id i))
-            ∙ owned_goes t (removed_or_deferred t needed ids) c.facts.ensures.good (parted_left t c.facts.ensures.good needed ids) p.0 at.0 p.1 at.1 at.2
+        so_far = ap (λ (e : WorkingCopy). e.to) w.self-is ∙ w.in_ok-remove_snapshot.ensures.ok ∙ (λ i. without_snap (c.loop-found.invariant.so_far i) (id i))
             ∙ removed_more t c.facts.ensures.good needed ids p.0 at.0 p.1 at.1 at.2 (shown ∙ w.if-has_to_wait.false)
             ∙ ap (removed_or_deferred t needed) (sym more);
         lost = subst (λ (e : WorkingCopy). HasLost from.to from.freeing e.to e.freeing) (sym w.self-is)

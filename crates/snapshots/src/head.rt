@@ -1,0 +1,66 @@
+//! The first bytes of a name as a number.
+ghost use Rattle.std.specs.Prelude.{◌≡◌, slice_index};
+ghost use Rattle.std.specs.Ordering.{is_lt};
+ghost use Rattle.base.specs.Names.{name_cmp, same_name};
+ghost use Rattle.snapshots.specs.Heads.{name_head};
+
+use base::text::{compare_bytes, same_bytes};
+
+// How many bytes of a name its head has.
+const HEAD: usize = 8;
+
+// The byte at that place, or 0 behind the last one.
+fn byte_at(name: &[u8], place: usize) -> u8
+    ensures { result ≡ slice_index name.now place }
+{
+    if place < name.len() { name[place] } else { 0 }
+}
+
+/// The first eight bytes of a name as a number, the first one highest, with zeros behind a shorter name. Names are in the order of their
+/// heads where these differ. Constant time.
+pub fn head_of(name: &[u8]) -> u64
+    ensures { result ≡ name_head name.now }
+{
+    u64::from_be_bytes([
+        byte_at(name, 0),
+        byte_at(name, 1),
+        byte_at(name, 2),
+        byte_at(name, 3),
+        byte_at(name, 4),
+        byte_at(name, 5),
+        byte_at(name, 6),
+        byte_at(name, 7),
+    ])
+}
+
+/// Whether a name is below another in byte order; each comes with its head. The bytes, which stand apart from their snapshot, are looked at
+/// only where the heads are the same and one of the names is longer. It costs the shorter name there, and constant time elsewhere.
+pub fn is_lower(one: &[u8], one_head: u64, other: &[u8], other_head: u64) -> bool
+    requires one { one_head ≡ name_head one.now }
+    requires other { other_head ≡ name_head other.now }
+    ensures { result ≡ is_lt (name_cmp one.now other.now) }
+{
+    if one_head != other_head {
+        return one_head < other_head;
+    }
+    if one.len() <= HEAD && other.len() <= HEAD {
+        return one.len() < other.len();
+    }
+    compare_bytes(one, other).is_lt()
+}
+
+/// Whether two names are the same; each comes with its head. The bytes are looked at only where the heads are the same and the names are
+/// longer. It costs what is the same at their ends there, and constant time elsewhere.
+pub fn is_same(one: &[u8], one_head: u64, other: &[u8], other_head: u64) -> bool
+    requires one { one_head ≡ name_head one.now }
+    requires other { other_head ≡ name_head other.now }
+    ensures { result ≡ same_name one.now other.now }
+{
+    if one_head != other_head {
+        return false;
+    }
+    if one.len() <= HEAD && one.len() == other.len() {
+        return true;
+    }
+    same_bytes(one, other)
+}
