@@ -7,6 +7,7 @@ pub mod TouchLaws
 pub mod MadeLaws
 pub mod Metering
 pub mod NumberLaws
+pub mod WayLaws
 pub mod Numbered
 pub mod Falling
 pub mod Heres

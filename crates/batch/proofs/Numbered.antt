@@ -1,14 +1,15 @@
 -- The claims of a way with their numbers, of which each that keeps no block takes the next Free one.
-use Rattle.std.proofs.Common.{◌≡◌, ℕ, zero, suc, ◌+◌, ◌-◌, ◌/◌, ◌^◌, ◌<◌, ◌≤◌, true, false, cond, List, [], ◌∷◌, ◌++◌, length, get_or, Option, Some, None, refl, sym, ap, subst, ◌∙◌, arith, append_assoc, append-nil, length-append}
-use Rattle.std.specs.Prelude.{Bool, slice_get, count_by, not, is_some}
-use Rattle.std.specs.List.{filter_map, cons_option}
+use Rattle.std.proofs.Common.{◌≡◌, ℕ, suc, ◌+◌, ◌-◌, ◌/◌, ◌^◌, ◌<◌, ◌≤◌, true, false, cond, List, [], ◌∷◌, ◌++◌, length, get_or, take, map, Option, Some, None, refl, sym, ap, subst, ◌∙◌, arith, append_assoc, append-nil, length-append}
+use Rattle.std.specs.Prelude.{Bool, min, slice_get, count_by, not, is_some}
+use Rattle.std.specs.List.{filter_map, cons_option, zip}
 use Rattle.std.proofs.lemmas.Bool.{le-leb}
-use Rattle.std.proofs.lemmas.List.{map-append}
-use Rattle.std.proofs.lemmas.List.Elements.{filter_map-append}
+use Rattle.std.proofs.lemmas.List.{length-map, map-append}
+use Rattle.std.proofs.lemmas.Slice.Zip.{length-zip}
 use Rattle.std.proofs.lemmas.List.Sums.{sum_by-cons, sum_by-append}
 use Rattle.base.specs.declared.number.BlockNo.{BlockNo}
 use Rattle.base.specs.declared.number.Dead.{Dead}
 use Rattle.base.specs.declared.number.Key.{Key}
+use Rattle.base.specs.Key.{path}
 use Rattle.base.specs.Surveys.{IsIn, AreDifferent}
 use Rattle.batch.specs.declared.findings.Claim.{Claim}
 use Rattle.batch.specs.declared.numbers.NewBlock.{NewBlock}
@@ -17,36 +18,13 @@ use Rattle.batch.specs.Build.{filled, is_fresh, number_for, numbers_after}
 use Rattle.batch.specs.Forecast.{kept_of}
 use Rattle.batch.specs.Numbers.{numbers, frees_from, is_young}
 use Rattle.batch.specs.Touch.{let_go, young_one}
-use Rattle.batch.specs.Way.{way_claims, way_released, IsAdded, IsNumbered}
-use Rattle.node.specs.Entries.{key_at}
+use Rattle.batch.specs.Way.{way_claims, way_released, IsNumbered}
 use Rattle.zalloc.specs.declared.BlockState.{BlockState}
 use Rattle.zalloc.specs.declared.BlockState.TheVariants.{Free}
 use Rattle.zalloc.specs.States.{is_free}
 use Rattle.zalloc.specs.Tallies.{IsTaken}
+use Rattle.batch.proofs.WayLaws.{way_more, way_split}
 use Rattle.batch.proofs.NumberLaws.{frees_found, frees_in, frees_once, frees_count, in_left, length-numbers}
-
--- one claim
-pub added_kept : (k : Key) (o : Option Dead) (d : Dead) (states : List BlockState) (from : ℕ) (old new : Lists) → o ≡ Some d
-    → new.taken.items ≡ old.taken.items → new.made.items ≡ old.made.items ++ record { key = k; block = d.block } ∷ [] → IsAdded (record { key = k; kept = o }) states from from old new
-unfolding filled
-added_kept k o d states from old new e t m = subst (λ o. IsAdded (record { key = k; kept = o }) states from from old new) (sym e) (record {
-  fresh = [];
-  enough = refl;
-  free = refl;
-  taken = t ∙ sym (append-nil old.taken.items);
-  made = m;
-})
-
-pub added_fresh : (k : Key) (o : Option Dead) (b : BlockNo) (states : List BlockState) (from : ℕ) (old new : Lists) → o ≡ None → from ≤ b.0 → slice_get states b.0 ≡ Some Free → IsTaken states from b.0
-    → new.taken.items ≡ old.taken.items ++ b ∷ [] → new.made.items ≡ old.made.items ++ record { key = k; block = b } ∷ [] → IsAdded (record { key = k; kept = o }) states from (b.0 + 1) old new
-unfolding filled
-added_fresh k o b states from old new e low f l t m = subst (λ o. IsAdded (record { key = k; kept = o }) states from (b.0 + 1) old new) (sym e) (record {
-  fresh = b ∷ [];
-  enough = refl;
-  free = frees_found states from b.0 low f l;
-  taken = t;
-  made = m;
-})
 
 -- claims after others
 one_filled : (k : Key) (o : Option Dead) (cs ds : List Claim) (ts us : List BlockNo) → ((xs : List BlockNo) → length xs ≡ count_by is_fresh cs → filled (cs ++ ds) (xs ++ us) ≡ filled cs xs ++ filled ds us) → length ts ≡ cond (not (is_some o)) 1 0 + count_by is_fresh cs
@@ -61,19 +39,36 @@ filled_append [] ds [] us h = refl
 filled_append [] ds (t ∷ ts) us h = absurd (omega arith)
 filled_append (c ∷ cs) ds ts us h = one_filled c.key c.kept cs ds ts us (λ xs l. filled_append cs ds xs us l) (let n = sum_by-cons (λ z. cond (is_fresh z) 1 0) c cs in omega (arith, n, h))
 
-pub numbered_more : (cs : List Claim) (c : Claim) (states : List BlockState) (from next : ℕ) (old new : Lists) → IsNumbered cs states from old → IsAdded c states from next old new → IsNumbered (cs ++ c ∷ []) states next new
-numbered_more cs c states from next old new p q = record {
-  enough =
-      let t = ap length q.taken ∙ length-append old.taken.items q.fresh in
-      let n = sum_by-append (λ z. cond (is_fresh z) 1 0) cs (c ∷ []) in
-      let a = p.enough in let b = q.enough in
-      omega (arith, t, n, a, b);
-  free =
-      p.free ∙ ap (λ ns. numbers old.taken.items ++ ns) q.free ∙ sym (append_assoc (numbers old.taken.items) (numbers q.fresh) (frees_from next states))
-      ∙ ap (λ ns. ns ++ frees_from next states) (sym (ap numbers q.taken ∙ map-append (λ (b : BlockNo). b.0) old.taken.items q.fresh));
-  made =
-      q.made ∙ ap (λ bs. bs ++ filled (c ∷ []) q.fresh) p.made ∙ sym (filled_append cs (c ∷ []) old.taken.items q.fresh p.enough) ∙ ap (filled (cs ++ c ∷ [])) (sym q.taken);
-}
+-- one claim more
+module _ (k : Key) (o : Option Dead) (cs : List Claim) (states : List BlockState) (from : ℕ) (old new : Lists) (p : IsNumbered cs states from old) where
+  more : (next : ℕ) (fresh : List BlockNo) → length fresh ≡ count_by is_fresh (record { key = k; kept = o } ∷ []) → frees_from from states ≡ numbers fresh ++ frees_from next states
+      → new.taken.items ≡ old.taken.items ++ fresh → new.made.items ≡ old.made.items ++ filled (record { key = k; kept = o } ∷ []) fresh → IsNumbered (cs ++ record { key = k; kept = o } ∷ []) states next new
+  more next fresh e f t m =
+      let c : Claim = record { key = k; kept = o } in
+      record {
+        enough =
+            let l = ap length t ∙ length-append old.taken.items fresh in
+            let n = sum_by-append (λ z. cond (is_fresh z) 1 0) cs (c ∷ []) in
+            let a = p.enough in
+            omega (arith, l, n, a, e);
+        free =
+            p.free ∙ ap (λ ns. numbers old.taken.items ++ ns) f ∙ sym (append_assoc (numbers old.taken.items) (numbers fresh) (frees_from next states))
+            ∙ ap (λ ns. ns ++ frees_from next states) (sym (ap numbers t ∙ map-append (λ (b : BlockNo). b.0) old.taken.items fresh));
+        made = m ∙ ap (λ bs. bs ++ filled (c ∷ []) fresh) p.made ∙ sym (filled_append cs (c ∷ []) old.taken.items fresh p.enough) ∙ ap (filled (cs ++ c ∷ [])) (sym t);
+      }
+
+  pub numbered_kept : (d : Dead) → o ≡ Some d → new.taken.items ≡ old.taken.items → new.made.items ≡ old.made.items ++ record { key = k; block = d.block } ∷ [] → IsNumbered (cs ++ record { key = k; kept = o } ∷ []) states from new
+  unfolding filled
+  numbered_kept d e t m =
+      more from [] (ap {B = ℕ} (λ (q : Option Dead). count_by is_fresh (record { key = k; kept = q } ∷ [])) (sym e)) refl (t ∙ sym (append-nil old.taken.items))
+      (m ∙ ap (λ (q : Option Dead). old.made.items ++ filled (record { key = k; kept = q } ∷ []) []) (sym e))
+
+  pub numbered_fresh : (b : BlockNo) → o ≡ None → from ≤ b.0 → slice_get states b.0 ≡ Some Free → IsTaken states from b.0 → new.taken.items ≡ old.taken.items ++ b ∷ [] → new.made.items ≡ old.made.items ++ record { key = k; block = b } ∷ []
+      → IsNumbered (cs ++ record { key = k; kept = o } ∷ []) states (b.0 + 1) new
+  unfolding filled
+  numbered_fresh b e low f l t m =
+      more (b.0 + 1) (b ∷ []) (ap {B = ℕ} (λ (q : Option Dead). count_by is_fresh (record { key = k; kept = q } ∷ [])) (sym e)) (frees_found states from b.0 low f l) t
+      (m ∙ ap (λ (q : Option Dead). old.made.items ++ filled (record { key = k; kept = q } ∷ []) (b ∷ [])) (sym e))
 
 pub numbered_none : (states : List BlockState) (l : Lists) → l.taken.items ≡ [] → l.made.items ≡ [] → IsNumbered [] states 0 l
 unfolding filled
@@ -112,49 +107,23 @@ module _ (cs : List Claim) (states : List BlockState) (next : ℕ) (l : Lists) (
   unfolding frees_from
   numbered_once = different_left (numbers l.taken.items) (frees_from next states) (subst AreDifferent p.free (frees_once 0 states))
 
--- one level more
-pub way_length : (y leaf : ℕ) (blocks : List (Option Dead)) (n : ℕ) → length (way_claims y leaf blocks n) ≡ n
+-- a claim for each level
+pub way_length : (y leaf : ℕ) (blocks : List (Option Dead)) → length blocks ≡ 6 → length (way_claims y leaf blocks) ≡ 6
 unfolding way_claims
-way_length y leaf blocks zero = refl
-way_length y leaf blocks (suc n) =
-    let a = length-append (way_claims y leaf blocks n) (record { key = key_at n (leaf / 16 ^ n); kept = young_one y (get_or blocks n None) } ∷ []) in
-    let h = way_length y leaf blocks n in
-    omega (arith, a, h)
-
-pub way_more : (y leaf : ℕ) (blocks : List (Option Dead)) (n index : ℕ) (own : Option Dead) → index ≡ leaf / 16 ^ n → own ≡ get_or blocks n None
-    → way_claims y leaf blocks n ++ record { key = record { level = n; index = index }; kept = young_one y own } ∷ [] ≡ way_claims y leaf blocks (n + 1)
-unfolding way_claims
-way_more y leaf blocks n index own a b =
-    let s : suc n ≡ n + 1 = omega arith in
-    (λ i. way_claims y leaf blocks n ++ record { key = record { level = n; index = a i }; kept = young_one y (b i) } ∷ []) ∙ ap (way_claims y leaf blocks) s
-
-pub gone_more : (y : ℕ) (blocks : List (Option Dead)) (n : ℕ) (own : Option Dead) → own ≡ get_or blocks n None → way_released y blocks n ++ let_go true true y own ≡ way_released y blocks (n + 1)
-unfolding way_released
-gone_more y blocks n own b = let s : suc n ≡ n + 1 = omega arith in ap (λ o. way_released y blocks n ++ let_go true true y o) b ∙ ap (way_released y blocks) s
+way_length y leaf blocks h = length-map (zip (path leaf) blocks) _ ∙ length-zip (path leaf) blocks ∙ ap (min 6) h
 
 -- where the Free numbers have run out
-fresh_grows : (y leaf : ℕ) (blocks : List (Option Dead)) (n d : ℕ) → count_by is_fresh (way_claims y leaf blocks n) ≤ count_by is_fresh (way_claims y leaf blocks (n + d))
-unfolding way_claims
-fresh_grows y leaf blocks n zero = let e : n ≡ n + 0 = omega arith in let c = ap (λ k. count_by is_fresh (way_claims y leaf blocks k)) e in omega (arith, c)
-fresh_grows y leaf blocks n (suc d) =
-    let e : suc (n + d) ≡ n + suc d = omega arith in
-    let c = ap (λ k. count_by is_fresh (way_claims y leaf blocks k)) e in
-    let a = sum_by-append (λ z. cond (is_fresh z) 1 0) (way_claims y leaf blocks (n + d)) (record { key = key_at (n + d) (leaf / 16 ^ (n + d)); kept = young_one y (get_or blocks (n + d) None) } ∷ []) in
-    let h = fresh_grows y leaf blocks n d in
-    omega (arith, a, c, h)
-
-pub way_short : (y leaf : ℕ) (blocks : List (Option Dead)) (n from : ℕ) (states : List BlockState) (l : Lists) (own : Option Dead) → n < 6 → own ≡ get_or blocks n None → IsNumbered (way_claims y leaf blocks n) states from l → frees_from from states ≡ [] → young_one y own ≡ None
-    → count_by is_free states < count_by is_fresh (way_claims y leaf blocks 6)
-way_short y leaf blocks n from states l own h b p none old =
+pub way_short : (y leaf : ℕ) (blocks : List (Option Dead)) (n from : ℕ) (states : List BlockState) (l : Lists) (own : Option Dead) → n ≤ 5 → n < length blocks → own ≡ get_or blocks n None → IsNumbered (way_claims y leaf (take n blocks)) states from l → frees_from from states ≡ [] → young_one y own ≡ None
+    → count_by is_free states < count_by is_fresh (way_claims y leaf blocks)
+way_short y leaf blocks n from states l own h w b p none old =
     let claim : Claim = record { key = record { level = n; index = leaf / 16 ^ n }; kept = young_one y own } in
-    let all = numbered_all (way_claims y leaf blocks n) states from l p none in
-    let a = sum_by-append (λ z. cond (is_fresh z) 1 0) (way_claims y leaf blocks n) (claim ∷ []) in
-    let m = ap (count_by is_fresh) (way_more y leaf blocks n (leaf / 16 ^ n) own refl b) in
+    let all = numbered_all (way_claims y leaf (take n blocks)) states from l p none in
+    let a = sum_by-append (λ z. cond (is_fresh z) 1 0) (way_claims y leaf (take n blocks)) (claim ∷ []) in
+    let m = ap (count_by is_fresh) (way_more y leaf blocks n (leaf / 16 ^ n) own h w refl b) in
     let f = ap {B = ℕ} (λ (o : Option Dead). cond (not (is_some o)) 1 0) old in
-    let e : n + 1 + (6 - (n + 1)) ≡ 6 = omega arith in
-    let c = ap (λ k. count_by is_fresh (way_claims y leaf blocks k)) e in
-    let g = fresh_grows y leaf blocks (n + 1) (6 - (n + 1)) in
-    omega (arith, all, a, m, f, c, g)
+    let rest = way_split y leaf blocks (suc n) in
+    let g = ap (count_by is_fresh) rest.1 ∙ sum_by-append (λ z. cond (is_fresh z) 1 0) (way_claims y leaf (take (suc n) blocks)) rest.0 in
+    omega (arith, all, a, m, f, g)
 
 -- no block that goes is young
 one_old : (y : ℕ) (d : Dead) (b : Bool) → is_young y d ≡ b → count_by (is_young y) (cond (not b) (d ∷ []) []) ≡ 0
@@ -165,13 +134,13 @@ none_young : (y : ℕ) (own : Option Dead) → count_by (is_young y) (let_go tru
 none_young y None = refl
 none_young y (Some d) = one_old y d (is_young y d) refl
 
-pub way_old : (y : ℕ) (blocks : List (Option Dead)) (n : ℕ) → count_by (is_young y) (way_released y blocks n) ≡ 0
+pub way_old : (y : ℕ) (blocks : List (Option Dead)) → count_by (is_young y) (way_released y blocks) ≡ 0
 unfolding way_released
-way_old y blocks zero = refl
-way_old y blocks (suc n) =
-    let a = sum_by-append (λ d. cond (is_young y d) 1 0) (way_released y blocks n) (let_go true true y (get_or blocks n None)) in
-    let h = way_old y blocks n in
-    let o = none_young y (get_or blocks n None) in
+way_old y [] = refl
+way_old y (own ∷ blocks) =
+    let a = sum_by-append (λ d. cond (is_young y d) 1 0) (let_go true true y own) (way_released y blocks) in
+    let h = way_old y blocks in
+    let o = none_young y own in
     omega (arith, a, h, o)
 
 -- where every block counts as young, none goes, and each is kept
@@ -179,20 +148,21 @@ none_goes : (own : Option Dead) → let_go true true 0 own ≡ []
 none_goes None = refl
 none_goes (Some d) = ap (λ (b : Bool). cond (not b) (d ∷ []) []) (le-leb 0 d.birth.0 (omega arith))
 
-pub way_stays : (blocks : List (Option Dead)) (n : ℕ) → way_released 0 blocks n ≡ []
+pub way_stays : (blocks : List (Option Dead)) → way_released 0 blocks ≡ []
 unfolding way_released
-way_stays blocks zero = refl
-way_stays blocks (suc n) = λ i. way_stays blocks n i ++ none_goes (get_or blocks n None) i
+way_stays [] = refl
+way_stays (own ∷ blocks) = λ i. none_goes own i ++ way_stays blocks i
 
-pub way_none : (leaf : ℕ) (blocks : List (Option Dead)) → kept_of (way_claims 0 leaf blocks 0) ≡ []
+all_young : (own : Option Dead) → young_one 0 own ≡ own
+all_young None = refl
+all_young (Some d) = ap (λ (b : Bool). cond b (Some d) None) (le-leb 0 d.birth.0 (omega arith))
+
+zip_kept : (ks : List Key) (blocks : List (Option Dead)) → length blocks ≤ length ks → kept_of (map (λ p. record { key = p.0; kept = young_one 0 p.1 }) (zip ks blocks)) ≡ filter_map (λ o. o) blocks
+zip_kept [] [] h = refl
+zip_kept [] (own ∷ blocks) h = absurd (omega arith)
+zip_kept (k ∷ ks) [] h = refl
+zip_kept (k ∷ ks) (own ∷ blocks) h = λ i. cons_option (all_young own i) (zip_kept ks blocks (omega arith) i)
+
+pub way_kept : (leaf : ℕ) (blocks : List (Option Dead)) → length blocks ≡ 6 → kept_of (way_claims 0 leaf blocks) ≡ filter_map (λ o. o) blocks
 unfolding way_claims
-way_none leaf blocks = refl
-
-pub kept_more : (leaf : ℕ) (blocks : List (Option Dead)) (n : ℕ) (own : Option Dead) → own ≡ get_or blocks n None → kept_of (way_claims 0 leaf blocks (n + 1)) ≡ kept_of (way_claims 0 leaf blocks n) ++ filter_map (λ o. o) (own ∷ [])
-kept_more leaf blocks n own b =
-    ap kept_of (sym (way_more 0 leaf blocks n (leaf / 16 ^ n) own refl b)) ∙ filter_map-append (λ (c : Claim). c.kept) (way_claims 0 leaf blocks n) (record { key = record { level = n; index = leaf / 16 ^ n }; kept = young_one 0 own } ∷ [])
-    ∙ ap (λ ds. kept_of (way_claims 0 leaf blocks n) ++ ds) (same own)
-  where
-    same : (own : Option Dead) → kept_of (record { key = record { level = n; index = leaf / 16 ^ n }; kept = young_one 0 own } ∷ []) ≡ filter_map (λ o. o) (own ∷ [])
-    same None = refl
-    same (Some d) = ap (λ (b : Bool). cons_option (cond b (Some d) None) []) (le-leb 0 d.birth.0 (omega arith))
+way_kept leaf blocks h = zip_kept (path leaf) blocks (omega (arith, h))

@@ -1,7 +1,8 @@
 -- What one write alone does to a key on the way to its leaf, by what it does to the place below.
-use Rattle.std.proofs.Common.{◌≡◌, ℕ, zero, suc, ◌+◌, ◌-◌, ◌*◌, ◌/◌, ◌%◌, ◌^◌, ◌<◌, ◌≤◌, true, false, List, [], ◌∷◌, ◌++◌, length, get_or, set, Option, None, refl, sym, ap, ◌∙◌, arith, append_assoc, sub-one, get_or-set_other}
+use Rattle.std.proofs.Common.{◌≡◌, ℕ, suc, ◌+◌, ◌-◌, ◌*◌, ◌/◌, ◌%◌, ◌^◌, ◌<◌, ◌≤◌, true, false, List, [], ◌∷◌, ◌++◌, length, get_or, set, take, Option, None, refl, sym, ap, ◌∙◌, arith, append_assoc, sub-one}
 use Rattle.std.specs.Prelude.{Bool, cond, is_some}
 use Rattle.std.proofs.lemmas.Grind.{get_or-set_at}
+use Rattle.std.proofs.lemmas.List.{length-set, take-set-le}
 use Rattle.base.specs.Counting.{counted}
 use Rattle.base.specs.declared.number.Dead.{Dead}
 use Rattle.node.specs.Entries.{key_at}
@@ -13,6 +14,7 @@ use Rattle.batch.specs.Touch.{touched, stays, claims, released, dropped, claim_o
 use Rattle.batch.specs.Way.{way_claims, way_released}
 use Rattle.batch.proofs.Metering.{part_counted}
 use Rattle.batch.proofs.OneLeaf.{next_index, on_touched, on_stays, claims_below, released_below, dropped_below}
+use Rattle.batch.proofs.WayLaws.{way_more, gone_more}
 use Rattle.batch.proofs.TouchLaws.{own_claims, own_released, claims_at_leaf, released_at_leaf, claims_down, released_down, dropped_down}
 
 -- the leaf
@@ -72,38 +74,21 @@ module _ (s : ℕ → Said) (leaf : ℕ) (one : IsOneLeaf s leaf true) (l g j le
       let under = dropped_below s l g j place true way o k y ∙ (λ i. dropped s y l (same i) (sym there i)) in
       part_counted m own all (touched s (suc l) j o) b y o (dropped s y l below kid) (dropped s y (suc l) j o) (dropped_down s y l j o ∙ ap (λ ds. ds ++ mine) under) e h f
 
--- ---- the blocks of the way, each at its level
-
-pub claims_alike : (y leaf : ℕ) (a b : List (Option Dead)) (n : ℕ) → ((i : ℕ) → i < n → get_or a i None ≡ get_or b i None) → way_claims y leaf a n ≡ way_claims y leaf b n
-unfolding way_claims
-claims_alike y leaf a b zero h = refl
-claims_alike y leaf a b (suc n) h = λ i. claims_alike y leaf a b n (λ k l. h k (omega arith)) i ++ record { key = key_at n (leaf / 16 ^ n); kept = young_one y (h n (omega arith) i) } ∷ []
-
-pub released_alike : (y : ℕ) (a b : List (Option Dead)) (n : ℕ) → ((i : ℕ) → i < n → get_or a i None ≡ get_or b i None) → way_released y a n ≡ way_released y b n
-unfolding way_released
-released_alike y a b zero h = refl
-released_alike y a b (suc n) h = λ i. released_alike y a b n (λ k l. h k (omega arith)) i ++ let_go true true y (h n (omega arith) i)
-
-pub no_claims : (y leaf : ℕ) (blocks : List (Option Dead)) (cs : List Claim) → way_claims y leaf blocks 0 ++ cs ≡ cs
-unfolding way_claims
-no_claims y leaf blocks cs = refl
-
-pub none_released : (y : ℕ) (blocks : List (Option Dead)) (ds : List Dead) → way_released y blocks 0 ++ ds ≡ ds
-unfolding way_released
-none_released y blocks ds = refl
-
 -- the block of one level more
-module _ (y leaf level l : ℕ) (blocks : List (Option Dead)) (own : Option Dead) (fits : level ≡ l) (within : level < length blocks) where
-  others : (i : ℕ) → i < l → get_or (set blocks level own) i None ≡ get_or blocks i None
-  others i h = get_or-set_other blocks level i own None (λ e. omega arith)
+module _ (y leaf level l : ℕ) (blocks : List (Option Dead)) (own : Option Dead) (fits : level ≡ l) (low : level ≤ 5) (within : level < length blocks) where
+  long : l < length (set blocks level own)
+  long = let n = length-set blocks level own in omega (arith, n, fits, within)
 
-  here : get_or (set blocks level own) l None ≡ own
-  here = get_or-set_at blocks level l own None (sym fits) within
+  same_below : take l (set blocks level own) ≡ take l blocks
+  same_below = take-set-le l blocks level own (omega (arith, fits))
 
-  pub claims_on_top : way_claims y leaf (set blocks level own) (suc l) ≡ way_claims y leaf blocks l ++ claim_of true true (record { level = level; index = leaf / 16 ^ level }) y own
-  unfolding way_claims
-  claims_on_top = λ i. claims_alike y leaf (set blocks level own) blocks l others i ++ record { key = record { level = sym fits i; index = leaf / 16 ^ sym fits i }; kept = young_one y (here i) } ∷ []
+  here : own ≡ get_or (set blocks level own) l None
+  here = sym (get_or-set_at blocks level l own None (sym fits) within)
 
-  pub released_on_top : way_released y (set blocks level own) (suc l) ≡ way_released y blocks l ++ let_go true true y own
-  unfolding way_released
-  released_on_top = λ i. released_alike y (set blocks level own) blocks l others i ++ let_go true true y (here i)
+  pub claims_on_top : way_claims y leaf (take (suc l) (set blocks level own)) ≡ way_claims y leaf (take l blocks) ++ claim_of true true (record { level = level; index = leaf / 16 ^ level }) y own
+  claims_on_top =
+      sym (way_more y leaf (set blocks level own) l (leaf / 16 ^ level) own (omega (arith, fits, low)) long (ap (λ n. leaf / 16 ^ n) fits) here)
+      ∙ (λ i. way_claims y leaf (same_below i) ++ record { key = record { level = sym fits i; index = leaf / 16 ^ level }; kept = young_one y own } ∷ [])
+
+  pub released_on_top : way_released y (take (suc l) (set blocks level own)) ≡ way_released y (take l blocks) ++ let_go true true y own
+  released_on_top = sym (gone_more y (set blocks level own) l own long here) ∙ ap (λ bs. way_released y bs ++ let_go true true y own) same_below

@@ -1,6 +1,7 @@
 -- What is known of a root before a batch is drafted: the room, and how many blocks go and come.
-use Rattle.std.proofs.Common.{◌≡◌, ℕ, zero, suc, ◌+◌, ◌*◌, ◌^◌, ◌<◌, ◌≤◌, Bool, true, false, cond, List, [], ◌∷◌, length, map, Option, Some, None, Err, Result, refl, ap, arith, length-append}
+use Rattle.std.proofs.Common.{◌≡◌, ℕ, zero, suc, ◌+◌, ◌*◌, ◌^◌, ◌<◌, ◌≤◌, Bool, true, false, cond, List, [], ◌∷◌, length, map, Option, Some, None, Ok, Err, Result, refl, sym, ap, ◌∙◌, arith, length-append}
 use Rattle.std.specs.Prelude.{slice_get, count_by, nat_le, not, ◌&&◌}
+use Rattle.std.specs.Result.{IsErrAnd}
 use Rattle.std.specs.declared.sync.Arc.{Arc}
 use Rattle.std.specs.declared.alloc.Global.{Global}
 use Rattle.base.specs.declared.number.Key.{Key}
@@ -35,8 +36,9 @@ use Rattle.batch.proofs.TouchLaws.{released_down, released_at_leaf}
 use Rattle.batch.proofs.SaidLaws.{full_size}
 
 -- what is handed on is the same refusal
-pub same_error : {T E : Type 0} (x y : E) → (let r : Result T E = Err x in r) ≡ Err y → x ≡ y
-same_error x y e = cc
+pub handed_on : {A B E : Type 0} (r : Result B E) (x y : E) → IsErrAnd r (λ z. z ≡ x) → r ≡ Err y → (let q : Result A E = Err x in q) ≡ Err y
+handed_on (Ok v) x y is e = absurd is
+handed_on (Err z) x y is e = let same : z ≡ y = cc in ap Err (sym is ∙ same)
 
 -- no more blocks go than there are
 few_gone : (t p : Bool) (y : ℕ) (q : Option Part) → length (let_go t p y (own_block q)) + cell_count (forest_of (λ p. p) (places_of q)) ≤ cells q

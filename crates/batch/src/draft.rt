@@ -15,8 +15,8 @@ ghost use Rattle.batch.specs.Updates.{changes_of, IsBatch};
 
 use crate::findings::findings_of;
 use crate::numbers::{NewBlock, choose, fill, fresh_count};
-use crate::update::{Update, one_leaf, write_count};
-use crate::way::{Lists, find_way, number_way};
+use crate::update::{Update, write_count};
+use crate::way::{Lists, number_way, way_of_write};
 use base::meter::Meter;
 use base::number::{BlockNo, Dead, Group};
 use base::refusal::Refusal;
@@ -80,20 +80,14 @@ pub fn draft_of(
     ensures never_lower { meter.old ≤ meter.new }
 {
     let room = write_count(updates).saturating_add(5);
-    if let Some((leaf, true)) = one_leaf(updates) {
-        let mut blocks = [None; 6];
-        find_way(root, leaf, &mut blocks, meter);
-        return match number_way(alloc, &blocks, leaf, young, allocator) {
-            Ok(lists) => Ok(lists.draft(true, count)),
-            Err(refusal) => Err(refusal),
-        };
+    let mut blocks = [None; 6];
+    if let Some(leaf) = way_of_write(root, updates, &mut blocks, meter) {
+        let lists = number_way(alloc, &blocks, leaf, young, allocator)?;
+        return Ok(lists.draft(true, count));
     }
     let (findings, touched) = findings_of(alloc, root, updates, room, young, meter)?;
     let need = fresh_count(&findings.claims);
-    let taken = match choose(alloc, allocator, &findings.released, young, need) {
-        Ok(taken) => taken,
-        Err(refusal) => return Err(refusal),
-    };
+    let taken = choose(alloc, allocator, &findings.released, young, need)?;
     let made = fill(alloc, &findings.claims, &taken)?;
     let lists = Lists {
         released: findings.released,

@@ -1,5 +1,5 @@
 //! What a batch of changes does to a tree, before any of it is made.
-ghost use Rattle.std.specs.Prelude.{◌≡◌, ℕ, suc, ◌+◌, ◌-◌, ◌*◌, ◌/◌, ◌^◌, ◌<◌, ◌≤◌, ◌++◌, ◌⊎◌, IfOk, OnOk, OnErr, IsTrue, Option, Some, None, true, false, slice_index_or, length, is_some, cond, if◌then◌else◌};
+ghost use Rattle.std.specs.Prelude.{◌≡◌, ℕ, suc, ◌+◌, ◌-◌, ◌*◌, ◌/◌, ◌^◌, ◌<◌, ◌≤◌, ◌++◌, ◌⊎◌, IfOk, OnOk, OnErr, IsTrue, Option, Some, None, true, false, slice_index_or, take, length, is_some, cond, if◌then◌else◌};
 ghost use Rattle.base.specs.Counting.{counted};
 ghost use Rattle.base.specs.declared.refusal.Refusal.{Refusal};
 ghost use Rattle.node.specs.Kid.{IsSoundKid, places_of};
@@ -159,8 +159,8 @@ pub trait Survey: Level {
         requires level { level ≡ Self.height }
         requires low { level ≤ 5 }
         requires sound { IsSoundKid Self.height (part_of_node Self.part old) }
-        ensures claims { (s : ℕ → Said) (y : ℕ) → IsOneLeaf s leaf true → claims s y Self.height (leaf / 16 ^ level) (part_of_node Self.part old.entry) ≡ way_claims y leaf blocks.new (suc Self.height) }
-        ensures released { (s : ℕ → Said) (y : ℕ) → IsOneLeaf s leaf true → released s y Self.height (leaf / 16 ^ level) (part_of_node Self.part old.entry) ≡ way_released y blocks.new (suc Self.height) }
+        ensures claims { (s : ℕ → Said) (y : ℕ) → IsOneLeaf s leaf true → claims s y Self.height (leaf / 16 ^ level) (part_of_node Self.part old.entry) ≡ way_claims y leaf (take (suc Self.height) blocks.new) }
+        ensures released { (s : ℕ → Said) (y : ℕ) → IsOneLeaf s leaf true → released s y Self.height (leaf / 16 ^ level) (part_of_node Self.part old.entry) ≡ way_released y (take (suc Self.height) blocks.new) }
         ensures metered { (s : ℕ → Said) (y : ℕ) → IsOneLeaf s leaf true → counted meter.old (length (dropped s y Self.height (leaf / 16 ^ level) (part_of_node Self.part old.entry))) ≤ meter.new }
         ensures never_lower { meter.old ≤ meter.new };
 }

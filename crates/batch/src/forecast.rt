@@ -9,8 +9,8 @@ ghost use Rattle.node.specs.Node.{root_forest};
 ghost use Rattle.node.specs.Sound.{IsSoundTree};
 
 use crate::findings::{Claim, findings_of};
-use crate::update::{Update, one_leaf, write_count};
-use crate::way::{WAY, find_way, present};
+use crate::update::{Update, write_count};
+use crate::way::{WAY, present, way_of_write};
 use base::meter::Meter;
 use base::number::{Dead, Group};
 use base::refusal::Refusal;
@@ -55,9 +55,8 @@ pub fn forecast_of(
     ensures never_lower { meter.old ≤ meter.new }
 {
     let room = write_count(updates).saturating_add(5);
-    if let Some((leaf, true)) = one_leaf(updates) {
-        let mut blocks = [None; 6];
-        find_way(root, leaf, &mut blocks, meter);
+    let mut blocks = [None; 6];
+    if let Some(_leaf) = way_of_write(root, updates, &mut blocks, meter) {
         let dropped = present(alloc, &blocks)?;
         return Ok(Forecast { dropped, made: WAY });
     }

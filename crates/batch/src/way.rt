@@ -1,20 +1,22 @@
 //! What the write of one leaf alone does to the keys on the way to it.
-ghost use Rattle.std.specs.Prelude.{◌≡◌, ℕ, ◌+◌, ◌<◌, ◌≤◌, ◌++◌, IfOk, IfErr, OnOk, OnErr, [], ◌∷◌, length, count_by, true};
+ghost use Rattle.std.specs.Prelude.{◌≡◌, ℕ, ◌+◌, ◌<◌, ◌≤◌, ◌++◌, IfOk, IfErr, IfSome, IfNone, OnOk, OnErr, List, [], ◌∷◌, length, count_by, true};
+ghost use Rattle.std.specs.List.{filter_map};
 ghost use Rattle.base.specs.Counting.{counted};
 ghost use Rattle.base.specs.declared.refusal.Refusal.{Refusal};
 ghost use Rattle.batch.specs.Build.{is_fresh};
-ghost use Rattle.batch.specs.Forecast.{kept_of};
+ghost use Rattle.batch.specs.declared.findings.Claim.{Claim};
 ghost use Rattle.batch.specs.Numbers.{frees_from};
 ghost use Rattle.batch.specs.Room.{IsNoSpaceOrNoMemory};
-ghost use Rattle.batch.specs.Said.{Said, IsOneLeaf};
+ghost use Rattle.batch.specs.Said.{said, AreInOrder, IsOneLeaf};
 ghost use Rattle.batch.specs.Touch.{claims, released, dropped, let_go, young_one};
-ghost use Rattle.batch.specs.Way.{way_claims, way_released, IsAdded, IsNumbered};
+ghost use Rattle.batch.specs.Way.{way_claims, way_released, IsNumbered};
 ghost use Rattle.node.specs.Kid.{IsSoundKid};
 ghost use Rattle.node.specs.Node.{root_part, whole, part_of_node};
 ghost use Rattle.zalloc.specs.States.{is_free};
 
 use crate::findings::{Survey, if_young, root_of};
 use crate::numbers::NewBlock;
+use crate::update::{Update, one_leaf};
 use base::meter::Meter;
 use base::number::{BlockNo, Dead, Group, Key};
 use base::refusal::Refusal;
@@ -35,21 +37,31 @@ pub(crate) struct Lists {
     pub made: Vec<NewBlock>,
 }
 
-/// Puts the blocks of the keys on the way to a leaf, each at its level. The meter rises by at least one for each.
-pub(crate) fn find_way(
+/// The leaf that updates write, where they are the write of one leaf alone: puts the blocks of the keys on the way to it, each at its
+/// level. The meter rises by at least one for each. None for any other updates, which put nothing and count nothing.
+pub(crate) fn way_of_write(
     root: &Option<Arc<Root>>,
-    leaf: u32,
+    updates: &[Update],
     blocks: &mut [Option<Dead>; 6],
     meter: &mut Meter,
-)
+) -> Option<u32>
     requires sound { IsSoundKid 5 (whole root.now) }
-    requires within { leaf < 1048576 }
-    ensures claims { (s : ℕ → Said) (y : ℕ) → IsOneLeaf s leaf true → claims s y 5 0 (whole root.now) ≡ way_claims y leaf blocks.new 6 }
-    ensures released { (s : ℕ → Said) (y : ℕ) → IsOneLeaf s leaf true → released s y 5 0 (whole root.now) ≡ way_released y blocks.new 6 }
-    ensures metered { (s : ℕ → Said) (y : ℕ) → IsOneLeaf s leaf true → counted meter.old (length (dropped s y 5 0 (whole root.now))) ≤ meter.new }
+    requires order { AreInOrder updates.now }
+    ensures one { IfSome result (λ leaf. IsOneLeaf (said updates.now) leaf true) }
+    ensures within { IfSome result (λ leaf. leaf < 1048576) }
+    ensures claims { IfSome result (λ leaf. (y : ℕ) → claims (said updates.now) y 5 0 (whole root.now) ≡ way_claims y leaf blocks.new) }
+    ensures released { IfSome result (λ leaf. (y : ℕ) → released (said updates.now) y 5 0 (whole root.now) ≡ way_released y blocks.new) }
+    ensures metered { IfSome result (λ leaf. (y : ℕ) → counted meter.old (length (dropped (said updates.now) y 5 0 (whole root.now))) ≤ meter.new) }
     ensures never_lower { meter.old ≤ meter.new }
+    ensures none { IfNone result ((leaf : ℕ) → ¬ (IsOneLeaf (said updates.now) leaf true)) }
+    ensures same_blocks { IfNone result (blocks.new ≡ blocks.old) }
+    ensures same_meter { IfNone result (meter.new ≡ meter.old) }
 {
+    let Some((leaf, true)) = one_leaf(updates) else {
+        return None;
+    };
     Root::blocks_to(root_of(root), 5, leaf, blocks, meter);
+    Some(leaf)
 }
 
 /// Adds to a list that has one item for each key of the way at most. It asks for memory once.
@@ -75,7 +87,7 @@ impl Lists {
         allocator: &Allocator,
         from: u32,
     ) -> Result<u32, Refusal>
-        ensures numbered { IfOk result (λ next. IsAdded (record { key = key; kept = young_one young.0 own }) allocator.now from next self.old self.new) }
+        ensures numbered { IfOk result (λ next. (cs : List Claim) → IsNumbered cs allocator.now from self.old → IsNumbered (cs ++ record { key = key; kept = young_one young.0 own } ∷ []) allocator.now next self.new) }
         ensures released { OnOk result (self.new.released.items ≡ self.old.released.items ++ let_go true true young.0 own) }
         ensures no_space { result ≡ Err Refusal.NoSpace → (frees_from from allocator.now ≡ []) × (young_one young.0 own ≡ None) }
         ensures only { IfErr result IsNoSpaceOrNoMemory }
@@ -108,9 +120,9 @@ pub(crate) fn number_way(
     young: Group,
     allocator: &Allocator,
 ) -> Result<Lists, Refusal>
-    ensures numbered { IfOk result (λ lists. (next : ℕ) × IsNumbered (way_claims young.0 leaf blocks.now 6) allocator.now next lists) }
-    ensures released { IfOk result (λ lists. lists.released.items ≡ way_released young.0 blocks.now 6) }
-    ensures no_space { result ≡ Err Refusal.NoSpace → count_by is_free allocator.now < count_by is_fresh (way_claims young.0 leaf blocks.now 6) }
+    ensures numbered { IfOk result (λ lists. (next : ℕ) × IsNumbered (way_claims young.0 leaf blocks.now) allocator.now next lists) }
+    ensures released { IfOk result (λ lists. lists.released.items ≡ way_released young.0 blocks.now) }
+    ensures no_space { result ≡ Err Refusal.NoSpace → count_by is_free allocator.now < count_by is_fresh (way_claims young.0 leaf blocks.now) }
     ensures only { IfErr result IsNoSpaceOrNoMemory }
 {
     let mut lists = Lists {
@@ -122,10 +134,7 @@ pub(crate) fn number_way(
     let mut index = leaf;
     for level in 0..6u8 {
         let key = Key { level, index };
-        from = match lists.add(key, blocks[level as usize], young, allocator, from) {
-            Ok(next) => next,
-            Err(refusal) => return Err(refusal),
-        };
+        from = lists.add(key, blocks[level as usize], young, allocator, from)?;
         index /= 16;
     }
     Ok(lists)
@@ -133,7 +142,7 @@ pub(crate) fn number_way(
 
 /// The blocks of the keys on the way to a leaf, in a list.
 pub(crate) fn present(alloc: Global, blocks: &[Option<Dead>; 6]) -> Result<Vec<Dead>, Refusal>
-    ensures ok { IfOk result (λ v. (leaf : ℕ) → v.items ≡ kept_of (way_claims 0 leaf blocks.now 6)) }
+    ensures ok { IfOk result (λ v. v.items ≡ filter_map (λ o. o) blocks.now) }
     ensures err { OnErr result (result ≡ Err Refusal.NoMemory) }
 {
     let mut out = Vec::with_capacity(alloc, WAY)?;

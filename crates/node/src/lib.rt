@@ -14,5 +14,5 @@ pub use cell::Cell;
 pub use leaf::Leaf;
 pub use node::{Inner, Level, Root, span, step};
 pub use owner::{keep, owner_at, owner_count, owner_in};
-pub use pair::{Pair, kid_at, no_kids, place_count, replace_kid};
+pub use pair::{Pair, kid_at, no_kids, place_count, read_counts, replace_kid};
 pub use same::{Same, same_kid};

@@ -12,7 +12,7 @@ ghost use Rattle.node.specs.Walk.{born_after, part_blocks};
 
 use crate::cell::Cell;
 use crate::leaf::Leaf;
-use crate::pair::{Pair, kid_at, place_count};
+use crate::pair::{Pair, kid_at, place_count, read_counts};
 use base::meter::Meter;
 use base::number::{BlockNo, Dead, Group};
 use base::refusal::Refusal;
@@ -89,11 +89,23 @@ pub fn step(depth: u32, at: u32) -> (usize, u32)
 }
 
 /// An indirect block, with its sixteen places.
-#[derive(Drop)]
 pub struct Inner<C> {
     pub block: BlockNo,
     pub birth: Group,
     pub kids: [Pair<C>; 8],
+}
+
+// By hand, so that the counts of all that stands at its places are read before the first of them falls.
+impl<C: Drop> Drop for Inner<C> {
+    fn drop(self) {
+        let Inner {
+            block: _,
+            birth: _,
+            kids,
+        } = self;
+        read_counts(&kids);
+        drop(kids);
+    }
 }
 
 /// The node at the root, at level 5.

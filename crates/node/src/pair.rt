@@ -102,6 +102,26 @@ pub fn no_kids<C>() -> [Pair<C>; 8]
     ]
 }
 
+/// Reads the counts of the owners of what stands at the places, where the last two have something, as in a node that is full. These reads
+/// wait for memory side by side, where the changes of the counts that are to follow wait one after another, and then find them near. It
+/// changes nothing.
+pub fn read_counts<C>(kids: &[Pair<C>; 8]) {
+    let Pair::Both(_, last) = &kids[7] else {
+        return;
+    };
+    let mut most = Arc::strong_count(last);
+    for pair in kids {
+        if let Pair::Both(left, right) = pair {
+            most = most
+                .max(Arc::strong_count(left))
+                .max(Arc::strong_count(right));
+        }
+    }
+    if most == 0 {
+        unreachable!()
+    }
+}
+
 /// How many places eight pairs have.
 pub fn place_count<C>(kids: &[Pair<C>; 8]) -> u32
     ensures sixteen { result ≡ 16 }

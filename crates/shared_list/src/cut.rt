@@ -1,13 +1,25 @@
 //! Search by bisection.
-ghost use Rattle.std.specs.Prelude.{◌≤◌, Bool, length};
+ghost use Rattle.std.specs.Prelude.{◌≡◌, ◌<◌, ◌≤◌, Bool, length, slice_index_or};
+ghost use Rattle.std.specs.declared.sync.Arc.{Arc};
+ghost use Rattle.std.specs.Global.{Global};
 ghost use Rattle.std.specs.Arc.{arc_value};
 ghost use Rattle.std.specs.Fn.{ComputesKey};
 ghost use Rattle.shared_list.specs.Cuts.{IsCut};
 
 use std::sync::Arc;
 
+// Whether the item with that index passes a test.
+fn passes<A: Drop, P: Fn(&A) -> bool>(items: &[Arc<A>], at: usize, test: &P) -> bool
+    requires callable { P.IsAlwaysCallable test.now }
+    requires at { at < length items.now }
+    ensures { (p : A → Bool) (d : Arc A Global) → ComputesKey P.FnMut p test.now → result ≡ p (arc_value (slice_index_or items.now at d)) }
+{
+    test(&items[at])
+}
+
 /// Where the items that pass a test end: the one before that index passes, and the one with it doesn't. Where those that pass come first,
-/// it is the index of the first that doesn't. It costs the logarithm of their number.
+/// it is the index of the first that doesn't. It costs the logarithm of their number: each turn asks the item in the middle and those in
+/// the middle of both halves side by side, before it is known which half counts, so that memory is waited for once for two bisections.
 pub(crate) fn cut_of<A: Drop, P: Fn(&A) -> bool>(items: &[Arc<A>], test: &P) -> usize
     requires { P.IsAlwaysCallable test.now }
     ensures within { result ≤ length items.now }
@@ -17,10 +29,24 @@ pub(crate) fn cut_of<A: Drop, P: Fn(&A) -> bool>(items: &[Arc<A>], test: &P) -> 
     let mut high = items.len();
     while low < high {
         let mid = low + (high - low) / 2;
-        if test(&items[mid]) {
+        let quarter = (high - low + 1) / 4;
+        let first = passes(items, mid - quarter, test);
+        let last = passes(items, mid + quarter, test);
+        let next;
+        let next_passes;
+        if passes(items, mid, test) {
             low = mid + 1;
+            next = mid + quarter;
+            next_passes = last;
         } else {
             high = mid;
+            next = mid - quarter;
+            next_passes = first;
+        }
+        if quarter > 0 && next_passes {
+            low = next + 1;
+        } else if quarter > 0 {
+            high = next;
         }
     }
     low

@@ -6,7 +6,7 @@ ghost use Rattle.node.specs.Pairs.{left_of, right_of, places_in};
 ghost use Rattle.node.specs.Shape.{forest_of};
 
 use base::refusal::Refusal;
-use node::{Inner, Level, Pair, no_kids};
+use node::{Inner, Level, Pair, no_kids, read_counts};
 use std::alloc::Global;
 use std::sync::Arc;
 
@@ -31,6 +31,7 @@ fn keep_below<C: Level + Drop>(from: &[Pair<C>; 8], kids: &mut [Pair<C>; 8]) -> 
     ensures ok { OnOk result (forest_of (shared_part C.part) (places_in kids.new) ≡ forest_of (shared_part C.part) (places_in from.now)) }
     ensures err { OnErr result (result ≡ Err Refusal.NoMemory) }
 {
+    read_counts(from);
     for at in 0..8 {
         keep_pair(&from[at], &mut kids[at])?;
     }

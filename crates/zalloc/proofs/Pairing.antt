@@ -1,16 +1,17 @@
 -- Two lists of states that are the same but for touched windows.
 use Rattle.std.proofs.Common.{◌≡◌, ◌≢◌, ℕ, zero, suc, ◌/◌, ◌<◌, ◌⊎◌, inl, inr, ⊎_elim, Bool, true, false, List, [], ◌∷◌, length, map, set, Option, Some, replicate, refl, ap, sym, ◌∙◌, arith}
-use Rattle.std.specs.Prelude.{slice_get, slice_set}
+use Rattle.std.specs.Prelude.{slice_get, slice_set, count_by}
 use Rattle.std.specs.List.{Contains}
 use Rattle.std.proofs.lemmas.Bool.{cases_eq}
 use Rattle.zalloc.specs.declared.BlockState.{BlockState}
 use Rattle.zalloc.specs.declared.BlockState.TheVariants.{Free, Allocated, Waiting}
 use Rattle.zalloc.specs.declared.set.NumberSet.{NumberSet}
-use Rattle.zalloc.specs.States.{after_group}
+use Rattle.zalloc.specs.States.{is_waiting, after_group}
 use Rattle.zalloc.specs.Sets.{is_held, AreSame}
-use Rattle.zalloc.specs.Allocator.{states_from}
+use Rattle.zalloc.specs.Allocator.{state_from, states_from}
 use Rattle.zalloc.specs.Paired.{AreSameBut, NoneWaits}
-use Rattle.zalloc.proofs.States.{same_held, same_sets}
+use Rattle.zalloc.proofs.Counting.{cons}
+use Rattle.zalloc.proofs.States.{state_get, same_held, same_sets}
 
 pub set_here : {X : Type 0} (xs : List X) (i : ℕ) (x : X) → i < length xs → slice_get (set xs i x) i ≡ Some x
 set_here [] i x h = absurd (omega arith)
@@ -89,3 +90,24 @@ module _ (x y v w : NumberSet) (touched : List Bool) (ws : List ℕ) (n : v.numb
 -- the states of sets that were copied
 pub copied_states : (x y v w : NumberSet) → y.numbers ≡ x.numbers → AreSame x v → AreSame y w → states_from v w ≡ states_from x y
 copied_states x y v w n f g = same_sets x y v w f.numbers (λ k h. (f.held k h, g.held k (omega (arith, h, n))))
+
+-- where none waits, no number is in the set of those that do, and none is counted
+waiting_is : (f w : Bool) → (f ≡ true → w ≡ false) → (Some (state_from f w) ≡ Some Waiting → ⊥) → w ≡ false
+waiting_is true w a none = a refl
+waiting_is false true a none = absurd (none refl)
+waiting_is false false a none = refl
+
+pub not_waiting : (x y : NumberSet) → AreApart x y → NoneWaits (states_from x y) → (k : ℕ) → k < x.numbers → is_held y k ≡ false
+not_waiting x y a none k h = waiting_is (is_held x k) (is_held y k) (a k h) (λ e. none k (state_get x y k h ∙ e))
+
+pub none_held : (x y v w : NumberSet) → v.numbers ≡ x.numbers → y.numbers ≡ x.numbers → w.numbers ≡ v.numbers → AreApart x y → AreApart v w → NoneWaits (states_from x y) → NoneWaits (states_from v w) → AreSame w y
+none_held x y v w n p q a b none there = record {
+  numbers = p ∙ sym n ∙ sym q;
+  held = λ k h. not_waiting x y a none k (omega (arith, h, n, q)) ∙ sym (not_waiting v w b there k (omega (arith, h, q)));
+}
+
+pub none_counted : (xs : List BlockState) → NoneWaits xs → count_by is_waiting xs ≡ 0
+none_counted [] none = refl
+none_counted (Free ∷ xs) none = let h = none_counted xs (λ k. none (suc k)) in omega (arith, h, cons is_waiting Free xs)
+none_counted (Allocated ∷ xs) none = let h = none_counted xs (λ k. none (suc k)) in omega (arith, h, cons is_waiting Allocated xs)
+none_counted (Waiting ∷ xs) none = absurd (none 0 refl)

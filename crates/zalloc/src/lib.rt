@@ -9,7 +9,7 @@
 ghost use Rattle.std.specs.Prelude.{◌≡◌, ◌≢◌, ℕ, ◌+◌, ◌/◌, ◌<◌, ◌≤◌, ◌||◌, true, false, length, IfSome, IfNone, IfOk, IfErr, Some, slice_get, slice_set, map, count_by, if◌then◌else◌, replicate};
 ghost use Rattle.zalloc.specs.States.{is_free, is_waiting, is_allocated, after_group};
 ghost use Rattle.zalloc.specs.Sets.{IsKept, is_held, bit_in};
-ghost use Rattle.zalloc.specs.Paired.{AreSameBut};
+ghost use Rattle.zalloc.specs.Paired.{AreSameBut, NoneWaits};
 ghost use Rattle.zalloc.specs.Tallies.{IsTaken};
 ghost use Rattle.zalloc.specs.declared.BlockState.TheVariants.{Free, Allocated, Waiting};
 ghost use Rattle.zalloc.specs.declared.set.TheConstants.{WINDOW};
@@ -209,6 +209,19 @@ impl Allocator {
         self.waiting.copy_windows(&other.waiting, touched.noted());
         self.free_count = other.free_count;
         self.waiting_count = other.waiting_count;
+    }
+
+    /// Does what `catch_up` does where no number waits in either: so it copies the Free set alone.
+    fn catch_up_free(&mut self, other: &Allocator, touched: &Touched)
+        requires len { length self.old ≡ length other.now }
+        requires flags { length touched.now ≡ length self.old / WINDOW + 1 }
+        requires same { AreSameBut touched.now self.old other.now }
+        requires none { NoneWaits self.old }
+        requires none_there { NoneWaits other.now }
+        ensures { self.new ≡ other.now }
+    {
+        self.free.copy_windows(&other.free, touched.noted());
+        self.free_count = other.free_count;
     }
 }
 

@@ -104,8 +104,8 @@ impl Numbers {
     }
 
     /// Makes each Waiting number Free, and the synced states the present ones: what a sync does. Another allocator that had the synced
-    /// states has the new ones too. It costs an `Allocator::end_group` and twice the windows of 64 numbers that have changed since the last
-    /// one, and takes no memory.
+    /// states has the new ones too. It costs an `Allocator::end_group` and two words for each window of 64 numbers that has changed since
+    /// the last one, and takes no memory.
     pub fn end_group(&mut self, kept: &mut Allocator)
         requires { kept.old ≡ self.old.synced }
         ensures present { self.new.present ≡ map after_group self.old.present }
@@ -114,8 +114,8 @@ impl Numbers {
         ensures len { length kept.new ≡ length kept.old }
     {
         self.present.end_group();
-        self.synced.catch_up(&self.present, &self.touched);
-        kept.catch_up(&self.present, &self.touched);
+        self.synced.catch_up_free(&self.present, &self.touched);
+        kept.catch_up_free(&self.present, &self.touched);
         self.touched.clear();
     }
 

@@ -1,5 +1,5 @@
 -- Each step gives what the lemmas of Prepare ask.
-use Rattle.std.proofs.Common.{◌≡◌, ℕ, true, List, length, map, Option, Err, inl, sym, ap, subst, ◌∙◌, arith}
+use Rattle.std.proofs.Common.{◌≡◌, ℕ, true, List, length, map, Option, inl, sym, ap, subst, ◌∙◌, arith}
 use Rattle.std.specs.Prelude.{count_by}
 use Rattle.base.specs.declared.number.BlockNo.{BlockNo}
 use Rattle.base.specs.declared.number.Dead.{Dead}
@@ -10,20 +10,20 @@ use Rattle.node.specs.Kid.{birth_of}
 use Rattle.node.specs.Node.{whole}
 use Rattle.node.specs.Shape.{Part}
 use Rattle.batch.specs.Numbers.{numbers, is_young, IsAtHand}
-use Rattle.batch.specs.Said.{Said, said, IsOneLeaf}
+use Rattle.batch.specs.Said.{Said, said}
 use Rattle.batch.specs.Touch.{touched, claims, released}
 use Rattle.batch.specs.Way.{way_claims, way_released}
 use Rattle.batch.proofs.Numbered.{numbered_few, numbered_free, numbered_once, way_old}
 use Rattle.batch.proofs.OneLeaf.{on_touched}
 use Rattle.batch.proofs.Words.{batch_in_order}
-use Rattle.batch.proofs.Prepare.{IsReady, own_kid, ready_counts, ready_room, ready_no_room, ready_allocated, ready_once, ready_count, few, new_bound, old_bound, same_error}
+use Rattle.batch.proofs.Prepare.{IsReady, own_kid, ready_counts, ready_room, ready_no_room, ready_allocated, ready_once, ready_count, few, new_bound, old_bound, handed_on}
 use Rattle.batch.proofs.draft.draft_of.Goals as goal
-use Rattle.batch.proofs.draft.draft_of.Goals.{After-number_way, After-deref-2, In-Ok}
+use Rattle.batch.proofs.draft.draft_of.Goals.{After-number_way, After-deref-2}
+
+pub way_of_write-requires-clause-order : goal.way_of_write-requires-clause-order
+way_of_write-requires-clause-order c = batch_in_order c.args.updates.now c.requires.batch
 
 -- a write of one leaf
-pub find_way-requires-clause-within : goal.find_way-requires-clause-within
-find_way-requires-clause-within c = let w = c.in-Some-default-true.ensures.within (batch_in_order c.args.updates.now c.requires.batch) in omega (arith, w)
-
 module _ (c : After-number_way) where
   abbrev s : ℕ → Said
   s = said c.args.updates.now
@@ -32,97 +32,84 @@ module _ (c : After-number_way) where
   y = c.args.young.0
 
   abbrev leaf : ℕ
-  leaf = c.in-Some-default-true.leaf
+  leaf = c.in-Some.leaf
 
   abbrev o : Option Part
   o = whole c.args.root.now
 
   abbrev blocks : List (Option Dead)
-  blocks = c.find_way.new.blocks
+  blocks = c.way_of_write.new.blocks
 
   ready_way : IsReady c.args.root.now c.args.count c.args.updates.now c.args.young.0 c.args.allocator.now
   ready_way = record { sound = c.requires.sound; batch = c.requires.batch; sized = c.write_count.ensures.sized; allocated = c.requires.allocated }
 
-  one : IsOneLeaf s leaf true
-  one = subst (IsOneLeaf s leaf) c.in-Some-default-true.field-0-1-test c.in-Some-default-true.ensures.one
-
   is_touched : true ≡ touched s 5 0 o
-  is_touched =
-      let w = c.in-Some-default-true.ensures.within (batch_in_order c.args.updates.now c.requires.batch) in
-      sym (on_touched s leaf one 5 (birth_of o) 0 o (omega (arith, w)) (own_kid _ _ _ _ _ ready_way))
+  is_touched = let w = c.in-Some.ensures.within in sym (on_touched s leaf c.in-Some.ensures.one 5 (birth_of o) 0 o (omega (arith, w)) (own_kid _ _ _ _ _ ready_way))
 
-  claimed : claims s y 5 0 o ≡ way_claims y leaf blocks 6
-  claimed = c.find_way.ensures.claims s y one
+  claimed : claims s y 5 0 o ≡ way_claims y leaf blocks
+  claimed = c.in-Some.ensures.claims y
 
-  way_need : count_by is_fresh (claims s y 5 0 o) ≡ count_by is_fresh (way_claims y leaf blocks 6)
+  way_need : count_by is_fresh (claims s y 5 0 o) ≡ count_by is_fresh (way_claims y leaf blocks)
   way_need = ap (count_by is_fresh) claimed
 
-  way_gone : released s y 5 0 o ≡ way_released y blocks 6
-  way_gone = c.find_way.ensures.released s y one
+  way_gone : released s y 5 0 o ≡ way_released y blocks
+  way_gone = c.in-Some.ensures.released y
 
   none_young : count_by (is_young y) (released s y 5 0 o) ≡ 0
-  none_young = ap (count_by (is_young y)) way_gone ∙ way_old y blocks 6
-
-module _ (c : In-Ok) where
-  abbrev at : After-number_way
-  at = (goal.at.draft-requires-clause-few c).After-number_way
-
-  gone_in : c.in-Ok.lists.released.items ≡ released (s at) (y at) 5 0 (o at)
-  gone_in = c.in-Ok.ensures.released ∙ sym (way_gone at)
-
-  taken_in : length c.in-Ok.lists.taken.items ≡ count_by is_fresh (claims (s at) (y at) 5 0 (o at))
-  taken_in = c.in-Ok.ensures.numbered.1.enough ∙ sym (way_need at)
+  none_young = ap (count_by (is_young y)) way_gone ∙ way_old y blocks
 
 pub draft-requires-clause-few : goal.draft-requires-clause-few
 draft-requires-clause-few c =
-    let f = few _ _ _ _ _ (ready_way (at c)) in let n = ap length (gone_in c) in
+    let a = (goal.at.draft-requires-clause-few c).After-number_way in
+    let f = few _ _ _ _ _ (ready_way a) in let n = ap length (c.in_ok-lists.ensures.released ∙ sym (way_gone a)) in
     omega (arith, f, n)
 
 pub draft-requires-clause-fits : goal.draft-requires-clause-fits
 draft-requires-clause-fits c =
-    let b = new_bound _ _ _ _ _ (ready_way (at c)) in let n = ap length (gone_in c) in let t = taken_in c in
+    let a = (goal.at.draft-requires-clause-fits c).After-number_way in
+    let b = new_bound _ _ _ _ _ (ready_way a) in let n = ap length (c.in_ok-lists.ensures.released ∙ sym (way_gone a)) in
+    let t = c.in_ok-lists.ensures.numbered.1.enough ∙ sym (way_need a) in
     omega (arith, b, n, t)
 
 pub draft-requires-clause-low : goal.draft-requires-clause-low
-draft-requires-clause-low c = let b = old_bound _ _ _ _ _ (ready_way (at c)) in omega (arith, b)
+draft-requires-clause-low c = let b = old_bound _ _ _ _ _ (ready_way (goal.at.draft-requires-clause-low c).After-number_way) in omega (arith, b)
 
-pub returns-in-Ok-clause-ok : goal.returns-in-Ok-clause-ok
-returns-in-Ok-clause-ok c =
-    let w = (goal.at.returns-in-Ok-clause-ok c).In-Ok in
-    let a = at w in
-    let p = c.in-Ok.ensures.numbered in
+pub returns-in-Some-clause-ok : goal.returns-in-Some-clause-ok
+returns-in-Some-clause-ok c =
+    let a = (goal.at.returns-in-Some-clause-ok c).After-number_way in
+    let p = c.in_ok-lists.ensures.numbered in
     let taken = ap (λ v. v.items) c.draft.ensures.taken in
     let gone = ap (λ v. v.items) c.draft.ensures.released in
     record {
       sized = c.write_count.ensures.sized;
       touched = c.draft.ensures.touched ∙ is_touched a;
-      released = gone ∙ gone_in w;
-      enough = ap length taken ∙ taken_in w;
-      at_hand = λ n h. inl (numbered_free _ c.args.allocator.now p.0 c.in-Ok.lists p.1 n (subst (λ (bs : List BlockNo). IsIn (numbers bs) n) taken h));
-      once = subst (λ (bs : List BlockNo). AreDifferent (numbers bs)) (sym taken) (numbered_once _ c.args.allocator.now p.0 c.in-Ok.lists p.1);
+      released = gone ∙ c.in_ok-lists.ensures.released ∙ sym (way_gone a);
+      enough = ap length taken ∙ p.1.enough ∙ sym (way_need a);
+      at_hand = λ n h. inl (numbered_free _ c.args.allocator.now p.0 c.in_ok-lists.lists p.1 n (subst (λ (bs : List BlockNo). IsIn (numbers bs) n) taken h));
+      once = subst (λ (bs : List BlockNo). AreDifferent (numbers bs)) (sym taken) (numbered_once _ c.args.allocator.now p.0 c.in_ok-lists.lists p.1);
       made = ap (λ v. v.items) c.draft.ensures.made ∙ p.1.made ∙ (λ i. filled (sym (claimed a) i) (sym taken i));
       counted =
           let k = ready_count _ _ _ _ _ (ready_way a) in let d = c.draft.ensures.count in let t = ap length taken in let g = ap length gone in
           omega (arith, k, d, t, g);
     }
 
-pub returns-in-Ok-clause-room : goal.returns-in-Ok-clause-room
-returns-in-Ok-clause-room c =
-    let a = (goal.at.returns-in-Ok-clause-room c).After-number_way in
-    let p = c.in-Ok.ensures.numbered in
-    let f = numbered_few _ c.args.allocator.now p.0 c.in-Ok.lists p.1 in
+pub returns-in-Some-clause-room : goal.returns-in-Some-clause-room
+returns-in-Some-clause-room c =
+    let a = (goal.at.returns-in-Some-clause-room c).After-number_way in
+    let p = c.in_ok-lists.ensures.numbered in
+    let f = numbered_few _ c.args.allocator.now p.0 c.in_ok-lists.lists p.1 in
     let n = way_need a in
     ready_room _ _ _ _ _ (ready_way a) (omega (arith, f, n))
 
-pub returns-in-Ok-clause-metered : goal.returns-in-Ok-clause-metered
-returns-in-Ok-clause-metered c =
-    let a = (goal.at.returns-in-Ok-clause-metered c).After-number_way in
-    ready_counts _ _ _ _ _ (ready_way a) _ _ (c.find_way.ensures.metered (s a) (y a) (one a))
+pub returns-in-Some-clause-metered : goal.returns-in-Some-clause-metered
+returns-in-Some-clause-metered c =
+    let a = (goal.at.returns-in-Some-clause-metered c).After-number_way in
+    ready_counts _ _ _ _ _ (ready_way a) _ _ (c.in-Some.ensures.metered (y a))
 
-pub returns-in-Err-clause-no_space : goal.returns-in-Err-clause-no_space
-returns-in-Err-clause-no_space c = λ e.
-    let a = (goal.at.returns-in-Err-clause-no_space c).After-number_way in
-    let l = c.in-Err.ensures.no_space (ap Err (same_error c.in-Err.refusal NoSpace e)) in
+pub returns-in_err-lists-clause-no_space : goal.returns-in_err-lists-clause-no_space
+returns-in_err-lists-clause-no_space c = λ e.
+    let a = (goal.at.returns-in_err-lists-clause-no_space c).After-number_way in
+    let l = c.in_err-lists.ensures.no_space (handed_on _ _ NoSpace c.from_residual.ensures.1 e) in
     let n = way_need a in
     let k = none_young a in
     ready_no_room _ _ _ _ _ (ready_way a) (omega (arith, l, n, k))
@@ -147,12 +134,12 @@ choose-requires-clause-allocated c = λ d h. ready_allocated _ _ _ _ _ (ready c)
 pub choose-requires-clause-once : goal.choose-requires-clause-once
 choose-requires-clause-once c = subst (λ ds. AreDifferent (map (λ (d : Dead). d.block.0) ds)) (sym (gone c)) (ready_once _ _ _ _ _ (ready c))
 
-pub returns-in-Err-choose-clause-no_space : goal.returns-in-Err-choose-clause-no_space
-returns-in-Err-choose-clause-no_space c = λ e.
-    let b = (goal.at.returns-in-Err-choose-clause-no_space c).After-deref-2 in
+pub returns-in_err-taken-clause-no_space : goal.returns-in_err-taken-clause-no_space
+returns-in_err-taken-clause-no_space c = λ e.
+    let b = (goal.at.returns-in_err-taken-clause-no_space c).After-deref-2 in
     let n = need b in
     let k = ap (count_by (is_young c.args.young.0)) (gone b) in
-    let l = c.in-Err-choose.ensures.no_space (ap Err (same_error c.in-Err-choose.refusal NoSpace e)) in
+    let l = c.in_err-taken.ensures.no_space (handed_on _ _ NoSpace c.from_residual-in_err-taken.ensures.1 e) in
     ready_no_room _ _ _ _ _ (ready b) (omega (arith, n, k, l))
 
 pub draft-requires-2-clause-few : goal.draft-requires-2-clause-few
@@ -164,7 +151,7 @@ draft-requires-2-clause-few c =
 pub draft-requires-2-clause-fits : goal.draft-requires-2-clause-fits
 draft-requires-2-clause-fits c =
     let b = (goal.at.draft-requires-2-clause-fits c).After-deref-2 in
-    let f = new_bound _ _ _ _ _ (ready b) in let n = ap length c.in_ok-findings.ensures.released in let k = need b in let t = c.in-Ok-choose.ensures.len in
+    let f = new_bound _ _ _ _ _ (ready b) in let n = ap length c.in_ok-findings.ensures.released in let k = need b in let t = c.in_ok-taken.ensures.len in
     omega (arith, f, n, k, t)
 
 pub draft-requires-2-clause-low : goal.draft-requires-2-clause-low
@@ -178,13 +165,13 @@ returns-clause-room c =
     let b = (goal.at.returns-clause-room c).After-deref-2 in
     let n = need b in
     let k = ap (count_by (is_young c.args.young.0)) (gone b) in
-    let l = c.in-Ok-choose.ensures.room in
+    let l = c.in_ok-taken.ensures.room in
     ready_room _ _ _ _ _ (ready b) (omega (arith, n, k, l))
 
 pub returns-clause-metered : goal.returns-clause-metered
 returns-clause-metered c =
     let b = (goal.at.returns-clause-metered c).After-deref-2 in
-    ready_counts _ _ _ _ _ (ready b) _ _ c.in_ok-findings.ensures.metered
+    rw (sym c.in_default.ensures.same_meter) (ready_counts _ _ _ _ _ (ready b) _ _ c.in_ok-findings.ensures.metered)
 
 pub returns-clause-ok : goal.returns-clause-ok
 returns-clause-ok c =
@@ -195,9 +182,9 @@ returns-clause-ok c =
       sized = c.write_count.ensures.sized;
       touched = c.draft-2.ensures.touched ∙ c.in_ok-findings.ensures.touched;
       released = left ∙ c.in_ok-findings.ensures.released;
-      enough = ap length taken ∙ c.in-Ok-choose.ensures.len ∙ need b;
-      at_hand = λ n h. subst (λ ds. IsAtHand c.args.allocator.now c.args.young.0 ds n) (c.deref-2.ensures.value ∙ sym left) (c.in-Ok-choose.ensures.at_hand n (subst (λ (bs : List BlockNo). IsIn (numbers bs) n) taken h));
-      once = subst (λ (bs : List BlockNo). AreDifferent (numbers bs)) (sym taken) c.in-Ok-choose.ensures.once;
+      enough = ap length taken ∙ c.in_ok-taken.ensures.len ∙ need b;
+      at_hand = λ n h. subst (λ ds. IsAtHand c.args.allocator.now c.args.young.0 ds n) (c.deref-2.ensures.value ∙ sym left) (c.in_ok-taken.ensures.at_hand n (subst (λ (bs : List BlockNo). IsIn (numbers bs) n) taken h));
+      once = subst (λ (bs : List BlockNo). AreDifferent (numbers bs)) (sym taken) c.in_ok-taken.ensures.once;
       made = ap (λ v. v.items) c.draft-2.ensures.made ∙ c.in_ok-made.ensures.ok ∙ (λ i. filled ((c.deref-3.ensures.value ∙ c.in_ok-findings.ensures.claims) i) ((c.deref-4.ensures.value ∙ sym taken) i));
       counted =
           let k = ready_count _ _ _ _ _ (ready b) in let d = c.draft-2.ensures.count in let t = ap length taken in let g = ap length left in

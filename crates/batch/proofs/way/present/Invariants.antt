@@ -1,7 +1,6 @@
-use Rattle.std.proofs.Common.{◌≡◌, ℕ}
-use Rattle.batch.specs.Forecast.{kept_of}
-use Rattle.batch.specs.Way.{way_claims}
+use Rattle.std.proofs.Common.{◌≡◌, ◌++◌, drop}
+use Rattle.std.specs.List.{filter_map}
 use Rattle.batch.proofs.way.present.Given as goal
 
 abbrev pub invariant-loop-own : goal.invariant-loop-own
-invariant-loop-own l = (leaf : ℕ) → l.out.items ≡ kept_of (way_claims 0 leaf l.blocks l.own-index)
+invariant-loop-own l = l.out.items ++ filter_map (λ o. o) (drop l.own-index l.blocks) ≡ filter_map (λ o. o) l.blocks

@@ -21,7 +21,7 @@ returns-clause-claims g c = λ s y one.
     let o = part_of_node (inner_part g.C.Level.part) c.args.old in
     let digit = ap (λ n. c.args.leaf / n % 16) (c.span.ensures ∙ ap (λ n. 16 ^ n) c.from.ensures) in
     sym (claims_above s c.args.leaf one h (birth_of o) (c.args.leaf / 16 ^ c.args.level) c.args.level (c.args.leaf / 16 ^ (c.args.level - 1)) _ o _ c.requires.sound c.requires.level refl refl digit c.kid_at-kid.ensures y _ [] _ _ c.block_of-own.ensures.block
-    (sym (c.blocks_to.ensures.claims s y one)) (claims_on_top y c.args.leaf c.args.level _ c.blocks_to.new.blocks c.block_of-own.result c.requires.level (omega (arith, c.blocks_to.array_long, c.requires.low))))
+    (sym (c.blocks_to.ensures.claims s y one)) (claims_on_top y c.args.leaf c.args.level _ c.blocks_to.new.blocks c.block_of-own.result c.requires.level c.requires.low (omega (arith, c.blocks_to.array_long, c.requires.low))))
 
 pub returns-clause-released : goal.returns-clause-released
 returns-clause-released g c = λ s y one.
@@ -29,7 +29,7 @@ returns-clause-released g c = λ s y one.
     let o = part_of_node (inner_part g.C.Level.part) c.args.old in
     let digit = ap (λ n. c.args.leaf / n % 16) (c.span.ensures ∙ ap (λ n. 16 ^ n) c.from.ensures) in
     sym (released_above s c.args.leaf one h (birth_of o) (c.args.leaf / 16 ^ c.args.level) c.args.level (c.args.leaf / 16 ^ (c.args.level - 1)) _ o _ c.requires.sound c.requires.level refl refl digit c.kid_at-kid.ensures y _ [] _ _ c.block_of-own.ensures.block
-    (sym (c.blocks_to.ensures.released s y one)) (released_on_top y c.args.leaf c.args.level _ c.blocks_to.new.blocks c.block_of-own.result c.requires.level (omega (arith, c.blocks_to.array_long, c.requires.low))))
+    (sym (c.blocks_to.ensures.released s y one)) (released_on_top y c.args.leaf c.args.level _ c.blocks_to.new.blocks c.block_of-own.result c.requires.level c.requires.low (omega (arith, c.blocks_to.array_long, c.requires.low))))
 
 pub returns-clause-metered : goal.returns-clause-metered
 returns-clause-metered g c = λ s y one.
