@@ -1,4 +1,4 @@
-//! Tests of the crates on the ground from outside: names, numbers and bytes, lists that copies share, block numbers, and dead lists.
+//! Tests of the lowest crates from outside: names, numbers and bytes, lists that copies share, block numbers, and dead lists.
 #![tactic(auto)]
 
 #[cfg(test)]

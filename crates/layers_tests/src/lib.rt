@@ -1,5 +1,5 @@
-//! Tests of the crates from streams to sends from outside: streams, dead lists by name, what is to be freed, tags, bookmarks, lists of
-//! snapshots, open views, and sends.
+//! Tests of the crates from streams to sends from outside: streams, what is to be freed, lists of snapshots by name and by group, tags,
+//! bookmarks, open views, and sends.
 #![tactic(auto)]
 
 #[cfg(test)]
