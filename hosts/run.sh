@@ -1,18 +1,26 @@
 #!/usr/bin/env bash
-# Builds the hosts in C and Rust over the proved static library, and runs them: the session of the README, each call, so many writes, streams,
-# refused memory, mistakes, and a backup over a connection. Where there is no library, hosts/library.py makes it. Status 1 where anything fails.
+# Builds the hosts in C, Rust and Python over the static library, and runs them: the session of the README, each call, so many writes, streams,
+# refused memory, mistakes, a backup over a connection, what `make install` installs, and the tests of the Python package. The library is brought
+# up to date first, which proves what has changed (hosts/library.py). Status 1 where anything fails.
 #
-#     hosts/run.sh [WRITES]     how many writes are timed, 1,000,000 if left out
+#     hosts/run.sh [WRITES]                   how many writes are timed, 1,000,000 if left out
+#     YUZGONT_LIB=quick hosts/run.sh          over the libyuzgont_c.a of that folder, as bench/quick.sh makes it: nothing of it is proved
 set -euo pipefail
 cd "$(dirname "$0")/.."
 writes=${1:-1000000}
 made=hosts/out
 kit=$(dirname "$(readlink -f "$(command -v rt)")")/..
-library=crates/yuzgont_c/out/libyuzgont_c.a
-zfsp=crates/zfsp/out/zfsp
+zfsp=${YUZGONT_LIB:-crates/zfsp/out}/zfsp
 mkdir -p "$made"
-[ -e "$library" ] || python3 hosts/library.py
-export YUZGONT_LIB=$PWD/crates/yuzgont_c/out RATTLE_C=$kit/c
+if [ -n "${YUZGONT_LIB:-}" ]; then
+    echo "== the library of $YUZGONT_LIB, which may not be proved"
+else
+    python3 hosts/library.py
+fi
+YUZGONT_LIB=$(readlink -f "${YUZGONT_LIB:-crates/yuzgont_c/out}")
+export YUZGONT_LIB RATTLE_C=$kit/c
+library=$YUZGONT_LIB/libyuzgont_c.a
+[ -e "$library" ] || { echo "there is no $library" >&2; exit 1; }
 
 cc -std=c11 -D_GNU_SOURCE -O2 -g -Wall -Wextra -Wpedantic -Werror -I include -o "$made/host" hosts/c/host.c "$library" "$RATTLE_C/liblibc_c.a" \
     -Wl,--gc-sections -Wl,--wrap=malloc,--wrap=realloc
@@ -20,7 +28,7 @@ cargo build --quiet --release --offline --manifest-path hosts/rust/Cargo.toml --
 rust=$made/rust/release
 
 # The linker leaves out what nothing calls, so a host in which each export stands calls each.
-exports() { nm --defined-only "$1" 2>/dev/null | sed -n 's/.* T \(yuzgont_[a-z]*\)$/\1/p' | sort -u; }
+exports() { nm --defined-only "$1" 2>/dev/null | sed -n 's/.* T \(yuzgont_[a-z_0-9]*\)$/\1/p' | sort -u; }
 every=$(exports "$library")
 [ -n "$every" ]
 
@@ -34,6 +42,12 @@ for host in "$made/host" "$rust/yuz-host"; do
     "$host" writes "$writes"
 done
 "$made/host" mistakes
+
+echo "== make check"
+make --quiet -C hosts check
+
+echo "== python"
+(cd hosts/python && python3 -m unittest discover --quiet --start-directory tests)
 
 # The same writes as lines, to the program.
 if [ -x "$zfsp" ]; then
