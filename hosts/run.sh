@@ -42,6 +42,7 @@ for host in "$made/host" "$rust/yuz-host"; do
     "$host" writes "$writes"
 done
 "$made/host" mistakes
+"$rust/yuz-host" threads
 
 echo "== make check"
 make --quiet -C hosts check
@@ -60,7 +61,7 @@ fi
 
 echo "== valgrind"
 for words in "host session hosts/session.script hosts/session.replies" "host calls" "host streams" "host memory" "host mistakes" "host writes 3000" \
-    "rust/release/yuz-host session hosts/session.script hosts/session.replies" "rust/release/yuz-host calls" "rust/release/yuz-host streams"; do
+    "rust/release/yuz-host session hosts/session.script hosts/session.replies" "rust/release/yuz-host calls" "rust/release/yuz-host streams" "rust/release/yuz-host threads"; do
     valgrind --quiet --error-exitcode=9 --leak-check=full --show-leak-kinds=definite,indirect --errors-for-leak-kinds=definite,indirect $made/$words >/dev/null
     echo "clean: $words"
 done

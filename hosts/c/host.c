@@ -349,7 +349,7 @@ static int do_send(yuz_pool *pool) {
 
 static int do_read(yuz_pool *pool) {
     uint8_t block[YUZ_BLOCK_SIZE];
-    bool is_hole;
+    bool is_hole = false;
     return yuz_read(pool, NAME("p"), 0, 0, block, sizeof block, &is_hole);
 }
 
@@ -362,6 +362,19 @@ static int do_list(yuz_pool *pool) {
     size_t size;
     bool is_refused;
     return yuz_line(pool, NAME("list"), &is_refused, &size);
+}
+
+/* A line that changes something. Want of memory is the call's answer, or the reply's. */
+static int do_line(yuz_pool *pool) {
+    static const char wanted[] = "error 25 NoMemory\n";
+    char reply[sizeof wanted] = {0};
+    size_t size = 0, count = 0;
+    bool is_refused = false;
+    int code = yuz_line(pool, NAME("create p/new"), &is_refused, &size);
+    if (code != YUZ_DONE || !is_refused) return code;
+    done("reply", yuz_reply(pool, 0, reply, sizeof reply, &count));
+    if (strcmp(reply, wanted) != 0) wrong(reply, (int)count);
+    return YUZ_NO_MEMORY;
 }
 
 static int do_reply(yuz_pool *pool) {
@@ -448,7 +461,7 @@ static int memory(void) {
     static const struct {
         const char *what;
         int (*call)(yuz_pool *);
-    } each[] = {{"write", do_write}, {"read", do_read}, {"punch", do_punch}, {"snapshot", do_snapshot}, {"sync", do_sync}, {"slice", do_slice}, {"abandon", do_abandon}, {"get", do_get}, {"send", do_send}, {"receive", do_receive}, {"line", do_list}, {"reply", do_reply}, {"stream", do_stream}, {"forget", do_forget}, {"free", do_free}};
+    } each[] = {{"write", do_write}, {"read", do_read}, {"punch", do_punch}, {"snapshot", do_snapshot}, {"sync", do_sync}, {"slice", do_slice}, {"abandon", do_abandon}, {"get", do_get}, {"send", do_send}, {"receive", do_receive}, {"list", do_list}, {"line", do_line}, {"reply", do_reply}, {"stream", do_stream}, {"forget", do_forget}, {"free", do_free}};
     yuz_pool pool = YUZ_NO_POOL;
     prepare(&pool);
     done("send", yuz_send(&pool, NAME("p@s"), NULL, 0, &sent_size));

@@ -22,7 +22,7 @@ _BUFFER = (c_void_p, c_size_t)
 _PARAMETERS = {
     "create": (c_uint32, c_uint32),
     "free": (),
-    "line": (*_BYTES, _FLAG, _SIZE),
+    "line": (*_BYTES, POINTER(c_uint32), _SIZE),
     "reply": (c_size_t, *_BUFFER, _SIZE),
     "write": (*_BYTES, c_uint32, c_uint32, *_BYTES),
     "read": (*_BYTES, c_uint32, c_uint32, *_BUFFER, _FLAG),

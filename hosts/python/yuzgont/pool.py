@@ -3,7 +3,7 @@
 import re
 import secrets
 import threading
-from ctypes import byref, c_bool, c_size_t, c_uint64, create_string_buffer
+from ctypes import byref, c_bool, c_size_t, c_uint32, c_uint64, create_string_buffer
 
 from .errors import BadKey, BadName, PoolMissing, check, error_of
 from .library import Handle, library
@@ -96,9 +96,9 @@ class Pool:
     def reply(self, line):
         """The reply of a line (docs/COMMANDS.md), with its line feed, also where it is a refusal."""
         line = line.encode() if isinstance(line, str) else bytes(line)
-        is_refused, size = c_bool(), c_size_t()
+        refusal, size = c_uint32(), c_size_t()
         with self._lock:
-            self._do("line", line, len(line), byref(is_refused), byref(size), what="line")
+            self._do("line", line, len(line), byref(refusal), byref(size), what="line")
             return self._bytes("reply", size.value).decode("ascii")
 
     def line(self, line):

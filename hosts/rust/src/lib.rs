@@ -3,12 +3,17 @@
 //! A [`Pool`] owns a pool and lets it go when it is dropped. Its calls take `&mut self`, so the compiler orders them. What isn't `Ok` has
 //! changed nothing. A send is read as a [`Stream`], which is [`Read`]; a receive is written as a [`Receiver`], which is [`Write`], and made
 //! by [`Receiver::finish`].
+//!
+//! A pool's id must never be used twice. It is in the guid of each snapshot: a pool that is started anew with an id of before gives the same
+//! guids to other contents, and a backup takes an increment from them without a word. [`Pool::new`] draws an id at random.
 
 mod error;
 mod sys;
 
 pub use error::Error;
 
+use std::collections::hash_map::RandomState;
+use std::hash::{BuildHasher, Hasher};
 use std::io::{self, Read, Write};
 
 /// The bytes of a block.
@@ -42,31 +47,63 @@ pub struct Reply {
     pub is_refused: bool,
 }
 
-/// A pool. It stays on its thread.
+/// No reply of a line that changes a pool is longer: such a reply is a word, a refusal or a number.
+const SHORT_REPLY: usize = 64;
+
+/// An id for a pool, drawn at random from 1 to 4,294,967,295: a hash by the keys that the standard library draws for its maps.
+pub fn random_id() -> u32 {
+    loop {
+        let id = RandomState::new().build_hasher().finish() as u32;
+        if id != 0 {
+            return id;
+        }
+    }
+}
+
+/// A pool. It may go from one thread to another, and be shared under a lock.
 #[derive(Debug)]
 pub struct Pool {
     handle: sys::Handle,
+    id: u32,
 }
 
+// SAFETY: nothing of a pool belongs to a thread. The library has no static variable that changes and none of a thread, starts no thread and keeps
+// no pointer of its caller's; `malloc` and `free` take memory from any thread. The pool of Rattle is what a session of its own keeps under a lock
+// for all of its threads, for which Rattle asks a proof that a pool may go to another thread; the rest of a handle is the bytes of a reply and a
+// stream. No two pools share memory. Calls take `&mut self`, so they come one after another, and what hands a pool on orders memory too.
+unsafe impl Send for Pool {}
+
 impl Pool {
-    /// A pool with an id, not 0, and 1 to 4,194,304 blocks. BadName for id 0, else TooMany for another number of blocks.
+    /// A pool with an id drawn at random, and 1 to 4,194,304 blocks. TooMany for another number of blocks.
+    pub fn new(blocks: u32) -> Result<Pool, Error> {
+        Pool::create(random_id(), blocks)
+    }
+
+    /// A pool with an id, not 0 and of no pool before it, and 1 to 4,194,304 blocks. BadName for id 0, else TooMany for another number of blocks.
     pub fn create(id: u32, blocks: u32) -> Result<Pool, Error> {
-        let mut pool = Pool { handle: sys::Handle::NONE };
+        let mut pool = Pool { handle: sys::Handle::NONE, id };
         // SAFETY: the handle has no pool.
         Error::check(unsafe { sys::yuzgont_create(&mut pool.handle, id, blocks) })?;
         Ok(pool)
     }
 
-    /// Answers a line, without its line feed (docs/COMMANDS.md).
+    /// Its id.
+    pub fn id(&self) -> u32 {
+        self.id
+    }
+
+    /// Answers a line, without its line feed (docs/COMMANDS.md). Room for the reply is taken before the line is asked, or, where it is longer than
+    /// those of lines that change something, after it: where there is none, that is NoMemory, and nothing has changed.
     pub fn line(&mut self, line: &str) -> Result<Reply, Error> {
-        let (mut is_refused, mut size, mut count) = (false, 0, 0);
-        // SAFETY: the lengths are those of the slices, here and below.
-        Error::check(unsafe { sys::yuzgont_line(&mut self.handle, line.as_ptr(), line.len(), &mut is_refused, &mut size) })?;
+        let (mut refusal, mut size, mut count) = (0, 0, 0);
         let mut text = Vec::new();
+        text.try_reserve_exact(SHORT_REPLY).map_err(|_| Error::NoMemory)?;
+        // SAFETY: the lengths are those of the slices, here and below.
+        Error::check(unsafe { sys::yuzgont_line(&mut self.handle, line.as_ptr(), line.len(), &mut refusal, &mut size) })?;
         text.try_reserve_exact(size).map_err(|_| Error::NoMemory)?;
         text.resize(size, 0);
         Error::check(unsafe { sys::yuzgont_reply(&mut self.handle, 0, text.as_mut_ptr(), size, &mut count) })?;
-        Ok(Reply { text, is_refused })
+        Ok(Reply { text, is_refused: refusal != 0 })
     }
 
     /// Writes block `block`, 0 to 4095, of object `object`, 0 to 255, of a file system.

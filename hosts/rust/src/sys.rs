@@ -18,7 +18,7 @@ impl Handle {
 extern "C" {
     pub fn yuzgont_create(pool: *mut Handle, id: u32, blocks: u32) -> i32;
     pub fn yuzgont_free(pool: *mut Handle);
-    pub fn yuzgont_line(pool: *mut Handle, line: *const u8, length: usize, is_refused: *mut bool, size: *mut usize) -> i32;
+    pub fn yuzgont_line(pool: *mut Handle, line: *const u8, length: usize, refusal: *mut u32, size: *mut usize) -> i32;
     pub fn yuzgont_reply(pool: *mut Handle, from: usize, buffer: *mut u8, length: usize, count: *mut usize) -> i32;
     pub fn yuzgont_write(pool: *mut Handle, name: *const u8, name_length: usize, object: u32, block: u32, bytes: *const u8, length: usize) -> i32;
     pub fn yuzgont_read(pool: *mut Handle, name: *const u8, name_length: usize, object: u32, block: u32, buffer: *mut u8, length: usize, is_hole: *mut bool) -> i32;

@@ -7,6 +7,7 @@
 //! yuz-host apply COUNT                writes as many and does nothing else, as `session_workloads apply`: bench/hosts.py times it
 //! yuz-host streams                    sends a snapshot from one pool, and receives it in another
 //! yuz-host memory                     refuses each request for memory of each call in turn
+//! yuz-host threads                    hands pools from thread to thread, and shares one under a lock
 //! ```
 
 use std::error::Error as StdError;
@@ -14,9 +15,10 @@ use std::ffi::c_void;
 use std::io::{copy, Read, Write};
 use std::mem::forget;
 use std::sync::atomic::{AtomicUsize, Ordering::Relaxed};
+use std::sync::Mutex;
 use std::time::Instant;
-use std::{env, fs};
-use yuzgont::{Error, Pool, Property, Reply};
+use std::{env, fs, thread};
+use yuzgont::{random_id, Error, Pool, Property, Reply};
 
 type Outcome = Result<(), Box<dyn StdError>>;
 
@@ -214,7 +216,7 @@ fn told(pool: &mut Pool) -> Result<Vec<u8>, Error> {
 
 type Call = fn(&mut Pool, &[u8]) -> Result<(), Error>;
 
-const CALLS: [(&str, Call); 12] = [
+const CALLS: [(&str, Call); 13] = [
     ("write", |pool, _| pool.write("p", 0, 1, &[7; 512])),
     ("read", |pool, _| pool.read("p", 0, 0).map(drop)),
     ("punch", |pool, _| pool.punch("p", 0, 0)),
@@ -223,7 +225,16 @@ const CALLS: [(&str, Call); 12] = [
     ("slice", |pool, _| pool.slice(3).map(drop)),
     ("abandon", |pool, _| pool.abandon()),
     ("get", |pool, _| pool.get("p@monday", Property::Used).map(drop)),
-    ("line", |pool, _| pool.line("list").map(drop)),
+    ("list", |pool, _| pool.line("list").map(drop)),
+    // A line that changes something. Want of memory is the call's answer, or the reply's.
+    ("line", |pool, _| {
+        let reply = pool.line("create p/new")?;
+        match &reply.text[..] {
+            b"ok\n" => Ok(()),
+            b"error 25 NoMemory\n" => Err(Error::NoMemory),
+            other => panic!("{other:?}"),
+        }
+    }),
     ("send", |pool, _| pool.send("p@monday", None).map(drop)),
     ("stream", |pool, _| pool.send("p@monday", None)?.read(&mut [0; 64]).map(drop).map_err(|_| Error::NoMemory)),
     ("receive", |pool, bytes| {
@@ -268,6 +279,40 @@ fn memory() -> Outcome {
     Ok(())
 }
 
+/// Pools that are made in one thread, written to in others and let go in a third, each with blocks of its own; and one that all write to.
+fn threads() -> Outcome {
+    let pools = (0..4).map(|_| Pool::new(1000)).collect::<Result<Vec<_>, _>>()?;
+    let shared = Mutex::new(Pool::new(1000)?);
+    let written = thread::scope(|scope| {
+        let works: Vec<_> = pools.into_iter().enumerate().map(|(at, pool)| scope.spawn({
+            let shared = &shared;
+            move || work(at as u32, pool, shared)
+        })).collect();
+        works.into_iter().map(|it| it.join().expect("a thread")).collect::<Result<Vec<_>, Error>>()
+    })?;
+    for (at, mut pool) in written.into_iter().enumerate() {
+        thread::spawn(move || {
+            assert_eq!(pool.read("p", 0, 99), Ok(Some([at as u8; 512])));
+            assert_eq!(pool.get("p@s", Property::Guid), Ok(u64::from(pool.id()) << 32 | 1));
+        })
+        .join()
+        .expect("a thread");
+        assert_eq!(shared.lock().expect("no thread ended within a call").read("p", at as u32, 99), Ok(Some([at as u8; 512])));
+    }
+    assert!(random_id() != 0);
+    println!("threads: four pools in nine threads, and one under a lock");
+    Ok(())
+}
+
+fn work(at: u32, mut pool: Pool, shared: &Mutex<Pool>) -> Result<Pool, Error> {
+    for block in 0..100 {
+        pool.write("p", 0, block, &[at as u8; 512])?;
+        shared.lock().expect("no thread ended within a call").write("p", at, block, &[at as u8; 512])?;
+    }
+    pool.snapshot("p@s", false)?;
+    Ok(pool)
+}
+
 fn main() -> Outcome {
     let words: Vec<String> = env::args().skip(1).collect();
     match words.iter().map(String::as_str).collect::<Vec<_>>()[..] {
@@ -277,6 +322,7 @@ fn main() -> Outcome {
         ["apply", count] => apply(count.parse()?),
         ["streams"] => streams(),
         ["memory"] => memory(),
-        _ => Err("usage: yuz-host session SCRIPT REPLIES | calls | writes COUNT | apply COUNT | streams | memory".into()),
+        ["threads"] => threads(),
+        _ => Err("usage: yuz-host session SCRIPT REPLIES | calls | writes COUNT | apply COUNT | streams | memory | threads".into()),
     }
 }

@@ -103,7 +103,7 @@ fn serve(pool: &mut Pool, from: &mut TcpStream) -> Outcome<bool> {
 fn backup() -> Outcome {
     let listener = TcpListener::bind("127.0.0.1:0")?;
     println!("{}", listener.local_addr()?);
-    let mut pool = Pool::create(2, 100_000)?;
+    let mut pool = Pool::new(100_000)?;
     while !serve(&mut pool, &mut listener.accept()?.0)? {}
     let snapshots = ask(&mut pool, "list")?.split_whitespace().filter(|name| name.contains('@')).count();
     println!("backup: has {snapshots} snapshots, and uses {} bytes", pool.get("p", Property::Used)?);
@@ -185,7 +185,7 @@ impl Live {
 
 fn live(address: &str, rounds: u32, cut: u32) -> Outcome {
     let mut to = TcpStream::connect(address)?;
-    let mut live = Live { pool: Pool::create(1, 100_000)?, written: 0, has_sent: false };
+    let mut live = Live { pool: Pool::new(100_000)?, written: 0, has_sent: false };
     ask(&mut live.pool, "create p/live")?;
     for number in 1..=rounds {
         live.round(&mut to, number, number == cut)?;
