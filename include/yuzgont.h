@@ -10,11 +10,14 @@
  *
  * What the caller owes:
  *   - A handle is YUZ_NO_POOL at first. Only these calls write it, and it is neither copied nor taken apart.
- *   - Calls on one handle come one after another, in one thread; nothing here takes a lock. Two handles have nothing in common, and may be
- *     used in two threads at once.
+ *   - An id is never used for two pools. A guid is the pool's id times 2^32 and a counter, so a pool that is started anew with an id of before
+ *     gives the guids of before to other contents, and a backup takes an increment from them without a word. Draw the id at random.
+ *   - Calls on one handle come one after another; nothing here takes a lock. They may come from several threads, if what orders them orders
+ *     memory too, as a lock does. Two handles have nothing in common, and may be used in two threads at once.
+ *   - What a result points to holds a value of its type: a `bool` is false or true before the call. A buffer may hold anything.
  *   - A buffer has as many bytes as its length says, and no buffer, handle or result of one call overlaps another that the call writes.
- *   - `malloc`, `realloc` and `free` come from one allocator, and no call is made from a signal handler, or after `fork` in the child of a
- *     process with threads.
+ *   - `malloc`, `realloc` and `free` come from one allocator, which aligns memory as C asks, for every object of its size. No call is made
+ *     from a signal handler, or after `fork` in the child of a process with threads.
  */
 #ifndef YUZGONT_H
 #define YUZGONT_H
@@ -123,7 +126,7 @@ static inline bool yuz_is_wrong(const void *bytes, size_t length) { return lengt
 /* A pointer that isn't null, for bytes of which there may be none. */
 static inline const uint8_t *yuz_bytes(const void *bytes) { return bytes == NULL ? (const uint8_t *)"" : (const uint8_t *)bytes; }
 
-/* Makes a pool with an id, not 0, and 1 to 4,194,304 blocks. YUZ_BAD_NAME for id 0, else YUZ_TOO_MANY for another number of blocks. */
+/* Makes a pool with an id, not 0 and of no pool before it, and 1 to 4,194,304 blocks. YUZ_BAD_NAME for id 0, else YUZ_TOO_MANY for another number of blocks. */
 static inline int yuz_create(yuz_pool *pool, uint32_t id, uint32_t blocks) {
     if (pool == NULL) return YUZ_NULL;
     return yuzgont_create(pool, id, blocks);

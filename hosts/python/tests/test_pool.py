@@ -249,6 +249,27 @@ class Ids(unittest.TestCase):
             one.snapshot("p@s")
             self.assertEqual(one.get("p@s", "guid") >> 32, one.id)
 
+    def increments(self, first_id, second_id):
+        """A backup of a pool, and an increment of a second pool, which was started anew with other contents."""
+        with Pool(1000, first_id) as first, Pool(1000, second_id) as second, Pool(1000) as backup:
+            first.write("p", 0, 0, filled(1))
+            first.snapshot("p@a")
+            backup.receive("p/copy@a", first.send("p@a"))
+            second.write("p", 0, 1, filled(2))
+            second.snapshot("p@a")
+            second.write("p", 0, 2, filled(3))
+            second.snapshot("p@b")
+            backup.receive("p/copy@b", second.send("p@b", "p@a"))
+            return [backup.read("p/copy", 0, block) for block in range(3)], [second.read("p", 0, block) for block in range(3)]
+
+    def test_why_an_id_is_never_used_twice(self):
+        """With one id the receiver takes an increment onto another snapshot of the same guid, and has what no pool ever had."""
+        received, sent = self.increments(7, 7)
+        self.assertEqual(sent, [None, filled(2), filled(3)])
+        self.assertEqual(received[1:], [None, filled(3)])
+        with self.assertRaises(yuzgont.WrongSource):
+            self.increments(None, None)
+
     def test_what_is_no_id_or_no_size(self):
         for pool_id in (0, -1, 2**32):
             self.assertRaises(yuzgont.BadName, Pool, 10, pool_id)
