@@ -38,10 +38,15 @@ def believed():
     return found
 
 
+def lines_in(file):
+    """The lines of a file that are neither empty nor imports."""
+    return sum(1 for line in file.read_text().splitlines() if line.strip() and not line.startswith("use "))
+
+
 def main():
     files, total = believed(), 0
     for file in files:
-        lines = sum(1 for line in file.read_text().splitlines() if line.strip() and not line.startswith("use "))
+        lines = lines_in(file)
         total += lines
         print(f"{lines:5} {file.relative_to(CRATES.parent)}")
     every = sum(1 for _ in CRATES.glob("*/specs/**/*.antt"))

@@ -1,59 +1,84 @@
 #!/usr/bin/env python3
-"""Brings the static library of crates/yuzgont_c up to date, in the place where `rt lib` makes it.
+"""Makes the static library of crates/yuzgont_c over the libraries that `rt ci` has proved, whatever earlier runs have left.
 
     rt ci && python3 hosts/library.py
 
-Where the library is there and was made here of the texts as they stand, nothing is done: a stamp beside it has the sum of all texts that it
-stands on, of the kit, and of the library itself. Else it is made. `rt ci` proves the static library and leaves none, and `rt lib` would prove
-all below it once more, since it does not know what `rt ci` left; of that only yuzgont_c itself is proved here again. Where something below is
-missing, or was left by other commands and has changed since, this is `rt lib`. Its status is that of the build.
+It takes the libraries below yuzgont_c from what `rt ci` has kept of the same texts (bench/libraries.py), and names those that aren't there, as where
+the disk was too full to keep them: they are proved first, one after another, each with a line before it. Then the archive is made, in the place where
+`rt lib` makes it, out/libyuzgont_c.a. `rt ci` proves yuzgont_c and leaves nothing of it to build from, so the build checks it, over what a check of
+the same text has left here or in another checkout, where there is such work. Where the archive was made of these texts and libraries, nothing is
+done. The status is that of the build.
 """
 
-import os
-import subprocess
+import hashlib
 import sys
+import tempfile
+import time
 from pathlib import Path
 
 ROOT = Path(__file__).resolve().parent.parent
 sys.path.insert(0, str(ROOT / "bench"))
 
-from wrong_bodies import rt_itself  # noqa: E402
+from libraries import Libraries  # noqa: E402
 
 NAME = "yuzgont_c"
 
 
-def is_left_by_ci(crate):
-    """Whether `rt ci` left the library of a crate: other commands leave a stamp beside it."""
-    return os.path.isdir(crate.rlib) and not os.path.exists(f"{os.path.dirname(crate.rlib)}/stamp")
+def say(text):
+    print(f"hosts: {text}", flush=True)
 
 
-def make(rt, crate):
-    """Makes the library, over what `rt ci` left where it is all there."""
-    if not all(is_left_by_ci(it) for it in crate.below()):
-        return subprocess.run(["rt", "lib"], cwd=crate.folder, check=False).returncode
-    crate.held = rt.rtlib.lock([*crate.below(), crate])
-    os.makedirs(f"{crate.folder}/out", exist_ok=True)
-    return crate.build_static([])
+def quietly(crate, build):
+    """The status of a build, whose lines are printed only where it fails."""
+    with tempfile.TemporaryFile("w+", errors="replace") as crate.out:
+        status, end = build(), crate.out.tell()
+        if status and end:
+            crate.out.seek(0)
+            print(crate.out.read()[-4000:])
+    crate.out = sys.stdout
+    return status
 
 
-def read_texts():
-    """The toolchain's own `rt`, and the crate as its texts are now: what is read once is not read again."""
-    rt = rt_itself()
-    return rt, next(it for it in rt.rtlib.crates_below(str(ROOT)) if it.name == NAME)
+def make_missing(libraries, missing):
+    """Proves the libraries that `rt ci` has not kept, from nothing and as it does; the status."""
+    if missing:
+        say(f"{len(missing)} libraries are missing, as rt ci has not kept them: {' '.join(it.name for it in missing)}")
+    for number, crate in enumerate(missing, 1):
+        say(f"proving {crate.name}, {number} of {len(missing)}")
+        crate.cuts_libraries = True
+        status = quietly(crate, lambda crate=crate: crate.build_rlib(["--jobs", str(libraries.rt.processors())], anew=True))
+        if status:
+            say(f"{crate.name} is not proved")
+            return status
+        (Path(crate.rlib).parent / "stamp").write_text(crate.stamp())
+    return 0
+
+
+def is_made(archive, stamp, total):
+    return archive.is_file() and stamp.is_file() and stamp.read_text() == total
 
 
 def main():
-    rt, crate = read_texts()
-    library = Path(crate.folder) / "out" / f"lib{NAME}.a"
-    stamp = library.with_suffix(".a.stamp")
-    texts = crate.stamp()
-    if library.exists() and rt.rtlib.text_of(stamp) == texts + rt.rtlib.sum_of(library):
+    libraries = Libraries()
+    crate = libraries.crate(NAME)
+    crate.held = libraries.rt.rtlib.lock([*crate.below(), crate])
+    status = make_missing(libraries, libraries.take(crate.below()))
+    if status:
+        return status
+    archive, stamp = (Path(crate.folder) / "out" / it for it in (f"lib{NAME}.a", f"lib{NAME}.stamp"))
+    below = [libraries.rt.rtlib.sum_of(f"{it.rlib}/format") for it in crate.below()]
+    total = hashlib.sha256(repr((crate.stamp(), below)).encode()).hexdigest()
+    if is_made(archive, stamp, total):
+        say(f"{archive.relative_to(ROOT)} stands as it was made of these texts")
         return 0
-    stamp.unlink(missing_ok=True)
-    status = make(rt, crate)
-    # An edit during the build leaves no stamp.
-    if status == 0 and texts == read_texts()[1].stamp():
-        stamp.write_text(texts + rt.rtlib.sum_of(library))
+    archive.parent.mkdir(exist_ok=True)
+    libraries.rt.adopt(crate)
+    begun = time.monotonic()
+    say(f"making {archive.relative_to(ROOT)} over {len(below)} libraries, all proved: a check of {NAME} alone")
+    status = quietly(crate, lambda: crate.build_static([]))
+    if not status:
+        stamp.write_text(total)
+        say(f"made in {time.monotonic() - begun:.0f} s")
     return status
 
 

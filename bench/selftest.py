@@ -1,0 +1,143 @@
+#!/usr/bin/env python3
+"""Breaks what the gate looks at, each in a copy, and sees that the gate's own check fails there, and says why.
+
+    python3 bench/selftest.py [NAME ..]
+
+It proves nothing, and takes a minute or two. What needs the built zfsp or the hosts' library is left out where there is none, and the last line
+says so; in the gate both are there. The status is 1 where a check passes, or fails and doesn't name what was broken.
+"""
+
+import os
+import re
+import shutil
+import subprocess
+import sys
+import tempfile
+from concurrent.futures import ThreadPoolExecutor
+from pathlib import Path
+
+ROOT = Path(__file__).resolve().parent.parent
+ZFSP, LIBRARY = "crates/zfsp/out/zfsp", "crates/yuzgont_c/out/libyuzgont_c.a"
+BUILT = (ZFSP, LIBRARY, "crates/yuzgont_c/out/libyuzgont_c.stamp")
+# A command in the place of `rt ci`, which counts its runs in a file: the first says something, and later ones that all passed.
+STUB = "echo run >>runs; [ $(wc -l <runs) = 1 ] && { %s; exit 1; }; echo '3 passed, 0 failed'"
+
+
+class Copy:
+    """A copy of the tree, with what was built, in which something is broken."""
+
+    def __init__(self, room):
+        self.root = Path(room)
+        names = subprocess.run(["git", "ls-files", "-co", "--exclude-standard", "-z"], cwd=ROOT, capture_output=True, text=True, check=True).stdout
+        for name in [*names.split("\0"), *BUILT]:
+            if name and (ROOT / name).is_file():
+                (self.root / name).parent.mkdir(parents=True, exist_ok=True)
+                shutil.copy2(ROOT / name, self.root / name)
+
+    def run(self, *words):
+        """The status and all that a command says."""
+        done = subprocess.run(words, cwd=self.root, stdin=subprocess.DEVNULL, stdout=subprocess.PIPE, stderr=subprocess.STDOUT, text=True, errors="replace", check=False)
+        return done.returncode, done.stdout
+
+    def python(self, script, *words):
+        return self.run(sys.executable, script, *words)
+
+    def edit(self, name, pattern, new):
+        """Changes the first place of a pattern in a file."""
+        file = self.root / name
+        text, count = re.subn(pattern, new, file.read_text(), count=1, flags=re.M)
+        if not count:
+            sys.exit(f"selftest: {name} has no {pattern}")
+        file.write_text(text)
+
+
+def reply(copy):
+    copy.edit("examples/first.replies", r"\Aok$", "error 9 HasClones")
+    return *copy.python("bench/examples.py", ZFSP), "first: "
+
+
+def reply_by_definition(copy):
+    copy.edit("examples/first.replies", r"\Aok$", "error 9 HasClones")
+    copy.edit("crates/rows/data/write.rows", r" => ok$", " => error 9 HasClones")
+    status, said = copy.python("bench/rows.py")
+    return status, said, "write.rows", "first.script"
+
+
+def layout(copy):
+    copy.edit("crates/toll/src/lib.rt", r"^(pub .*)$", r"  \1")
+    return *copy.python("bench/layout.py"), "crates/toll/src/lib.rt isn't laid out"
+
+
+def count(copy):
+    copy.edit("README.md", r"The \d+ crates", "The 7 crates")
+    copy.edit("docs/AUDIT.md", r"(\d[\d,]*)(?= wrong bodies)", "9,999")
+    return *copy.python("bench/counts.py"), "README.md: 7 for ", "docs/AUDIT.md: 9,999 for "
+
+
+def leak(copy):
+    copy.edit("hosts/c/host.c", r"^(int main\(.*\{)$", r"\1\n    char *volatile lost = malloc(77);\n    lost = NULL;\n    if (lost != NULL) return 3;")
+    return *copy.run("bash", "hosts/run.sh", "1000"), "77 bytes in 1 blocks are definitely lost"
+
+
+def short(copy):
+    copy.edit("bench/machine.py", r"^LEFT, OF_EACH_PROOF = \S+", "LEFT, OF_EACH_PROOF = 9_000_000_000,")
+    return *copy.python("bench/machine.py"), "machine: short of "
+
+
+def part(copy):
+    copy.edit("bench/machine.py", r"^def main\(\):$", 'def main():\n    sys.exit("broken")')
+    return *copy.run("bash", ".ci/run"), "machine: ", "the gate failed at: machine"
+
+
+def proof_once(copy):
+    refused = STUB % r"printf '== base\nfn base::a: not proved\nlogic=not-proved\nrt: base NOT PROVED\nrt: FAILED: base\n2 passed, 1 failed\n'"
+    status, said = copy.python("bench/once_more.py", "bash", "-c", refused)
+    return (status if (copy.root / "runs").read_text() == "run\n" else 0), said, "2 passed, 1 failed"
+
+
+def machine_twice(copy):
+    """Of a fault of the machine the command is run again, so here it is the first run that must be seen to fail."""
+    full = STUB % r"printf '== base\nerror: No space left on device (os error 28)\nrt: base NOT PROVED\nrt: FAILED: base\n2 passed, 1 failed\n'"
+    status, said = copy.python("bench/once_more.py", "bash", "-c", full)
+    return (1 if status == 0 and (copy.root / "runs").read_text() == "run\n" * 2 else 0), said, "in the second of two runs", "No space left on device"
+
+
+BROKEN = {
+    "a reply of an example": (reply, ZFSP),
+    "a row, and a reply by the definition": (reply_by_definition, None),
+    "a file that isn't laid out": (layout, None),
+    "a count in a page": (count, None),
+    "a leak in a host": (leak, LIBRARY),
+    "a disk that is too small": (short, None),
+    "a part of the gate": (part, None),
+    "a proof that is refused": (proof_once, None),
+    "a full disk": (machine_twice, None),
+}
+
+
+def fault_of(name):
+    """What the gate's check of a broken copy lacks, '' where it fails as it must, or None where what it needs isn't built."""
+    broken, built = BROKEN[name]
+    if built and not (ROOT / built).is_file():
+        return None
+    with tempfile.TemporaryDirectory(prefix="selftest-") as room:
+        status, said, *wanted = broken(Copy(room))
+    if status == 0:
+        return f"the check passes: {said[-300:]}"
+    lacking = [it for it in wanted if it not in said]
+    return f"the check fails, and says nothing of {' or of '.join(lacking)}: {said[-600:]}" if lacking else ""
+
+
+def main():
+    names = sys.argv[1:] or [*BROKEN]
+    with ThreadPoolExecutor(os.cpu_count()) as pool:
+        found = dict(zip(names, pool.map(fault_of, names)))
+    for name, why in found.items():
+        print(f"{name}: {'left out, since ' + BROKEN[name][1] + ' is not built' if why is None else why or 'its check fails, and says so'}")
+    left, wrong = [[it for it, why in found.items() if test(why)] for test in (lambda why: why is None, bool)]
+    print(f"{len(found) - len(left) - len(wrong)} of {len(found)} broken things are seen" + f"; {len(left)} left out" * bool(left))
+    return 1 if wrong else 0
+
+
+if __name__ == "__main__":
+    sys.exit(main())
