@@ -39,6 +39,9 @@ _MISUSES = {
     -4: ("BadLength", "a block is not 512 bytes"),
     -5: ("NoProperty", "no property has this number"),
     -6: ("NotApplicable", "this kind of dataset has no such property"),
+    -7: ("BadAmount", "a limit is not a multiple of 512 bytes, or too large"),
+    -8: ("NoEntry", "the last list has no entry at this place"),
+    -9: ("SourceFailed", "what gives the bytes of a stream failed"),
 }
 
 
