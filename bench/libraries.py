@@ -37,6 +37,8 @@ class Libraries:
 
     def __init__(self, root=ROOT):
         self.rt = rt_itself()
+        # Its first call sets a signal's handler, which only the main thread may.
+        self.rt.rtlib.guarded()
         self.rt.Crate.allowed = self.rt.handles_of(str(root))
         self.crates = self.rt.crates_of(str(root))
         self.kept = self.rt.Kept(self.crates)

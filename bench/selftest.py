@@ -18,7 +18,9 @@ from pathlib import Path
 
 ROOT = Path(__file__).resolve().parent.parent
 ZFSP, LIBRARY = "crates/zfsp/out/zfsp", "crates/yuzgont_c/out/libyuzgont_c.a"
-BUILT = (ZFSP, LIBRARY, "crates/yuzgont_c/out/libyuzgont_c.stamp")
+BUILT = (ZFSP, LIBRARY, "crates/yuzgont_c/out/libyuzgont_c.a.stamp")
+# A crate whose wrong bodies are broken.
+CRATE = "node"
 # A command in the place of `rt ci`, which counts its runs in a file: the first says something, and later ones that all passed.
 STUB = "echo run >>runs; [ $(wc -l <runs) = 1 ] && { %s; exit 1; }; echo '3 passed, 0 failed'"
 
@@ -50,6 +52,15 @@ class Copy:
             sys.exit(f"selftest: {name} has no {pattern}")
         file.write_text(text)
 
+    def first(self, pattern):
+        return sorted(self.root.glob(pattern))[0]
+
+    def commit(self):
+        """Makes the copy a repository whose main is the tree as it stands, with a branch that is to be changed."""
+        who = ("-c", "user.name=selftest", "-c", "user.email=selftest@localhost")
+        for words in (("init", "-q", "-b", "main"), ("add", "-A"), (*who, "commit", "-qm", "main"), ("checkout", "-qb", "changed"), (*who, "commit", "-qm", "a branch", "--allow-empty")):
+            self.run("git", *words)
+
 
 def reply(copy):
     copy.edit("examples/first.replies", r"\Aok$", "error 9 HasClones")
@@ -61,6 +72,50 @@ def reply_by_definition(copy):
     copy.edit("crates/rows/data/write.rows", r" => ok$", " => error 9 HasClones")
     status, said = copy.python("bench/rows.py")
     return status, said, "write.rows", "first.script"
+
+
+def body_deleted(copy):
+    edit = copy.first(f"crates/{CRATE}/refused/*.edit")
+    edit.unlink()
+    return *copy.python("bench/wrong_bodies.py", "--verify"), f"{CRATE}/refused/{edit.stem} has a line and no file"
+
+
+def body_without_line(copy):
+    edit = copy.first(f"crates/{CRATE}/refused/*.edit")
+    shutil.copy(edit, edit.with_name("another.edit"))
+    return *copy.python("bench/wrong_bodies.py", "--verify"), f"{CRATE}/refused/another has no line"
+
+
+def body_made_right(copy):
+    edit = copy.first(f"crates/{CRATE}/refused/*.edit")
+    old = re.search(r"^old: (.*)$", edit.read_text(), re.M)[1]
+    copy.edit(edit.relative_to(copy.root), r"^new: .*$", lambda _: f"new: {old}")
+    return *copy.python("bench/wrong_bodies.py", "--verify"), f"{CRATE}/refused/{edit.stem} changes nothing", f"{CRATE} has changed since"
+
+
+def line_of_another_function(copy):
+    copy.edit("bench/wrong_bodies.txt", rf"^({CRATE} .*\n  \S+: ).*$", rf"\1{CRATE}::Nothing::at_all: returns")
+    return *copy.python("bench/wrong_bodies.py", "--verify"), "strikes another function than its line says"
+
+
+def digest_by_hand(copy):
+    """With the digest put right by hand no check of digests sees the change, so the crate has to be among those that are tried anew."""
+    copy.commit()
+    copy.edit(f"crates/{CRATE}/src/lib.rt", r"\Z", "// changed\n")
+    forge = f"import wrong_bodies as w; t = w.Table(); t.write('{CRATE}', w.digest_of(w.folders()['{CRATE}']), t.bodies['{CRATE}'])"
+    copy.run(sys.executable, "-c", f"import sys; sys.path.insert(0, 'bench'); {forge}")
+    status, said = copy.python("bench/wrong_bodies.py", "--verify")
+    plan = copy.python("bench/wrong_bodies.py", "--gate", "--plan")[1]
+    is_tried = re.search(rf"^changed: .*\b{CRATE}\b", plan, re.M)
+    return 1 if is_tried else 0, f"{said}{plan}", f"{CRATE}"
+
+
+def body_let_pass(copy):
+    """A prover stands in for the real one that proves whatever it is given."""
+    prove = "lambda *given: subprocess.CompletedProcess([], 0, 'logic=proved')"
+    stub = f"l = w.Libraries(); l.take = lambda crates: []; l.rt.checked = {prove}; w.planned = lambda: (['{CRATE}'], [])"
+    status, said = copy.run(sys.executable, "-c", f"import subprocess, sys; sys.path.insert(0, 'bench'); import wrong_bodies as w; {stub}; sys.exit(w.Gate(l, 5).run())")
+    return status, said, "PROVED: the crate is still proved", f"wrong_bodies: {CRATE}/refused/"
 
 
 def layout(copy):
@@ -76,7 +131,7 @@ def count(copy):
 
 def leak(copy):
     copy.edit("hosts/c/host.c", r"^(int main\(.*\{)$", r"\1\n    char *volatile lost = malloc(77);\n    lost = NULL;\n    if (lost != NULL) return 3;")
-    return *copy.run("bash", "hosts/run.sh", "1000"), "77 bytes in 1 blocks are definitely lost"
+    return *copy.run("env", f"YUZGONT_LIB={Path(LIBRARY).parent}", "bash", "hosts/run.sh", "1000"), "77 bytes in 1 blocks are definitely lost"
 
 
 def short(copy):
@@ -105,6 +160,12 @@ def machine_twice(copy):
 BROKEN = {
     "a reply of an example": (reply, ZFSP),
     "a row, and a reply by the definition": (reply_by_definition, None),
+    "a wrong body deleted": (body_deleted, None),
+    "a wrong body that wasn't tried": (body_without_line, None),
+    "a wrong body made right": (body_made_right, None),
+    "a wrong body that the prover lets pass": (body_let_pass, None),
+    "a line of another function": (line_of_another_function, None),
+    "a digest put right by hand": (digest_by_hand, None),
     "a file that isn't laid out": (layout, None),
     "a count in a page": (count, None),
     "a leak in a host": (leak, LIBRARY),

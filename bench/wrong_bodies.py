@@ -1,37 +1,51 @@
 #!/usr/bin/env python3
-"""Shows that the prover refuses each wrong body of the crates, many in one check, and keeps what was shown in bench/wrong_bodies.txt.
+"""Shows that the prover refuses each wrong body of the crates, many in one check, and keeps what refused each in bench/wrong_bodies.txt.
 
-    python3 bench/wrong_bodies.py [--all] [--list] [CRATE ..]
+    python3 bench/wrong_bodies.py [--all] [--list] [--at-once N] [CRATE ..]
     python3 bench/wrong_bodies.py --verify
+    python3 bench/wrong_bodies.py --gate [--minutes M] [--plan]
 
 A wrong body is an edit in crates/NAME/must-fail/ or crates/NAME/refused/: a file with lines `file:`, `old:` and `new:` that gives a function
-another meaning. Those in must-fail/ the gate tries each time, one by one; those in refused/ are tried by this script alone.
+another meaning. Those in must-fail/ `rt ci` tries each time, one by one; those in refused/ are tried by this script alone.
 
 A caller is proved by the contract of what it calls, so wrong bodies of different functions are tried together: as many as can are put into
-one copy of the crate (a round: one edit a function), one check reads it over what `rt check` has kept, and each edit needs a failed proof of
-its own in the function that it strikes. That a callee is not proved is not enough: such an edit goes to a next round, and last alone. An edit
-is refused; or only by a name, where the proof names what the edit took away, which says little of the contract; or PROVED, where the crate
-alone is still proved with it; or BAD, where it can't be applied, read or typed; or NOT TRIED, where there was no verdict. All but the first
-are faults, and the crate then keeps no line.
+one copy of the crate (a round: one edit a function), one check reads it over what is kept of the crate's proof, and each edit needs a failed
+proof of its own in the function that it strikes. That a callee is not proved is not enough: such an edit goes to a next round, and last alone.
+An edit is refused; or only by a name, where the proof names what the edit took away, which says little of the contract; or PROVED, where the
+crate alone is still proved with it; or BAD, where it can't be applied, read or typed; or NOT TRIED, where there was no verdict. All but the
+first are faults, and the crate's lines then stay as they were.
 
-Without a crate's name those crates are tried whose texts have changed since their line was written, or with --all every one. --list prints a
-line for each edit. --verify tries nothing: it compares the digests of the texts with the lines, and its status is 1 where a crate has
-changed, or has wrong bodies and no line. The library below a crate is built first where it has changed.
+bench/wrong_bodies.txt has a line a crate, with the digest of its texts, and below it a line a wrong body: its file, the function whose proof
+failed, and the goal of it that refused the body, as returns-clause-NAME for a clause NAME of the contract. This script alone writes it.
+Without a crate's name those crates are tried whose texts have changed since their lines were written, or with --all every one; --list prints
+a line for each edit, and N crates are tried at once, one if left out.
+
+--verify tries nothing. It compares the digests with the texts, and the lines with the files: each wrong body has one, of the function that it
+strikes. --gate tries the wrong bodies anew of each crate whose texts differ from main's (or, on main itself, from the last commit's), and then
+of crates in an order that the digest of HEAD's tree gives, until these have taken M minutes of the processors, 5 if left out. It writes nothing,
+and fails where a body isn't refused by the goals of its line. --plan only prints what --gate would try. The status is 1 where something fails.
+
+The libraries below a crate are those in place, where all are current, or else what `rt ci` has kept; what is in neither is built first.
 """
 
 import argparse
 import hashlib
 import os
 import re
+import resource
 import shutil
+import signal
+import subprocess
 import sys
 import tempfile
+import threading
 import time
+from concurrent.futures import ThreadPoolExecutor
 from dataclasses import dataclass, field
-from importlib import machinery, util
 from pathlib import Path
 
-ROOT = Path(__file__).resolve().parent.parent
+from libraries import ROOT, Libraries
+
 LINES = ROOT / "bench" / "wrong_bodies.txt"
 PARTS = ("src", "specs", "proofs")
 PLACES = ("must-fail", "refused")
@@ -41,26 +55,9 @@ ITEM = re.compile(r"\s*(?:pub(?:\([^)]*\))? )?(const|static|struct|enum|type|use
 # A proof that names what is gone from its function, and one that names what may have failed elsewhere.
 GONE = r"(?:module|record) `Rattle\.{}\.proofs\.{}\.[^`]*` (?:has no |\(nearest)"
 ELSEWHERE = re.compile(r"has no field|is not in scope|has no `|was not admitted|: record `\S+` \(nearest")
+# What a line begins with where the proof that failed is not the struck function's own, as of a constant or a type.
+ELSE = "elsewhere "
 BY_NAME, REFUSED, PROVED, BAD, UNTRIED = "only by a name", "refused", "PROVED", "BAD", "NOT TRIED"
-
-
-def rt_itself():
-    """The toolchain's own `rt`, whose functions read crates.txt, build libraries and run one check of a copy."""
-    sys.dont_write_bytecode = True
-    place = shutil.which("rt") or sys.exit("wrong_bodies: no rt on the PATH")
-    loader = machinery.SourceFileLoader("rt_itself", os.path.realpath(place))
-    made = util.module_from_spec(util.spec_from_loader("rt_itself", loader))
-    loader.exec_module(made)
-    sums, sum_of = {}, made.rtlib.Crate.stamp
-
-    def stamp(crate):
-        """The sum of a crate's texts with those below. `rt` sums them anew along each path, which takes minutes in the highest crates."""
-        if crate.folder not in sums:
-            sums[crate.folder] = sum_of(crate)
-        return sums[crate.folder]
-
-    made.rtlib.Crate.stamp = stamp
-    return made
 
 
 def indent(line):
@@ -107,7 +104,9 @@ class Edit:
             path, old = text.strip() if word == "file: " else path, text if word == "old: " else old
             if word == "new:":
                 self.pairs.append((f"\0{self.file} {len(self.pairs)}\0", path, old, re.sub(r"\A ", "", text)))
-        self.fault = self.put({}) if self.pairs else "it has no pair of 'old:' and 'new:'"
+        self.fault = self.put({}) if self.pairs else "has no pair of 'old:' and 'new:'"
+        if self.pairs and all(old == new for _, _, old, new in self.pairs):
+            self.fault = "changes nothing"
 
     def put(self, texts):
         """Puts the edit's marks into the texts, by their paths; or says why it can't, with the texts as they were."""
@@ -116,7 +115,7 @@ class Edit:
             if path not in made and (self.folder / path).is_file():
                 made[path] = (self.folder / path).read_text()
             if not old or made.get(path, "").count(old) != 1:
-                return f"an 'old:' text is not once in {path}"
+                return f"has an 'old:' text that is not once in {path}"
             at = made[path].index(old) + indent(old)
             functions.append(struck(self.crate, path, made[path], at) if path.startswith("src/") else None)
             made[path] = made[path].replace(old, mark)
@@ -141,8 +140,27 @@ def round_of(edits):
     return taken, texts
 
 
+@dataclass(frozen=True)
+class Failure:
+    """A failed proof of a function: the goals of it that were refused, by their names, and what the check says of them."""
+
+    function: str
+    goals: tuple
+    said: str
+
+    def __str__(self):
+        return f"{self.function}: {' '.join(self.goals) or 'no goal with a name'}"
+
+
+def goals_in(said):
+    """The goals that a line of a check names: at its beginning, or behind `did not prove`."""
+    unproved = re.search(r"did not prove ((?:`[^`]+`(?:, | and )?)+)", said)
+    first = re.match(r"`([^`]+)`: ", said)
+    return re.findall(r"`([^`]+)`", unproved[1]) if unproved else [first[1]] if first else []
+
+
 def own_failures(edit, lines):
-    """What a check says of failed proofs of the function that the edit strikes: of its contract, and of names alone; and why there is none."""
+    """What a check says of failed proofs of the functions that the edit strikes: of their contracts, and of names alone; and why there is none."""
     said = [it for it in (re.match(r"fn (\S+): (.*)", line) for line in lines) if it]
     said = [it for it in said if any(of and re.fullmatch(of, it[1]) for of in edit.functions)]
     if len({it[1] for it in said if "::fn::" not in it[1]}) != len(set(edit.functions)):
@@ -153,13 +171,14 @@ def own_failures(edit, lines):
         own = [re.match(r"(?:\./)?proofs/(\S+)/[^/]+:\d+:\d+: error: (.*)", re.sub(r"([/.])\+", r"\1", it)) for it in lines]
         own = [it[2] for it in own if it and it[1] == "/".join(path) and of[2] != "proved"]
         own += [of[2][max(of[2].find("`search`"), 0) :]] * ("did not prove" in of[2])
-        told += [f"{of[1]}: {it}" for it in own if not ELSEWHERE.search(it)]
+        real = [it for it in own if not ELSEWHERE.search(it)]
+        told += [Failure(of[1], tuple(sorted({goal for it in real for goal in goals_in(it)})), real[0])] if real else []
         gone += [f"{of[1]}: {it}" for it in own if re.search(GONE.format(crate, re.escape(".".join(path))), it)]
     return told, gone, "; ".join(it[0] for it in said)
 
 
 def judge(rt, edit, rows, ran, texts, is_alone):
-    """What a round says of one of its edits, and why; None where it has to be tried again."""
+    """What a round says of one of its edits, and why, which of a refused one is its failures; None where it has to be tried again."""
     lines = ran.stdout.split("\n")
     is_verdict = ran.returncode == 1 and any(it.startswith("logic=not-proved") for it in lines)
     bad = [it for it in lines if rt.unread(it, texts) or not is_verdict and re.search(r"\berror\[[\w-]+\]", it)]
@@ -172,50 +191,67 @@ def judge(rt, edit, rows, ran, texts, is_alone):
         return (PROVED, "the crate is still proved") if ran.returncode == 0 else (UNTRIED, f"status {ran.returncode}: {' '.join(lines[-3:])}")
     told, gone, why = own_failures(edit, lines)
     if told:
-        return REFUSED, told[0]
+        return REFUSED, told
     if not is_alone:
         return None, why
     first = [it for it in lines if (": error: " in it or "did not prove" in it) and not ELSEWHERE.search(it)]
-    return (REFUSED, first[0]) if first else (BY_NAME, (gone or [why])[0])
+    return (REFUSED, elsewhere(first[0])) if first else (BY_NAME, (gone or [why])[0])
+
+
+def elsewhere(said):
+    """The failure of a proof that is no one function's, as that of a type's, by the file that holds it."""
+    found = re.match(r"(?:\./)?(\S+?):\d+:\d+: error: (.*)", said) or re.match(r"fn (\S+): (.*)", said)
+    place, why = found.groups() if found else (said[:80], said)
+    return [Failure(f"{ELSE}{place}", tuple(sorted(set(goals_in(why)))), why)]
 
 
 class Trial:
-    """The wrong bodies of one crate, over what `rt check` has kept of it."""
+    """The wrong bodies of one crate, over what is kept of its proof."""
 
-    def __init__(self, rt, crate, edits, is_told):
-        self.rt, self.crate, self.edits, self.is_told = rt, crate, edits, is_told
-        self.said = {it: (BAD, it.fault) for it in edits if it.fault}
-        self.rounds = 0
+    def __init__(self, libraries, crate, is_told=False):
+        self.rt, self.crate, self.is_told = libraries.rt, crate, is_told
+        self.folder = Path(crate.folder)
+        self.edits = [Edit(crate.name, self.folder, it) for it in edits_of(self.folder)]
+        self.is_proved = bool(libraries.entry(crate))
+        self.said = {it: (BAD, it.fault) for it in self.edits if it.fault}
+        self.rounds, self.begun = 0, time.monotonic()
 
     def tell(self, edit, kind, why):
         self.said[edit] = kind, why
         if self.is_told or kind != REFUSED:
-            print(f"{self.crate.name}/{edit.file.stem}: {kind}: {why[:230]}", flush=True)
+            told = "; ".join(f"{it}: {it.said[:160]}" for it in why) if kind == REFUSED else why[:230]
+            print(f"{self.crate.name}/{edit.file.stem}: {kind}: {told}", flush=True)
+
+    def run(self):
+        """Tries them all; False where the crate isn't proved as it stands."""
+        for edit in self.said:
+            self.tell(edit, *self.said[edit])
+        os.makedirs(f"{self.crate.folder}/out", exist_ok=True)
+        with tempfile.TemporaryDirectory(prefix="wrong-bodies-", dir=f"{self.crate.folder}/out") as room:
+            seed, work = f"{room}/seed", self.rt.work_for(self.crate)
+            if work:
+                shutil.copytree(work, seed, copy_function=link_or_copy)
+            os.makedirs(seed, exist_ok=True)
+            # What `rt ci` has proved is proved as it stands, and the first round then leaves what the next ones begin with.
+            if not self.is_proved and self.rt.checked(self.crate, {}, ["--jobs", "1"], seed).returncode:
+                return False
+            self.try_rounds(seed, room)
+        return True
 
     def checked(self, texts, seed, room):
         """A check of the crate with these texts, over a copy of what is kept, whose files the two share."""
         kept = f"{room}/{self.rounds}"
-        shutil.copytree(seed, kept, copy_function=os.link)
+        shutil.copytree(seed, kept, copy_function=link_or_copy)
         ran = self.rt.checked(self.crate, texts, ["--jobs", "1"], kept)
-        shutil.rmtree(kept)
+        if ran.returncode == -signal.SIGKILL:
+            # most likely for memory
+            ran = self.rt.checked(self.crate, texts, ["--jobs", "1"], kept)
+        if os.listdir(seed):
+            shutil.rmtree(kept)
+        else:
+            os.rmdir(seed)
+            os.rename(kept, seed)
         return ran
-
-    def run(self):
-        """Tries them all; False where a library below isn't built, or the crate isn't proved as it stands."""
-        for edit in self.said:
-            self.tell(edit, *self.said[edit])
-        if any(it.build_rlib(["--jobs", "1"], anew=False) for it in self.crate.below()):
-            return False
-        os.makedirs(f"{self.crate.folder}/out", exist_ok=True)
-        with tempfile.TemporaryDirectory(prefix="wrong-bodies-", dir=f"{self.crate.folder}/out") as room:
-            seed = f"{room}/seed"
-            if os.path.isdir(f"{self.crate.folder}/out/incremental"):
-                shutil.copytree(f"{self.crate.folder}/out/incremental", seed, copy_function=os.link)
-            os.makedirs(seed, exist_ok=True)
-            if self.rt.checked(self.crate, {}, ["--jobs", "1"], seed).returncode:
-                return False
-            self.try_rounds(seed, room)
-        return True
 
     def try_rounds(self, seed, room):
         waiting, alone = [it for it in self.edits if it not in self.said], []
@@ -232,24 +268,45 @@ class Trial:
                     again.append(edit)
             (waiting if len(again) < len(taken) else alone).extend(again)
 
+    def faults(self):
+        return sum(self.said.get(it, (UNTRIED,))[0] != REFUSED for it in self.edits)
+
+    def lines(self):
+        """The lines of the refused ones, by their files."""
+        refused = {it: why for it, (kind, why) in self.said.items() if kind == REFUSED}
+        return {name_of(it.file): "; ".join(map(str, why)) for it, why in refused.items()}
+
+    def told(self):
+        return f"{len(self.edits) - self.faults()} of {len(self.edits)} refused, {self.rounds} rounds, {time.monotonic() - self.begun:.0f} s"
+
+
+def link_or_copy(one, other):
+    try:
+        os.link(one, other)
+    except OSError:
+        shutil.copy2(one, other)
+
+
+def name_of(file):
+    return f"{file.parent.name}/{file.stem}"
+
 
 def edits_of(folder):
     return sorted(it for place in PLACES for it in (folder / place).glob("*.edit"))
 
 
+def counts_of(folder):
+    """How many wrong bodies a crate has in each place."""
+    return [len([*(folder / it).glob("*.edit")]) for it in PLACES]
+
+
 def digest_of(folder):
     """The digest of a crate's source, definitions, proofs and wrong bodies."""
-    sum = hashlib.sha256()
+    total = hashlib.sha256()
     files = [it for part in PARTS for it in (folder / part).rglob("*") if it.is_file()]
     for file in sorted(files) + edits_of(folder):
-        sum.update(repr((str(file.relative_to(folder)), file.read_bytes())).encode())
-    return sum.hexdigest()[:32]
-
-
-def kept_lines():
-    """The line of each crate, by its name."""
-    lines = LINES.read_text().splitlines() if LINES.is_file() else []
-    return {it.split()[0]: it for it in lines if it and not it.startswith("#")}
+        total.update(repr((str(file.relative_to(folder)), file.read_bytes())).encode())
+    return total.hexdigest()[:32]
 
 
 def folders():
@@ -257,61 +314,232 @@ def folders():
     return {it.name: it for it in sorted((ROOT / "crates").iterdir()) if edits_of(it)}
 
 
-def is_current(name, folder, kept):
-    return name in kept and kept[name].split()[1] == digest_of(folder)
+class Table:
+    """bench/wrong_bodies.txt: the digest of each crate, and what refused each of its wrong bodies."""
+
+    HEAD = "# Written by bench/wrong_bodies.py alone: a crate with the digest of its texts, and each of its wrong bodies with what refused it.\n"
+    CRATE = re.compile(r"(\w+) ([0-9a-f]{32})")
+    # A crate that was last tried before the goals were kept: how many wrong bodies it has in must-fail/ and in refused/.
+    COUNTED = re.compile(r"(\w+) ([0-9a-f]{32}) (\d+) (\d+) refused")
+    BODY = re.compile(r"  ([\w-]+/\S+): (.+)")
+
+    def __init__(self):
+        self.digests, self.bodies, self.counted = {}, {}, {}
+        name = None
+        for line in LINES.read_text().splitlines() if LINES.is_file() else []:
+            crate, body, counted = (it.fullmatch(line) for it in (self.CRATE, self.BODY, self.COUNTED))
+            if counted:
+                self.digests[counted[1]], self.bodies[counted[1]], self.counted[counted[1]] = counted[2], {}, line
+            elif crate:
+                name = crate[1]
+                self.digests[name], self.bodies[name] = crate[2], {}
+            elif body and name:
+                self.bodies[name][body[1]] = body[2]
+
+    def is_current(self, name, folder):
+        return self.digests.get(name) == digest_of(folder)
+
+    def faults(self):
+        """What is wrong with the table, a line each: a crate or a wrong body without a line, or the other way round, or a line of another function."""
+        here = folders()
+        for name in sorted({*here, *self.digests}):
+            if name not in here:
+                yield f"{name} has lines and no wrong body"
+                continue
+            if not self.is_current(name, here[name]):
+                yield f"{name} has changed since its wrong bodies were tried"
+            if name in self.counted:
+                if [int(it) for it in self.COUNTED.fullmatch(self.counted[name]).groups()[2:]] != counts_of(here[name]):
+                    yield f"{name} has another number of wrong bodies than were tried"
+                continue
+            edits = {name_of(it): Edit(name, here[name], it) for it in edits_of(here[name])}
+            for body in sorted({*edits, *self.bodies.get(name, {})}):
+                why = self.fault_of(edits.get(body), self.bodies.get(name, {}).get(body))
+                if why:
+                    yield f"{name}/{body} {why}"
+
+    @staticmethod
+    def fault_of(edit, line):
+        if not edit or not line:
+            return "has a line and no file" if line else "has no line"
+        if edit.fault:
+            return edit.fault
+        told = [it.partition(": ")[0] for it in line.split("; ")]
+        is_own = all(it.startswith(ELSE) or any(of and re.fullmatch(of, it) for of in edit.functions) for it in told)
+        return "" if is_own else "strikes another function than its line says"
+
+    def write(self, name, digest, lines):
+        """Puts a crate's lines in the place of those that it had, and drops those of crates that are gone."""
+        self.digests[name], self.bodies[name] = digest, lines
+        self.counted.pop(name, None)
+        text = self.HEAD
+        for it in sorted({*self.digests} & {*folders()}):
+            if it in self.counted:
+                text += f"{self.counted[it]}\n"
+                continue
+            text += f"{it} {self.digests[it]}\n" + "".join(f"  {body}: {why}\n" for body, why in sorted(self.bodies[it].items()))
+        LINES.write_text(text)
 
 
 def verify():
-    kept, all_folders = kept_lines(), folders()
-    stale = [name for name, folder in all_folders.items() if not is_current(name, folder, kept)]
-    stale += [name for name in kept if name not in all_folders]
-    for name in stale:
-        print(f"wrong_bodies: {name} has changed since its wrong bodies were tried: python3 bench/wrong_bodies.py {name}")
-    print(f"{len(all_folders) - len(stale)} of {len(all_folders)} crates stand as their {sum(len(edits_of(it)) for it in all_folders.values())} wrong bodies were tried on them")
-    return 1 if stale else 0
+    faults, here = [*Table().faults()], folders()
+    stale = sorted({it.split()[0].split("/")[0] for it in faults})
+    print("".join(f"wrong_bodies: {it}\n" for it in faults), end="")
+    if stale:
+        print(f"wrong_bodies: python3 bench/wrong_bodies.py {' '.join(stale)}")
+    print(f"{sum(len(edits_of(it)) for it in here.values())} wrong bodies of {len(here)} crates, {len(faults)} faults")
+    return 1 if faults else 0
 
 
-def write_line(name, line):
-    kept = {**kept_lines(), name: line}
-    head = "# Written by bench/wrong_bodies.py: a crate, the digest of its texts, how many wrong bodies it has in must-fail/ and in refused/, that each was refused at its contract.\n"
-    LINES.write_text(head + "".join(f"{kept[it]}\n" for it in sorted(kept) if it in folders()))
+def git(*words):
+    """What git says, or None where it can't."""
+    ran = subprocess.run(["git", *words], cwd=ROOT, capture_output=True, text=True, check=False)
+    return ran.stdout.strip() if ran.returncode == 0 else None
 
 
-def try_crate(rt, crate, is_told):
-    """Tries the wrong bodies of a crate, and keeps its line where each is refused; how many aren't."""
-    folder, began = Path(crate.folder), time.time()
-    files, digest = edits_of(folder), digest_of(folder)
-    trial = Trial(rt, crate, [Edit(crate.name, folder, it) for it in files], is_told)
-    is_tried = trial.run()
-    faults = sum(trial.said.get(it, (UNTRIED,))[0] != REFUSED for it in trial.edits)
-    took = f"{trial.rounds} rounds, {time.time() - began:.0f} s"
-    print(f"{crate.name}: {len(files) - faults} of {len(files)} refused, {took}" + ("" if is_tried else ", it is not proved as it stands"), flush=True)
-    if not faults and digest == digest_of(folder):
-        here = [sum(it.parent.name == place for it in files) for place in PLACES]
-        write_line(crate.name, f"{crate.name} {digest} {here[0]} {here[1]} refused")
-    return faults
+def changed_crates():
+    """The crates whose texts differ from those of main when it last passed: from where this branch left main, or on main itself from its last
+    commit but one, as main goes on only by what has passed. None where git doesn't tell."""
+    head, base = git("rev-parse", "HEAD"), None
+    for main in ("origin/main", "main"):
+        found = git("merge-base", main, "HEAD")
+        if found and found != head:
+            base = found
+            break
+    base = base or git("rev-parse", "--verify", "-q", "HEAD^")
+    if not base:
+        return None
+    files = (git("diff", "--name-only", base, "--", "crates") or "").split("\n") + (git("ls-files", "-o", "--exclude-standard", "crates") or "").split("\n")
+    return {it.split("/")[1] for it in files if it.count("/") > 2 and it.split("/")[2] in (*PARTS, *PLACES)}
+
+
+def planned():
+    """The crates that the gate must try, and the others in the order that the digest of HEAD's tree gives, in which nobody has a say."""
+    here, changed = folders(), changed_crates()
+    if changed is None:
+        print("wrong_bodies: git has no earlier commit here, so which crates have changed is not known")
+    tree = git("rev-parse", "HEAD^{tree}") or "".join(map(digest_of, here.values()))
+    others = sorted({*here} - (changed or set()), key=lambda it: hashlib.sha256(f"{tree} {it}".encode()).hexdigest())
+    return [it for it in here if it in (changed or set())], others
+
+
+def used():
+    """The seconds of the processors that the checks so far have taken."""
+    children = resource.getrusage(resource.RUSAGE_CHILDREN)
+    return children.ru_utime + children.ru_stime
+
+
+class Gate:
+    """The trials of one gate."""
+
+    def __init__(self, libraries, minutes):
+        self.libraries, self.minutes, self.table = libraries, minutes, Table()
+        self.missing = libraries.take(libraries.crates)
+        libraries.proved()
+        self.faults, self.bodies, self.tried = [], 0, []
+
+    def try_crate(self, name):
+        """Tries the wrong bodies of a crate, and compares what refuses them with their lines."""
+        crate = self.libraries.crate(name)
+        missing = [it.name for it in crate.below() if it in self.missing]
+        if missing:
+            self.faults.append(f"{name}: the libraries of {' '.join(missing)} are missing: run rt ci")
+            return
+        trial = Trial(self.libraries, crate)
+        if not trial.run():
+            self.faults.append(f"{name} is not proved as it stands")
+            return
+        lines = trial.lines()
+        kept = lines if name in self.table.counted else self.table.bodies.get(name, {})
+        self.faults += [f"{name}/{it}: its line says {kept.get(it)}, and now it is {lines.get(it, 'not refused')}" for it in sorted({*lines, *kept}) if lines.get(it) != kept.get(it)]
+        self.faults += [f"{name}: {trial.told()}"] * bool(trial.faults())
+        self.bodies += len(trial.edits)
+        self.tried.append(name)
+        print(f"{name}: {trial.told()}", flush=True)
+
+    def in_lanes(self, names, is_enough):
+        """Tries the crates, two at once where there are processors for it, and begins none once it is enough."""
+        with ThreadPoolExecutor(max(1, self.libraries.rt.processors() // 2)) as pool:
+            list(pool.map(lambda it: None if is_enough() else self.try_crate(it), names))
+
+    def run(self):
+        changed, others = planned()
+        self.in_lanes(changed, lambda: False)
+        since = used()
+        self.in_lanes(others, lambda: used() - since >= 60 * self.minutes)
+        print("".join(f"wrong_bodies: {it}\n" for it in self.faults), end="")
+        chosen = [it for it in self.tried if it in others]
+        print(
+            f"{self.bodies} wrong bodies tried anew in {used() / 60:.1f} minutes of the processors, "
+            f"of what has changed: {' '.join(changed) or 'none'}, and by the digest of the tree: {' '.join(chosen) or 'none'}; {len(self.faults)} faults"
+        )
+        return 1 if self.faults else 0
+
+
+class Anew:
+    """The trials of crates whose lines are written."""
+
+    def __init__(self, is_told):
+        self.libraries, self.is_told, self.faults, self.writing = Libraries(), is_told, 0, threading.Lock()
+
+    def make_below(self, crates):
+        """Brings the libraries below these crates into place, from what is kept where that is all there, and builds the others."""
+        wanted = {below.name for it in crates for below in it.below()}
+        if all(it.is_built() for it in self.libraries.crates if it.name in wanted):
+            self.libraries.proved()
+            return
+        for crate in self.libraries.take([it for it in self.libraries.crates if it.name in wanted]):
+            print(f"the library of {crate.name} is missing, and is made first", flush=True)
+            if crate.build_rlib(["--jobs", "1"], anew=False):
+                sys.exit(f"wrong_bodies: {crate.name} is not proved")
+
+    def try_crate(self, crate):
+        """Tries the wrong bodies of a crate, and writes its lines where each is refused and no text has changed meanwhile."""
+        folder = Path(crate.folder)
+        digest, trial = digest_of(folder), Trial(self.libraries, crate, self.is_told)
+        is_tried = trial.run()
+        print(f"{crate.name}: {trial.told()}" + ("" if is_tried else ", it is not proved as it stands"), flush=True)
+        with self.writing:
+            self.faults += trial.faults()
+            if not trial.faults() and digest == digest_of(folder):
+                Table().write(crate.name, digest, trial.lines())
+
+    def run(self, crates, at_once):
+        self.make_below(crates)
+        with ThreadPoolExecutor(at_once) as pool:
+            list(pool.map(self.try_crate, crates))
+        print(f"{self.faults} faults")
+        return 1 if self.faults else 0
+
+
+def try_anew(asked):
+    """Tries the wrong bodies of the crates that are asked for, or of those that have changed."""
+    anew, here, table = Anew(asked.list), folders(), Table()
+    crates = [it for it in anew.libraries.crates if it.name in here]
+    return anew.run([it for it in crates if it.name in asked.crates or not asked.crates and (asked.all or not table.is_current(it.name, here[it.name]))], asked.at_once)
 
 
 def main():
     options = argparse.ArgumentParser(description=__doc__, formatter_class=argparse.RawDescriptionHelpFormatter)
-    options.add_argument("--verify", action="store_true")
-    options.add_argument("--all", action="store_true")
-    options.add_argument("--list", action="store_true")
+    for word in ("--verify", "--gate", "--plan", "--all", "--list"):
+        options.add_argument(word, action="store_true")
+    options.add_argument("--minutes", type=float, default=5)
+    options.add_argument("--at-once", type=int, default=1)
     options.add_argument("crates", nargs="*")
     asked = options.parse_args()
+    os.chdir(ROOT)
     if asked.verify:
         return verify()
+    if asked.gate and asked.plan:
+        changed, others = planned()
+        print(f"changed: {' '.join(changed) or 'none'}\nthen: {' '.join(others)}")
+        return 0
+    if asked.gate:
+        return Gate(Libraries(), asked.minutes).run()
     unknown = set(asked.crates) - set(folders())
     if unknown:
         sys.exit(f"wrong_bodies: no wrong bodies in {' '.join(sorted(unknown))}")
-    os.chdir(ROOT)
-    rt, kept, faults = rt_itself(), kept_lines(), 0
-    for crate in rt.rtlib.crates_below(str(ROOT)):
-        of = folders().get(crate.name)
-        if of and (crate.name in asked.crates or not asked.crates and (asked.all or not is_current(crate.name, of, kept))):
-            faults += try_crate(rt, crate, asked.list)
-    print(f"{faults} faults")
-    return 1 if faults else 0
+    return try_anew(asked)
 
 
 if __name__ == "__main__":

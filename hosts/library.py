@@ -1,16 +1,15 @@
 #!/usr/bin/env python3
-"""Makes the static library of crates/yuzgont_c over the libraries that `rt ci` has proved, whatever earlier runs have left.
+"""Brings the static library of crates/yuzgont_c up to date, over the libraries that `rt ci` has proved, whatever earlier runs have left.
 
     rt ci && python3 hosts/library.py
 
-It takes the libraries below yuzgont_c from what `rt ci` has kept of the same texts (bench/libraries.py), and names those that aren't there, as where
-the disk was too full to keep them: they are proved first, one after another, each with a line before it. Then the archive is made, in the place where
-`rt lib` makes it, out/libyuzgont_c.a. `rt ci` proves yuzgont_c and leaves nothing of it to build from, so the build checks it, over what a check of
-the same text has left here or in another checkout, where there is such work. Where the archive was made of these texts and libraries, nothing is
-done. The status is that of the build.
+The library is crates/yuzgont_c/out/libyuzgont_c.a, where `rt lib` makes it. Where it was made here of the texts as they stand, nothing is done: a
+stamp beside it has the sum of all texts that it stands on, of the kit, and of the library itself. Else the libraries below yuzgont_c are taken from
+what `rt ci` has kept of the same texts (bench/libraries.py). Those that it hasn't kept, as where the disk was too full, are named, and proved
+first, one after another, each with a line before it. `rt ci` proves yuzgont_c and leaves nothing of it to build from, so the build checks that one
+crate, over what a check of it has left here or in another checkout, where there is such work. The status is that of the build.
 """
 
-import hashlib
 import sys
 import tempfile
 import time
@@ -25,16 +24,15 @@ NAME = "yuzgont_c"
 
 
 def say(text):
-    print(f"hosts: {text}", flush=True)
+    print(f"library: {text}", flush=True)
 
 
 def quietly(crate, build):
-    """The status of a build, whose lines are printed only where it fails."""
+    """The status of a build, whose last lines are printed where it fails."""
     with tempfile.TemporaryFile("w+", errors="replace") as crate.out:
-        status, end = build(), crate.out.tell()
-        if status and end:
-            crate.out.seek(0)
-            print(crate.out.read()[-4000:])
+        status = build()
+        crate.out.seek(0)
+        print("\n".join(crate.out.read().splitlines()[-30:] * bool(status)), end="\n" * bool(status))
     crate.out = sys.stdout
     return status
 
@@ -42,43 +40,45 @@ def quietly(crate, build):
 def make_missing(libraries, missing):
     """Proves the libraries that `rt ci` has not kept, from nothing and as it does; the status."""
     if missing:
-        say(f"{len(missing)} libraries are missing, as rt ci has not kept them: {' '.join(it.name for it in missing)}")
+        say(f"{len(missing)} are missing, as rt ci has not kept them: {' '.join(it.name for it in missing)}")
     for number, crate in enumerate(missing, 1):
         say(f"proving {crate.name}, {number} of {len(missing)}")
         crate.cuts_libraries = True
-        status = quietly(crate, lambda crate=crate: crate.build_rlib(["--jobs", str(libraries.rt.processors())], anew=True))
-        if status:
+        if quietly(crate, lambda crate=crate: crate.build_rlib(["--jobs", str(libraries.rt.processors())], anew=True)):
             say(f"{crate.name} is not proved")
-            return status
+            return 1
         (Path(crate.rlib).parent / "stamp").write_text(crate.stamp())
     return 0
 
 
-def is_made(archive, stamp, total):
-    return archive.is_file() and stamp.is_file() and stamp.read_text() == total
+def make(libraries, crate, archive):
+    """Makes the library; the status."""
+    below, begun = crate.below(), time.monotonic()
+    status = make_missing(libraries, libraries.take(below))
+    if status:
+        return status
+    archive.parent.mkdir(exist_ok=True)
+    libraries.rt.adopt(crate)
+    say(f"{archive.relative_to(ROOT)} is made over {len(below)} proved libraries, with a check of {NAME} alone")
+    status = quietly(crate, lambda: crate.build_static([]))
+    say(f"{'not made' if status else 'made'}, {time.monotonic() - begun:.0f} s")
+    return status
 
 
 def main():
     libraries = Libraries()
-    crate = libraries.crate(NAME)
+    crate, sum_of = libraries.crate(NAME), libraries.rt.rtlib.sum_of
     crate.held = libraries.rt.rtlib.lock([*crate.below(), crate])
-    status = make_missing(libraries, libraries.take(crate.below()))
-    if status:
-        return status
-    archive, stamp = (Path(crate.folder) / "out" / it for it in (f"lib{NAME}.a", f"lib{NAME}.stamp"))
-    below = [libraries.rt.rtlib.sum_of(f"{it.rlib}/format") for it in crate.below()]
-    total = hashlib.sha256(repr((crate.stamp(), below)).encode()).hexdigest()
-    if is_made(archive, stamp, total):
-        say(f"{archive.relative_to(ROOT)} stands as it was made of these texts")
+    archive = Path(crate.folder) / "out" / f"lib{NAME}.a"
+    stamp, texts = archive.with_suffix(".a.stamp"), crate.stamp()
+    if archive.is_file() and stamp.is_file() and stamp.read_text() == texts + sum_of(str(archive)):
+        say(f"{archive.relative_to(ROOT)} was made of these texts")
         return 0
-    archive.parent.mkdir(exist_ok=True)
-    libraries.rt.adopt(crate)
-    begun = time.monotonic()
-    say(f"making {archive.relative_to(ROOT)} over {len(below)} libraries, all proved: a check of {NAME} alone")
-    status = quietly(crate, lambda: crate.build_static([]))
-    if not status:
-        stamp.write_text(total)
-        say(f"made in {time.monotonic() - begun:.0f} s")
+    stamp.unlink(missing_ok=True)
+    status = make(libraries, crate, archive)
+    # An edit during the build leaves no stamp.
+    if status == 0 and texts == Libraries().crate(NAME).stamp():
+        stamp.write_text(texts + sum_of(str(archive)))
     return status
 
 

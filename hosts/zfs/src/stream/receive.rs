@@ -1,0 +1,675 @@
+//! What a receive does to a pool: one step after another, each whole or not at all.
+
+use super::format::{Begin, Step};
+use super::respell::with_source;
+use super::Partial;
+use crate::dataset::{Dataset, Kind, Values};
+use crate::failure::{Action, Failure, Outcome, Reason, Trying};
+use crate::host::Host;
+use crate::layer::Refusal;
+use crate::name;
+use crate::property::{Kinds, Native, Property};
+use crate::setting::{check, Checked, Setting};
+use std::collections::{HashMap, HashSet};
+use std::rc::Rc;
+
+/// The objects of a file system of the layer.
+const OBJECTS: u32 = 256;
+
+/// How much of the sent name is put behind the name that was given.
+#[derive(Clone, Copy, Debug, Default, PartialEq, Eq)]
+pub enum Naming {
+    /// What stands below the sent file system.
+    #[default]
+    Below,
+    /// All but the pool (`-d`).
+    AllButPool,
+    /// The last component, and what stands below it (`-e`).
+    Last,
+}
+
+/// What is asked of a receive.
+#[derive(Clone, Debug, Default)]
+pub struct Manner {
+    /// The name that was given.
+    pub target: String,
+    pub naming: Naming,
+    pub is_forced: bool,
+    pub is_resumable: bool,
+    pub is_dry: bool,
+    pub is_verbose: bool,
+    pub is_unmounted: bool,
+    pub skips_holds: bool,
+    pub settings: Vec<Setting>,
+    pub excluded: Vec<String>,
+    pub clock: i64,
+    /// Where the client stands: a mountpoint with a client in it is busy.
+    pub folder: String,
+}
+
+/// A step that came whole.
+#[derive(Clone, Debug)]
+pub struct Arrived {
+    pub destination: String,
+    pub step: Step,
+    pub bytes: Rc<Vec<u8>>,
+    pub is_top: bool,
+}
+
+/// Where a sent snapshot goes.
+pub fn destination(manner: &Manner, begin: &Begin, sent: &str) -> Outcome<String> {
+    let receive = |text: &str| Failure::Cannot(Action::Receive, Reason::Text(text.into()));
+    let top = if begin.is_replication { name::base(&begin.to_name) } else { name::base(sent) };
+    let is_snapshot = manner.target.contains('@');
+    let rest = match manner.naming {
+        Naming::Last if is_snapshot => return Err(receive("invalid argument - snapshot not allowed with -e")),
+        Naming::AllButPool if is_snapshot => return Err(receive("invalid argument - snapshot not allowed with -d")),
+        Naming::Last => {
+            let above = name::parent(top).map_or(0, |above| above.len() + 1);
+            format!("/{}", &sent[above..])
+        }
+        Naming::AllButPool => sent[name::pool(sent).len()..].to_owned(),
+        Naming::Below if !is_snapshot => sent[top.len()..].to_owned(),
+        Naming::Below if begin.is_replication => return Err(receive("cannot specify snapshot name for multi-snapshot stream")),
+        Naming::Below => String::new(),
+    };
+    let whole = manner.target.clone() + &rest;
+    let is_valid = name::check(&whole, Kinds::SNAPSHOT, false).is_ok();
+    if is_valid { Ok(whole) } else { Err(receive("invalid name")) }
+}
+
+impl Step {
+    fn wants_new(&self) -> bool {
+        (self.from_guid == 0 || self.is_clone) && self.resumes_at.is_none()
+    }
+
+    /// What a receive of it is called.
+    pub fn action(&self) -> Action {
+        match self.resumes_at {
+            Some(_) => Action::ReceiveResume,
+            None if self.wants_new() => Action::ReceiveNew,
+            None => Action::ReceiveIncremental,
+        }
+    }
+}
+
+impl Host {
+    /// Receives a step: all of it, or nothing. What standard error is told beside.
+    pub fn receive_step(&mut self, manner: &Manner, arrived: &Arrived) -> Outcome<Vec<String>> {
+        let base = name::base(&arrived.destination).to_owned();
+        if self.has_already(&arrived.destination, &arrived.step) {
+            return Ok(Vec::new());
+        }
+        let bytes = self.whole_body(&base, arrived)?;
+        let is_new = if self.is_fresh(&base) || arrived.step.wants_new() {
+            self.receive_new(manner, arrived, &base, &bytes)?
+        } else {
+            self.receive_onto(manner, arrived, &base, &bytes)?;
+            false
+        };
+        self.take_up(manner, arrived, &base, is_new)
+    }
+
+    /// A replication may send again what is there.
+    pub fn has_already(&self, destination: &str, step: &Step) -> bool {
+        let is_same = self.tree.find(destination).is_some_and(|it| it.guid() == step.to_guid);
+        is_same && step.from_guid != 0
+    }
+
+    fn is_fresh(&self, base: &str) -> bool {
+        self.tree.get(base).and_then(|it| it.partial.as_ref()).is_some_and(|partial| partial.is_fresh)
+    }
+
+    /// What came before a cut, and what comes now.
+    fn whole_body(&self, base: &str, arrived: &Arrived) -> Outcome<Rc<Vec<u8>>> {
+        let Some(at) = arrived.step.resumes_at else { return Ok(Rc::clone(&arrived.bytes)) };
+        let partial = self.tree.get(base).and_then(|it| it.partial.as_ref());
+        let fits = partial.filter(|it| it.to_guid == arrived.step.to_guid && it.bytes.len() as u64 == at);
+        let partial = fits.ok_or_else(|| {
+            Failure::Cannot(Action::ReceiveResume, Reason::Text("kernel modules must be upgraded to receive this stream.".into()))
+        })?;
+        let mut bytes = Vec::new();
+        let size = partial.bytes.len() + arrived.bytes.len();
+        bytes.try_reserve_exact(size).map_err(|_| Failure::Cannot(Action::ReceiveResume, Reason::NoMemory))?;
+        bytes.extend_from_slice(&partial.bytes);
+        bytes.extend_from_slice(&arrived.bytes);
+        Ok(Rc::new(bytes))
+    }
+
+    /// Looks whether a stream may be received, before it is.
+    pub fn check_receive(&mut self, manner: &Manner, destination: &str, step: &Step) -> Outcome {
+        let base = name::base(destination);
+        let fail = |reason: String| Err(Failure::Cannot(step.action(), Reason::Text(reason)));
+        if let Some(file_system) = self.tree.get(base) {
+            if file_system.partial.is_some() && step.resumes_at.is_none() {
+                return fail(format!("destination {base} contains partially-complete state from \"zfs receive -s\"."));
+            }
+            return if step.wants_new() { self.check_overwrite(manner, base, step) } else { Ok(()) };
+        }
+        let above = name::parent(base);
+        if !step.wants_new() || above.is_none() {
+            return fail(format!("destination '{base}' does not exist"));
+        }
+        let above = above.unwrap_or_default();
+        match self.tree.get(above) {
+            None if manner.naming == Naming::AllButPool => Ok(()),
+            None => {
+                let text = format!("cannot open '{above}': dataset does not exist\n{}: unable to restore to destination", step.action());
+                Err(Failure::Told(text))
+            }
+            Some(parent) if parent.kind == Kind::Volume => fail(format!("parent '{above}' is not a filesystem")),
+            Some(_) => Ok(()),
+        }
+    }
+
+    /// A full stream over a file system that is there: it has to be forced, and the file system empty of snapshots.
+    fn check_overwrite(&mut self, manner: &Manner, base: &str, step: &Step) -> Outcome {
+        let fail = |reason: String| Err(Failure::Cannot(step.action(), Reason::Text(reason)));
+        if !manner.is_forced {
+            return fail(format!("destination '{base}' exists\nmust specify -F to overwrite it"));
+        }
+        if let Some(snapshot) = self.tree.snapshots(base).first() {
+            return fail(format!("destination has snapshots (eg. {})\nmust destroy them to overwrite it", snapshot.name));
+        }
+        if step.kind == Kind::Volume && !base.contains('/') {
+            return fail(format!("destination {base} is the root dataset\ncannot overwrite with a ZVOL"));
+        }
+        let children = self.tree.children(base);
+        if let Some(child) = children.first().filter(|_| step.kind == Kind::Volume || step.is_clone) {
+            return fail(format!("destination has children (eg. {child})\ncannot overwrite with a ZVOL"));
+        }
+        let path = self.tree.get(base).map(|it| it.path.clone()).unwrap_or_default();
+        if self.origin(&path).is_some() {
+            return fail(format!("destination '{base}' is a clone\nmust destroy it to overwrite it"));
+        }
+        self.check_unused(base, &manner.folder)
+    }
+
+    /// Receives a stream in full, or from an origin. Whether the file system is new here too.
+    fn receive_new(&mut self, manner: &Manner, arrived: &Arrived, base: &str, bytes: &[u8]) -> Outcome<bool> {
+        let step = &arrived.step;
+        let action = || step.action();
+        if step.resumes_at.is_none() {
+            self.check_receive(manner, &arrived.destination, step)?;
+        }
+        let is_new = self.tree.get(base).is_none_or(|it| it.partial.is_some());
+        if manner.naming == Naming::AllButPool {
+            self.make_parents(base, manner.clock).trying(action)?;
+        }
+        let component = self.tree.next_component();
+        if step.is_clone {
+            self.receive_clone(manner, arrived, base, &component, bytes)?;
+        } else if self.tree.has(base) {
+            self.replace(arrived, base, &component, bytes)?;
+        } else {
+            let above = name::parent(base).unwrap_or(base);
+            let path = self.tree.free_path(above).ok_or(Reason::NoParent).trying(action)?;
+            self.layer.receive(&format!("{path}@{component}"), false, bytes).map_err(|refusal| not_received(arrived, base, refusal))?;
+            let file_system = self.new_file_system(path, step.kind, manner.clock);
+            self.tree.insert(base.to_owned(), file_system);
+        }
+        if let Some(file_system) = self.tree.edit(base) {
+            file_system.partial = None;
+            file_system.kind = step.kind;
+        }
+        self.add_received(arrived, base, component).trying(action)?;
+        Ok(is_new)
+    }
+
+    /// Receives a stream in full over a file system that is there: it is emptied, and what is below it stays.
+    fn replace(&mut self, arrived: &Arrived, base: &str, component: &str, bytes: &[u8]) -> Outcome {
+        let action = || arrived.step.action();
+        for bookmark in self.tree.bookmarks(base) {
+            self.remove_bookmark(&bookmark).trying(action)?;
+        }
+        let path = self.tree.get(base).map(|it| it.path.clone()).unwrap_or_default();
+        for object in 0..OBJECTS {
+            self.layer.order(&format!("rmobj {path} {object}")).trying(action)?;
+        }
+        self.receive_onto_now(arrived, base, component, bytes)
+    }
+
+    /// Receives a stream whose source has the contents that the file system has now.
+    fn receive_onto_now(&mut self, arrived: &Arrived, base: &str, component: &str, bytes: &[u8]) -> Outcome {
+        let action = || arrived.step.action();
+        let path = self.tree.get(base).map(|it| it.path.clone()).unwrap_or_default();
+        let now = format!("{path}@{}", self.tree.next_component());
+        self.layer.order(&format!("snapshot {now}")).trying(action)?;
+        let guid = self.layer.get(&now, yuzgont::Property::Guid).trying(action)?;
+        let bytes = with_source(bytes, guid).map_err(|refusal| not_received(arrived, base, refusal))?;
+        self.layer.receive(&format!("{path}@{component}"), false, &bytes).map_err(|refusal| not_received(arrived, base, refusal))?;
+        self.layer.order(&format!("destroy {now}")).trying(action)
+    }
+
+    /// Receives onto a clone of the origin, which is here by its guid.
+    fn receive_clone(&mut self, manner: &Manner, arrived: &Arrived, base: &str, component: &str, bytes: &[u8]) -> Outcome {
+        let step = &arrived.step;
+        let missing = || Failure::Cannot(Action::Receive, Reason::Text(format!("local origin for clone {} does not exist", arrived.destination)));
+        let origin = self.by_guid(base, step.from_guid).ok_or_else(missing)?;
+        if let Some(old) = self.tree.get(base).map(|it| it.path.clone()) {
+            self.layer.order(&format!("destroy {old}")).trying(|| step.action())?;
+            self.tree.remove(base);
+        }
+        self.make_clone(&origin.name, base, manner.clock).trying(|| step.action())?;
+        self.receive_onto_now(arrived, base, component, bytes)
+    }
+
+    fn add_received(&mut self, arrived: &Arrived, base: &str, component: String) -> Result<(), Refusal> {
+        let name = name::snapshot(&arrived.destination).unwrap_or_default();
+        self.add_snapshot(base, name, component, arrived.step.creation, Default::default())
+    }
+
+    /// Receives an increment onto a file system.
+    fn receive_onto(&mut self, manner: &Manner, arrived: &Arrived, base: &str, bytes: &[u8]) -> Outcome {
+        let step = &arrived.step;
+        let action = || step.action();
+        self.check_receive(manner, &arrived.destination, step)?;
+        let is_taken = self.tree.has(&arrived.destination);
+        if is_taken && !manner.is_forced {
+            return Err(exists(&arrived.destination));
+        }
+        let snapshots = self.tree.snapshots(base);
+        let mismatch = || Failure::Cannot(action(), Reason::Text(format!("most recent snapshot of {base} does not\nmatch incremental source")));
+        let source = snapshots.iter().find(|it| it.guid() == step.from_guid).ok_or_else(mismatch)?;
+        if snapshots.last().is_some_and(|last| last.name != source.name) {
+            if !manner.is_forced {
+                return Err(mismatch());
+            }
+            self.go_back_to(source, &arrived.destination, step)?;
+        }
+        if self.tree.has(&arrived.destination) {
+            return Err(exists(&arrived.destination));
+        }
+        let path = self.tree.get(base).map(|it| it.path.clone()).unwrap_or_default();
+        let component = self.tree.next_component();
+        let force = manner.is_forced;
+        self.layer.receive(&format!("{path}@{component}"), force, bytes).map_err(|refusal| not_received(arrived, base, refusal))?;
+        if force {
+            self.follow_layer();
+        }
+        if let Some(file_system) = self.tree.edit(base) {
+            file_system.partial = None;
+        }
+        self.add_received(arrived, base, component).trying(action)
+    }
+
+    /// A forced receive lets newer snapshots go, unless they are held or have clones.
+    fn go_back_to(&mut self, source: &Dataset, destination: &str, step: &Step) -> Outcome {
+        match self.layer.order(&format!("rollback -r {}", source.path)) {
+            Ok(()) => {
+                self.follow_layer();
+                Ok(())
+            }
+            Err(Refusal::HasClones) => Err(exists(destination)),
+            Err(refusal) => Err(Failure::Cannot(step.action(), refusal.into())),
+        }
+    }
+
+    /// Takes up what came beside the blocks: properties, volume sizes, holds; and what the command says of properties.
+    fn take_up(&mut self, manner: &Manner, arrived: &Arrived, base: &str, is_new: bool) -> Outcome<Vec<String>> {
+        let step = &arrived.step;
+        let mut told = Vec::new();
+        let volume_size = step.volume.get("volsize").cloned();
+        if let Some(snapshot) = self.tree.edit_snapshot(&arrived.destination) {
+            snapshot.received.clone_from(&step.snapshot_properties);
+            snapshot.volume_size = volume_size;
+        }
+        if let Some(file_system) = self.tree.edit(base) {
+            file_system.local.extend(step.volume.clone());
+        }
+        if let Some(properties) = &step.properties {
+            told.extend(self.receive_properties(manner, base, properties));
+        }
+        self.override_properties(manner, arrived, base)?;
+        if !manner.skips_holds {
+            for tag in &step.holds {
+                self.hold(&arrived.destination, tag, manner.clock).trying(|| Action::Hold(arrived.destination.clone()))?;
+            }
+        }
+        if is_new && !manner.is_unmounted {
+            self.mount(base);
+        }
+        Ok(told)
+    }
+
+    /// What was received takes the place of what was received before. Limits that don't fit are told, and left.
+    fn receive_properties(&mut self, manner: &Manner, base: &str, properties: &Values) -> Vec<String> {
+        let mut told = Vec::new();
+        let before = self.tree.get(base).map(|it| it.received.clone()).unwrap_or_default();
+        let mut wanted = properties.clone();
+        wanted.retain(|name, _| !manner.excluded.contains(name));
+        let mut kept = wanted.clone();
+        let gone = before.keys().filter(|name| !wanted.contains_key(*name)).map(|name| (name.clone(), "0".to_owned()));
+        let changes: Vec<(String, String)> = gone.chain(wanted.clone()).collect();
+        for (name, value) in changes {
+            let Some(native) = Native::named(&name).filter(|native| native.is_limit()) else { continue };
+            let is_local = self.tree.get(base).is_some_and(|it| it.local.contains_key(&name));
+            if is_local {
+                continue;
+            }
+            if let Err(reason) = self.set_limit(base, native, &value) {
+                told.push(format!("cannot receive {name} property on {base}: {reason}"));
+                kept.remove(&name);
+            }
+            if let Some(file_system) = self.tree.edit(base) {
+                file_system.local.remove(&name);
+            }
+        }
+        if let Some(file_system) = self.tree.edit(base) {
+            file_system.received = kept;
+        }
+        told
+    }
+
+    /// `-o` sets what is asked, at the top or, where it can't be inherited, everywhere; `-x` has an inherited one inherited.
+    fn override_properties(&mut self, manner: &Manner, arrived: &Arrived, base: &str) -> Outcome {
+        let kind = arrived.step.kind;
+        let is_inherited = |property: &str| Native::named(property).is_none_or(Native::is_inherited);
+        for setting in &manner.settings {
+            let action = || Action::SetProperty(base.to_owned());
+            if !arrived.is_top && is_inherited(&setting.property) {
+                let property = Property::named(&setting.property);
+                if let Some(property) = property {
+                    self.inherit(base, &property, false).trying(action)?;
+                }
+                continue;
+            }
+            match check(setting, kind, true) {
+                Ok(checked) => self.set(base, &checked).trying(action)?,
+                Err(Reason::NotOfKind(_)) => {}
+                Err(reason) => return Err(Failure::Cannot(arrived.step.action(), reason)),
+            }
+        }
+        for property in &manner.excluded {
+            if let Some(file_system) = self.tree.edit(base) {
+                file_system.received.remove(property);
+            }
+        }
+        Ok(())
+    }
+
+    /// Keeps what came of a cut step, so that it can be resumed: the token for it.
+    pub fn keep_partial(&mut self, manner: &Manner, destination: &str, step: &Step, bytes: Vec<u8>) -> Outcome<String> {
+        let base = name::base(destination);
+        let is_there = self.tree.has(base);
+        if !is_there {
+            if manner.naming == Naming::AllButPool {
+                self.make_parents(base, manner.clock).trying(|| step.action())?;
+            }
+            self.make_file_system(base, step.kind, manner.clock).trying(|| step.action())?;
+        }
+        let before = self.tree.get(base).and_then(|it| it.partial.clone());
+        let is_resumed = step.resumes_at.is_some();
+        let mut all = before.as_ref().filter(|_| is_resumed).map(|it| it.bytes.clone()).unwrap_or_default();
+        all.extend(bytes);
+        let partial = Partial {
+            to_name: step.to_name.clone(),
+            to_guid: step.to_guid,
+            from_guid: step.from_guid,
+            bytes: all,
+            is_fresh: before.map_or(!is_there, |it| it.is_fresh),
+        };
+        let token = super::token::of(&partial);
+        if let Some(file_system) = self.tree.edit(base) {
+            file_system.partial = Some(Rc::new(partial));
+        }
+        Ok(token)
+    }
+
+    /// Lets go of what a cut receive has left (`-A`).
+    pub fn forget_partial(&mut self, name: &str) -> Outcome {
+        let base = self.open(name)?.base;
+        let none = || Failure::Told(format!("'{name}' does not have any resumable receive state to abort"));
+        let partial = base.partial.as_ref().ok_or_else(none)?;
+        if partial.is_fresh {
+            self.layer.order(&format!("destroy {}", base.path)).trying(|| Action::Destroy(name.to_owned()))?;
+            self.tree.remove(name);
+        } else if let Some(file_system) = self.tree.edit(name) {
+            file_system.partial = None;
+        }
+        Ok(())
+    }
+
+    /// Brings what is here to what the sender of an incremental replication has: names of snapshots, and with force what it hasn't goes.
+    pub fn follow_sender(&mut self, manner: &Manner, begin: &Begin) -> Outcome {
+        let mut sent: HashMap<String, HashMap<u64, String>> = HashMap::new();
+        for (name, snapshots) in &begin.file_systems {
+            let here = destination(manner, begin, &format!("{name}@x"))?;
+            sent.insert(name::base(&here).to_owned(), snapshots.iter().map(|(name, guid)| (*guid, name.clone())).collect());
+        }
+        let top = destination(manner, begin, &begin.to_name)?;
+        for base in self.tree.with_below(name::base(&top)) {
+            if !self.tree.has(&base) {
+                continue;
+            }
+            match sent.get(&base) {
+                Some(snapshots) => self.follow_snapshots(manner, &base, snapshots)?,
+                None if manner.is_forced => self.destroy_tree(&base)?,
+                None => {}
+            }
+        }
+        Ok(())
+    }
+
+    fn follow_snapshots(&mut self, manner: &Manner, base: &str, sent: &HashMap<u64, String>) -> Outcome {
+        let mut gone = false;
+        for snapshot in self.tree.snapshots(base) {
+            let component = name::snapshot(&snapshot.name).unwrap_or_default();
+            match sent.get(&snapshot.guid()) {
+                Some(name) if name != component => {
+                    let is_free = self.tree.get(base).is_some_and(|it| it.snapshot(name).is_none());
+                    if let Some(it) = self.tree.edit_snapshot(&snapshot.name).filter(|_| is_free) {
+                        it.name.clone_from(name);
+                    }
+                }
+                Some(_) => {}
+                // One that is held or has clones stays, as it does in ZFS.
+                None if manner.is_forced => gone |= self.layer.order(&format!("destroy {}", snapshot.path)).is_ok(),
+                None => {}
+            }
+        }
+        if gone {
+            self.follow_layer();
+        }
+        Ok(())
+    }
+}
+
+/// The snapshot that a stream would make is there.
+fn exists(destination: &str) -> Failure {
+    Failure::Cannot(Action::Restore(destination.to_owned()), Reason::Text("destination already exists".into()))
+}
+
+fn not_received(arrived: &Arrived, base: &str, refusal: Refusal) -> Failure {
+    let reason = match refusal {
+        Refusal::BadStream => Reason::Text("checksum mismatch".into()),
+        Refusal::Quota | Refusal::RefQuota => Reason::Text(format!("destination {base} space quota exceeded.")),
+        Refusal::WrongSource => Reason::Text(format!("most recent snapshot of {base} does not\nmatch incremental source")),
+        Refusal::Modified => Reason::Text(format!("destination {base} has been modified\nsince most recent snapshot")),
+        other => other.into(),
+    };
+    Failure::Cannot(arrived.step.action(), reason)
+}
+
+/// The properties of `-o` and `-x` are known, and each is named once.
+pub fn check_overrides(settings: &[Setting], excluded: &[String]) -> Result<(), Reason> {
+    let mut seen = HashSet::new();
+    for name in settings.iter().map(|setting| &setting.property).chain(excluded) {
+        if Property::named(name).is_none() {
+            return Err(Reason::NoProperty(name.clone()));
+        }
+        if !seen.insert(name) {
+            return Err(Reason::Text(format!("property '{name}' specified multiple times")));
+        }
+    }
+    let is_limit_of_stream = |setting: &&Setting| matches!(Native::named(&setting.property), Some(Native::VolSize | Native::VolBlockSize));
+    match settings.iter().find(is_limit_of_stream) {
+        Some(setting) => Err(Reason::Text(format!("invalid property '{}'", setting.property))),
+        None => settings.iter().try_for_each(|setting| check_value(setting).map(drop)),
+    }
+}
+
+/// A value has to fit where it fits any kind.
+fn check_value(setting: &Setting) -> Result<Checked, Reason> {
+    match check(setting, Kind::FileSystem, true) {
+        Err(Reason::NotOfKind(_)) => check(setting, Kind::Volume, true),
+        other => other,
+    }
+}
+
+#[cfg(test)]
+mod tests {
+    use super::*;
+    use crate::host::tests::{host, make, snapshot};
+    use crate::stream::plan::Wanted;
+
+    fn arrived(host: &mut Host, sent: &str, from: Option<&str>, destination: &str) -> Arrived {
+        let wanted = Wanted { name: sent.into(), from: from.map(str::to_owned), with_properties: true, ..Wanted::default() };
+        let plan = host.plan(&wanted).unwrap();
+        let bytes = Rc::new(plan.steps[0].body(host).unwrap());
+        Arrived { destination: destination.into(), step: plan.steps[0].head.clone(), bytes, is_top: true }
+    }
+
+    fn receive(host: &mut Host, manner: &Manner, arrived: &Arrived) -> Result<Vec<String>, String> {
+        host.change(|host| host.receive_step(manner, arrived)).map_err(|failure| failure.to_string())
+    }
+
+    fn prepared() -> Host {
+        let mut host = host();
+        make(&mut host, "tank/a");
+        for (number, name) in ["tank/a@1", "tank/a@2"].iter().enumerate() {
+            let path = host.open("tank/a").unwrap().path;
+            host.layer.write(&path, 0, 0, &[number as u8 + 1]).unwrap();
+            snapshot(&mut host, name);
+        }
+        host.tree.edit("tank/a").unwrap().local.insert("x:y".into(), "z".into());
+        host.settle_names();
+        host
+    }
+
+    #[test]
+    fn names_are_put_together() {
+        let begin = |to: &str, is_replication| Begin { to_name: to.into(), is_replication, ..Begin::default() };
+        let manner = |target: &str, naming| Manner { target: target.into(), naming, ..Manner::default() };
+        let go = |manner, begin, sent| destination(&manner, &begin, sent).map_err(|failure| failure.to_string());
+        assert_eq!(go(manner("b/x", Naming::Below), begin("tank/a@s", false), "tank/a@s").unwrap(), "b/x@s");
+        assert_eq!(go(manner("b/x", Naming::Below), begin("tank/a@s", true), "tank/a/c@r").unwrap(), "b/x/c@r");
+        assert_eq!(go(manner("b/x@t", Naming::Below), begin("tank/a@s", false), "tank/a@s").unwrap(), "b/x@t");
+        assert_eq!(go(manner("b", Naming::AllButPool), begin("tank/a/c@s", false), "tank/a/c@s").unwrap(), "b/a/c@s");
+        assert_eq!(go(manner("b", Naming::Last), begin("tank/a/c@s", true), "tank/a/c/d@s").unwrap(), "b/c/d@s");
+        assert_eq!(go(manner("b", Naming::Last), begin("tank@s", false), "tank@s").unwrap(), "b/tank@s");
+        assert!(go(manner("b@s", Naming::Last), begin("tank@s", false), "tank@s").is_err());
+        assert!(go(manner("b@s", Naming::Below), begin("tank@s", true), "tank@s").is_err());
+    }
+
+    #[test]
+    fn a_full_stream_and_an_increment_are_received() {
+        let mut host = prepared();
+        let manner = Manner { target: "tank/b".into(), ..Manner::default() };
+        let full = arrived(&mut host, "tank/a@1", None, "tank/b@1");
+        receive(&mut host, &manner, &full).unwrap();
+        let copy = host.open("tank/b@1").unwrap();
+        assert_eq!((copy.guid(), copy.base.received.get("x:y").map(String::as_str)), (host.open("tank/a@1").unwrap().guid(), Some("z")));
+        let again = receive(&mut host, &manner, &full).unwrap_err();
+        assert_eq!(again, "cannot receive new filesystem stream: destination 'tank/b' exists\nmust specify -F to overwrite it\n");
+        let increment = arrived(&mut host, "tank/a@2", Some("tank/a@1"), "tank/b@2");
+        receive(&mut host, &manner, &increment).unwrap();
+        let path = host.open("tank/b").unwrap().path;
+        assert_eq!(host.layer.read(&path, 0, 0).unwrap().unwrap()[0], 2);
+    }
+
+    #[test]
+    fn force_goes_back_over_newer_snapshots_but_not_over_held_ones() {
+        let mut host = prepared();
+        let manner = Manner { target: "tank/b".into(), ..Manner::default() };
+        let forced = Manner { is_forced: true, ..manner.clone() };
+        let full = arrived(&mut host, "tank/a@1", None, "tank/b@1");
+        receive(&mut host, &manner, &full).unwrap();
+        snapshot(&mut host, "tank/b@own");
+        let increment = arrived(&mut host, "tank/a@2", Some("tank/a@1"), "tank/b@2");
+        assert!(receive(&mut host, &manner, &increment).unwrap_err().contains("does not\nmatch incremental source"));
+        host.change(|host| host.hold("tank/b@own", "t", 1).map_err(|_| Failure::Silent)).unwrap();
+        assert!(receive(&mut host, &forced, &increment).unwrap_err().contains("dataset is busy"));
+        assert!(host.tree.has("tank/b@own"));
+        host.change(|host| host.release("tank/b@own", "t").map_err(|_| Failure::Silent)).unwrap();
+        receive(&mut host, &forced, &increment).unwrap();
+        assert!(host.tree.has("tank/b@2") && !host.tree.has("tank/b@own"));
+    }
+
+    #[test]
+    fn a_full_stream_may_replace_an_empty_root() {
+        let mut host = prepared();
+        let full = arrived(&mut host, "tank/a@2", None, "back@2");
+        let mut back = Host::create("back".into(), 10_000, 1, host.facts.clone()).unwrap();
+        let manner = Manner { target: "back".into(), ..Manner::default() };
+        assert!(receive(&mut back, &manner, &full).unwrap_err().contains("must specify -F to overwrite it"));
+        let forced = Manner { is_forced: true, ..manner };
+        receive(&mut back, &forced, &full).unwrap();
+        let root = back.open("back").unwrap();
+        assert_eq!(back.layer.read(&root.path, 0, 0).unwrap().unwrap()[0], 2);
+        assert!(back.tree.has("back@2"));
+        assert!(receive(&mut back, &forced, &full).unwrap_err().contains("destination has snapshots"));
+    }
+
+    #[test]
+    fn a_full_stream_replaces_contents_and_leaves_what_is_below() {
+        let mut host = prepared();
+        make(&mut host, "tank/b");
+        make(&mut host, "tank/b/c");
+        snapshot(&mut host, "tank/b/c@own");
+        let path = host.open("tank/b").unwrap().path;
+        host.layer.write(&path, 9, 9, &[9]).unwrap();
+        host.layer.sync().unwrap();
+        let full = arrived(&mut host, "tank/a@2", None, "tank/b@2");
+        let forced = Manner { target: "tank/b".into(), is_forced: true, ..Manner::default() };
+        receive(&mut host, &forced, &full).unwrap();
+        assert_eq!(host.layer.read(&path, 9, 9), Ok(None));
+        assert_eq!(host.layer.read(&path, 0, 0).unwrap().unwrap()[0], 2);
+        assert!(host.tree.has("tank/b/c@own") && host.open("tank/b@2").unwrap().guid() == host.open("tank/a@2").unwrap().guid());
+        // What comes after it goes on from it.
+        snapshot(&mut host, "tank/a@3");
+        let next = arrived(&mut host, "tank/a@3", Some("tank/a@2"), "tank/b@3");
+        receive(&mut host, &Manner { target: "tank/b".into(), ..Manner::default() }, &next).unwrap();
+        assert_eq!(host.layer.ask(&format!("get written {path}")), Ok("0".into()));
+    }
+
+    #[test]
+    fn a_clone_is_received_onto_its_origin() {
+        let mut host = prepared();
+        let whole = |host: &mut Host, sent: &str, from: Option<&str>, to: &str| {
+            let arrived = arrived(host, sent, from, to);
+            receive(host, &Manner { target: name::base(to).into(), ..Manner::default() }, &arrived)
+        };
+        whole(&mut host, "tank/a@1", None, "tank/b@1").unwrap();
+        host.change(|host| host.make_clone("tank/a@1", "tank/clone", 1).map_err(|_| Failure::Silent)).unwrap();
+        let path = host.open("tank/clone").unwrap().path;
+        host.layer.write(&path, 5, 5, &[5]).unwrap();
+        snapshot(&mut host, "tank/clone@c");
+        whole(&mut host, "tank/clone@c", Some("tank/a@1"), "tank/d@c").unwrap();
+        let copy = host.open("tank/d").unwrap().path;
+        assert_eq!(host.layer.read(&copy, 5, 5).unwrap().unwrap()[0], 5);
+        assert_eq!(host.layer.read(&copy, 0, 0).unwrap().unwrap()[0], 1);
+        assert!(host.origin(&copy).is_some_and(|origin| origin.ends_with("@1")));
+        assert_eq!(host.tree.snapshots("tank/d").len(), 1);
+        assert_eq!(host.layer.ask("list").unwrap().matches(&format!("{copy}@")).count(), 1);
+    }
+
+    #[test]
+    fn a_cut_receive_is_resumed() {
+        let mut host = prepared();
+        let manner = Manner { target: "tank/b".into(), is_resumable: true, ..Manner::default() };
+        let full = arrived(&mut host, "tank/a@1", None, "tank/b@1");
+        let half = full.bytes.len() / 2;
+        host.change(|host| host.keep_partial(&manner, "tank/b@1", &full.step, full.bytes[..half].to_vec())).unwrap();
+        assert!(receive(&mut host, &manner, &full).unwrap_err().contains("contains partially-complete state"));
+        let rest = |from: usize| Arrived {
+            step: Step { resumes_at: Some(from as u64), ..full.step.clone() },
+            bytes: Rc::new(full.bytes[from..].to_vec()),
+            ..full.clone()
+        };
+        assert!(receive(&mut host, &manner, &rest(half + 1)).is_err());
+        receive(&mut host, &manner, &rest(half)).unwrap();
+        assert!(host.tree.has("tank/b@1") && host.open("tank/b").unwrap().base.partial.is_none());
+        assert!(host.change(|host| host.forget_partial("tank/b")).is_err());
+    }
+}

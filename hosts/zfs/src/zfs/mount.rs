@@ -1,0 +1,174 @@
+//! `zfs mount` and `unmount`: what they would list. Nothing is mounted.
+
+use super::walk;
+use crate::call::Call;
+use crate::failure::{Action, Failure, Outcome, Reason};
+use crate::host::Host;
+use crate::property::{Kinds, Native, Property};
+use crate::usage::{Usage, ZfsCommand};
+use crate::world::PoolThread;
+use std::sync::Arc;
+
+const MOUNT: Usage = Usage::Zfs(ZfsCommand::Mount);
+const UNMOUNT: Usage = Usage::Zfs(ZfsCommand::Unmount);
+
+/// The pools that `-a` goes through.
+fn all_pools(call: &Call) -> Vec<Arc<PoolThread>> {
+    let only = call.request.restricted_to.clone();
+    call.world.pools().into_iter().filter(|pool| only.as_ref().is_none_or(|name| *name == pool.name)).collect()
+}
+
+pub fn mount(call: &mut Call, words: &[String]) -> Outcome {
+    let options = call.options(words, ":aflo:Ov", MOUNT)?;
+    if options.has('a') {
+        if !options.operands.is_empty() {
+            return Err(Failure::Usage(MOUNT, "too many arguments".into()));
+        }
+        return all_pools(call).iter().try_for_each(|pool| pool.run(Host::mount_all));
+    }
+    let name = match &options.operands[..] {
+        [] if !options.found.is_empty() => return Err(Failure::Usage(MOUNT, "missing filesystem argument".into())),
+        [] => return list(call),
+        [name] => name.clone(),
+        _ => return Err(Failure::Usage(MOUNT, "too many arguments".into())),
+    };
+    let pool = walk::open(call, &name, Kinds::FILE_SYSTEM)?;
+    let given = options.argument('o').unwrap_or_default().to_owned();
+    pool.run(move |host| mount_one(host, &name, &given))?
+}
+
+/// Options of a mount are properties for as long as it is mounted.
+fn mount_one(host: &mut Host, name: &str, options: &str) -> Outcome {
+    let fail = |reason: &str| Err(Failure::Cannot(Action::Mount(name.to_owned()), Reason::Text(reason.into())));
+    let base = host.open(name)?.base;
+    let is_remount = options.split(',').any(|option| option == "remount");
+    let point = host.mount_point(name).0;
+    match point.as_str() {
+        "none" => return fail("no mountpoint set"),
+        "legacy" => {
+            let text = format!("cannot mount '{name}': legacy mountpoint\nuse mount(8) to mount this filesystem");
+            return Err(Failure::Told(text));
+        }
+        _ => {}
+    }
+    if base.local.get("canmount").is_some_and(|value| value == "off") {
+        return fail("'canmount' property is set to 'off'");
+    }
+    if base.is_mounted && !is_remount {
+        return fail("filesystem already mounted");
+    }
+    host.set_mounted(name, true, options);
+    Ok(())
+}
+
+impl Host {
+    /// Says whether a file system is mounted, and with which options.
+    fn set_mounted(&mut self, name: &str, is_mounted: bool, options: &str) {
+        if let Some(file_system) = self.tree.edit(name) {
+            file_system.is_mounted = is_mounted;
+            file_system.mount_options = options.split(',').filter(|option| !option.is_empty()).map(str::to_owned).collect();
+        }
+        self.settle_names();
+    }
+}
+
+fn list(call: &mut Call) -> Outcome {
+    for pool in call.world.pools() {
+        let lines = pool.run(|host| {
+            let mounted: Vec<String> = host.tree.iter().filter(|(_, it)| it.is_mounted).map(|(name, _)| name.clone()).collect();
+            mounted.iter().map(|name| format!("{name:<30}  {}", host.mount_point(name).0)).collect::<Vec<_>>()
+        })?;
+        lines.iter().for_each(|line| call.output.line(line));
+    }
+    Ok(())
+}
+
+pub fn unmount(call: &mut Call, words: &[String]) -> Outcome {
+    let options = call.options(words, "afu", UNMOUNT)?;
+    if options.has('a') {
+        if !options.operands.is_empty() {
+            return Err(Failure::Usage(UNMOUNT, "too many arguments".into()));
+        }
+        return all_pools(call).iter().try_for_each(|pool| pool.run(Host::unmount_all));
+    }
+    let name = match &options.operands[..] {
+        [] => return Err(Failure::Usage(UNMOUNT, "missing filesystem argument".into())),
+        [name] => name.clone(),
+        _ => return Err(Failure::Usage(UNMOUNT, "too many arguments".into())),
+    };
+    if name.starts_with('/') {
+        return unmount_path(call, &name);
+    }
+    let pool = walk::open(call, &name, Kinds::FILE_SYSTEM)?;
+    pool.run(move |host| {
+        let base = host.open(&name)?.base;
+        let fail = |reason: &str| Err(Failure::Cannot(Action::Unmount(name.clone()), Reason::Text(reason.into())));
+        if host.mount_point(&name).0 == "legacy" {
+            return Err(Failure::Told(format!("cannot unmount '{name}': legacy mountpoint\nuse umount(8) to unmount this filesystem")));
+        }
+        if !base.is_mounted {
+            return fail("not currently mounted");
+        }
+        host.set_mounted(&name, false, "");
+        Ok(())
+    })?
+}
+
+fn unmount_path(call: &mut Call, path: &str) -> Outcome {
+    for pool in call.world.pools() {
+        let path = path.trim_end_matches('/').to_owned();
+        let is_done = pool.run(move |host| {
+            let found = host.tree.iter().find(|(name, it)| it.is_mounted && host.mount_point(name).0 == path).map(|(name, _)| name.clone());
+            found.map(|name| host.set_mounted(&name, false, "")).is_some()
+        })?;
+        if is_done {
+            return Ok(());
+        }
+    }
+    Err(Failure::Told(format!("cannot unmount '{path}': not a ZFS filesystem")))
+}
+
+pub fn share(call: &mut Call, words: &[String]) -> Outcome {
+    let usage = Usage::Zfs(ZfsCommand::Share);
+    let options = call.options(words, "al", usage)?;
+    if options.has('a') {
+        return Ok(());
+    }
+    let name = match &options.operands[..] {
+        [] => return Err(Failure::Usage(usage, "missing filesystem argument (specify -a for all)".into())),
+        [name] => name.clone(),
+        _ => return Err(Failure::Usage(usage, "too many arguments".into())),
+    };
+    let pool = walk::open(call, &name, Kinds::FILE_SYSTEM)?;
+    pool.run(move |host| share_one(host, &name))?
+}
+
+/// Nothing is shared; what can't be says so.
+fn share_one(host: &mut Host, name: &str) -> Outcome {
+    let told = |text: String| Err(Failure::Told(text));
+    let dataset = host.open(name)?;
+    let mut is_off = |native| host.value(&dataset, &Property::Native(native)).is_none_or(|value| value.text == "off");
+    if is_off(Native::ShareNfs) && is_off(Native::ShareSmb) {
+        let way = "use exports(5) or smb.conf(5) to share this filesystem, or set the sharenfs or sharesmb property";
+        return told(format!("cannot share '{name}': legacy share\n{way}"));
+    }
+    let is_never = is_off(Native::CanMount);
+    match host.mount_point(name).0.as_str() {
+        "legacy" => told(format!("cannot share '{name}': legacy mountpoint\nuse share(8) to share this filesystem")),
+        "none" => told(format!("cannot share '{name}': no mountpoint set")),
+        _ if is_never => told(format!("cannot share '{name}': 'canmount' property is set to 'off'")),
+        _ => Ok(()),
+    }
+}
+
+/// Nothing is shared, so nothing is to be unshared.
+pub fn unshare(call: &mut Call, words: &[String]) -> Outcome {
+    let usage = Usage::Zfs(ZfsCommand::Unshare);
+    let options = call.options(words, "afu", usage)?;
+    if options.has('a') {
+        return Ok(());
+    }
+    let name = options.operands.first().ok_or_else(|| Failure::Usage(usage, "missing filesystem argument".into()))?;
+    walk::open(call, name, Kinds::FILE_SYSTEM)?;
+    Err(Failure::Told(format!("cannot unshare '{name}': not currently shared")))
+}

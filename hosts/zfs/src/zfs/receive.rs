@@ -1,0 +1,200 @@
+//! `zfs receive`.
+
+use super::walk;
+use crate::call::Call;
+use crate::failure::{Action, Failure, Outcome, Reason};
+use crate::name;
+use crate::options::Options;
+use crate::property::Kinds;
+use crate::setting::settings;
+use crate::size;
+use crate::stream::format::{read_body, read_head, read_magic, Broken, Head, Step};
+use crate::stream::receive::{check_overrides, destination, Arrived, Manner, Naming};
+use crate::usage::{Usage, ZfsCommand};
+use crate::world::PoolThread;
+use std::rc::Rc;
+use std::sync::Arc;
+use std::time::Instant;
+
+const USAGE: Usage = Usage::Zfs(ZfsCommand::Receive);
+
+pub fn run(call: &mut Call, words: &[String]) -> Outcome {
+    let options = call.options(words, ":o:x:dehMnuvFsA", USAGE)?;
+    let usage = |reason: &str| Err(Failure::Usage(USAGE, reason.to_owned()));
+    if options.has('d') && options.has('e') {
+        return usage("invalid option combination: -d and -e are mutually exclusive");
+    }
+    let as_usage = |failure: Failure| Failure::Usage(USAGE, failure.to_string().trim_end().to_owned());
+    let given = settings(options.arguments('o')).map_err(as_usage)?;
+    let target = match &options.operands[..] {
+        [] => return usage("missing snapshot argument"),
+        [target] => target.clone(),
+        _ => return usage("too many arguments"),
+    };
+    if options.has('A') {
+        return if ['d', 'e', 'n', 's', 'u'].into_iter().any(|letter| options.has(letter)) { usage("invalid option") } else { forget(call, &target) };
+    }
+    if call.is_input_terminal() {
+        return Err(Failure::Told("Error: Backup stream can not be read from a terminal.\nYou must redirect standard input.".into()));
+    }
+    let excluded: Vec<String> = options.arguments('x').map(str::to_owned).collect();
+    check_overrides(&given, &excluded).map_err(|reason| Failure::Cannot(Action::Receive, reason))?;
+    let manner = Manner { settings: given, excluded, clock: call.clock(), folder: call.request.folder.clone(), ..manner(&options, target) };
+    receive(call, &manner)
+}
+
+fn manner(options: &Options, target: String) -> Manner {
+    let naming = if options.has('d') { Naming::AllButPool } else if options.has('e') { Naming::Last } else { Naming::Below };
+    Manner {
+        target,
+        naming,
+        is_forced: options.has('F'),
+        is_resumable: options.has('s'),
+        is_dry: options.has('n'),
+        is_verbose: options.has('v'),
+        is_unmounted: options.has('u'),
+        skips_holds: options.has('h'),
+        ..Manner::default()
+    }
+}
+
+fn forget(call: &mut Call, target: &str) -> Outcome {
+    let pool = walk::open(call, target, Kinds::FV).map_err(|failure| Failure::Usage(USAGE, failure.to_string().trim_end().to_owned()))?;
+    let name = target.to_owned();
+    call.change(&pool, move |host| host.forget_partial(&name))?;
+    call.log(&pool);
+    Ok(())
+}
+
+fn receive(call: &mut Call, manner: &Manner) -> Outcome {
+    if manner.naming != Naming::Below {
+        let name = manner.target.clone();
+        let is_there = call.world.pool_of(&name).map(|pool| pool.run(move |host| host.tree.has(&name))).transpose()?;
+        if is_there != Some(true) {
+            return Err(Failure::Cannot(Action::Receive, Reason::Text(format!("specified fs ({}) does not exist", manner.target))));
+        }
+    }
+    read_magic(call).map_err(|broken| unreadable(&broken))?;
+    let begin = match read_head(call).map_err(|broken| unreadable(&broken))? {
+        (Head::Begin(begin), 0) => begin,
+        _ => return Err(unreadable(&Broken::Damaged)),
+    };
+    let pool = call.world.pool_of(&manner.target).ok_or_else(|| no_pool(manner))?;
+    if begin.is_replication && begin.is_incremental && !manner.is_dry {
+        let (manner, begin) = (manner.clone(), begin.clone());
+        call.change(&pool, move |host| host.follow_sender(&manner, &begin))?;
+    }
+    let mut top = None;
+    let mut next = read_head(call).map_err(|broken| unreadable(&broken))?;
+    loop {
+        let (step, length) = match next {
+            (Head::End, 0) => break,
+            (Head::Step(step), length) => (step, length),
+            _ => return Err(unreadable(&Broken::Damaged)),
+        };
+        let goal = destination(manner, &begin, &step.to_name)?;
+        let top = top.get_or_insert_with(|| name::base(&goal).to_owned());
+        let is_top = top == name::base(&goal);
+        next = receive_step(call, &pool, manner, step, length, Goal { name: goal, is_top })?;
+    }
+    call.log(&pool);
+    Ok(())
+}
+
+/// Where a step goes.
+struct Goal {
+    name: String,
+    is_top: bool,
+}
+
+/// Receives a step, once the head behind it has come: a stream that is cut before its end leaves nothing of its last step. That head.
+fn receive_step(call: &mut Call, pool: &Arc<PoolThread>, manner: &Manner, step: Step, length: u64, goal: Goal) -> Outcome<(Head, u64)> {
+    let begin = Instant::now();
+    let has_already = announce(call, pool, manner, &step, &goal)?;
+    let bytes = match read_body(call, &step, length) {
+        Ok(bytes) => bytes,
+        Err(Broken::CutBody(step, bytes)) => return Err(cut(call, pool, manner, &goal.name, &step, bytes)),
+        Err(broken) => return Err(unreadable(&broken)),
+    };
+    let next = match read_head(call) {
+        Ok(next) => next,
+        Err(Broken::Cut) if !has_already => return Err(cut(call, pool, manner, &goal.name, &step, bytes)),
+        Err(broken) => return Err(unreadable(&broken)),
+    };
+    if has_already || manner.is_dry {
+        return Ok(next);
+    }
+    let count = bytes.len() as u64;
+    let manner_here = manner.clone();
+    let told = call.change(pool, move |host| {
+        let arrived = Arrived { destination: goal.name, step, bytes: Rc::new(bytes), is_top: goal.is_top };
+        host.receive_step(&manner_here, &arrived)
+    })?;
+    told.iter().for_each(|line| call.output.error(line));
+    if manner.is_verbose {
+        let seconds = begin.elapsed().as_secs().max(1);
+        call.output.line(&format!("received {} stream in {seconds} seconds ({}/sec)", size::bytes(count), size::bytes(count / seconds)));
+        call.flush();
+    }
+    Ok(next)
+}
+
+/// Looks whether a step may be received, and tells of it with `-v`. Whether its snapshot is there already, which is passed over.
+fn announce(call: &mut Call, pool: &Arc<PoolThread>, manner: &Manner, step: &Step, goal: &Goal) -> Outcome<bool> {
+    let (asked, sent, name) = (manner.clone(), step.clone(), goal.name.clone());
+    let (has_already, origin) = pool.run(move |host| {
+        let origin = host.by_guid(name::base(&name), sent.from_guid).filter(|_| sent.is_clone).map(|it| it.name);
+        if host.has_already(&name, &sent) {
+            return Ok((true, origin));
+        }
+        host.check_receive(&asked, &name, &sent).map(|()| (false, origin))
+    })??;
+    if !manner.is_verbose {
+        return Ok(has_already);
+    }
+    origin.iter().for_each(|origin| call.output.line(&format!("found clone origin {origin}")));
+    let deed = if manner.is_dry { "would receive" } else { "receiving" };
+    let kind = if step.from_guid == 0 { "full" } else { "incremental" };
+    call.output.line(&format!("{deed} {kind} stream of {} into {}", step.to_name, goal.name));
+    if has_already {
+        call.output.line(&format!("snap {} already exists; ignoring", goal.name));
+    }
+    call.flush();
+    Ok(has_already)
+}
+
+/// A stream that ended in a step: with `-s` what came is kept.
+fn cut(call: &Call, pool: &Arc<PoolThread>, manner: &Manner, goal: &str, step: &Step, bytes: Vec<u8>) -> Failure {
+    let action = step.action();
+    let fail = |reason: String| Failure::Cannot(action.clone(), Reason::Text(reason));
+    if !manner.is_resumable || manner.is_dry || bytes.is_empty() {
+        return fail("incomplete stream".into());
+    }
+    let (kept, name, sent) = (manner.clone(), goal.to_owned(), step.clone());
+    match call.change(pool, move |host| host.keep_partial(&kept, &name, &sent, bytes)) {
+        Ok(token) => fail(format!(
+            "checksum mismatch or incomplete stream.\nPartially received snapshot is saved.\n\
+             A resuming stream can be generated on the sending system by running:\n    zfs send -t {token}"
+        )),
+        Err(failure) => failure,
+    }
+}
+
+fn no_pool(manner: &Manner) -> Failure {
+    let base = name::base(&manner.target);
+    let Some(above) = name::parent(base) else {
+        return Failure::Cannot(Action::ReceiveNew, Reason::Text(format!("destination '{base}' does not exist")));
+    };
+    Failure::Told(format!("cannot open '{above}': dataset does not exist\ncannot receive new filesystem stream: unable to restore to destination"))
+}
+
+/// What can't be read is said as libzfs says it.
+fn unreadable(broken: &Broken) -> Failure {
+    let reason = match broken {
+        Broken::Empty | Broken::Cut | Broken::CutBody(..) => "failed to read from stream",
+        Broken::NotStream => "invalid stream (bad magic number)",
+        Broken::Damaged => "invalid stream (checksum mismatch)",
+        Broken::NoMemory => "out of memory",
+    };
+    Failure::Cannot(Action::Receive, Reason::Text(reason.into()))
+}

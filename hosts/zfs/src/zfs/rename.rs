@@ -1,0 +1,184 @@
+//! `zfs rename`. A name is the host's, so the layer is asked for nothing where the file system above stays the same. Else it is moved
+//! (`moving`).
+
+use super::walk;
+use crate::call::Call;
+use crate::dataset::Kind;
+use crate::failure::{Action, Failure, Outcome, Reason, Trying};
+use crate::host::Host;
+use crate::name;
+use crate::property::Kinds;
+use crate::usage::{Usage, ZfsCommand};
+
+const USAGE: Usage = Usage::Zfs(ZfsCommand::Rename);
+
+pub fn run(call: &mut Call, words: &[String]) -> Outcome {
+    let options = call.options(words, "pruf", USAGE)?;
+    let usage = |reason: &str| Err(Failure::Usage(USAGE, reason.to_owned()));
+    let (source, target) = match &options.operands[..] {
+        [] => return usage("missing source dataset argument"),
+        [_] => return usage("missing target dataset argument"),
+        [source, target] => (source.clone(), target.clone()),
+        _ => return usage("too many arguments"),
+    };
+    let (has_parents, is_recursive, is_unmounted) = (options.has('p'), options.has('r'), options.has('u'));
+    if is_recursive && has_parents {
+        return usage("-p and -r options are mutually exclusive");
+    }
+    if is_unmounted && has_parents {
+        return usage("-u and -p options are mutually exclusive");
+    }
+    if is_recursive && !source.contains('@') {
+        return usage("source dataset for recursive rename must be a snapshot");
+    }
+    let kinds = if is_unmounted { Kinds::FILE_SYSTEM } else if has_parents { Kinds::FV } else { Kinds::FVS };
+    let pool = walk::open(call, &source, kinds)?;
+    let clock = call.clock();
+    let is_valid = !source.contains('@') && name::check(&target, Kinds::FV, true).is_ok();
+    if is_valid && call.world.pool_of(&target).is_none() && target.contains('/') {
+        return Err(Failure::Cannot(Action::Create(target.clone()), Reason::NoPool(name::pool(&target).to_owned())));
+    }
+    call.change(&pool, move |host| {
+        if source.contains('@') {
+            return rename_snapshots(host, &source, &target, is_recursive);
+        }
+        if has_parents && name::check(&target, Kinds::FV, true).is_ok() && name::pool(&target) == host.name {
+            host.make_parents(&target, clock).trying(|| Action::Create(target.clone()))?;
+        }
+        rename_file_system(host, &source, &target, is_unmounted)
+    })?;
+    call.log(&pool);
+    Ok(())
+}
+
+fn rename_snapshots(host: &mut Host, source: &str, target: &str, is_recursive: bool) -> Outcome {
+    let to = |reason: Reason| Failure::Cannot(Action::RenameTo(target.to_owned()), reason);
+    let (base, old) = source.split_once('@').unwrap_or((source, ""));
+    let new = match target.split_once('@') {
+        None => target,
+        Some(("", new)) => new,
+        Some((other, new)) if other == base => new,
+        Some(_) => return Err(to(Reason::Text("snapshots must be part of same dataset".into()))),
+    };
+    if old == new {
+        return Ok(());
+    }
+    name::check(&format!("{base}@{new}"), Kinds::SNAPSHOT, true).map_err(to)?;
+    let trees = if is_recursive { host.tree.with_below(base) } else { vec![base.to_owned()] };
+    for name in trees {
+        let (from, into) = (format!("{name}@{old}"), format!("{name}@{new}"));
+        if !host.tree.has(&from) {
+            continue;
+        }
+        let reason = match host.tree.has(&into) {
+            true if is_recursive => Some(Reason::Text("a child dataset already has a snapshot with the new name".into())),
+            true => Some(Reason::Exists),
+            false if into.len() > name::NAME_LIMIT => Some(Reason::TooManyBelow),
+            false => None,
+        };
+        if let Some(reason) = reason {
+            return Err(Failure::Cannot(Action::Rename(source.to_owned()), reason));
+        }
+        if let Some(snapshot) = host.tree.edit_snapshot(&from) {
+            snapshot.name = new.to_owned();
+        }
+    }
+    Ok(())
+}
+
+fn rename_file_system(host: &mut Host, source: &str, target: &str, is_unmounted: bool) -> Outcome {
+    if source == target {
+        return Ok(());
+    }
+    check_target(host, source, target)?;
+    let action = || Action::Rename(source.to_owned());
+    let longest = host.tree.with_below(source).iter().flat_map(|below| longest_names(host, below)).max().unwrap_or(0);
+    let levels = |name: &str| name.matches('/').count();
+    let deepest = host.tree.with_below(source).iter().map(|below| levels(below)).max().unwrap_or(0);
+    // What is deeper than the limit may stay so, and may not grow.
+    let is_too_deep = levels(target) > levels(source) && deepest + levels(target) - levels(source) >= name::rename_depth_limit();
+    let reason = match () {
+        () if host.tree.has(target) => Some(Reason::Exists),
+        () if longest + target.len() - source.len() > name::NAME_LIMIT => Some(Reason::TooManyBelow),
+        () if is_too_deep => Some(Reason::TooManyBelow),
+        () => None,
+    };
+    if let Some(reason) = reason {
+        return Err(Failure::Cannot(action(), reason));
+    }
+    if name::parent(source) == name::parent(target) {
+        host.tree.rename(source, target);
+    } else {
+        host.move_file_system(source, target).trying(action)?;
+    }
+    if !is_unmounted {
+        let mounted: Vec<String> = host.tree.with_below(target).into_iter().filter(|it| host.tree.get(it).is_some_and(|it| it.is_mounted)).collect();
+        mounted.iter().for_each(|name| host.mount(name));
+    }
+    Ok(())
+}
+
+/// How long the names of a file system and of its snapshots are.
+fn longest_names(host: &Host, name: &str) -> Vec<usize> {
+    let Some(base) = host.tree.get(name) else { return Vec::new() };
+    base.snapshots.iter().map(|snapshot| name.len() + 1 + snapshot.name.len()).chain([name.len()]).collect()
+}
+
+fn check_target(host: &Host, source: &str, target: &str) -> Outcome {
+    let to = || Action::RenameTo(target.to_owned());
+    let create = |reason: Reason| Failure::Cannot(Action::Create(target.to_owned()), reason);
+    let kind = host.tree.get(source).map_or(Kind::FileSystem, |it| it.kind);
+    name::check(target, Kinds::of(kind), true).trying(to)?;
+    let above = name::parent(target).ok_or_else(|| create(Reason::Text("missing dataset name".into())))?;
+    if name::pool(target) != host.name {
+        return Err(Failure::Cannot(to(), Reason::Text("datasets must be within same pool".into())));
+    }
+    let parent = host.tree.get(above).ok_or_else(|| create(Reason::NoParent))?;
+    if parent.kind == Kind::Volume {
+        return Err(create(Reason::ParentIsVolume));
+    }
+    if !source.contains('/') {
+        return Err(Failure::Cannot(Action::Rename(source.to_owned()), Reason::Text("operation not supported on this dataset".into())));
+    }
+    if name::is_below(target, source) {
+        return Err(Failure::Cannot(to(), Reason::Text("New dataset name cannot be a descendant of current dataset name".into())));
+    }
+    Ok(())
+}
+
+#[cfg(test)]
+mod tests {
+    use super::*;
+    use crate::host::tests::{host, make, snapshot};
+
+    fn rename(host: &mut Host, source: &str, target: &str) -> Result<(), String> {
+        host.change(|host| rename_file_system(host, source, target, false)).map_err(|failure| failure.to_string())
+    }
+
+    #[test]
+    fn all_below_follows_a_rename() {
+        let mut host = host();
+        ["tank/a", "tank/a/b", "tank/ab"].iter().for_each(|name| make(&mut host, name));
+        snapshot(&mut host, "tank/a/b@s");
+        rename(&mut host, "tank/a", "tank/c").unwrap();
+        assert!(host.tree.has("tank/c/b@s") && host.tree.has("tank/ab") && !host.tree.has("tank/a"));
+        make(&mut host, "tank/a");
+        snapshot(&mut host, "tank/a@s");
+        assert!(host.tree.has("tank/a@s") && host.tree.has("tank/c/b@s"));
+        assert!(rename(&mut host, "tank/a", "tank/c").unwrap_err().ends_with("dataset already exists\n"));
+        assert!(rename(&mut host, "tank/a", "tank/a/x").is_err());
+        assert!(rename(&mut host, "tank/a", "other/x").unwrap_err().contains("within same pool"));
+    }
+
+    #[test]
+    fn snapshots_of_a_tree_are_renamed_all_or_none() {
+        let mut host = host();
+        ["tank/a", "tank/a/b"].iter().for_each(|name| make(&mut host, name));
+        ["tank/a@1", "tank/a/b@1", "tank/a/b@2"].iter().for_each(|name| snapshot(&mut host, name));
+        let rename = |host: &mut Host, new: &str| host.change(|host| rename_snapshots(host, "tank/a@1", new, true));
+        assert!(rename(&mut host, "@2").unwrap_err().to_string().contains("a child dataset already has"));
+        assert!(host.tree.has("tank/a@1") && !host.tree.has("tank/a@2"));
+        rename(&mut host, "3").unwrap();
+        assert!(host.tree.has("tank/a@3") && host.tree.has("tank/a/b@3"));
+    }
+}

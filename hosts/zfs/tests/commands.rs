@@ -1,0 +1,237 @@
+//! What each command does, told by the commands that list.
+
+mod common;
+use common::World;
+
+fn names(world: &World, of: &str) -> Vec<String> {
+    world.line(&format!("zfs list -H -r -t all -o name {of}")).out.lines().map(str::to_owned).collect()
+}
+
+fn value(world: &World, property: &str, name: &str) -> String {
+    world.done("zfs", ["get", "-Hp", "-o", "value", property, name]).trim_end().to_owned()
+}
+
+#[test]
+fn file_systems_and_volumes_are_made_and_destroyed() {
+    let world = World::with_pool();
+    world.run("zfs create tank/a
+        zfs create -p -o compression=lz4 -o my:note=x tank/b/c/d
+        zfs create -V 10M tank/v");
+    assert_eq!(names(&world, "tank"), ["tank", "tank/a", "tank/b", "tank/b/c", "tank/b/c/d", "tank/v"]);
+    assert_eq!(value(&world, "compression", "tank/b/c/d"), "lz4");
+    assert_eq!(value(&world, "compression", "tank/b/c"), "off");
+    assert_eq!(value(&world, "my:note", "tank/b/c/d"), "x");
+    assert_eq!(value(&world, "type", "tank/v"), "volume");
+    assert_eq!(value(&world, "volsize", "tank/v"), "10485760");
+    world.run("zfs destroy tank/a
+        zfs destroy -r tank/b");
+    assert_eq!(names(&world, "tank"), ["tank", "tank/v"]);
+}
+
+#[test]
+fn a_snapshot_keeps_what_was_there() {
+    let world = World::with_pool();
+    world.run("zfs create tank/a
+        zfs yuz-write tank/a 0 0 1 61
+        zfs snapshot -o my:note=first tank/a@one
+        zfs yuz-write tank/a 0 0 1 62");
+    assert!(world.run("zfs yuz-read tank/a@one 0 0").starts_with("6100"));
+    assert!(world.run("zfs yuz-read tank/a 0 0").starts_with("6200"));
+    assert_eq!(value(&world, "my:note", "tank/a@one"), "first");
+    world.run("zfs rollback tank/a@one");
+    assert!(world.run("zfs yuz-read tank/a 0 0").starts_with("6100"));
+    world.run("zfs rename tank/a@one @two
+        zfs destroy tank/a@two");
+    assert_eq!(names(&world, "tank/a"), ["tank/a"]);
+}
+
+#[test]
+fn snapshots_of_one_command_are_one_moment() {
+    let world = World::with_pool();
+    world.run("zfs create -p tank/a/b
+        zfs create tank/c
+        zfs snapshot -r tank/a@x tank/c@x");
+    let groups: Vec<String> = ["tank/a@x", "tank/a/b@x", "tank/c@x"].iter().map(|name| value(&world, "createtxg", name)).collect();
+    assert!(groups.iter().all(|group| *group == groups[0]), "{groups:?}");
+}
+
+#[test]
+fn a_range_of_snapshots_is_destroyed() {
+    let world = World::with_pool();
+    world.run("zfs create tank/a");
+    for k in 1..=6 {
+        world.run(&format!("zfs snapshot tank/a@{k}"));
+    }
+    assert_eq!(world.run("zfs destroy -nvp tank/a@2%4,6").lines().filter(|line| line.starts_with("destroy\t")).count(), 4);
+    world.run("zfs destroy tank/a@2%4,6");
+    assert_eq!(names(&world, "tank/a"), ["tank/a", "tank/a@1", "tank/a@5"]);
+}
+
+#[test]
+fn a_clone_is_promoted_over_its_origin() {
+    let world = World::with_pool();
+    world.run("zfs create tank/a
+        zfs snapshot tank/a@s
+        zfs clone -o my:note=c tank/a@s tank/c");
+    assert_eq!(value(&world, "origin", "tank/c"), "tank/a@s");
+    assert_eq!(value(&world, "clones", "tank/a@s"), "tank/c");
+    world.run("zfs promote tank/c");
+    assert_eq!(value(&world, "origin", "tank/a"), "tank/c@s");
+    assert_eq!(value(&world, "origin", "tank/c"), "-");
+    world.run("zfs destroy -R tank/c@s");
+    assert_eq!(names(&world, "tank"), ["tank", "tank/c"]);
+}
+
+#[test]
+fn a_held_snapshot_goes_with_its_last_hold() {
+    let world = World::with_pool();
+    world.run("zfs create tank/a
+        zfs snapshot tank/a@s
+        zfs hold keep tank/a@s
+        zfs hold also tank/a@s");
+    assert_eq!(value(&world, "userrefs", "tank/a@s"), "2");
+    assert_eq!(world.run("zfs holds -H tank/a@s").lines().count(), 2);
+    world.run("zfs destroy -d tank/a@s
+        zfs release keep tank/a@s");
+    assert_eq!(value(&world, "defer_destroy", "tank/a@s"), "on");
+    world.run("zfs release also tank/a@s");
+    assert_eq!(names(&world, "tank/a"), ["tank/a"]);
+}
+
+#[test]
+fn properties_are_inherited_set_and_cleared() {
+    let world = World::with_pool();
+    world.run("zfs create -p tank/a/b
+        zfs set compression=gzip my:note=up tank/a");
+    let told = |source: &str| world.done("zfs", ["get", "-H", "-o", "value,source", "compression,my:note", source]);
+    assert_eq!(told("tank/a/b"), "gzip\tinherited from tank/a\nup\tinherited from tank/a\n");
+    world.run("zfs set compression=lz4 tank/a/b");
+    assert_eq!(told("tank/a/b"), "lz4\tlocal\nup\tinherited from tank/a\n");
+    world.run("zfs inherit compression tank/a/b
+        zfs inherit -r my:note tank/a");
+    assert_eq!(told("tank/a/b"), "gzip\tinherited from tank/a\n-\t-\n");
+    world.run("zfs set quota=1000001 reservation=4097 tank/a");
+    assert_eq!((value(&world, "quota", "tank/a"), value(&world, "reservation", "tank/a")), ("1000001".into(), "4097".into()));
+}
+
+#[test]
+fn a_renamed_file_system_takes_what_is_below() {
+    let world = World::with_pool();
+    world.run("zfs create -p tank/a/b
+        zfs set my:note=x tank/a/b
+        zfs snapshot -r tank/a@s
+        zfs rename tank/a tank/z
+        zfs rename -r tank/z@s @t");
+    assert_eq!(names(&world, "tank"), ["tank", "tank/z", "tank/z@t", "tank/z/b", "tank/z/b@t"]);
+    assert_eq!(value(&world, "my:note", "tank/z/b"), "x");
+    world.run("zfs create tank/a
+        zfs snapshot tank/a@s");
+    assert_eq!(names(&world, "tank/a"), ["tank/a", "tank/a@s"]);
+}
+
+#[test]
+fn a_stream_makes_the_same_file_system_elsewhere() {
+    let world = World::with_pool();
+    world.pool("back");
+    world.run("zfs create tank/a
+        zfs yuz-write tank/a 0 0 9 61
+        zfs snapshot tank/a@one
+        zfs yuz-write tank/a 0 3 9 62
+        zfs snapshot tank/a@two
+        zfs bookmark tank/a@two tank/a#two
+        zfs yuz-write tank/a 0 0 1 63
+        zfs snapshot tank/a@three");
+    for (words, says) in [(vec!["tank/a@one"], "one"), (vec!["-I", "@one", "tank/a@two"], "two"), (vec!["-i", "#two", "tank/a@three"], "three")] {
+        let said = world.receive(&world.stream(&words), &["back/a"]);
+        assert_eq!((said.status, said.err.as_str()), (0, ""), "{says}");
+    }
+    for snapshot in ["one", "two", "three"] {
+        let told = |pool: &str| {
+            let name = format!("{pool}/a@{snapshot}");
+            let blocks = (0..13).map(|block| world.run(&format!("zfs yuz-read {name} 0 {block}"))).collect::<String>();
+            (value(&world, "guid", &name), value(&world, "creation", &name), blocks)
+        };
+        assert_eq!(told("tank"), told("back"), "{snapshot}");
+    }
+}
+
+#[test]
+fn a_replication_stream_has_the_tree_with_its_properties() {
+    let world = World::with_pool();
+    world.pool("back");
+    world.run("zfs create -p tank/a/b
+        zfs set compression=lz4 my:note=x tank/a
+        zfs snapshot -r tank/a@one
+        zfs clone tank/a@one tank/a/c
+        zfs yuz-write tank/a/c 0 0 1 63
+        zfs snapshot -r tank/a@two");
+    let said = world.receive(&world.stream(&["-R", "tank/a@two"]), &["back/a"]);
+    assert_eq!((said.status, said.err.as_str()), (0, ""));
+    assert_eq!(world.done("zfs", ["get", "-H", "-o", "value,source", "my:note", "back/a"]), "x\treceived\n");
+    assert_eq!(value(&world, "compression", "back/a/b"), "lz4");
+    assert_eq!(value(&world, "origin", "back/a/c"), "back/a@one");
+    assert!(world.run("zfs yuz-read back/a/c@two 0 0").starts_with("6300"));
+    let below = |pool: &str| names(&world, &format!("{pool}/a")).iter().map(|name| name[4..].to_owned()).collect::<Vec<_>>();
+    assert_eq!(below("tank"), below("back"));
+}
+
+#[test]
+fn a_cut_receive_goes_on_from_where_it_was() {
+    let world = World::with_pool();
+    world.pool("back");
+    world.run("zfs create tank/a
+        zfs yuz-write tank/a 0 0 400 61
+        zfs snapshot tank/a@one");
+    let whole = world.stream(&["tank/a@one"]);
+    let cut = world.receive(&whole[..whole.len() / 2], &["-s", "back/a"]);
+    assert_eq!(cut.status, 1);
+    let token = value(&world, "receive_resume_token", "back/a");
+    assert!(cut.err.contains(&token) && token.len() > 3 && token.bytes().all(|byte| byte.is_ascii_alphanumeric() || byte == b'-'), "{token} {cut:?}");
+    let rest = world.stream(&["-t", &token]);
+    assert!(rest.len() < whole.len() * 3 / 4, "{} of {}", rest.len(), whole.len());
+    let said = world.receive(&rest, &["-s", "back/a"]);
+    assert_eq!((said.status, said.err.as_str()), (0, ""));
+    assert_eq!(value(&world, "guid", "back/a@one"), value(&world, "guid", "tank/a@one"));
+    assert!(world.run("zfs yuz-read back/a@one 0 399").starts_with("6100"));
+    assert_eq!(value(&world, "receive_resume_token", "back/a"), "-");
+}
+
+#[test]
+fn the_clients_clock_counts() {
+    let world = World::with_pool();
+    world.run("zfs create tank/a
+        zfs snapshot tank/a@s");
+    let now = std::time::SystemTime::now().duration_since(std::time::UNIX_EPOCH).unwrap().as_secs();
+    for name in ["tank/a", "tank/a@s"] {
+        let creation: u64 = value(&world, "creation", name).parse().unwrap();
+        assert!(creation <= now && now - creation < 120, "{name}: {creation}, now {now}");
+    }
+}
+
+#[test]
+fn a_pool_is_told_of_exported_and_taken_back() {
+    let world = World::with_pool();
+    assert_eq!(world.run("zpool list -H -o name,health"), "tank\tONLINE\n");
+    assert!(world.run("zpool status tank").contains(" state: ONLINE\n"));
+    assert_eq!(world.run("zpool get -H -o value size tank").trim(), "1G");
+    world.run("zfs create tank/a
+        zpool export tank");
+    assert_eq!(world.line("zfs list -H tank").status, 1);
+    world.run("zpool import tank");
+    assert_eq!(names(&world, "tank"), ["tank", "tank/a"]);
+    assert!(world.run("zpool history tank").contains("zfs create tank/a"));
+    world.run("zpool destroy tank");
+    assert_eq!(world.line("zpool list").out, "no pools available\n");
+}
+
+#[test]
+fn the_programs_say_what_they_are() {
+    let world = World::new();
+    let version = world.line("zfs --version");
+    assert!(version.status == 0 && version.out.starts_with("zfs-2.1.11"), "{version:?}");
+    assert!((version.out + &version.err).contains("None of this program is proved"), "what is proved and what isn't");
+    let usage = world.line("zfs -?");
+    assert!(usage.out.starts_with("usage: zfs command args ...\n") || usage.err.starts_with("usage: zfs command args ...\n"), "{usage:?}");
+    assert_eq!(world.line("zfs frobnicate").status, 2);
+    assert!(world.line("zfs frobnicate").err.starts_with("unrecognized command 'frobnicate'\nusage: zfs command args ...\n"));
+}

@@ -1,0 +1,124 @@
+//! A command that is refused has changed nothing, also where it is several requests of the layer. The texts are OpenZFS's.
+
+mod common;
+use common::World;
+
+/// A pool with all kinds of things in it.
+fn world() -> World {
+    let world = World::with_pool();
+    world.run("zfs create -p tank/a/b
+        zfs create tank/c
+        zfs create -V 8M tank/v
+        zfs set quota=100M my:note=n tank/a
+        zfs yuz-write tank/a 0 0 4 61
+        zfs snapshot -r tank/a@1
+        zfs snapshot tank/a@2
+        zfs snapshot tank/a@3
+        zfs snapshot tank/a/b@other
+        zfs hold keep tank/a@2
+        zfs clone tank/a@3 tank/d
+        zfs snapshot tank/d@9
+        zfs bookmark tank/a@1 tank/a#m");
+    world
+}
+
+/// What is refused, with the first line that OpenZFS writes then.
+const REFUSED: &[(&str, i32, &str)] = &[
+    ("zfs create tank/a", 1, "cannot create 'tank/a': dataset already exists"),
+    ("zfs create tank/x/y", 1, "cannot create 'tank/x/y': parent does not exist"),
+    ("zfs create tank/v/y", 1, "cannot create 'tank/v/y': parent is not a filesystem"),
+    ("zfs create none/y", 1, "cannot create 'none/y': no such pool 'none'"),
+    ("zfs create -p -o recordsize=3 tank/x/y", 1, "cannot create 'tank/x/y': 'recordsize' must be power of 2 from 512B to 1M"),
+    ("zfs create -p -o quota=1T -o reservation=1T tank/x/y", 1, "cannot create 'tank/x/y': out of space"),
+    ("zfs create -V 900T tank/big", 1, "cannot create 'tank/big': out of space"),
+    ("zfs snapshot tank/a@1", 1, "cannot create snapshot 'tank/a@1': dataset already exists"),
+    ("zfs snapshot tank/c@new tank/a@1", 1, "cannot create snapshot 'tank/a@1': dataset already exists"),
+    ("zfs snapshot -r tank/a@other", 1, "cannot create snapshot 'tank/a/b@other': dataset already exists"),
+    ("zfs destroy tank/a", 1, "cannot destroy 'tank/a': filesystem has children"),
+    ("zfs destroy -r tank/a", 1, "cannot destroy 'tank/a': filesystem has dependent clones"),
+    ("zfs destroy tank/a@3", 1, "cannot destroy 'tank/a@3': snapshot has dependent clones"),
+    ("zfs destroy tank/a@2", 1, "cannot destroy snapshot tank/a@2: dataset is busy"),
+    ("zfs destroy tank/a@1,2", 1, "cannot destroy snapshot tank/a@2: dataset is busy"),
+    ("zfs destroy -R tank/a@1%3", 1, "cannot destroy snapshot tank/a@2: dataset is busy"),
+    ("zfs destroy tank/a@nope", 1, "could not find any snapshots to destroy; check snapshot names."),
+    ("zfs destroy tank/a#nope", 1, "bookmark 'tank/a#nope' does not exist."),
+    ("zfs destroy tank", 1, "cannot destroy 'tank': operation does not apply to pools"),
+    ("zfs rollback tank/a@1", 1, "cannot rollback to 'tank/a@1': more recent snapshots or bookmarks exist"),
+    ("zfs rollback -r tank/a@1", 1, "cannot rollback to 'tank/a@1': clones of previous snapshots exist"),
+    ("zfs clone tank/a@1 tank/c", 1, "cannot create 'tank/c': dataset already exists"),
+    ("zfs clone -p -o volsize=1M tank/a@1 tank/x/y", 1, "cannot create 'tank/x/y': 'volsize' does not apply to datasets of this type"),
+    ("zfs clone tank/a@nope tank/x", 1, "cannot open 'tank/a@nope': dataset does not exist"),
+    ("zfs promote tank/a", 1, "cannot promote 'tank/a': not a cloned filesystem"),
+    ("zfs rename tank/a tank/c", 1, "cannot rename 'tank/a': dataset already exists"),
+    ("zfs rename tank/a@1 tank/a@2", 1, "cannot rename 'tank/a@1': dataset already exists"),
+    ("zfs rename -r tank/a@1 tank/a@other", 1, "cannot rename 'tank/a@1': a child dataset already has a snapshot with the new name"),
+    ("zfs rename tank/a tank/a/x", 1, "cannot rename to 'tank/a/x': New dataset name cannot be a descendant of current dataset name"),
+    ("zfs bookmark tank/a@1 tank/a#m", 1, "cannot create bookmark 'tank/a#m': bookmark exists"),
+    ("zfs hold keep tank/a@2", 1, "cannot hold snapshot 'tank/a@2': tag already exists on this dataset"),
+    ("zfs hold -r keep tank/a@nope", 1, "cannot hold snapshot 'tank/a@nope': dataset does not exist"),
+    ("zfs release nope tank/a@2", 1, "cannot release hold from snapshot 'tank/a@2': no such tag on this dataset"),
+    ("zfs set compression=maybe tank/a", 1, "cannot set property for 'tank/a': 'compression' must be one of 'on | off | lzjb | gzip | gzip-[1-9] | zle | lz4 | zstd | zstd-[1-19] | zstd-fast | zstd-fast-[1-10,20,30,40,50,60,70,80,90,100,500,1000]'"),
+    ("zfs set used=1 tank/a", 1, "cannot set property for 'tank/a': 'used' is readonly"),
+    ("zfs set quota=512 tank/a", 1, "cannot set property for 'tank/a': size is less than current used or reserved space"),
+    ("zfs set atime=off tank/v", 1, "cannot set property for 'tank/v': 'atime' does not apply to datasets of this type"),
+    ("zfs set nothing=1 tank/a", 1, "cannot set property for 'tank/a': invalid property 'nothing'"),
+    ("zfs inherit quota tank/a", 1, "'quota' property cannot be inherited"),
+    ("zfs send tank/a", 1, ""),
+    ("zfs send -i tank/a@3 tank/a@1", 1, "warning: cannot send 'tank/a@1': not an earlier snapshot from the same fs"),
+    ("zfs receive tank/x", 1, ""),
+    ("zfs receive -A tank/a", 1, "'tank/a' does not have any resumable receive state to abort"),
+    ("zfs get nothing tank", 2, "bad property list: invalid property 'nothing'"),
+    ("zfs list nowhere", 1, "cannot open 'nowhere': dataset does not exist"),
+    ("zfs create", 2, "missing filesystem argument"),
+    ("zfs snapshot -q tank/a@x", 2, "invalid option 'q'"),
+    ("zpool create tank /nowhere/disk", 1, ""),
+    ("zpool destroy nowhere", 1, "cannot open 'nowhere': no such pool"),
+    ("zpool import nowhere", 1, "cannot import 'nowhere': no such pool available"),
+];
+
+#[test]
+fn a_refused_command_changes_nothing() {
+    let world = world();
+    let before = world.state();
+    assert!(before.lines().count() > 200, "{before}");
+    for &(line, status, first) in REFUSED {
+        let said = world.line(line);
+        assert_eq!(said.status, status, "{line}: {said:?}");
+        assert!(!said.err.is_empty(), "{line} says nothing");
+        if !first.is_empty() {
+            assert_eq!(said.err.lines().next(), Some(first), "{line}");
+        }
+        assert_eq!(world.state(), before, "{line}");
+    }
+}
+
+#[test]
+fn a_refused_stream_changes_nothing() {
+    let world = world();
+    world.pool("back");
+    assert_eq!(world.receive(&world.stream(&["tank/a@1"]), &["back/a"]).status, 0);
+    let step = world.stream(&["-i", "@1", "tank/a@2"]);
+    let full = world.stream(&["tank/a@2"]);
+    world.run("zfs yuz-write back/a 0 0 1 7a");
+    let before = world.state();
+    let mut spoilt = full.clone();
+    let middle = spoilt.len() / 2;
+    spoilt[middle] ^= 1;
+    let refused: [(&str, &[u8], &[&str]); 9] = [
+        ("over what was modified", &step, &["back/a"]),
+        ("where it exists", &full, &["back/a"]),
+        ("where the source isn't", &step, &["back/b"]),
+        ("below nothing", &full, &["back/x/y"]),
+        ("cut", &full[..full.len() / 2], &["back/b"]),
+        ("cut in its end", &full[..full.len() - 7], &["back/b"]),
+        ("spoilt", &spoilt, &["back/b"]),
+        ("no stream", b"nothing of the kind", &["back/b"]),
+        ("no pool", &full, &["none/b"]),
+    ];
+    for (what, stream, words) in refused {
+        let said = world.receive(stream, words);
+        assert_eq!(said.status, 1, "{what}: {said:?}");
+        assert!(said.err.starts_with("cannot ") || said.err.starts_with("warning"), "{what}: {said:?}");
+        assert_eq!(world.state(), before, "{what}");
+    }
+}
