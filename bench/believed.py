@@ -1,15 +1,28 @@
 #!/usr/bin/env python3
-"""Lists the definitions that a reader of the main theorem has to believe: python3 bench/believed.py
+"""Lists the definitions that a reader of the main theorem has to believe, or those that a promise needs beside them.
 
-These are the files of specs/ that the step and the run of `model` use, and what those use. The rest of specs/ is cited by contracts of
-single layers, and proved to agree with them.
+    python3 bench/believed.py [snapshots|quotas|sends|threads|lines|between]
+
+The first are the files of specs/ that the step and the run of `model` use, and what those use. A promise of README.md needs more: those that the
+definitions of its contract use, without the first. The rest of specs/ is cited by contracts of single layers, and proved to agree with them.
 """
 
+import argparse
 import re
+from functools import cache
 from pathlib import Path
 
 CRATES = Path(__file__).resolve().parent.parent / "crates"
-ROOTS = ("crates/model/specs/Step.antt", "crates/model/specs/Run.antt")
+ROOTS = ("model/specs/Step", "model/specs/Run")
+# The definitions that the contract of a promise cites. `between` is what holds of a pool between two steps, and what a request does beside its step.
+PROMISES = {
+    "snapshots": ("host_laws/specs/Both",),
+    "quotas": ("accounts/specs/Limits",),
+    "sends": ("host_laws/specs/Answered", "laws/specs/Sends", "laws/specs/Laws"),
+    "threads": ("session/specs/Receipts", "session/specs/Whole", "session/specs/History"),
+    "lines": ("script/specs/Run", "script/specs/Lines", "script/specs/Words", "script/specs/Meaning", "script/specs/Text"),
+    "between": ("pool/specs/Applied",),
+}
 
 
 def file_of(module):
@@ -19,8 +32,9 @@ def file_of(module):
     return next((it.with_suffix(".antt") for it in places if it.with_suffix(".antt").is_file()), None)
 
 
-def believed():
-    """The files, each after those that it uses."""
+@cache
+def used_by(roots):
+    """The files of these definitions and what they use, each after those that it uses."""
     found = []
 
     def visit(file):
@@ -33,9 +47,16 @@ def believed():
         if file not in found:
             found.append(file)
 
-    for root in ROOTS:
-        visit(CRATES.parent / root)
+    for root in roots:
+        visit(CRATES / f"{root}.antt")
     return found
+
+
+def believed(promise=None):
+    """The files that the step and the run use, or those that a promise needs beside them."""
+    if promise is None:
+        return used_by(ROOTS)
+    return [it for it in used_by(PROMISES[promise]) if it not in used_by(ROOTS)]
 
 
 def lines_in(file):
@@ -44,7 +65,9 @@ def lines_in(file):
 
 
 def main():
-    files, total = believed(), 0
+    words = argparse.ArgumentParser(description=__doc__, formatter_class=argparse.RawDescriptionHelpFormatter)
+    words.add_argument("promise", nargs="?", choices=PROMISES)
+    files, total = believed(words.parse_args().promise), 0
     for file in files:
         lines = lines_in(file)
         total += lines

@@ -13,7 +13,7 @@ import re
 import sys
 from pathlib import Path
 
-from believed import believed, lines_in
+from believed import PROMISES, believed, lines_in
 from rows import DATA, EXAMPLES
 from wrong_bodies import edits_of, folders
 
@@ -30,6 +30,12 @@ CLAIMS = (
     ("README.md", "`crates/*/refused`: {bodies} wrong bodies of {crates with bodies} crates"),
     ("docs/PROVED.md", "want of memory is one of the {refusals} refusals"),
     ("docs/AUDIT.md", "lists the files that the step and the run use, {believed} of {files of definitions}, each after those that it uses: {believed lines} lines of definitions"),
+    ("docs/AUDIT.md", "| `host_laws/specs/Both`, with `laws/specs` and `world/specs` below | {snapshots: files}, {snapshots: lines} |"),
+    ("docs/AUDIT.md", "| `accounts/specs/Limits` | {quotas: files}, {quotas: lines} |"),
+    ("docs/AUDIT.md", "`laws/specs/Sends`, `Laws`, with `world/specs` below | {sends: files}, {sends: lines} |"),
+    ("docs/AUDIT.md", "| `session/specs`: `Receipts`, `Whole`, `History` | {threads: files}, {threads: lines} |"),
+    ("docs/AUDIT.md", "`base/specs/Reading`, `Refusals` | {lines: files}, {lines: lines} |"),
+    ("docs/AUDIT.md", "| `pool/specs/Applied`, with `images/specs` and others below | {between: files}, {between: lines} |"),
     ("docs/AUDIT.md", "the same machine in {plain} lines of Python"),
     ("docs/AUDIT.md", "{bodies} wrong bodies of {crates with bodies} crates"),
     ("docs/CONTRIBUTING.md", "There are {must-fail}, in {crates with must-fail} crates"),
@@ -83,6 +89,8 @@ COUNTERS = {
     "files of definitions": lambda: sum(1 for _ in CRATES.glob("*/specs/**/*.antt")),
     "believed": lambda: len(believed()),
     "believed lines": lambda: sum(map(lines_in, believed())),
+    **{f"{it}: files": lambda it=it: len(believed(it)) for it in PROMISES},
+    **{f"{it}: lines": lambda it=it: sum(map(lines_in, believed(it))) for it in PROMISES},
     "plain": lambda: len((ROOT / "bench" / "plain.py").read_text().splitlines()),
     "bodies": lambda: sum(count_bodies(None)),
     "crates with bodies": lambda: len(folders()),

@@ -1,7 +1,7 @@
 #!/usr/bin/env python3
 """Shows that the prover refuses each wrong body of the crates, many in one check, and keeps what refused each in bench/wrong_bodies.txt.
 
-    python3 bench/wrong_bodies.py [--all] [--list] [--at-once N] [CRATE ..]
+    python3 bench/wrong_bodies.py [--all] [--list] [--at-once N] [--jobs J] [CRATE ..]
     python3 bench/wrong_bodies.py --verify
     python3 bench/wrong_bodies.py --gate [--minutes M] [--plan]
 
@@ -18,12 +18,13 @@ first are faults, and the crate's lines then stay as they were.
 bench/wrong_bodies.txt has a line a crate, with the digest of its texts, and below it a line a wrong body: its file, the function whose proof
 failed, and the goal of it that refused the body, as returns-clause-NAME for a clause NAME of the contract. This script alone writes it.
 Without a crate's name those crates are tried whose texts have changed since their lines were written, or with --all every one; --list prints
-a line for each edit, and N crates are tried at once, one if left out.
+a line for each edit, N crates are tried at once, one if left out, and each check has J jobs, one if left out.
 
 --verify tries nothing. It compares the digests with the texts, and the lines with the files: each wrong body has one, of the function that it
-strikes. --gate tries the wrong bodies anew of each crate whose texts differ from main's (or, on main itself, from the last commit's), and then
-of crates in an order that the digest of HEAD's tree gives, until these have taken M minutes of the processors, 5 if left out. It writes nothing,
-and fails where a body isn't refused by the goals of its line. --plan only prints what --gate would try. The status is 1 where something fails.
+strikes. --gate tries a round of wrong bodies anew of each crate whose texts differ from main's (or, on main itself, from the last commit's), and
+then of crates in an order that the digest of HEAD's tree gives, until these have taken M minutes of the processors, 5 if left out. That digest
+also says which bodies of a crate come first. It writes nothing, and fails where a body isn't refused by the goals of its line. --plan only prints
+which crates --gate would try. The status is 1 where something fails.
 
 The libraries below a crate are those in place, where all are current, or else what `rt ci` has kept; what is in neither is built first.
 """
@@ -49,7 +50,7 @@ from libraries import ROOT, Libraries
 LINES = ROOT / "bench" / "wrong_bodies.txt"
 PARTS = ("src", "specs", "proofs")
 PLACES = ("must-fail", "refused")
-HEAD = re.compile(r"\s*(?:pub(?:\([^)]*\))? )?(?:const |unsafe )*fn (\w+)")
+HEAD = re.compile(r"\s*(?:pub(?:\([^)]*\))? )?(?:const |unsafe |extern \"C\" )*fn (\w+)")
 OWNER = re.compile(r"\s*(?:pub(?:\([^)]*\))? )?(?:unsafe )?(impl|trait|mod)\b(?:<[^{]*?>(?= ))? ?([^{:]*(?:::[^{:]*)*)")
 ITEM = re.compile(r"\s*(?:pub(?:\([^)]*\))? )?(const|static|struct|enum|type|use|macro_rules!|ghost|impl|trait|mod)\b")
 # A proof that names what is gone from its function, and one that names what may have failed elsewhere.
@@ -206,12 +207,17 @@ def elsewhere(said):
 
 
 class Trial:
-    """The wrong bodies of one crate, over what is kept of its proof."""
+    """The wrong bodies of one crate, over what is kept of its proof; with a seed only those of one round, which the seed chooses."""
 
-    def __init__(self, libraries, crate, is_told=False):
-        self.rt, self.crate, self.is_told = libraries.rt, crate, is_told
+    # The jobs of a check.
+    jobs = 1
+
+    def __init__(self, libraries, crate, is_told=False, seed=None):
+        self.rt, self.crate, self.is_told, self.is_brief = libraries.rt, crate, is_told, seed is not None
         self.folder = Path(crate.folder)
         self.edits = [Edit(crate.name, self.folder, it) for it in edits_of(self.folder)]
+        if self.is_brief:
+            self.edits.sort(key=lambda it: hashlib.sha256(f"{seed} {crate.name} {name_of(it.file)}".encode()).hexdigest())
         self.is_proved = bool(libraries.entry(crate))
         self.said = {it: (BAD, it.fault) for it in self.edits if it.fault}
         self.rounds, self.begun = 0, time.monotonic()
@@ -242,10 +248,10 @@ class Trial:
         """A check of the crate with these texts, over a copy of what is kept, whose files the two share."""
         kept = f"{room}/{self.rounds}"
         shutil.copytree(seed, kept, copy_function=link_or_copy)
-        ran = self.rt.checked(self.crate, texts, ["--jobs", "1"], kept)
+        ran = self.rt.checked(self.crate, texts, ["--jobs", str(self.jobs)], kept)
         if ran.returncode == -signal.SIGKILL:
             # most likely for memory
-            ran = self.rt.checked(self.crate, texts, ["--jobs", "1"], kept)
+            ran = self.rt.checked(self.crate, texts, ["--jobs", str(self.jobs)], kept)
         if os.listdir(seed):
             shutil.rmtree(kept)
         else:
@@ -255,7 +261,8 @@ class Trial:
 
     def try_rounds(self, seed, room):
         waiting, alone = [it for it in self.edits if it not in self.said], []
-        while waiting or alone:
+        known = len(self.said)
+        while (waiting or alone) and not (self.is_brief and len(self.said) > known):
             taken, texts = round_of(waiting or alone[:1])
             self.rounds += 1
             ran, again = self.checked(texts, seed, room), []
@@ -268,8 +275,11 @@ class Trial:
                     again.append(edit)
             (waiting if len(again) < len(taken) else alone).extend(again)
 
+    def tried(self):
+        return [it for it in self.edits if it in self.said or not self.is_brief]
+
     def faults(self):
-        return sum(self.said.get(it, (UNTRIED,))[0] != REFUSED for it in self.edits)
+        return sum(self.said.get(it, (UNTRIED,))[0] != REFUSED for it in self.tried())
 
     def lines(self):
         """The lines of the refused ones, by their files."""
@@ -277,7 +287,8 @@ class Trial:
         return {name_of(it.file): "; ".join(map(str, why)) for it, why in refused.items()}
 
     def told(self):
-        return f"{len(self.edits) - self.faults()} of {len(self.edits)} refused, {self.rounds} rounds, {time.monotonic() - self.begun:.0f} s"
+        of = f"{len(self.tried())} tried" if self.is_brief else f"{len(self.edits)}"
+        return f"{len(self.tried()) - self.faults()} of {of} refused, {self.rounds} round{'s' * (self.rounds != 1)}, {time.monotonic() - self.begun:.0f} s"
 
 
 def link_or_copy(one, other):
@@ -413,12 +424,17 @@ def changed_crates():
     return {it.split("/")[1] for it in files if it.count("/") > 2 and it.split("/")[2] in (*PARTS, *PLACES)}
 
 
+def seed_of_tree():
+    """The digest of HEAD's tree, in which nobody has a say."""
+    return git("rev-parse", "HEAD^{tree}") or "".join(map(digest_of, folders().values()))
+
+
 def planned():
-    """The crates that the gate must try, and the others in the order that the digest of HEAD's tree gives, in which nobody has a say."""
+    """The crates that the gate must try, and the others in the order that the digest of HEAD's tree gives."""
     here, changed = folders(), changed_crates()
     if changed is None:
         print("wrong_bodies: git has no earlier commit here, so which crates have changed is not known")
-    tree = git("rev-parse", "HEAD^{tree}") or "".join(map(digest_of, here.values()))
+    tree = seed_of_tree()
     others = sorted({*here} - (changed or set()), key=lambda it: hashlib.sha256(f"{tree} {it}".encode()).hexdigest())
     return [it for it in here if it in (changed or set())], others
 
@@ -433,27 +449,27 @@ class Gate:
     """The trials of one gate."""
 
     def __init__(self, libraries, minutes):
-        self.libraries, self.minutes, self.table = libraries, minutes, Table()
+        self.libraries, self.minutes, self.table, self.seed = libraries, minutes, Table(), seed_of_tree()
         self.missing = libraries.take(libraries.crates)
         libraries.proved()
         self.faults, self.bodies, self.tried = [], 0, []
 
     def try_crate(self, name):
-        """Tries the wrong bodies of a crate, and compares what refuses them with their lines."""
+        """Tries a round of the wrong bodies of a crate, and compares what refuses them with their lines."""
         crate = self.libraries.crate(name)
         missing = [it.name for it in crate.below() if it in self.missing]
         if missing:
             self.faults.append(f"{name}: the libraries of {' '.join(missing)} are missing: run rt ci")
             return
-        trial = Trial(self.libraries, crate)
+        trial = Trial(self.libraries, crate, seed=self.seed)
         if not trial.run():
             self.faults.append(f"{name} is not proved as it stands")
             return
-        lines = trial.lines()
-        kept = lines if name in self.table.counted else self.table.bodies.get(name, {})
+        lines, names = trial.lines(), {name_of(it.file) for it in trial.tried()}
+        kept = lines if name in self.table.counted else {it: line for it, line in self.table.bodies.get(name, {}).items() if it in names}
         self.faults += [f"{name}/{it}: its line says {kept.get(it)}, and now it is {lines.get(it, 'not refused')}" for it in sorted({*lines, *kept}) if lines.get(it) != kept.get(it)]
         self.faults += [f"{name}: {trial.told()}"] * bool(trial.faults())
-        self.bodies += len(trial.edits)
+        self.bodies += len(trial.tried())
         self.tried.append(name)
         print(f"{name}: {trial.told()}", flush=True)
 
@@ -525,8 +541,10 @@ def main():
         options.add_argument(word, action="store_true")
     options.add_argument("--minutes", type=float, default=5)
     options.add_argument("--at-once", type=int, default=1)
+    options.add_argument("--jobs", type=int, default=1)
     options.add_argument("crates", nargs="*")
     asked = options.parse_args()
+    Trial.jobs = asked.jobs
     os.chdir(ROOT)
     if asked.verify:
         return verify()

@@ -1,3 +1,5 @@
 pub mod Rans
 pub mod Holding
 pub mod Gaining
+pub mod Asking
+pub mod Unserved

@@ -1,5 +1,11 @@
 //! The pool as a caller.
+ghost use Rattle.std.specs.Prelude.{◌≡◌, ℕ, List, Option};
+ghost use Rattle.model.specs.State.{State};
 ghost use Rattle.runner.specs.Serving.{Serves};
+ghost use Rattle.script.specs.declared.run.LineFault.{LineFault};
+ghost use Rattle.script.specs.Meaning.{Meaning};
+ghost use Rattle.script.specs.Served.{IsUnserved};
+ghost use Rattle.script.specs.Text.{has_any_length};
 
 use model::reply::Reply;
 use model::request::Request;
@@ -40,3 +46,10 @@ impl Caller for PoolCaller {
         true
     }
 }
+
+/// A line that `script::run::answer_line` ends with a fault leaves the pool as it was. There was no memory for the line, or for what it asks; or it
+/// asked for names, a text or a stream, and there was none for the answer's line.
+#[tactic(auto, using(crate::proofs::Unserved::unserved_same))]
+pub fn unserved_laws()
+    ensures same { (m : Meaning) (held held' : Option (List ℕ)) (s t : State) (fault : LineFault) → IsUnserved Serves m has_any_length held held' s t fault → t ≡ s }
+{}

@@ -10,6 +10,6 @@ mod seated;
 mod turns;
 
 pub use args::{Args, read_args};
-pub use caller::PoolCaller;
+pub use caller::{PoolCaller, unserved_laws};
 pub use run::{print_fault, print_usage, run_args};
 pub use session::Pool;

@@ -10,3 +10,4 @@ pub mod Within
 pub mod WriteWords
 pub mod PartLemmas
 pub mod Zeros
+pub mod RefusalNames

@@ -1,5 +1,5 @@
 -- The text of each reply.
-use Rattle.std.specs.Prelude.{ℕ, Bool, List, [], ◌∷◌, ◌++◌, Option, Some, None, codes, if◌then◌else◌}
+use Rattle.std.specs.Prelude.{ℕ, Bool, true, false, List, [], ◌∷◌, ◌++◌, Option, Some, None, codes, if◌then◌else◌}
 use Rattle.std.specs.List.{join_by}
 use Rattle.std.specs.Fmt.{decimal}
 use Rattle.hex.specs.Hex.{encode_lower}
@@ -51,3 +51,11 @@ text_of (Stream bytes) = encode_lower bytes
 -- a reply's line (profile)
 abbrev pub line_of : Reply → List ℕ
 line_of reply = text_of reply ++ 10 ∷ []
+
+-- a reply whose line has any length: a list of names, a text or a stream. Every other has at most 1,025 bytes, the digits of a block and a
+-- line feed (profile)
+abbrev pub has_any_length : Reply → Bool
+has_any_length (Names names) = true
+has_any_length (ValueIs (Named text)) = true
+has_any_length (Stream bytes) = true
+has_any_length reply = false

@@ -1,18 +1,19 @@
 //! Runs of scripts.
-ghost use Rattle.std.specs.Prelude.{◌≡◌, ◌||◌, ◌⊎◌, [], false, Option, Some, None, Err, IsTrue, IfOk, IfErr, OnOk, if◌then◌else◌};
+ghost use Rattle.std.specs.Prelude.{◌≡◌, ◌≢◌, ◌≤◌, ◌||◌, ◌⊎◌, [], false, Option, Some, None, Err, is_some, IfOk, IfErr, OnOk, IsOk, if◌then◌else◌};
 ghost use Rattle.base.specs.Failing.{HasRisen};
 ghost use Rattle.base.specs.declared.refusal.Refusal.{Refusal};
 ghost use Rattle.script.specs.Lines.{lines, HasNoFeed};
-ghost use Rattle.script.specs.Run.{HasRun, HasFailed, IsFaultOf, IsRun, is_refusal};
-ghost use Rattle.script.specs.Served.{IsServed, IsUnserved};
+ghost use Rattle.script.specs.Run.{HasRun, HasFailed, IsFaultOf, IsRun, refusal_of};
+ghost use Rattle.script.specs.Served.{IsServed, IsUnserved, may_miss};
 ghost use Rattle.script.specs.Meaning.{Asks, meaning, request_of};
-ghost use Rattle.script.specs.Text.{line_of};
+ghost use Rattle.script.specs.Text.{line_of, has_any_length};
 ghost use Rattle.std.specs.Io.KnownBytes.{Appends};
 ghost use Rattle.model.specs.declared.request.Request.{Request};
 ghost use Rattle.model.specs.declared.reply.Reply.{Reply};
 
 use crate::lines::{ReadFault, next_line};
 use crate::parse::request_at;
+use crate::sink::{Roomy, Sink};
 use crate::text::write_reply;
 use base::failing::Failing;
 use base::refusal::Refusal;
@@ -20,6 +21,7 @@ use model::reply::Reply;
 use model::request::Request;
 use std::alloc::Global;
 use std::io::{BufRead, Write};
+use std::mem;
 use thiserror::Error;
 
 /// What answers requests. Its relation says what a request does to it and what it replies.
@@ -72,7 +74,7 @@ const REPLY_ROOM: usize = 1_025;
 
 /// Asks a line of a caller, as a script of this line alone would: without its line feed, which makes it a bad line. The reply's line stands
 /// in `reply` then, with its line feed, in the place of what stood there; it is empty for a comment and for an empty line, which ask nothing.
-/// Says whether the line was refused. The cost is linear in the line and its reply, beside the caller's; a `reply` that is used again is
+/// Tells the refusal of a line that was refused. The cost is linear in the line and its reply, beside the caller's; a `reply` that is used again is
 /// not allocated again.
 ///
 /// NoMemory where memory was refused to the line or to what it asks: `reply` is empty then, and the caller is as it was, or had no
@@ -83,16 +85,20 @@ pub fn answer_line<C: Caller>(
     caller: &mut C,
     line: &[u8],
     reply: &mut Vec<u8>,
-) -> Result<bool, LineFault>
-    ensures ok { IfOk result (λ refused. IsServed C.asks (meaning line.now) (Some []) (Some reply.new.items) caller.old caller.new refused) }
-    ensures script { HasNoFeed line.now → IfOk result (λ refused. IsRun C.asks false (lines line.now) caller.old reply.new.items caller.new refused) }
-    ensures err { IfErr result (λ fault. IsUnserved C.asks (meaning line.now) (Some []) (Some reply.new.items) caller.old caller.new fault) }
+) -> Result<Option<Refusal>, LineFault>
+    ensures ok { IfOk result (λ refusal. IsServed C.asks (meaning line.now) (Some []) (Some reply.new.items) caller.old caller.new refusal) }
+    ensures script { HasNoFeed line.now → IfOk result (λ refusal. IsRun C.asks false (lines line.now) caller.old reply.new.items caller.new (is_some refusal)) }
+    ensures err { IfErr result (λ fault. IsUnserved C.asks (meaning line.now) has_any_length (Some []) (Some reply.new.items) caller.old caller.new fault) }
 {
     reply.clear();
     if reply.reserve(REPLY_ROOM).is_err() {
         return Err(LineFault::NoMemory);
     }
-    serve_line(alloc, caller, line, reply)
+    let mut sink = Roomy(mem::replace(reply, Vec::new(alloc)));
+    let told = serve_line(alloc, caller, line, &mut sink);
+    let Roomy(text) = sink;
+    *reply = text;
+    told
 }
 
 /// Asks the requests of a script's lines of a caller, in order, and writes their reply lines. Says whether a line was refused;
@@ -135,7 +141,8 @@ pub fn run_script<C: Caller, R: BufRead + Failing, W: Write + Failing>(
             return Ok(refused);
         }
         match serve_line(alloc, caller, line.as_slice(), writer) {
-            Ok(is_refused) => {
+            Ok(refusal) => {
+                let is_refused = refusal.is_some();
                 if is_refused & stop {
                     return Ok(true);
                 }
@@ -151,33 +158,33 @@ pub fn run_script<C: Caller, R: BufRead + Failing, W: Write + Failing>(
     Err(ScriptFault::of_counts(reads, reader.failures()))
 }
 
-/// Answers a line, writes its reply if it has one, and tells whether it was refused.
+/// Answers a line, writes its reply if it has one, and tells by which refusal it was refused, if it was.
 #[tactic(auto, unfolding(crate::specs::Meaning::meaning))]
-fn serve_line<C: Caller, W: Write>(
+fn serve_line<C: Caller, W: Sink>(
     alloc: Global,
     caller: &mut C,
     line: &[u8],
     writer: &mut W,
-) -> Result<bool, LineFault>
-    ensures ok { IfOk result (λ refused. IsServed C.asks (meaning line.now) (W.contents writer.old) (W.contents writer.new) caller.old caller.new refused) }
-    ensures err { IfErr result (λ fault. IsUnserved C.asks (meaning line.now) (W.contents writer.old) (W.contents writer.new) caller.old caller.new fault) }
+) -> Result<Option<Refusal>, LineFault>
+    ensures ok { IfOk result (λ refusal. IsServed C.asks (meaning line.now) (W.contents writer.old) (W.contents writer.new) caller.old caller.new refusal) }
+    ensures err { IfErr result (λ fault. IsUnserved C.asks (meaning line.now) (may_miss (W.room writer.old)) (W.contents writer.old) (W.contents writer.new) caller.old caller.new fault) }
 {
     match line {
-        [] => Ok(false),
-        [b'#', ..] => Ok(false),
+        [] => Ok(None),
+        [b'#', ..] => Ok(None),
         _ => serve_request(alloc, caller, line, writer),
     }
 }
 
 /// Answers a line that asks a request or is at fault.
-fn serve_request<C: Caller, W: Write>(
+fn serve_request<C: Caller, W: Sink>(
     alloc: Global,
     caller: &mut C,
     line: &[u8],
     writer: &mut W,
-) -> Result<bool, LineFault>
-    ensures ok { IfOk result (λ refused. IsServed C.asks (request_of line.now) (W.contents writer.old) (W.contents writer.new) caller.old caller.new refused) }
-    ensures err { IfErr result (λ fault. IsUnserved C.asks (request_of line.now) (W.contents writer.old) (W.contents writer.new) caller.old caller.new fault) }
+) -> Result<Option<Refusal>, LineFault>
+    ensures ok { IfOk result (λ refusal. IsServed C.asks (request_of line.now) (W.contents writer.old) (W.contents writer.new) caller.old caller.new refusal) }
+    ensures err { IfErr result (λ fault. IsUnserved C.asks (request_of line.now) (may_miss (W.room writer.old)) (W.contents writer.old) (W.contents writer.new) caller.old caller.new fault) }
 {
     match request_at(alloc, line) {
         Ok(request) => serve(caller, request, writer),
@@ -187,10 +194,11 @@ fn serve_request<C: Caller, W: Write>(
 
 /// Writes that a line is refused, unless it is for want of memory. It stands apart, since a reply takes room on the stack, which is filled first.
 #[inline(never)]
-fn refuse<W: Write>(writer: &mut W, refusal: Refusal) -> Result<bool, LineFault>
-    ensures ok { IfOk result (λ refused. IsTrue refused × Appends (W.contents writer.old) (W.contents writer.new) (line_of (Reply.Refused refusal))) }
+fn refuse<W: Sink>(writer: &mut W, refusal: Refusal) -> Result<Option<Refusal>, LineFault>
+    ensures ok { IfOk result (λ told. (told ≡ Some refusal) × Appends (W.contents writer.old) (W.contents writer.new) (line_of (Reply.Refused refusal))) }
     ensures no_memory { (refusal ≡ Refusal.NoMemory) → result ≡ Err LineFault.NoMemory }
     ensures err { (result ≡ Err LineFault.NoMemory) → W.contents writer.new ≡ W.contents writer.old }
+    ensures fits { 1025 ≤ W.room writer.old → result ≢ Err LineFault.Unwritten }
 {
     if refusal == Refusal::NoMemory {
         return Err(LineFault::NoMemory);
@@ -200,13 +208,13 @@ fn refuse<W: Write>(writer: &mut W, refusal: Refusal) -> Result<bool, LineFault>
 }
 
 /// Asks a request, and writes its reply.
-fn serve<C: Caller, W: Write>(
+fn serve<C: Caller, W: Sink>(
     caller: &mut C,
     request: Request,
     writer: &mut W,
-) -> Result<bool, LineFault>
-    ensures ok { IfOk result (λ refused. IsServed C.asks (Asks request) (W.contents writer.old) (W.contents writer.new) caller.old caller.new refused) }
-    ensures err { IfErr result (λ fault. IsUnserved C.asks (Asks request) (W.contents writer.old) (W.contents writer.new) caller.old caller.new fault) }
+) -> Result<Option<Refusal>, LineFault>
+    ensures ok { IfOk result (λ refusal. IsServed C.asks (Asks request) (W.contents writer.old) (W.contents writer.new) caller.old caller.new refusal) }
+    ensures err { IfErr result (λ fault. IsUnserved C.asks (Asks request) (may_miss (W.room writer.old)) (W.contents writer.old) (W.contents writer.new) caller.old caller.new fault) }
 {
     let mut reply = Reply::Done;
     if caller.ask(request, &mut reply) {
@@ -216,14 +224,18 @@ fn serve<C: Caller, W: Write>(
     }
 }
 
-/// Writes a reply's line, and tells whether it was a refusal.
-fn report<W: Write>(writer: &mut W, reply: &Reply) -> Result<bool, LineFault>
+/// Writes a reply's line, and tells the refusal that it is, if it is one.
+fn report<W: Sink>(writer: &mut W, reply: &Reply) -> Result<Option<Refusal>, LineFault>
+    ensures fits { 1025 ≤ W.room writer.old → has_any_length reply.now ≡ false → IsOk result }
     ensures line { OnOk result (Appends (W.contents writer.old) (W.contents writer.new) (line_of reply.now)) }
-    ensures refusal { IfOk result (λ refused. refused ≡ is_refusal (Some reply.now)) }
+    ensures refusal { IfOk result (λ refusal. refusal ≡ refusal_of (Some reply.now)) }
     ensures err { IfErr result (λ fault. fault ≡ LineFault.Unwritten) }
 {
     match write_reply(writer, reply) {
-        Ok(()) => Ok(matches!(reply, Reply::Refused(_))),
+        Ok(()) => match reply {
+            Reply::Refused(refusal) => Ok(Some(*refusal)),
+            _ => Ok(None),
+        },
         Err(_) => Err(LineFault::Unwritten),
     }
 }

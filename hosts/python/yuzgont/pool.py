@@ -43,9 +43,9 @@ def _number(number, what):
 class Pool:
     """A pool in memory, of `blocks` blocks of 512 bytes (1 to 4,194,304).
 
-    A pool's id must never be used twice. It is in the guid of every snapshot, and a pool that is started anew with an id of before gives the
-    same guids to other contents; a backup then takes an increment from them without a word. So the id is drawn at random unless `pool_id`,
-    1 to 4,294,967,295, is given.
+    A pool's id must never be used twice. It is in the guid of every snapshot, so a second pool of one id gives the guids of the first to other
+    contents. A backup then applies an increment to the wrong snapshot, and no refusal tells this. So the id is drawn at random unless
+    `pool_id`, 1 to 4,294,967,295, is given.
 
     A pool is closed at the end of `with`, by `close`, or when nothing refers to it any more. Its calls may be made from several threads: they wait
     for each other. Not after a fork, in the child of a process with threads.

@@ -1,16 +1,18 @@
 //! Yuzgont's pools for Rust, over the static library `yuzgont_c`.
 //!
-//! A [`Pool`] owns a pool and lets it go when it is dropped. Its calls take `&mut self`, so the compiler orders them. What isn't `Ok` has
+//! A [`Pool`] owns a pool and frees it when it is dropped. Its calls take `&mut self`, so the compiler orders them. What isn't `Ok` has
 //! changed nothing. A send is read as a [`Stream`], which is [`Read`]; a receive is written as a [`Receiver`], which is [`Write`], and made
 //! by [`Receiver::finish`].
 //!
-//! A pool's id must never be used twice. It is in the guid of each snapshot: a pool that is started anew with an id of before gives the same
-//! guids to other contents, and a backup takes an increment from them without a word. [`Pool::new`] draws an id at random.
+//! A pool's id must never be used twice. It is in the guid of each snapshot, so a second pool of one id gives the guids of the first to other
+//! contents. A backup then applies an increment to the wrong snapshot, and no refusal tells this. [`Pool::new`] draws an id at random.
 
 mod error;
+mod requests;
 mod sys;
 
 pub use error::Error;
+pub use requests::{Entry, Kind, Limit, PoolProperty};
 
 use std::collections::hash_map::RandomState;
 use std::hash::{BuildHasher, Hasher};
@@ -166,6 +168,12 @@ impl Pool {
     /// Receives what will be written, as a snapshot of this name; with `force` the file system goes back to its newest snapshot first.
     pub fn receive<'a>(&'a mut self, name: &'a str, force: bool) -> Receiver<'a> {
         Receiver { pool: self, name, force, bytes: Vec::new() }
+    }
+}
+
+impl Pool {
+    fn handle(&mut self) -> *mut sys::Handle {
+        &mut self.handle
     }
 }
 

@@ -1,6 +1,6 @@
 //! A command that a client has asked: what it came with, and what it prints.
 
-use crate::failure::{Failure, Outcome};
+use crate::failure::{Action, Failure, Outcome, Reason, Trying};
 use crate::host::Host;
 use crate::name;
 use crate::options::{Long, Options};
@@ -14,6 +14,7 @@ use std::io::{self, Read, Write};
 use std::os::fd::{AsFd, OwnedFd};
 use std::os::unix::net::UnixStream;
 use std::sync::Arc;
+use std::time::Duration;
 
 pub struct Call {
     pub request: Request,
@@ -67,7 +68,8 @@ impl Call {
 
     /// A pool by its own name, for zpool(8).
     pub fn pool(&self, name: &str) -> Outcome<Arc<PoolThread>> {
-        self.world.pool_of(name).filter(|_| name::pool(name) == name).ok_or_else(|| Failure::Told(format!("cannot open '{name}': no such pool")))
+        name::check_pool(name).trying(|| Action::Open(name.to_owned()))?;
+        self.world.pool_of(name).ok_or_else(|| Failure::Cannot(Action::Open(name.to_owned()), Reason::Text("no such pool".into())))
     }
 
     /// Runs a change of a pool: all of it, or nothing.
@@ -103,6 +105,12 @@ impl Call {
         io::IsTerminal::is_terminal(&self.files[1])
     }
 
+    /// Waits so long. Whether the client is still there then.
+    pub fn pause(&self, time: Duration) -> bool {
+        let mut entries = [PollEntry::readable(self.socket.as_fd())];
+        sys::wait(&mut entries, Some(time)).is_ok() && !self.is_gone(entries[0])
+    }
+
     /// Whether the client is gone. It never sends more than its request.
     fn is_gone(&self, entry: PollEntry) -> bool {
         entry.is_ready()
@@ -113,7 +121,7 @@ impl Call {
 impl Read for Call {
     fn read(&mut self, buffer: &mut [u8]) -> io::Result<usize> {
         let mut entries = [PollEntry::readable(self.files[0].as_fd()), PollEntry::readable(self.socket.as_fd())];
-        sys::wait(&mut entries)?;
+        sys::wait(&mut entries, None)?;
         if self.is_gone(entries[1]) && !entries[0].is_ready() {
             return Ok(0);
         }
@@ -125,7 +133,7 @@ impl Read for Call {
 impl Write for Call {
     fn write(&mut self, bytes: &[u8]) -> io::Result<usize> {
         let mut entries = [PollEntry::writable(self.files[1].as_fd()), PollEntry::readable(self.socket.as_fd())];
-        sys::wait(&mut entries)?;
+        sys::wait(&mut entries, None)?;
         if self.is_gone(entries[1]) {
             return Err(io::ErrorKind::BrokenPipe.into());
         }

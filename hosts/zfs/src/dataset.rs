@@ -99,6 +99,11 @@ impl FileSystem {
         self.bookmarks.iter().find(|bookmark| bookmark.name == component)
     }
 
+    /// A value of its own that is a number.
+    pub fn number(&self, property: &str) -> Option<u64> {
+        self.local.get(property)?.parse().ok()
+    }
+
     pub fn snapshot_path(&self, snapshot: &Snapshot) -> String {
         format!("{}@{}", self.path, snapshot.component)
     }

@@ -113,6 +113,7 @@ pub enum Reason {
     LimitBelowUse,
     BadStream,
     NoMemory,
+    NoEncryption,
     /// What a dry word list doesn't have.
     Text(String),
 }
@@ -153,6 +154,7 @@ impl Reason {
             Reason::LimitBelowUse => "size is less than current used or reserved space",
             Reason::BadStream => "invalid stream (checksum mismatch)",
             Reason::NoMemory => "out of memory",
+            Reason::NoEncryption => "Encryption feature not enabled.",
             _ => return None,
         })
     }

@@ -8,6 +8,7 @@ use crate::failure::{Failure, Outcome, Reason};
 use crate::layer::{Layer, Refusal};
 use crate::name;
 use crate::sys;
+use crate::zpool::vdev::Vdev;
 use std::collections::{BTreeMap, BTreeSet};
 use std::fs::File;
 use std::io::Read;
@@ -18,7 +19,7 @@ use yuzgont::Property;
 #[derive(Clone, Debug)]
 pub struct PoolFacts {
     pub guid: u64,
-    pub devices: Vec<String>,
+    pub vdevs: Vec<Vdev>,
     pub properties: Values,
 }
 
@@ -286,7 +287,7 @@ pub mod tests {
     use super::*;
 
     pub fn host() -> Host {
-        let facts = PoolFacts { guid: 1, devices: Vec::new(), properties: Values::new() };
+        let facts = PoolFacts { guid: 1, vdevs: Vec::new(), properties: Values::new() };
         Host::create("tank".into(), 10_000, 1000, facts).unwrap()
     }
 

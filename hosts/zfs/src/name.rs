@@ -73,6 +73,20 @@ pub fn check(name: &str, kinds: Kinds, is_new: bool) -> Result<(), Reason> {
     check_components(name)
 }
 
+/// Checks the name of a pool.
+pub fn check_pool(name: &str) -> Result<(), Reason> {
+    if name.len() >= NAME_LIMIT - 1 - 2 * "$ORIGIN".len() {
+        return Err(Reason::NameTooLong);
+    }
+    if let Some(bad) = name.chars().find(|&character| !is_valid(character)) {
+        return Err(Reason::Text(format!("invalid character '{bad}' in pool name")));
+    }
+    if !name.starts_with(|first: char| first.is_ascii_alphabetic()) {
+        return Err(Reason::Text("name must begin with a letter".into()));
+    }
+    Ok(())
+}
+
 fn check_components(name: &str) -> Result<(), Reason> {
     if name.len() > NAME_LIMIT {
         return Err(Reason::NameTooLong);

@@ -56,6 +56,15 @@ impl Output {
 pub struct Column {
     pub header: String,
     pub is_right_aligned: bool,
+    /// It is so wide at least.
+    pub least: usize,
+}
+
+impl Column {
+    /// A column of words, as wide as they are.
+    pub fn of_words(header: &str) -> Column {
+        Column { header: header.to_owned(), is_right_aligned: false, least: 0 }
+    }
 }
 
 /// Rows below headers. Columns stand two blanks apart, or by one tab without headers.
@@ -86,7 +95,7 @@ impl Table {
 
     fn widths(&self) -> Vec<usize> {
         let widest = |place: usize| self.rows.iter().map(|row| row[place].chars().count()).max().unwrap_or(0);
-        self.columns.iter().enumerate().map(|(place, column)| widest(place).max(column.header.len())).collect()
+        self.columns.iter().enumerate().map(|(place, column)| widest(place).max(column.header.len()).max(column.least)).collect()
     }
 
     fn push_row(&self, text: &mut String, row: &[String], widths: &[usize]) {
@@ -125,7 +134,7 @@ mod tests {
 
     #[test]
     fn a_table_has_headers_or_tabs() {
-        let column = |header: &str, is_right_aligned| Column { header: header.into(), is_right_aligned };
+        let column = |header: &str, is_right_aligned| Column { is_right_aligned, ..Column::of_words(header) };
         let table = Table {
             columns: vec![column("NAME", false), column("USED", true), column("MOUNTPOINT", false)],
             rows: vec![vec!["tank".into(), "1.50K".into(), "/tank".into()], vec!["t".into(), "0B".into(), "-".into()]],

@@ -140,6 +140,8 @@ impl Host {
             Native::Guid => dataset.guid().to_string(),
             Native::CreateTxg => dataset.create_txg().to_string(),
             Native::ObjSetId => dataset.snapshot().map_or(base.objset, |snapshot| snapshot.objset).to_string(),
+            // What a bookmark's snapshot had isn't kept.
+            Native::CompressRatio if dataset.kind() == Kind::Bookmark => "-".into(),
             Native::CompressRatio | Native::RefCompressRatio => "1.00".into(),
             Native::Mounted => if base.is_mounted { "yes" } else { "no" }.into(),
             Native::Origin => self.origin(&dataset.path).unwrap_or_else(|| "-".into()),
@@ -161,6 +163,9 @@ impl Host {
     fn settable(&mut self, dataset: &Dataset, native: Native) -> Option<Value> {
         match native {
             Native::VolSize => Some(volume_size(dataset)),
+            Native::VolBlockSize if dataset.base.local.get(native.name()).is_none_or(|size| size == native.default()) => {
+                Some(Value::default(native.default()))
+            }
             Native::VolBlockSize | Native::Version | Native::CaseSensitivity | Native::Normalization | Native::Utf8Only => {
                 Some(Value::plain(dataset.base.local.get(native.name()).map_or(native.default(), String::as_str)))
             }

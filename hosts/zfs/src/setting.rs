@@ -1,6 +1,6 @@
 //! Properties that are set: checked as libzfs checks them, then kept here or in the layer.
 
-use crate::dataset::{Dataset, Kind, Part, Values};
+use crate::dataset::{Dataset, FileSystem, Kind, Part, Values};
 use crate::failure::{Failure, Outcome, Reason};
 use crate::host::Host;
 use crate::layer::Refusal;
@@ -18,6 +18,22 @@ pub struct Setting {
 /// The largest limit of the layer, and the bytes of its blocks: a limit is a multiple of them.
 const LIMIT_MOST: u64 = 1 << 49;
 const BLOCK: u64 = 512;
+
+/// The bytes of a volume's block where nothing is said.
+pub const VOLUME_BLOCK: u64 = 8192;
+
+/// What libzfs reserves for a volume, of however many copies: its blocks, and two of each of ZFS's indirect blocks above them.
+pub fn volume_reservation(size: u64, block: u64) -> u64 {
+    const INDIRECT: u64 = 1 << 17;
+    const POINTERS: u64 = 1 << 10;
+    let mut level = size / block.max(1);
+    let mut indirects = 7;
+    while level > 1 {
+        level = level.div_ceil(POINTERS);
+        indirects += level;
+    }
+    size.saturating_add(2 * indirects * INDIRECT)
+}
 
 /// Settings from words `property=value`, each property once.
 pub fn settings<'a>(words: impl Iterator<Item = &'a str>) -> Outcome<Vec<Setting>> {
@@ -71,8 +87,8 @@ fn check_native(native: Native, property: &str, value: &str, kind: Kind, is_new:
     }
     let text = value::checked(native, value)?;
     match native {
-        Native::Encryption if text != "off" => Err(Reason::Text("encryption is not supported here".into())),
-        Native::KeyFormat | Native::Pbkdf2Iters if is_new => Err(Reason::Text("encryption is not supported here".into())),
+        Native::Encryption if text != "off" => Err(Reason::NoEncryption),
+        Native::KeyFormat | Native::Pbkdf2Iters if is_new => Err(Reason::NoEncryption),
         _ => Ok(Checked::Native(native, text)),
     }
 }
@@ -159,8 +175,10 @@ impl Host {
     /// Sets a limit of the layer, rounded up to blocks. The number itself is told back.
     pub fn set_limit(&mut self, name: &str, native: Native, value: &str) -> Result<(), Reason> {
         let whole = self.tree.whole(name).ok_or(Reason::NoDataset)?;
-        let value = if value == "auto" { whole.base.local.get("volsize").cloned().unwrap_or_default() } else { value.to_owned() };
-        let number: u64 = value.parse().map_err(|_| Reason::Text(format!("bad numeric value '{value}'")))?;
+        let number = match value {
+            "auto" => reservation_of(&whole.base, whole.base.number("volsize").unwrap_or(0)),
+            _ => value.parse().map_err(|_| Reason::Text(format!("bad numeric value '{value}'")))?,
+        };
         self.check_limit(&whole, native, number)?;
         let blocks = number.min(LIMIT_MOST).div_ceil(BLOCK) * BLOCK;
         self.layer.order(&format!("set {native}={blocks} {}", whole.path)).map_err(|refusal| match (native, refusal) {
@@ -189,20 +207,21 @@ impl Host {
         }
     }
 
-    /// A volume's size is a multiple of its blocks. A refreservation that was the size stays so.
+    /// A volume's size is a multiple of its blocks. A refreservation that is what libzfs reserves for it stays so.
     fn set_volume_size(&mut self, name: &str, value: &str) -> Result<(), Reason> {
         let base = self.tree.get(name).ok_or(Reason::NoDataset)?.clone();
         let number: u64 = value.parse().unwrap_or(0);
-        let block: u64 = base.local.get("volblocksize").and_then(|text| text.parse().ok()).unwrap_or(8192);
+        let block = base.number("volblocksize").unwrap_or(VOLUME_BLOCK);
         if !number.is_multiple_of(block) {
             return Err(Reason::Text(format!("'volsize' must be a multiple of volume block size ({})", size::bytes(block))));
         }
         if number == 0 {
             return Err(Reason::Text("'volsize' cannot be zero".into()));
         }
-        let (old, reserved) = (base.local.get("volsize"), base.local.get("refreservation"));
-        if old.is_some() && old == reserved {
-            self.set_limit(name, Native::RefReservation, value)?;
+        let usual = base.number("volsize").map(|old| reservation_of(&base, old));
+        if usual.is_some() && usual == base.number("refreservation") {
+            let reserved = self.set_limit(name, Native::RefReservation, &reservation_of(&base, number).to_string());
+            reserved.map_err(|reason| if reason == Reason::TooBigLimit { Reason::NoSpace } else { reason })?;
         }
         self.keep(name, "volsize", value)
     }
@@ -258,6 +277,11 @@ impl Host {
         }
         Ok(())
     }
+}
+
+/// What is reserved for a volume of this size, with the blocks of one that is there.
+fn reservation_of(base: &FileSystem, size: u64) -> u64 {
+    volume_reservation(size, base.number("volblocksize").unwrap_or(VOLUME_BLOCK))
 }
 
 /// Takes a local value away, and hides what was received or, with `to_received`, shows it again.
@@ -337,5 +361,11 @@ mod tests {
         assert_eq!(read(&["a=b=c"]).unwrap(), [setting("a", "b=c")]);
         assert_eq!(read(&["a"]).unwrap_err(), "missing '=' for property=value argument\n");
         assert_eq!(read(&["a=1", "a=2"]).unwrap_err(), "property 'a' specified multiple times\n");
+    }
+
+    /// What OpenZFS 2.1.11 tells for a volume of this size.
+    #[test]
+    fn a_volume_reserves_its_indirect_blocks_too() {
+        assert_eq!(volume_reservation(10 << 20, VOLUME_BLOCK), 13_107_200);
     }
 }

@@ -8,6 +8,7 @@ use std::io;
 use std::mem::{size_of, zeroed, MaybeUninit};
 use std::os::fd::{AsRawFd, BorrowedFd, FromRawFd, OwnedFd, RawFd};
 use std::os::unix::net::UnixStream;
+use std::time::Duration;
 
 #[repr(C)]
 struct IoVec {
@@ -138,11 +139,12 @@ impl PollEntry {
     }
 }
 
-/// Waits until something is found of one of them.
-pub fn wait(entries: &mut [PollEntry]) -> io::Result<()> {
+/// Waits until something is found of one of them, or so long.
+pub fn wait(entries: &mut [PollEntry], limit: Option<Duration>) -> io::Result<()> {
+    let limit = limit.map_or(-1, |limit| c_int::try_from(limit.as_millis()).unwrap_or(c_int::MAX));
     loop {
         // SAFETY: the count is that of the slice.
-        if unsafe { poll(entries.as_mut_ptr(), entries.len() as c_ulong, -1) } >= 0 {
+        if unsafe { poll(entries.as_mut_ptr(), entries.len() as c_ulong, limit) } >= 0 {
             return Ok(());
         }
         let error = io::Error::last_os_error();
@@ -253,7 +255,7 @@ mod tests {
         let (ours, theirs) = UnixStream::pair().unwrap();
         drop(theirs);
         let mut entries = [PollEntry::readable(ours.as_fd())];
-        wait(&mut entries).unwrap();
+        wait(&mut entries, None).unwrap();
         assert!(entries[0].is_ready());
     }
 }

@@ -144,7 +144,7 @@ mod tests {
     use crate::dataset::Values;
 
     fn new(name: &str) -> NewPool {
-        let facts = PoolFacts { guid: 1, devices: Vec::new(), properties: Values::new() };
+        let facts = PoolFacts { guid: 1, vdevs: Vec::new(), properties: Values::new() };
         NewPool { name: name.into(), blocks: 1000, clock: 0, facts }
     }
 

@@ -235,3 +235,57 @@ fn the_programs_say_what_they_are() {
     assert_eq!(world.line("zfs frobnicate").status, 2);
     assert!(world.line("zfs frobnicate").err.starts_with("unrecognized command 'frobnicate'\nusage: zfs command args ...\n"));
 }
+
+#[test]
+fn lists_may_end_with_a_comma_and_columns_are_as_wide_as_openzfs_s() {
+    let world = World::with_pool();
+    assert_eq!(world.run("zfs list -H -o name, tank"), "tank\n");
+    assert_eq!(world.line("zfs list -t snapshot, tank").err, "no datasets available\n");
+    assert_eq!(world.run("zfs get compression tank"), "NAME  PROPERTY     VALUE           SOURCE\ntank  compression  off             default\n");
+    assert!(world.run("zfs list -o name,used,available,referenced tank").starts_with("NAME   USED  AVAIL     REFER\n"));
+    assert!(world.run("zpool list -o name,size,health,altroot tank").starts_with("NAME   SIZE    HEALTH  ALTROOT\n"));
+}
+
+#[test]
+fn a_volume_reserves_what_libzfs_does() {
+    let world = World::with_pool();
+    assert!(world.run("zfs create -nvP -V 10M tank/v").contains("property\trefreservation\t13107200\n"));
+    world.run("zfs create -V 10M tank/v
+        zfs set volsize=20M tank/v");
+    assert_eq!(value(&world, "refreservation", "tank/v"), "23855104");
+    world.run("zfs set refreservation=none tank/v
+        zfs set refreservation=auto tank/v");
+    assert_eq!(value(&world, "refreservation", "tank/v"), "23855104");
+}
+
+#[test]
+fn a_stream_is_received_as_a_clone_of_what_is_named() {
+    let world = World::with_pool();
+    world.run("zfs create tank/a
+        zfs yuz-write tank/a 0 0 1 61
+        zfs snapshot tank/a@one
+        zfs yuz-write tank/a 0 0 1 62
+        zfs snapshot tank/a@two");
+    let full = world.stream(&["tank/a@two"]);
+    let said = world.receive(&full, &["-v", "-o", "origin=tank/a@one", "tank/b"]);
+    assert_eq!((said.status, said.out.lines().next()), (0, Some("using provided clone origin tank/a@one")), "{said:?}");
+    assert_eq!(value(&world, "origin", "tank/b"), "tank/a@one");
+    assert!(world.run("zfs yuz-read tank/b@two 0 0").starts_with("6200"));
+}
+
+#[test]
+fn a_send_tells_its_steps_as_openzfs_does() {
+    let world = World::with_pool();
+    world.run("zfs create tank/a
+        zfs snapshot tank/a@1
+        zfs snapshot tank/a@2
+        zfs bookmark tank/a@1 tank/a#m");
+    let first = |words: &str| world.run(&format!("zfs send {words} tank/a@2")).lines().next().unwrap_or_default().to_owned();
+    assert!(first("-nvP").starts_with("full\ttank/a@2\t"));
+    assert!(first("-nvP -i @1").starts_with("incremental\ttank/a@1\ttank/a@2\t"));
+    assert!(first("-nvP -i #m").starts_with("incremental\ttank/a#m\ttank/a@2\t"));
+    assert!(first("-nvP -I @1").starts_with("incremental\t1\ttank/a@2\t"));
+    assert!(first("-nv -i @1").starts_with("send from tank/a@1 to tank/a@2 estimated size is "));
+    assert!(first("-nv -I @1").starts_with("send from @1 to tank/a@2 estimated size is "));
+    assert!(world.run("zfs send -nvP -i @1 tank/a@2").lines().last().unwrap().starts_with("size\t"));
+}

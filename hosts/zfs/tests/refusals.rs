@@ -30,6 +30,7 @@ const REFUSED: &[(&str, i32, &str)] = &[
     ("zfs create none/y", 1, "cannot create 'none/y': no such pool 'none'"),
     ("zfs create -p -o recordsize=3 tank/x/y", 1, "cannot create 'tank/x/y': 'recordsize' must be power of 2 from 512B to 1M"),
     ("zfs create -p -o quota=1T -o reservation=1T tank/x/y", 1, "cannot create 'tank/x/y': out of space"),
+    ("zfs create -p -V 8M tank/a", 1, "cannot create 'tank/a': dataset already exists"),
     ("zfs create -V 900T tank/big", 1, "cannot create 'tank/big': out of space"),
     ("zfs snapshot tank/a@1", 1, "cannot create snapshot 'tank/a@1': dataset already exists"),
     ("zfs snapshot tank/c@new tank/a@1", 1, "cannot create snapshot 'tank/a@1': dataset already exists"),
@@ -71,7 +72,45 @@ const REFUSED: &[(&str, i32, &str)] = &[
     ("zfs list nowhere", 1, "cannot open 'nowhere': dataset does not exist"),
     ("zfs create", 2, "missing filesystem argument"),
     ("zfs snapshot -q tank/a@x", 2, "invalid option 'q'"),
-    ("zpool create tank /nowhere/disk", 1, ""),
+    ("zfs list -o name,,used tank", 2, "bad property list: empty property name"),
+    ("zfs list -t bookmark tank/a#nope", 1, "cannot open 'tank/a#nope': no such pool or dataset"),
+    ("zfs create -o compression=maybe tank/a", 1, "cannot create 'tank/a': dataset already exists"),
+    ("zfs create -o compression=maybe tank/x/y", 1, "cannot create 'tank/x/y': parent does not exist"),
+    ("zfs send -I tank/c@1 tank/a@2", 2, "incremental source must be in same filesystem"),
+    ("zfs send -I @1/x tank/a@2", 2, "invalid incremental source"),
+    ("zfs send -I @ tank/a@2", 1, "cannot send 'tank/a': zero-length incremental source"),
+    ("zfs receive -x a=b tank/x", 2, "invalid character '=' in property argument"),
+    ("zfs receive -o compression=on -x compression tank/x", 2, "property 'compression' specified multiple times"),
+    ("zfs receive -o used=1 tank/x", 1, "cannot receive: invalid property 'used'"),
+    ("zfs receive -o compression=maybe tank/x", 1, "cannot receive: failed to read from stream"),
+    ("zfs diff tank/a", 1, "Badly formed snapshot name tank/a: missing '@' delimiter in snapshot name"),
+    ("zfs diff tank/a@1 tank/c", 1, "Not an earlier snapshot from the same fs: invalid name"),
+    ("zfs diff tank/a@2 tank/a@1", 1, "Unable to obtain diffs: Not an earlier snapshot from the same fs"),
+    ("zfs unmount /nowhere/at/all", 1, "cannot open '/nowhere/at/all': No such file or directory"),
+    ("zfs unshare tank/c", 1, "cannot unshare 'tank/c': legacy share"),
+    ("zfs upgrade -V 9 tank", 2, "invalid version 9"),
+    ("zfs load-key tank/a", 255, "Key load error: Encryption feature not enabled."),
+    ("zfs create -o encryption=on tank/x", 1, "cannot create 'tank/x': Encryption feature not enabled."),
+    ("zfs wait", 2, "missing 'filesystem' argument"),
+    ("zfs set keylocation=file:x tank/a", 1, "cannot set property for 'tank/a': invalid keylocation"),
+    ("zpool create tank /nowhere/disk", 1, "cannot resolve path '/nowhere/disk'"),
+    ("zpool create other disk", 1, "cannot open 'disk': no such device in /dev"),
+    ("zpool create other mirror /etc/passwd", 1, "invalid vdev specification: mirror requires at least 2 devices"),
+    ("zpool create a/b /etc/passwd", 1, "cannot create 'a/b': invalid character '/' in pool name"),
+    ("zpool create 1x /etc/passwd", 1, "cannot create '1x': name must begin with a letter"),
+    ("zpool create -o nope=1 other /etc/passwd", 1, "property 'nope' is not a valid pool property"),
+    ("zpool create -O nope=1 other /etc/passwd", 1, "property 'nope' is not a valid filesystem property"),
+    ("zpool create -m here other /etc/passwd", 1, "invalid mountpoint 'here': must be an absolute path, 'legacy', or 'none'"),
+    ("zpool create -o ashift=3 other /etc/passwd", 1, "invalid 'ashift=3' property: only values between 9 and 16 are allowed."),
+    ("zpool create other /etc/passwd", 1, "cannot create 'other': one or more devices is less than the minimum size (64M)"),
+    ("zpool destroy tank/a", 1, "cannot open 'tank/a': invalid character '/' in pool name"),
+    ("zpool set readonly=on tank", 1, "cannot set property for 'tank': property 'readonly' can only be set at import time"),
+    ("zpool set bootfs=none/x tank", 1, "cannot set property for 'tank': 'none/x' is an invalid name"),
+    ("zpool scrub -s tank", 1, "cannot cancel scrubbing tank: there is no active scrub"),
+    ("zpool clear tank disk", 1, "cannot clear errors for disk: no such device in pool"),
+    ("zpool wait -t nope tank", 2, "invalid activity 'nope'"),
+    ("zpool attach tank disk", 2, "missing <new_device> specification"),
+    ("zpool import -a tank", 2, "too many arguments"),
     ("zpool destroy nowhere", 1, "cannot open 'nowhere': no such pool"),
     ("zpool import nowhere", 1, "cannot import 'nowhere': no such pool available"),
 ];
@@ -90,6 +129,23 @@ fn a_refused_command_changes_nothing() {
         }
         assert_eq!(world.state(), before, "{line}");
     }
+}
+
+#[test]
+fn each_snapshot_that_stands_in_the_way_is_told() {
+    let world = world();
+    let said = world.line("zfs snapshot tank/c@new tank/a@1 tank/a/b@1");
+    let told = ["tank/a@1", "tank/a/b@1"].map(|name| format!("cannot create snapshot '{name}': dataset already exists\n"));
+    assert_eq!(said.err, format!("{}no snapshots were created\n", told.concat()));
+}
+
+#[test]
+fn a_device_is_of_one_pool() {
+    let world = world();
+    let file = world.folder.join("tank.img").to_str().unwrap().to_owned();
+    let said = world.say("zpool", ["create", "other", &file]);
+    let head = "invalid vdev specification\nuse '-f' to override the following errors:\n";
+    assert_eq!((said.status, said.err), (1, format!("{head}{file} is part of active pool 'tank'\n")));
 }
 
 #[test]

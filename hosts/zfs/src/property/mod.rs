@@ -47,12 +47,30 @@ impl Property {
         }
     }
 
+    /// The fewest letters of a column of it.
+    pub fn least_width(&self) -> usize {
+        match self {
+            Property::Native(native) => native.least_width(),
+            other => other.to_string().len(),
+        }
+    }
+
     pub fn is_right_aligned(&self) -> bool {
         match self {
             Property::Native(native) => native.is_right_aligned(),
             Property::User(_) => false,
             Property::WrittenSince(_) | Property::Account(_) => true,
         }
+    }
+}
+
+/// The words of a list with commas between them. One may stand behind the last.
+pub fn listed(words: &str) -> Result<Vec<&str>, &'static str> {
+    let found: Vec<&str> = words.split_terminator(',').collect();
+    match found {
+        found if found.is_empty() => Err("no properties specified"),
+        found if found.contains(&"") => Err("empty property name"),
+        found => Ok(found),
     }
 }
 

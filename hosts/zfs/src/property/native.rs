@@ -258,6 +258,22 @@ impl Native {
         matches!(self.form(), Form::Size | Form::Number) && self != Native::Creation
     }
 
+    /// The fewest letters of a column of it: those of its header, of a number with a unit, and of the longest word that it takes.
+    pub fn least_width(self) -> usize {
+        let least = match self {
+            Native::Referenced => 8,
+            Native::Compression => "zstd-fast-1000".len(),
+            Native::Dedup => "sha256,verify".len(),
+            Native::Type => "filesystem".len(),
+            _ => match self.form() {
+                Form::Choice => self.values().split(" | ").map(str::len).max().unwrap_or(0),
+                Form::Size | Form::Number => 5,
+                Form::Text => 0,
+            },
+        };
+        least.max(self.header().len())
+    }
+
     /// Whether usage texts and `get all` leave it out.
     pub fn is_hidden(self) -> bool {
         self == Native::Name

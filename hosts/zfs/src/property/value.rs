@@ -28,6 +28,10 @@ fn text(property: Native, value: &str) -> Result<String, Reason> {
     match property {
         Native::MountPoint => check_mount_point(value)?,
         Native::MlsLabel => return Err(Reason::Text("mlslabels are unsupported".into())),
+        Native::KeyLocation if !is_key_location(value) => return Err(Reason::Text("invalid keylocation".into())),
+        Native::Pbkdf2Iters if size::parsed(value).is_ok_and(|number| number < ITERATIONS_LEAST) => {
+            return Err(Reason::Text(format!("minimum pbkdf2 iterations is {ITERATIONS_LEAST}")));
+        }
         Native::KeyLocation if value != "none" => return Err(Reason::Text("keylocation must be 'none' for unencrypted datasets".into())),
         Native::ShareNfs | Native::ShareSmb => check_share(property, value)?,
         _ => {}
@@ -79,6 +83,13 @@ fn number(property: Native, value: &str) -> Result<Option<u64>, Reason> {
         }
         _ => Ok(Some(number)),
     }
+}
+
+/// The fewest iterations of a key's derivation.
+const ITERATIONS_LEAST: u64 = 100_000;
+
+fn is_key_location(value: &str) -> bool {
+    matches!(value, "none" | "prompt") || ["file:///", "https://", "http://"].iter().any(|scheme| value.starts_with(scheme))
 }
 
 fn is_block_size(number: u64) -> bool {

@@ -40,6 +40,8 @@ pub struct PlannedStep {
 #[derive(Clone, Debug)]
 pub struct Plan {
     pub begin: Begin,
+    /// Whether `-R` or `-I` asks for several steps, though there may be one.
+    pub is_package: bool,
     pub steps: Vec<PlannedStep>,
     /// What standard error is told.
     pub warnings: Vec<String>,
@@ -125,7 +127,7 @@ impl Host {
         };
         let step = self.step(wanted, &to, from.as_ref());
         let begin = Begin { to_name: wanted.name.clone(), ..Begin::default() };
-        Ok(Plan { begin, steps: vec![step], warnings: Vec::new() })
+        Ok(Plan { begin, is_package: false, steps: vec![step], warnings: Vec::new() })
     }
 
     /// A source of one step: an older snapshot of the lineage, or a bookmark.
@@ -134,6 +136,7 @@ impl Host {
         let found = match self.tree.find(from) {
             Some(found) => found,
             None if from.contains('#') => return Err(warn(Reason::Text(format!("incremental source ({from}) does not exist")))),
+            None if name::pool(from) != self.name => return Err(warn(Reason::NotAncestor)),
             None => return Err(Failure::no_dataset(from)),
         };
         if matches!(found.part, Part::Whole) {
@@ -183,7 +186,8 @@ impl Host {
             self.open(&format!("{base}@{from}"))?;
         }
         let names = if wanted.is_replication { self.origins_first(base) } else { vec![base.to_owned()] };
-        let mut plan = Plan { begin: self.begin(wanted, &names, from.is_some()), steps: Vec::new(), warnings: Vec::new() };
+        let begin = self.begin(wanted, &names, from.is_some());
+        let mut plan = Plan { begin, is_package: true, steps: Vec::new(), warnings: Vec::new() };
         let set: HashSet<&str> = names.iter().map(String::as_str).collect();
         for name in &names {
             let last = format!("{name}@{component}");
@@ -301,7 +305,7 @@ impl Host {
         let mut step = self.step(&Wanted::default(), &to, from.as_ref());
         step.head.resumes_at = Some(*at);
         let begin = Begin { to_name: to_name.clone(), ..Begin::default() };
-        Ok(Plan { begin, steps: vec![step], warnings: Vec::new() })
+        Ok(Plan { begin, is_package: false, steps: vec![step], warnings: Vec::new() })
     }
 
     /// The snapshot of a guid: of this file system, or else of any.

@@ -10,7 +10,7 @@ use crate::layer::Refusal;
 use crate::name;
 use crate::property::{Kinds, Native, Property};
 use crate::setting::{check, Checked, Setting};
-use std::collections::{HashMap, HashSet};
+use std::collections::HashMap;
 use std::rc::Rc;
 
 /// The objects of a file system of the layer.
@@ -42,6 +42,8 @@ pub struct Manner {
     pub skips_holds: bool,
     pub settings: Vec<Setting>,
     pub excluded: Vec<String>,
+    /// The snapshot that was named as the origin, whatever the stream says.
+    pub origin: Option<String>,
     pub clock: i64,
     /// Where the client stands: a mountpoint with a client in it is busy.
     pub folder: String,
@@ -79,6 +81,12 @@ pub fn destination(manner: &Manner, begin: &Begin, sent: &str) -> Outcome<String
 }
 
 impl Step {
+    /// As it is received with an origin named: as a new file system, unless it is the rest of a cut step.
+    pub fn onto(self, origin: Option<&str>) -> Step {
+        let is_clone = self.is_clone || origin.is_some() && self.resumes_at.is_none();
+        Step { is_clone, ..self }
+    }
+
     fn wants_new(&self) -> bool {
         (self.from_guid == 0 || self.is_clone) && self.resumes_at.is_none()
     }
@@ -222,11 +230,13 @@ impl Host {
         for bookmark in self.tree.bookmarks(base) {
             self.remove_bookmark(&bookmark).trying(action)?;
         }
-        let path = self.tree.get(base).map(|it| it.path.clone()).unwrap_or_default();
-        for object in 0..OBJECTS {
-            self.layer.order(&format!("rmobj {path} {object}")).trying(action)?;
-        }
+        self.empty(base).trying(action)?;
         self.receive_onto_now(arrived, base, component, bytes)
+    }
+
+    fn empty(&mut self, base: &str) -> Result<(), Refusal> {
+        let path = self.tree.get(base).map(|it| it.path.clone()).unwrap_or_default();
+        (0..OBJECTS).try_for_each(|object| self.layer.order(&format!("rmobj {path} {object}")))
     }
 
     /// Receives a stream whose source has the contents that the file system has now.
@@ -241,16 +251,25 @@ impl Host {
         self.layer.order(&format!("destroy {now}")).trying(action)
     }
 
-    /// Receives onto a clone of the origin, which is here by its guid.
+    /// Receives onto a clone of the origin, which is here by its guid or was named. A stream in full starts from an emptied clone.
     fn receive_clone(&mut self, manner: &Manner, arrived: &Arrived, base: &str, component: &str, bytes: &[u8]) -> Outcome {
         let step = &arrived.step;
         let missing = || Failure::Cannot(Action::Receive, Reason::Text(format!("local origin for clone {} does not exist", arrived.destination)));
-        let origin = self.by_guid(base, step.from_guid).ok_or_else(missing)?;
+        let origin = match &manner.origin {
+            Some(named) => self.tree.find(named).filter(|it| it.snapshot().is_some()).ok_or(Reason::NoDataset).trying(|| step.action())?,
+            None => self.by_guid(base, step.from_guid).ok_or_else(missing)?,
+        };
+        if step.from_guid != 0 && step.from_guid != origin.guid() {
+            return Err(not_received(arrived, base, Refusal::WrongSource));
+        }
         if let Some(old) = self.tree.get(base).map(|it| it.path.clone()) {
             self.layer.order(&format!("destroy {old}")).trying(|| step.action())?;
             self.tree.remove(base);
         }
         self.make_clone(&origin.name, base, manner.clock).trying(|| step.action())?;
+        if step.from_guid == 0 {
+            self.empty(base).trying(|| step.action())?;
+        }
         self.receive_onto_now(arrived, base, component, bytes)
     }
 
@@ -491,22 +510,21 @@ fn not_received(arrived: &Arrived, base: &str, refusal: Refusal) -> Failure {
     Failure::Cannot(arrived.step.action(), reason)
 }
 
-/// The properties of `-o` and `-x` are known, and each is named once.
+/// The properties of `-o` and `-x` are known, and such that a receive may set. An origin is no property here.
 pub fn check_overrides(settings: &[Setting], excluded: &[String]) -> Result<(), Reason> {
-    let mut seen = HashSet::new();
-    for name in settings.iter().map(|setting| &setting.property).chain(excluded) {
-        if Property::named(name).is_none() {
+    for name in settings.iter().map(|setting| &setting.property).chain(excluded).filter(|name| *name != Native::Origin.name()) {
+        let property = Property::named(name).ok_or_else(|| Reason::NoProperty(name.clone()))?;
+        let is_fixed = |native: Native| native.is_read_only() || matches!(native, Native::VolSize | Native::Version);
+        if matches!(property, Property::Native(native) if is_fixed(native)) {
             return Err(Reason::NoProperty(name.clone()));
         }
-        if !seen.insert(name) {
-            return Err(Reason::Text(format!("property '{name}' specified multiple times")));
-        }
     }
-    let is_limit_of_stream = |setting: &&Setting| matches!(Native::named(&setting.property), Some(Native::VolSize | Native::VolBlockSize));
-    match settings.iter().find(is_limit_of_stream) {
-        Some(setting) => Err(Reason::Text(format!("invalid property '{}'", setting.property))),
-        None => settings.iter().try_for_each(|setting| check_value(setting).map(drop)),
-    }
+    Ok(())
+}
+
+/// The values of `-o` are such that the properties take.
+pub fn check_values(settings: &[Setting]) -> Result<(), Reason> {
+    settings.iter().try_for_each(|setting| check_value(setting).map(drop))
 }
 
 /// A value has to fit where it fits any kind.
@@ -652,6 +670,26 @@ mod tests {
         assert!(host.origin(&copy).is_some_and(|origin| origin.ends_with("@1")));
         assert_eq!(host.tree.snapshots("tank/d").len(), 1);
         assert_eq!(host.layer.ask("list").unwrap().matches(&format!("{copy}@")).count(), 1);
+    }
+
+    #[test]
+    fn a_full_stream_is_received_as_a_clone_of_what_is_named() {
+        let mut host = prepared();
+        let mut full = arrived(&mut host, "tank/a@2", None, "tank/d@2");
+        let manner = Manner { target: "tank/d".into(), origin: Some("tank/a@1".into()), ..Manner::default() };
+        full.step = full.step.onto(manner.origin.as_deref());
+        let none = Manner { origin: Some("tank/a@none".into()), ..manner.clone() };
+        assert_eq!(receive(&mut host, &none, &full).unwrap_err(), "cannot receive new filesystem stream: dataset does not exist\n");
+        receive(&mut host, &manner, &full).unwrap();
+        let copy = host.open("tank/d").unwrap().path;
+        assert_eq!(host.origin(&copy).as_deref(), Some("tank/a@1"));
+        assert_eq!(host.layer.read(&copy, 0, 0).unwrap().unwrap()[0], 2);
+        assert_eq!(host.open("tank/d@2").unwrap().guid(), host.open("tank/a@2").unwrap().guid());
+        let mut step = arrived(&mut host, "tank/a@2", Some("tank/a@1"), "tank/e@2");
+        step.step = step.step.onto(Some("tank/d@2"));
+        let wrong = Manner { target: "tank/e".into(), origin: Some("tank/d@2".into()), ..Manner::default() };
+        assert!(receive(&mut host, &wrong, &step).unwrap_err().contains("does not\nmatch incremental source"));
+        assert!(!host.tree.has("tank/e"));
     }
 
     #[test]

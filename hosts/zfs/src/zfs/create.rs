@@ -7,14 +7,11 @@ use crate::host::Host;
 use crate::name;
 use crate::options::{Mistake, Options};
 use crate::property::{Kinds, Native};
-use crate::setting::{check_new, settings, Checked, Setting};
+use crate::setting::{check_new, settings, volume_reservation, Checked, Setting, VOLUME_BLOCK};
 use crate::size;
 use crate::usage::{Usage, ZfsCommand};
 
 const USAGE: Usage = Usage::Zfs(ZfsCommand::Create);
-
-/// The bytes of a volume's block where nothing is said.
-const VOLUME_BLOCK: u64 = 8192;
 
 #[derive(Clone)]
 struct Create {
@@ -133,16 +130,22 @@ impl Create {
     fn make(&self, host: &mut Host, clock: i64) -> Outcome<bool> {
         let action = || if self.is_dry { Action::Verify(self.name.clone()) } else { Action::Create(self.name.clone()) };
         let create = || Action::Create(self.name.clone());
-        if self.has_parents && self.check_name().is_ok() && host.tree.has(&self.name) {
+        if self.has_parents && host.tree.get(&self.name).is_some_and(|it| it.kind == self.kind) {
             return Ok(true);
+        }
+        if self.kind == Kind::Volume {
+            check_new(&self.settings, self.kind).trying(action)?;
+        }
+        if !self.is_dry {
+            self.check_name().trying(create)?;
+            if self.has_parents {
+                host.make_parents(&self.name, clock).trying(create)?;
+            }
+            host.check_place(&self.name, name::parent(&self.name).unwrap_or_default()).trying(create)?;
         }
         let checked = check_new(&self.settings, self.kind).trying(action)?;
         if self.is_dry {
             return Ok(false);
-        }
-        self.check_name().trying(create)?;
-        if self.has_parents {
-            host.make_parents(&self.name, clock).trying(create)?;
         }
         self.check_volume(&checked).trying(create)?;
         host.make_file_system(&self.name, self.kind, clock).trying(create)?;
@@ -202,12 +205,12 @@ fn volume_settings(options: &Options, size: &str, settings: &mut Vec<Setting>) -
         let block = parsed("block size", block)?;
         put(settings, "volblocksize", block);
     }
-    let own = settings.iter().find(|setting| setting.property == "volblocksize").and_then(|setting| size::parsed(&setting.value).ok());
-    let block = own.unwrap_or(VOLUME_BLOCK).max(1);
+    let given = |settings: &[Setting], property: &str| settings.iter().find(|it| it.property == property).and_then(|it| size::parsed(&it.value).ok());
+    let block = given(settings, "volblocksize").unwrap_or(VOLUME_BLOCK).max(1);
     let whole = bytes.checked_next_multiple_of(block).unwrap_or(bytes);
     put(settings, "volsize", whole);
     if !options.has('s') && !settings.iter().any(|setting| setting.property == "refreservation") {
-        put(settings, "refreservation", whole);
+        put(settings, "refreservation", volume_reservation(whole, block));
     }
     Ok(())
 }

@@ -2,12 +2,14 @@
 
 use super::walk;
 use crate::call::Call;
+use crate::dataset::Dataset;
 use crate::failure::{Failure, Outcome};
 use crate::host::Host;
 use crate::layer::Refusal;
 use crate::name;
 use crate::property::Kinds;
 use crate::usage::{Usage, ZfsCommand};
+use crate::world::PoolThread;
 
 const USAGE: Usage = Usage::Zfs(ZfsCommand::Diff);
 
@@ -23,27 +25,90 @@ struct Form {
     clock: i64,
 }
 
+/// The two datasets that are compared.
+struct Pair {
+    from: String,
+    to: String,
+}
+
+impl Pair {
+    /// Puts whole names together. With one name the second is the file system's own.
+    fn read(call: &Call, from: &str, to: Option<&str>) -> Outcome<Pair> {
+        let whole = [Some(from), to].into_iter().flatten().find(|word| !word.starts_with('@'));
+        let base = name::base(whole.ok_or_else(|| Failure::Usage(USAGE, String::new()))?).to_owned();
+        let pool = walk::open(call, &base, Kinds::FILE_SYSTEM)?;
+        let Some(to) = to else {
+            let bad = |reason| Failure::Told(format!("Badly formed snapshot name {from}: {reason}"));
+            name::check(from, Kinds::SNAPSHOT, false).map_err(bad)?;
+            return Ok(Pair { from: from.to_owned(), to: base });
+        };
+        if !from.contains('@') || from.ends_with('@') || to.ends_with('@') {
+            return Err(Failure::Told("Unable to determine which snapshots to compare: invalid name".into()));
+        }
+        let whole = |word: &str| if word.starts_with('@') { format!("{base}{word}") } else { word.to_owned() };
+        let pair = Pair { from: whole(from), to: whole(to) };
+        pair.check(call, &pool)?;
+        Ok(pair)
+    }
+
+    /// The first has to stand before the second, in its lineage.
+    fn check(&self, call: &Call, pool: &PoolThread) -> Outcome {
+        let alien = || Failure::Told("Not an earlier snapshot from the same fs: invalid name".into());
+        if name::pool(&self.from) != name::pool(&self.to) {
+            return Err(alien());
+        }
+        walk::open(call, name::base(&self.to), Kinds::FILE_SYSTEM).map_err(|failure| Failure::Several(vec![failure, alien()]))?;
+        [&self.from, &self.to].into_iter().try_for_each(|name| walk::open(call, name, Kinds::FVS).map(drop))?;
+        let (from, to) = (self.from.clone(), self.to.clone());
+        let (is_of_lineage, is_before) = pool.run(move |host| {
+            let (from, to) = (host.open(&from)?, host.open(&to)?);
+            Ok((host.lineage(&to).contains(&name::base(&from.name).to_owned()), host.is_before(&from, &to)))
+        })??;
+        match (is_of_lineage, is_before) {
+            (false, _) => Err(alien()),
+            (true, false) => Err(Failure::Told("Unable to obtain diffs: Not an earlier snapshot from the same fs".into())),
+            (true, true) => Ok(()),
+        }
+    }
+}
+
+impl Host {
+    /// The file systems that a dataset comes from: its own, that of its origin, and so on.
+    fn lineage(&mut self, dataset: &Dataset) -> Vec<String> {
+        let mut names = vec![name::base(&dataset.name).to_owned()];
+        let mut path = dataset.base.path.clone();
+        while let Some(origin) = self.origin(&path).and_then(|origin| self.tree.find(&origin)) {
+            names.push(name::base(&origin.name).to_owned());
+            path = origin.base.path.clone();
+        }
+        names
+    }
+
+    /// Whether a snapshot stands before a dataset in its lineage.
+    fn is_before(&mut self, from: &Dataset, to: &Dataset) -> bool {
+        let mut last = to.snapshot().map(|_| to.create_txg());
+        let mut base = to.clone();
+        while name::base(&base.name) != name::base(&from.name) {
+            match self.origin(&base.base.path).and_then(|origin| self.tree.find(&origin)) {
+                // The origin itself stands before its clones.
+                Some(origin) => (last, base) = (Some(origin.create_txg() + 1), origin),
+                None => return false,
+            }
+        }
+        last.is_none_or(|last| from.create_txg() < last)
+    }
+}
+
 pub fn run(call: &mut Call, words: &[String]) -> Outcome {
     let options = call.options(words, "FHth", USAGE)?;
     let usage = |reason: &str| Err(Failure::Usage(USAGE, reason.to_owned()));
-    let (from, to) = match &options.operands[..] {
+    let Pair { from, to } = match &options.operands[..] {
         [] => return usage("must provide at least one snapshot name"),
-        [from] => (from.clone(), None),
-        [from, to] => (from.clone(), Some(to.clone())),
+        [from] => Pair::read(call, from, None)?,
+        [from, to] => Pair::read(call, from, Some(to))?,
         _ => return usage("too many arguments"),
     };
-    let base = match (&from, &to) {
-        (from, _) if !from.starts_with('@') => name::base(from).to_owned(),
-        (_, Some(to)) => name::base(to).to_owned(),
-        _ => return usage(""),
-    };
-    let whole = |word: String| if word.starts_with('@') { format!("{base}{word}") } else { word };
-    let (from, to) = (whole(from), to.map_or_else(|| base.clone(), whole));
-    if !from.contains('@') {
-        return Err(Failure::Told(format!("Badly formed snapshot name {from}: unable to generate diffs")));
-    }
-    let pool = walk::open(call, &base, Kinds::FILE_SYSTEM)?;
-    [&from, &to].into_iter().try_for_each(|name| walk::open(call, name, Kinds::FVS).map(drop))?;
+    let pool = walk::open(call, &from, Kinds::SNAPSHOT)?;
     let form = Form { has_type: options.has('F'), has_time: options.has('t'), clock: call.clock() };
     for object in 0..OBJECTS {
         let (from, to) = (from.clone(), to.clone());
@@ -95,5 +160,19 @@ mod tests {
         let form = Form { has_type: false, has_time: false, clock: 0 };
         assert_eq!(object_lines(&mut host, "tank/a@s", "tank/a", 3, form).unwrap(), "-\t/tank/a/3/0\nM\t/tank/a/3/1\n+\t/tank/a/3/2\n");
         assert_eq!(object_lines(&mut host, "tank/a@s", "tank/a", 4, form).unwrap(), "");
+    }
+
+    #[test]
+    fn a_snapshot_stands_before_what_came_of_it() {
+        let mut host = host();
+        make(&mut host, "tank/a");
+        ["tank/a@1", "tank/a@2"].iter().for_each(|name| snapshot(&mut host, name));
+        host.change(|host| host.make_clone("tank/a@1", "tank/c", 1).map_err(|_| Failure::Silent)).unwrap();
+        let mut is_before = |from: &str, to: &str| {
+            let (from, to) = (host.open(from).unwrap(), host.open(to).unwrap());
+            host.is_before(&from, &to)
+        };
+        assert!(is_before("tank/a@1", "tank/a@2") && is_before("tank/a@2", "tank/a") && is_before("tank/a@1", "tank/c"));
+        assert!(!is_before("tank/a@2", "tank/a@1") && !is_before("tank/a@1", "tank/a@1") && !is_before("tank/a@2", "tank/c"));
     }
 }

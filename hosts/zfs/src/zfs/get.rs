@@ -77,9 +77,18 @@ pub fn run(call: &mut Call, words: &[String]) -> Outcome {
     if rows.is_empty() {
         return Ok(());
     }
-    let columns = query.fields.iter().map(|field| Column { header: field.header().into(), is_right_aligned: false }).collect();
+    let columns = query.fields.iter().map(|field| Column { least: query.least_width(*field), ..Column::of_words(field.header()) }).collect();
     call.output.text(&Table { columns, rows }.text(options.has('H')));
     Ok(())
+}
+
+/// The columns of `-o`.
+fn fields(words: &str) -> Outcome<Vec<Field>> {
+    let fields = words.split(',').map(Field::named).collect::<Outcome<Vec<Field>>>()?;
+    if fields.len() > Field::ALL.len() {
+        return Err(Failure::Usage(USAGE, "too many fields given to -o option".into()));
+    }
+    Ok(fields)
 }
 
 impl Query {
@@ -101,13 +110,28 @@ impl Query {
         Ok(query)
     }
 
+    /// The fewest letters of a column: of the names and of the values of what is asked for.
+    fn least_width(&self, field: Field) -> usize {
+        let natives: Vec<Property> = Native::ALL.iter().filter(|it| !it.is_hidden()).map(|it| Property::Native(*it)).collect();
+        let wanted = match &self.wanted {
+            Wanted::All => &natives,
+            Wanted::Properties(properties) => properties,
+        };
+        let widest = |width: fn(&Property) -> usize| wanted.iter().map(width).max().unwrap_or(0);
+        match field {
+            Field::Property => widest(|property| property.to_string().len()),
+            Field::Value => widest(Property::least_width),
+            _ => 0,
+        }
+    }
+
     fn take(&mut self, found: &Found) -> Outcome {
         let words = found.argument.as_str();
         match found.letter {
             'd' => (self.walk.is_recursive, self.walk.depth) = (true, Some(Walk::depth_of(words, USAGE)?)),
             't' => self.walk.kinds = Walk::kinds_of(words, USAGE)?,
             'o' if words == "all" => self.fields = Field::ALL.to_vec(),
-            'o' => self.fields = words.split(',').map(Field::named).collect::<Outcome<_>>()?,
+            'o' => self.fields = fields(words)?,
             's' => {
                 if let Some(word) = words.split(',').find(|word| !SOURCES.contains(word)) {
                     return Err(Failure::Usage(USAGE, format!("invalid source '{word}'")));
@@ -160,6 +184,7 @@ fn is_left_out(property: &Property) -> bool {
         Property::Native(native) => {
             matches!(native, Native::ReceiveResumeToken | Native::VolSize | Native::VolBlockSize | Native::Origin | Native::EncryptionRoot)
                 || matches!(native, Native::RedactSnaps | Native::KeyStatus | Native::Pbkdf2Iters | Native::Clones)
+                || matches!(native, Native::Referenced | Native::LogicalReferenced | Native::CompressRatio)
         }
         _ => true,
     }

@@ -135,7 +135,7 @@ pub fn holds(call: &mut Call, words: &[String]) -> Outcome {
             Err(failure) => call.note(&failure),
         }
     }
-    let columns = ["NAME", "TAG", "TIMESTAMP"].map(|header| Column { header: header.into(), is_right_aligned: false }).to_vec();
+    let columns = ["NAME", "TAG", "TIMESTAMP"].map(Column::of_words).to_vec();
     call.output.text(&Table { columns, rows }.text(options.has('H')));
     if found == 0 {
         call.output.error("no datasets available");

@@ -7,7 +7,7 @@ use crate::failure::{Failure, Outcome};
 use crate::host::Host;
 use crate::options::Options;
 use crate::output::{Column, Table};
-use crate::property::{Form, Kinds, Native, Property};
+use crate::property::{listed, Form, Kinds, Native, Property};
 use crate::reading::shown;
 use crate::usage::{Usage, ZfsCommand};
 use std::cmp::Ordering;
@@ -71,12 +71,13 @@ pub fn run(call: &mut Call, words: &[String]) -> Outcome {
 }
 
 fn column(property: &Property) -> Column {
-    Column { header: property.header(), is_right_aligned: property.is_right_aligned() }
+    Column { header: property.header(), is_right_aligned: property.is_right_aligned(), least: property.least_width() }
 }
 
 /// Properties by their names with commas between them.
 pub fn properties(words: &str, usage: Usage) -> Outcome<Vec<Property>> {
-    words.split(',').map(|word| property(word, usage)).collect()
+    let bad = |reason| Failure::Usage(usage, format!("bad property list: {reason}"));
+    listed(words).map_err(bad)?.into_iter().map(|word| property(word, usage)).collect()
 }
 
 pub fn property(word: &str, usage: Usage) -> Outcome<Property> {

@@ -7,6 +7,7 @@ mod destroy;
 mod diff;
 mod get;
 mod hold;
+mod key;
 mod list;
 mod mount;
 mod receive;
@@ -21,6 +22,7 @@ mod walk;
 use crate::call::Call;
 use crate::daemon::NOTE;
 use crate::failure::{Failure, Outcome};
+use crate::property::Kinds;
 use crate::usage::{Usage, ZfsCommand};
 
 /// The version of OpenZFS whose texts and options these are.
@@ -88,10 +90,25 @@ fn run_command(call: &mut Call, command: ZfsCommand, words: &[String]) -> Outcom
         ZfsCommand::Unshare => mount::unshare(call, words),
         ZfsCommand::Upgrade => upgrade::run(call, words),
         ZfsCommand::Diff => diff::run(call, words),
-        // Nothing here goes on in the background.
-        ZfsCommand::Wait => Ok(()),
+        ZfsCommand::LoadKey | ZfsCommand::UnloadKey | ZfsCommand::ChangeKey => key::run(call, command, words),
+        ZfsCommand::Wait => wait(call, words),
         ZfsCommand::Send => send::run(call, words),
         ZfsCommand::Receive => receive::run(call, words),
         other => Err(Failure::Told(format!("zfs {}: not supported here: Yuzgont's layer has nothing for it", other.name()))),
+    }
+}
+
+/// Nothing here goes on in the background, so what there is to wait for is over.
+fn wait(call: &mut Call, words: &[String]) -> Outcome {
+    let usage = Usage::Zfs(ZfsCommand::Wait);
+    let options = call.options(words, "t:", usage)?;
+    let reason = |reason: String| Err(Failure::Usage(usage, reason));
+    if let Some(word) = options.argument('t').unwrap_or_default().split_terminator(',').find(|word| *word != "deleteq") {
+        return reason(format!("invalid activity '{word}'"));
+    }
+    match &options.operands[..] {
+        [] => reason("missing 'filesystem' argument".into()),
+        [name] => walk::open(call, name, Kinds::FILE_SYSTEM).map(drop),
+        _ => reason("too many arguments".into()),
     }
 }

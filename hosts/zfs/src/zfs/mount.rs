@@ -2,11 +2,14 @@
 
 use super::walk;
 use crate::call::Call;
+use crate::dataset::Dataset;
 use crate::failure::{Action, Failure, Outcome, Reason};
 use crate::host::Host;
+use crate::options::Options;
 use crate::property::{Kinds, Native, Property};
 use crate::usage::{Usage, ZfsCommand};
 use crate::world::PoolThread;
+use std::path::Path;
 use std::sync::Arc;
 
 const MOUNT: Usage = Usage::Zfs(ZfsCommand::Mount);
@@ -125,14 +128,19 @@ fn unmount_path(call: &mut Call, path: &str) -> Outcome {
             return Ok(());
         }
     }
-    Err(Failure::Told(format!("cannot unmount '{path}': not a ZFS filesystem")))
+    if Path::new(path).exists() {
+        return Err(Failure::Told(format!("cannot unmount '{path}': not a ZFS filesystem")));
+    }
+    // OpenZFS lacks the blank too.
+    let missing = "No such file or directory";
+    Err(Failure::Told(format!("cannot open '{path}': {missing}\nwarning: {path} not in/proc/self/mounts\n{path}: {missing}")))
 }
 
 pub fn share(call: &mut Call, words: &[String]) -> Outcome {
     let usage = Usage::Zfs(ZfsCommand::Share);
     let options = call.options(words, "al", usage)?;
     if options.has('a') {
-        return Ok(());
+        return check_protocol(&options, usage);
     }
     let name = match &options.operands[..] {
         [] => return Err(Failure::Usage(usage, "missing filesystem argument (specify -a for all)".into())),
@@ -143,16 +151,25 @@ pub fn share(call: &mut Call, words: &[String]) -> Outcome {
     pool.run(move |host| share_one(host, &name))?
 }
 
+/// What stands behind `-a`.
+fn check_protocol(options: &Options, usage: Usage) -> Outcome {
+    match &options.operands[..] {
+        [] => Ok(()),
+        [word] if matches!(word.as_str(), "nfs" | "smb") => Ok(()),
+        [_] => Err(Failure::Usage(usage, "share type must be 'nfs' or 'smb'".into())),
+        _ => Err(Failure::Usage(usage, "too many arguments".into())),
+    }
+}
+
 /// Nothing is shared; what can't be says so.
 fn share_one(host: &mut Host, name: &str) -> Outcome {
     let told = |text: String| Err(Failure::Told(text));
     let dataset = host.open(name)?;
-    let mut is_off = |native| host.value(&dataset, &Property::Native(native)).is_none_or(|value| value.text == "off");
-    if is_off(Native::ShareNfs) && is_off(Native::ShareSmb) {
+    if is_unshared(host, &dataset) {
         let way = "use exports(5) or smb.conf(5) to share this filesystem, or set the sharenfs or sharesmb property";
         return told(format!("cannot share '{name}': legacy share\n{way}"));
     }
-    let is_never = is_off(Native::CanMount);
+    let is_never = host.value(&dataset, &Property::Native(Native::CanMount)).is_some_and(|value| value.text == "off");
     match host.mount_point(name).0.as_str() {
         "legacy" => told(format!("cannot share '{name}': legacy mountpoint\nuse share(8) to share this filesystem")),
         "none" => told(format!("cannot share '{name}': no mountpoint set")),
@@ -166,9 +183,31 @@ pub fn unshare(call: &mut Call, words: &[String]) -> Outcome {
     let usage = Usage::Zfs(ZfsCommand::Unshare);
     let options = call.options(words, "afu", usage)?;
     if options.has('a') {
-        return Ok(());
+        return check_protocol(&options, usage);
     }
-    let name = options.operands.first().ok_or_else(|| Failure::Usage(usage, "missing filesystem argument".into()))?;
-    walk::open(call, name, Kinds::FILE_SYSTEM)?;
-    Err(Failure::Told(format!("cannot unshare '{name}': not currently shared")))
+    let name = match &options.operands[..] {
+        [] => return Err(Failure::Usage(usage, "missing filesystem argument".into())),
+        [name] => name.clone(),
+        _ => return Err(Failure::Usage(usage, "too many arguments".into())),
+    };
+    if name.starts_with('/') {
+        let missing = if Path::new(&name).exists() { String::new() } else { format!("cannot open '{name}': No such file or directory\n") };
+        return Err(Failure::Told(format!("{missing}cannot unshare '{name}': not currently mounted")));
+    }
+    let pool = walk::open(call, &name, Kinds::FILE_SYSTEM)?;
+    pool.run(move |host| {
+        let dataset = host.open(&name)?;
+        let text = if is_unshared(host, &dataset) {
+            format!("cannot unshare '{name}': legacy share\nuse exports(5) or smb.conf(5) to unshare this filesystem")
+        } else {
+            format!("cannot unshare '{name}': not currently shared")
+        };
+        Err(Failure::Told(text))
+    })?
+}
+
+/// Whether both ways to share a file system are off.
+fn is_unshared(host: &mut Host, dataset: &Dataset) -> bool {
+    let mut is_off = |native| host.value(dataset, &Property::Native(native)).is_none_or(|value| value.text == "off");
+    is_off(Native::ShareNfs) && is_off(Native::ShareSmb)
 }

@@ -2,16 +2,17 @@
 
 use super::walk;
 use crate::call::Call;
-use crate::failure::{Action, Failure, Outcome, Reason};
+use crate::failure::{Action, Failure, Outcome, Reason, Trying};
 use crate::name;
 use crate::options::Options;
 use crate::property::Kinds;
-use crate::setting::settings;
+use crate::setting::{settings, Setting};
 use crate::size;
 use crate::stream::format::{read_body, read_head, read_magic, Broken, Head, Step};
-use crate::stream::receive::{check_overrides, destination, Arrived, Manner, Naming};
+use crate::stream::receive::{check_overrides, check_values, destination, Arrived, Manner, Naming};
 use crate::usage::{Usage, ZfsCommand};
 use crate::world::PoolThread;
+use std::iter;
 use std::rc::Rc;
 use std::sync::Arc;
 use std::time::Instant;
@@ -24,8 +25,7 @@ pub fn run(call: &mut Call, words: &[String]) -> Outcome {
     if options.has('d') && options.has('e') {
         return usage("invalid option combination: -d and -e are mutually exclusive");
     }
-    let as_usage = |failure: Failure| Failure::Usage(USAGE, failure.to_string().trim_end().to_owned());
-    let given = settings(options.arguments('o')).map_err(as_usage)?;
+    let (given, excluded) = overrides(&options)?;
     let target = match &options.operands[..] {
         [] => return usage("missing snapshot argument"),
         [target] => target.clone(),
@@ -37,10 +37,32 @@ pub fn run(call: &mut Call, words: &[String]) -> Outcome {
     if call.is_input_terminal() {
         return Err(Failure::Told("Error: Backup stream can not be read from a terminal.\nYou must redirect standard input.".into()));
     }
-    let excluded: Vec<String> = options.arguments('x').map(str::to_owned).collect();
-    check_overrides(&given, &excluded).map_err(|reason| Failure::Cannot(Action::Receive, reason))?;
-    let manner = Manner { settings: given, excluded, clock: call.clock(), folder: call.request.folder.clone(), ..manner(&options, target) };
+    check_overrides(&given, &excluded).trying(|| Action::Receive)?;
+    let (origins, given): (Vec<Setting>, Vec<Setting>) = given.into_iter().partition(|setting| setting.property == "origin");
+    let origin = origins.into_iter().next().map(|setting| setting.value);
+    let manner = Manner { origin, settings: given, excluded, clock: call.clock(), folder: call.request.folder.clone(), ..manner(&options, target) };
     receive(call, &manner)
+}
+
+/// What `-o` sets and `-x` leaves out. Each property is named once.
+fn overrides(options: &Options) -> Outcome<(Vec<Setting>, Vec<String>)> {
+    let usage = |reason: String| Failure::Usage(USAGE, reason);
+    let (mut given, mut excluded): (Vec<Setting>, Vec<String>) = (Vec::new(), Vec::new());
+    for found in options.found.iter().filter(|found| matches!(found.letter, 'o' | 'x')) {
+        let word = found.argument.as_str();
+        let set = settings(iter::once(word).filter(|_| found.letter == 'o'));
+        let set = set.map_err(|failure| usage(failure.to_string().trim_end().to_owned()))?;
+        let name = set.first().map_or(word, |setting| setting.property.as_str());
+        if name.contains('=') {
+            return Err(usage("invalid character '=' in property argument".into()));
+        }
+        if given.iter().any(|setting| setting.property == name) || excluded.iter().any(|other| other == name) {
+            return Err(usage(format!("property '{name}' specified multiple times")));
+        }
+        excluded.extend(set.is_empty().then(|| name.to_owned()));
+        given.extend(set);
+    }
+    Ok((given, excluded))
 }
 
 fn manner(options: &Options, target: String) -> Manner {
@@ -79,6 +101,7 @@ fn receive(call: &mut Call, manner: &Manner) -> Outcome {
         (Head::Begin(begin), 0) => begin,
         _ => return Err(unreadable(&Broken::Damaged)),
     };
+    check_values(&manner.settings).trying(|| Action::Receive)?;
     let pool = call.world.pool_of(&manner.target).ok_or_else(|| no_pool(manner))?;
     if begin.is_replication && begin.is_incremental && !manner.is_dry {
         let (manner, begin) = (manner.clone(), begin.clone());
@@ -89,7 +112,7 @@ fn receive(call: &mut Call, manner: &Manner) -> Outcome {
     loop {
         let (step, length) = match next {
             (Head::End, 0) => break,
-            (Head::Step(step), length) => (step, length),
+            (Head::Step(step), length) => (step.onto(manner.origin.as_deref().filter(|_| !begin.is_replication)), length),
             _ => return Err(unreadable(&Broken::Damaged)),
         };
         let goal = destination(manner, &begin, &step.to_name)?;
@@ -143,7 +166,7 @@ fn receive_step(call: &mut Call, pool: &Arc<PoolThread>, manner: &Manner, step: 
 fn announce(call: &mut Call, pool: &Arc<PoolThread>, manner: &Manner, step: &Step, goal: &Goal) -> Outcome<bool> {
     let (asked, sent, name) = (manner.clone(), step.clone(), goal.name.clone());
     let (has_already, origin) = pool.run(move |host| {
-        let origin = host.by_guid(name::base(&name), sent.from_guid).filter(|_| sent.is_clone).map(|it| it.name);
+        let origin = host.by_guid(name::base(&name), sent.from_guid).filter(|_| sent.is_clone && asked.origin.is_none()).map(|it| it.name);
         if host.has_already(&name, &sent) {
             return Ok((true, origin));
         }
@@ -152,6 +175,7 @@ fn announce(call: &mut Call, pool: &Arc<PoolThread>, manner: &Manner, step: &Ste
     if !manner.is_verbose {
         return Ok(has_already);
     }
+    manner.origin.iter().for_each(|origin| call.output.line(&format!("using provided clone origin {origin}")));
     origin.iter().for_each(|origin| call.output.line(&format!("found clone origin {origin}")));
     let deed = if manner.is_dry { "would receive" } else { "receiving" };
     let kind = if step.from_guid == 0 { "full" } else { "incremental" };

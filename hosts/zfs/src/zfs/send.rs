@@ -126,7 +126,7 @@ fn planned(call: &mut Call, options: &Options) -> Outcome<(std::sync::Arc<PoolTh
         return Err(Failure::Told("Error: Unsupported flag with filesystem or bookmark.".into()));
     }
     wanted.from = match source {
-        Some(source) if is_package => Some(package_source(&name, &source)?),
+        Some(source) if is_package => Some(package_source(call, &name, &source)?),
         Some(source) => Some(one_source(call, &name, source)),
         None => None,
     };
@@ -150,14 +150,23 @@ fn one_source(call: &mut Call, name: &str, source: String) -> String {
 }
 
 /// The source of several: a snapshot of the file system, or its origin.
-fn package_source(name: &str, source: &str) -> Outcome<String> {
+fn package_source(call: &Call, name: &str, source: &str) -> Outcome<String> {
+    let usage = |reason: &str| Err(Failure::Usage(USAGE, reason.to_owned()));
     if source.contains('#') {
         return Err(Failure::Told("Error: multiple snapshots cannot be sent from a bookmark.".into()));
     }
-    Ok(match source.split_once('@') {
-        None | Some(("", _)) => format!("{}@{}", name::base(name), source.trim_start_matches('@')),
-        Some(_) => source.to_owned(),
-    })
+    let base = name::base(name);
+    let (of, component) = source.split_once('@').unwrap_or(("", source));
+    if !of.is_empty() && of != base {
+        let (pool, whole) = (walk::open(call, base, Kinds::FV)?, base.to_owned());
+        let origin = pool.run(move |host| host.tree.whole(&whole).and_then(|it| host.origin(&it.path)))?;
+        return if origin.as_deref() == Some(source) { Ok(source.to_owned()) } else { usage("incremental source must be in same filesystem") };
+    }
+    match component {
+        "" => Err(Failure::Told(format!("cannot send '{base}': zero-length incremental source"))),
+        word if word.contains(['@', '/']) => usage("invalid incremental source"),
+        _ => Ok(format!("{base}@{component}")),
+    }
 }
 
 /// Tells each step with its size, and the sum.
@@ -167,10 +176,12 @@ fn tell(call: &mut Call, pool: &PoolThread, plan: &Plan, telling: Telling) -> Ou
         let asked = step.clone();
         let size = pool.run(move |host| asked.size(host))?? + overhead(step);
         total += size;
-        let line = if telling.is_scripted { scripted(step, size) } else { readable(step, size) };
+        let from = if plan.is_package { own_source(step) } else { step.from.as_deref() };
+        let line = if telling.is_scripted { scripted(step, from, size) } else { readable(step, from, size) };
         if telling.is_dry { call.output.line(&line) } else { call.output.error(&line) }
     }
-    let line = if telling.is_scripted { format!("size\t{total}") } else { format!("total estimated size is {}", size::bytes(total)) };
+    let shown = if plan.is_package { size::bytes(total) } else { size::plain(total) };
+    let line = if telling.is_scripted { format!("size\t{total}") } else { format!("total estimated size is {shown}") };
     if telling.is_dry { call.output.line(&line) } else { call.output.error(&line) }
     call.flush();
     Ok(())
@@ -180,24 +191,24 @@ fn overhead(step: &PlannedStep) -> u64 {
     Head::Step(step.head.clone()).bytes(0).len() as u64
 }
 
-/// A source's name as it is told: of the same file system what stands behind it.
-fn source_name(step: &PlannedStep) -> Option<String> {
+/// What stands behind the `@` of a source, as a step of several is told. From an origin it is told as one in full.
+fn own_source(step: &PlannedStep) -> Option<&str> {
     let from = step.from.as_deref()?;
-    let is_same = name::base(from) == name::base(&step.to);
-    Some(if is_same { from[name::base(from).len()..].to_owned() } else { from.to_owned() })
+    name::snapshot(from).filter(|_| name::base(from) == name::base(&step.to))
 }
 
-fn scripted(step: &PlannedStep, size: u64) -> String {
-    match source_name(step) {
-        Some(from) => format!("incremental\t{}\t{}\t{size}", from.trim_start_matches('@'), step.to),
+fn scripted(step: &PlannedStep, from: Option<&str>, size: u64) -> String {
+    match from {
+        Some(from) => format!("incremental\t{from}\t{}\t{size}", step.to),
         None => format!("full\t{}\t{size}", step.to),
     }
 }
 
-fn readable(step: &PlannedStep, size: u64) -> String {
+fn readable(step: &PlannedStep, from: Option<&str>, size: u64) -> String {
     let size = size::bytes(size);
-    match source_name(step) {
-        Some(from) => format!("send from {from} to {} estimated size is {size}", step.to),
+    match from {
+        Some(from) if from.contains(['@', '#']) => format!("send from {from} to {} estimated size is {size}", step.to),
+        Some(from) => format!("send from @{from} to {} estimated size is {size}", step.to),
         None => format!("full send of {} estimated size is {size}", step.to),
     }
 }

@@ -70,12 +70,11 @@ fn make_all(host: &mut Host, names: &[String], is_recursive: bool, clock: i64, l
     }
     let mut seen = HashSet::new();
     all.retain(|name| seen.insert(name.clone()));
-    for name in &all {
-        let action = || Action::CreateSnapshot(name.clone());
-        name::check(name, Kinds::SNAPSHOT, true).trying(action)?;
-        if host.tree.has(name) {
-            return Err(Failure::Cannot(action(), Reason::Exists));
-        }
+    all.iter().try_for_each(|name| name::check(name, Kinds::SNAPSHOT, true).trying(|| Action::CreateSnapshot(name.clone())))?;
+    let taken = all.iter().filter(|name| host.tree.has(name));
+    let taken: Vec<Failure> = taken.map(|name| Failure::Cannot(Action::CreateSnapshot(name.clone()), Reason::Exists)).collect();
+    if !taken.is_empty() {
+        return Err(Failure::Several(taken));
     }
     host.make_snapshots(&all, clock, local).map_err(|refusal| match refusal {
         Refusal::Exists => Failure::Cannot(Action::CreateSnapshots, Reason::Text("multiple snapshots of same fs not allowed".into())),

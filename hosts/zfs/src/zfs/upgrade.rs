@@ -3,6 +3,7 @@
 use super::set::by_pool;
 use crate::call::Call;
 use crate::failure::{Failure, Outcome};
+use crate::host::Host;
 use crate::property::Kinds;
 use crate::usage::{Usage, ZfsCommand};
 
@@ -34,37 +35,50 @@ VER  FILESYSTEM
 
 pub fn run(call: &mut Call, words: &[String]) -> Outcome {
     let options = call.options(words, "rvV:a", USAGE)?;
+    let version = match options.argument('V') {
+        None | Some("current") => NEWEST.to_owned(),
+        Some(word @ ("1" | "2" | "3" | "4" | "5")) => word.to_owned(),
+        Some(word) => return Err(Failure::Usage(USAGE, format!("invalid version {word}"))),
+    };
+    let (is_all, is_of_some) = (options.has('a'), !options.operands.is_empty());
+    let (changes, says_how) = (is_all || is_of_some, options.has('r') || options.has('V'));
+    let is_mixed = is_all && is_of_some || options.has('v') && (changes || says_how) || !changes && says_how;
+    if is_mixed {
+        return Err(Failure::Usage(USAGE, String::new()));
+    }
     if options.has('v') {
         call.output.line(VERSIONS.trim_end_matches('\n'));
         call.output.line("");
         return Ok(());
     }
-    if !options.has('a') && options.operands.is_empty() {
+    if !changes {
         return list(call);
     }
-    let version = options.argument('V').unwrap_or(NEWEST).to_owned();
-    if !matches!(version.as_str(), "1" | "2" | "3" | "4" | "5") {
-        return Err(Failure::Told(format!("cannot upgrade: '{version}' is no version of file systems")));
-    }
     let pools: Vec<String> = call.world.pools().iter().map(|pool| pool.name.clone()).collect();
-    let (names, is_recursive) = if options.has('a') { (pools, true) } else { (options.operands.clone(), options.has('r')) };
+    let (names, is_recursive) = if is_all { (pools, true) } else { (options.operands.clone(), options.has('r')) };
+    let mut upgraded = 0;
     for (pool, names) in by_pool(call, &names, Kinds::FILE_SYSTEM)? {
         let version = version.clone();
-        let count = call.change(&pool, move |host| {
+        upgraded += call.change(&pool, move |host| {
             let all = names.iter().flat_map(|name| if is_recursive { host.tree.with_below(name) } else { vec![name.clone()] });
             let all: Vec<String> = all.collect();
-            let older = all.iter().filter(|name| host.tree.get(name).is_some_and(|it| it.local.get("version").is_some_and(|own| *own < version)));
-            let older: Vec<String> = older.cloned().collect();
-            for name in &older {
-                if let Some(file_system) = host.tree.edit(name) {
-                    file_system.local.insert("version".into(), version.clone());
-                }
-            }
-            Ok(older.len())
+            Ok(all.iter().filter(|name| host.upgrade(name, &version)).count())
         })?;
-        call.output.line(&format!("{count} filesystems upgraded"));
     }
+    call.output.line(&format!("{upgraded} filesystems upgraded"));
     Ok(())
+}
+
+impl Host {
+    /// Gives an older file system a version; whether it was older.
+    fn upgrade(&mut self, name: &str, version: &str) -> bool {
+        let own = self.tree.get(name).and_then(|it| it.local.get("version"));
+        let is_older = own.is_some_and(|own| own.as_str() < version);
+        if let Some(file_system) = self.tree.edit(name).filter(|_| is_older) {
+            file_system.local.insert("version".into(), version.to_owned());
+        }
+        is_older
+    }
 }
 
 fn list(call: &mut Call) -> Outcome {

@@ -28,9 +28,9 @@ pub struct Start {
 }
 
 impl Walk {
-    /// Kinds by their words with commas between them.
+    /// Kinds by their words with commas between them; none of no words.
     pub fn kinds_of(words: &str, usage: Usage) -> Outcome<Kinds> {
-        words.split(',').try_fold(Kinds::NONE, |kinds, word| {
+        words.split_terminator(',').try_fold(Kinds::NONE, |kinds, word| {
             let more = match word {
                 "filesystem" | "fs" => Kinds::FILE_SYSTEM,
                 "volume" | "vol" => Kinds::VOLUME,
@@ -153,8 +153,9 @@ pub fn open(call: &Call, dataset: &str, kinds: Kinds) -> Outcome<Arc<PoolThread>
     name::check(dataset, kinds, false).trying(action)?;
     let pool = call.pool_of(dataset)?;
     let name = dataset.to_owned();
-    let found = pool.run(move |host| host.tree.find(&name).map(|it| it.kind()))?;
+    let (found, has_base) = pool.run(move |host| (host.tree.find(&name).map(|it| it.kind()), host.tree.has(name::base(&name))))?;
     match found {
+        None if has_base && dataset.contains('#') => Err(Failure::Cannot(action(), Reason::Text("no such pool or dataset".into()))),
         None => Err(Failure::no_dataset(dataset)),
         Some(kind) if !kinds.has(kind) => Err(Failure::Cannot(action(), Reason::WrongKind)),
         Some(_) => Ok(pool),

@@ -1,18 +1,21 @@
 //! `zpool create`, `destroy`, `export` and `import`.
 
 use super::property::PoolProperty;
+use super::vdev::{self, Vdev};
 use crate::call::Call;
 use crate::dataset::{Kind, Values};
 use crate::failure::{Action, Failure, Outcome, Reason, Trying};
 use crate::host::{random, PoolFacts};
 use crate::layer::Refusal;
+use crate::name;
 use crate::options::Options;
+use crate::property::Property;
+use crate::protocol::Status;
 use crate::setting::{check_new, settings, Checked, Setting};
+use crate::size;
 use crate::usage::{Usage, ZpoolCommand};
 use crate::world::NewPool;
-use std::fs;
-use std::os::unix::fs::FileTypeExt;
-use std::path::{Path, PathBuf};
+use std::collections::HashSet;
 
 const CREATE: Usage = Usage::Zpool(ZpoolCommand::Create);
 
@@ -23,87 +26,138 @@ const BLOCK: u64 = 512;
 /// The fewest bytes that ZFS makes a pool of.
 const SIZE_LEAST: u64 = 64 << 20;
 
-/// Words between devices that say how they stand together. A pool here has the bytes of all.
-fn is_grouping(word: &str) -> bool {
-    let group = word.split(':').next().unwrap_or(word);
-    matches!(group, "mirror" | "raidz" | "raidz1" | "raidz2" | "raidz3" | "draid" | "draid1" | "draid2" | "draid3")
-        || matches!(group, "log" | "cache" | "spare" | "special" | "dedup")
-}
-
-fn check_pool_name(name: &str) -> Result<(), Reason> {
-    if name.len() >= 256 - 2 - 2 * "$ORIGIN".len() {
-        return Err(Reason::NameTooLong);
-    }
-    if let Some(bad) = name.chars().find(|it| !it.is_ascii_alphanumeric() && !"-_.: ".contains(*it)) {
-        return Err(Reason::Text(format!("invalid character '{bad}' in pool name")));
-    }
-    if !name.starts_with(|first: char| first.is_ascii_alphabetic()) {
-        return Err(Reason::Text("name must begin with a letter".into()));
-    }
+/// Checks the name of a pool that is to be made.
+fn check_new_name(name: &str) -> Result<(), Reason> {
+    name::check_pool(name)?;
     let is_reserved = ["mirror", "raidz", "draid", "spare"].iter().any(|word| name.starts_with(word)) || name == "log";
     if is_reserved { Err(Reason::Text("name is reserved".into())) } else { Ok(()) }
 }
 
-/// The bytes of a device: those of a file, or of a disk's node that a test has put there.
-fn device_size(folder: &str, word: &str) -> Outcome<u64> {
-    // A whole path stays itself where it is joined to a folder.
-    let paths = [Path::new(folder).join(word), PathBuf::from("/dev").join(word)];
-    let found = paths.iter().find_map(|path| fs::metadata(path).ok());
-    match found {
-        Some(facts) if facts.is_file() || facts.file_type().is_block_device() => Ok(facts.len()),
-        Some(_) => Err(Failure::Told(format!("cannot use '{word}': must be a block device or regular file"))),
-        None if word.starts_with('/') => Err(Failure::Told(format!("cannot open '{word}': No such file or directory"))),
-        None => Err(Failure::Told(format!("cannot open '{word}': no such device in /dev\nmust be a full path or shorthand device name"))),
+/// The settings of one option, each once and of a property that is known.
+fn read_settings(options: &Options, letter: char, is_known: fn(&str) -> bool) -> Outcome<Vec<Setting>> {
+    let what = if letter == 'o' { "pool" } else { "filesystem" };
+    for word in options.arguments(letter) {
+        match word.split_once('=') {
+            None => return Err(Failure::Told(format!("missing '=' for -{letter} option"))),
+            Some((name, _)) if !is_known(name) => return Err(Failure::Told(format!("property '{name}' is not a valid {what} property"))),
+            _ => {}
+        }
+    }
+    settings(options.arguments(letter))
+}
+
+/// The settings of a pool that is to be made, and those of its root file system.
+struct NewSettings {
+    pool: Vec<Setting>,
+    root: Vec<Setting>,
+}
+
+impl NewSettings {
+    fn read(options: &Options) -> Outcome<NewSettings> {
+        let mut pool = read_settings(options, 'o', |name| PoolProperty::named(name).is_some())?;
+        if let Some(folder) = options.argument('R') {
+            pool.retain(|setting| setting.property != "altroot");
+            pool.push(Setting { property: "altroot".into(), value: folder.into() });
+        }
+        let mut root = read_settings(options, 'O', |name| Property::named(name).is_some())?;
+        if let Some(point) = options.argument('m') {
+            root.retain(|setting| setting.property != "mountpoint");
+            root.push(Setting { property: "mountpoint".into(), value: point.into() });
+        }
+        Ok(NewSettings { pool, root })
+    }
+
+    /// What OpenZFS looks at before it looks at the pool's name.
+    fn check_early(&self) -> Outcome {
+        let told = |text: String| Err(Failure::Told(text));
+        let find = |settings: &[Setting], name: &str| settings.iter().find(|it| it.property == name).map(|it| it.value.clone());
+        match find(&self.pool, "ashift") {
+            Some(word) if size::parsed(&word).is_err() => return told("ashift must be a number.".into()),
+            Some(word) if PoolProperty::AShift.checked(&word, true).is_err() => {
+                return told(format!("invalid 'ashift={word}' property: only values between 9 and 16 are allowed."));
+            }
+            _ => {}
+        }
+        if let Some(folder) = find(&self.pool, "altroot").filter(|folder| !folder.starts_with('/')) {
+            return told(format!("invalid alternate root '{folder}': must be an absolute path"));
+        }
+        match find(&self.root, "mountpoint") {
+            Some(point) if !point.starts_with('/') && !matches!(point.as_str(), "legacy" | "none") => {
+                told(format!("invalid mountpoint '{point}': must be an absolute path, 'legacy', or 'none'"))
+            }
+            _ => Ok(()),
+        }
+    }
+
+    fn checked(self) -> Result<(Values, Vec<Checked>), Reason> {
+        let mut properties = Values::new();
+        for Setting { property, value } in self.pool {
+            let known = PoolProperty::named(&property).ok_or(Reason::NoProperty(property))?;
+            let value = known.checked(&value, true)?;
+            properties.insert(known.to_string(), value);
+        }
+        Ok((properties, check_new(&self.root, Kind::FileSystem)?))
     }
 }
 
-/// The settings of the pool, and those of its root file system.
-fn read_settings(name: &str, options: &Options) -> Outcome<(Values, Vec<Checked>)> {
-    let action = || Action::Create(name.to_owned());
-    let mut properties = Values::new();
-    for Setting { property, value } in settings(options.arguments('o'))? {
-        let known = PoolProperty::named(&property).ok_or(Reason::NoProperty(property.clone())).trying(action)?;
-        properties.insert(known.to_string(), known.checked(&value).trying(action)?);
+
+/// A device lends its size to one pool.
+fn check_unused(call: &Call, vdevs: &[Vdev], is_forced: bool) -> Outcome {
+    for pool in call.world.pools() {
+        let taken = pool.run(|host| host.facts.vdevs.clone())?;
+        let taken: Vec<&String> = taken.iter().flat_map(|vdev| &vdev.devices).collect();
+        if let Some(device) = vdevs.iter().flat_map(|vdev| &vdev.devices).find(|device| taken.contains(device)) {
+            let way = if is_forced { "the following errors must be manually repaired:" } else { "use '-f' to override the following errors:" };
+            return Err(Failure::Told(format!("invalid vdev specification\n{way}\n{device} is part of active pool '{}'", pool.name)));
+        }
     }
-    let mut root = settings(options.arguments('O'))?;
-    if let Some(point) = options.argument('m') {
-        root.push(Setting { property: "mountpoint".into(), value: point.into() });
-    }
-    if let Some(folder) = options.argument('R') {
-        properties.insert("altroot".into(), folder.into());
-    }
-    let root = check_new(&root, Kind::FileSystem).trying(action)?;
-    Ok((properties, root))
+    Ok(())
+}
+
+/// Whether a device is named twice.
+fn has_twice(vdevs: &[Vdev]) -> bool {
+    let mut seen = HashSet::new();
+    !vdevs.iter().flat_map(|vdev| &vdev.devices).all(|device| seen.insert(device))
 }
 
 pub fn create(call: &mut Call, words: &[String]) -> Outcome {
     let options = call.options(words, ":fndo:O:R:m:t:", CREATE)?;
     let usage = |reason: &str| Err(Failure::Usage(CREATE, reason.to_owned()));
-    let [name, devices @ ..] = &options.operands[..] else { return usage("missing pool name argument") };
-    if devices.is_empty() {
+    let given = NewSettings::read(&options)?;
+    let [name, words @ ..] = &options.operands[..] else { return usage("missing pool name argument") };
+    if words.is_empty() {
         return usage("missing vdev specification");
     }
-    let action = || Action::Create(name.to_owned());
-    let devices: Vec<String> = devices.iter().filter(|word| !is_grouping(word)).cloned().collect();
-    if devices.is_empty() {
-        return Err(Failure::Told("invalid vdev specification: at least one toplevel vdev must be specified".into()));
+    if name.contains('/') {
+        let head = format!("cannot create '{name}': invalid character '/' in pool name");
+        return Err(Failure::Told(format!("{head}\nuse 'zfs create' to create a dataset")));
     }
-    let (properties, root) = read_settings(name, &options)?;
-    let sizes = devices.iter().map(|device| device_size(&call.request.folder, device)).collect::<Outcome<Vec<u64>>>()?;
-    check_pool_name(name).trying(action)?;
-    if call.world.any_pool(name).is_some() {
-        return Err(Failure::Cannot(action(), Reason::Text("pool already exists".into())));
-    }
-    if sizes.iter().any(|&size| size < SIZE_LEAST) {
-        return Err(Failure::Cannot(action(), Reason::Text("one or more devices is less than the minimum size (64M)".into())));
-    }
+    let mut vdevs = vdev::read(words)?;
+    let smallest = vdevs.iter_mut().map(Vdev::measure).collect::<Outcome<Vec<u64>>>()?.into_iter().min();
+    check_unused(call, &vdevs, options.has('f'))?;
+    given.check_early()?;
     if options.has('n') {
-        call.output.line(&format!("would create '{name}' with the following layout:\n\n\t{name}"));
-        devices.iter().for_each(|device| call.output.line(&format!("\t  {device}")));
+        call.output.line(&format!("would create '{name}' with the following layout:\n"));
+        call.output.text(&vdev::layout(name, &vdevs, |line, _, _| format!("\t{line}\n")));
         return Ok(());
     }
-    let blocks = (sizes.iter().sum::<u64>() / BLOCK).min(BLOCKS_MOST) as u32;
-    let facts = PoolFacts { guid: random(), devices, properties };
+    let action = || Action::Create(name.clone());
+    let wrong = |text: &str| Err(Failure::Cannot(action(), Reason::Text(text.into())));
+    if let Err(reason) = check_new_name(name) {
+        return wrong(&format!("{reason}\npool name may have been omitted"));
+    }
+    let (properties, root) = given.checked().trying(action)?;
+    if call.world.any_pool(name).is_some() {
+        return wrong("pool already exists");
+    }
+    if has_twice(&vdevs) {
+        return wrong("one or more vdevs refer to the same device, or one of\nthe devices is part of an active md or lvm device");
+    }
+    if smallest < Some(SIZE_LEAST) {
+        return wrong("one or more devices is less than the minimum size (64M)");
+    }
+    let blocks = (vdevs.iter().map(|vdev| vdev.size).sum::<u64>() / BLOCK).min(BLOCKS_MOST) as u32;
+    let facts = PoolFacts { guid: random(), vdevs, properties };
     make(call, NewPool { name: name.clone(), blocks, clock: call.clock(), facts }, root)
 }
 
@@ -170,8 +224,15 @@ pub fn export(call: &mut Call, words: &[String]) -> Outcome {
 pub fn import(call: &mut Call, words: &[String]) -> Outcome {
     let usage = Usage::Zpool(ZpoolCommand::Import);
     let options = call.long_options(words, ":ac:d:DEfFlmnNo:R:stT:VX", &[("rewind-to-checkpoint", 'E')], usage)?;
+    for word in options.arguments('o').filter_map(|word| word.split_once('=')) {
+        if PoolProperty::named(word.0).is_none() {
+            // OpenZFS ends with 0 there.
+            return Err(Failure::ToldWith(Status::Done, format!("property '{}' is not a valid pool property", word.0)));
+        }
+    }
     let exported = call.world.exported_pools();
     let (names, new) = match &options.operands[..] {
+        [_, ..] if options.has('a') => return Err(Failure::Usage(usage, "too many arguments".into())),
         [] if options.has('a') => (exported.iter().map(|pool| pool.name.clone()).collect::<Vec<_>>(), None),
         [] => return show_importable(call),
         [name] => (vec![name.clone()], None),
@@ -204,7 +265,7 @@ fn take_in(call: &mut Call, name: &str, new: Option<&str>, options: &Options) ->
     let action = || Action::Import(name.to_owned());
     let now = new.unwrap_or(name).to_owned();
     if let Some(new) = new.filter(|new| *new != name) {
-        check_pool_name(new).trying(action)?;
+        check_new_name(new).trying(action)?;
         if !call.world.rename(name, new) {
             return Err(Failure::Cannot(action(), Reason::Text("a pool with that name already exists".into())));
         }
@@ -242,8 +303,8 @@ fn show_importable(call: &mut Call) -> Outcome {
         let name = &pool.name;
         call.output.line(&format!("   pool: {name}\n     id: {}\n  state: ONLINE", facts.guid));
         call.output.line(" action: The pool can be imported using its name or numeric identifier.");
-        call.output.line(&format!(" config:\n\n\t{name}  ONLINE"));
-        facts.devices.iter().for_each(|device| call.output.line(&format!("\t  {device}  ONLINE")));
+        call.output.line(" config:\n");
+        call.output.text(&vdev::layout(name, &facts.vdevs, |line, state, width| format!("\t{line:<width$}  {state}\n")));
     }
     Ok(())
 }
@@ -254,19 +315,10 @@ mod tests {
 
     #[test]
     fn names_of_pools_are_narrower_than_those_of_datasets() {
-        assert_eq!(check_pool_name("tank"), Ok(()));
+        assert_eq!(check_new_name("tank"), Ok(()));
         for bad in ["", "1tank", "mirror1", "log", "a/b", "a@b", "draidx"] {
-            assert!(check_pool_name(bad).is_err(), "{bad}");
+            assert!(check_new_name(bad).is_err(), "{bad}");
         }
-        assert_eq!(check_pool_name("logs"), Ok(()));
-    }
-
-    #[test]
-    fn a_device_is_a_file() {
-        assert!(device_size("/", "/etc/passwd").is_ok());
-        assert!(device_size("/etc", "passwd").is_ok());
-        assert_eq!(device_size("/", "/no/such").unwrap_err().to_string(), "cannot open '/no/such': No such file or directory\n");
-        assert!(device_size("/", "no-such-disk").unwrap_err().to_string().contains("no such device in /dev"));
-        assert!(device_size("/", "/etc").is_err());
+        assert_eq!(check_new_name("logs"), Ok(()));
     }
 }

@@ -1,9 +1,13 @@
 //! The commands of zpool(8), as far as a pool in memory has a meaning for them.
 
+mod iostat;
 mod lifecycle;
 pub mod property;
+mod repeat;
 mod show;
 mod upgrade;
+mod upkeep;
+pub mod vdev;
 
 use crate::call::Call;
 use crate::failure::{Failure, Outcome};
@@ -41,23 +45,11 @@ fn run_command(call: &mut Call, command: ZpoolCommand, words: &[String]) -> Outc
         ZpoolCommand::Get => show::get(call, words),
         ZpoolCommand::Set => show::set(call, words),
         ZpoolCommand::Status => show::status(call, words),
+        ZpoolCommand::Iostat => iostat::run(call, words),
         ZpoolCommand::History => show::history(call, words),
         ZpoolCommand::Upgrade => upgrade::run(call, words),
-        // What they wait for or look for is always so: each command is synced, and memory has no labels and no errors of a disk.
-        ZpoolCommand::Sync | ZpoolCommand::Scrub | ZpoolCommand::Reopen | ZpoolCommand::Clear | ZpoolCommand::Trim => checked(call, command, words),
-        ZpoolCommand::Wait => checked(call, command, words.get(..1).unwrap_or_default()),
-        ZpoolCommand::Labelclear => Ok(()),
-        other => Err(Failure::Told(format!("zpool {}: not supported here: a pool in memory has no devices", other.name()))),
+        other => upkeep::run(call, other, words),
     }
-}
-
-/// A command that changes nothing: its pools have to be there.
-fn checked(call: &mut Call, command: ZpoolCommand, words: &[String]) -> Outcome {
-    let pools: Vec<&String> = words.iter().filter(|word| !word.starts_with('-')).collect();
-    if pools.is_empty() && command != ZpoolCommand::Sync {
-        return Err(Failure::Usage(Usage::Zpool(command), "missing pool name argument".into()));
-    }
-    pools.into_iter().try_for_each(|pool| call.pool(pool).map(drop))
 }
 
 /// The pools of operands, or all where there are none. One that isn't there is told, and left out.

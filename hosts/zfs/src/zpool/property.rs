@@ -80,11 +80,14 @@ pub const FEATURES: [&str; 34] = [
     "livelist", "device_rebuild", "zstd_compress", "draid",
 ];
 
+/// The feature that no pool here has.
+const ENCRYPTION: &str = "encryption";
+
 impl PoolProperty {
     /// By its name, its column's, or a feature's.
     pub fn named(word: &str) -> Option<PoolProperty> {
         if let Some(feature) = word.strip_prefix("feature@") {
-            return FEATURES.contains(&feature).then(|| PoolProperty::Feature(feature.to_owned()));
+            return Some(PoolProperty::Feature(feature.to_owned()));
         }
         let is_it = |it: &&PoolProperty| it.row().0 == word || it.row().1.to_ascii_lowercase() == word;
         PoolProperty::ALL.iter().find(is_it).cloned()
@@ -98,7 +101,19 @@ impl PoolProperty {
 
     pub fn column(&self) -> Column {
         let header = if let PoolProperty::Feature(_) = self { self.to_string().to_uppercase() } else { self.row().1.to_owned() };
-        Column { header, is_right_aligned: !matches!(self, PoolProperty::Name | PoolProperty::Health | PoolProperty::AltRoot) }
+        let is_number = matches!(self, PoolProperty::AShift | PoolProperty::Version) || !self.row().3 && *self != PoolProperty::Name;
+        Column { is_right_aligned: is_number, least: self.least_width(), ..Column::of_words(&header) }
+    }
+
+    /// The fewest letters of a column of it.
+    pub fn least_width(&self) -> usize {
+        match self {
+            PoolProperty::Feature(_) => self.to_string().len(),
+            PoolProperty::Health => 8,
+            PoolProperty::Name => self.row().1.len(),
+            _ if self.row().3 => self.row().1.len(),
+            _ => self.row().1.len().max(5),
+        }
     }
 
     /// The values that it has, as usage texts name them.
@@ -138,20 +153,36 @@ impl PoolProperty {
         text + "\nThe feature@ properties must be appended with a feature name.\nSee zpool-features(7).\n"
     }
 
-    /// What may be set, as it is kept.
-    pub fn checked(&self, value: &str) -> Result<String, Reason> {
+    /// Whether it is a feature that pools here haven't.
+    pub fn is_unknown(&self) -> bool {
+        matches!(self, PoolProperty::Feature(name) if !FEATURES.contains(&name.as_str()))
+    }
+
+    /// What may be set of a pool, or with `is_new` when it is created, as it is kept.
+    pub fn checked(&self, value: &str, is_new: bool) -> Result<String, Reason> {
         let (name, _, form, is_settable, _) = self.row();
+        let wrong = |text: String| Err(Reason::Text(text));
         if !is_settable {
             return Err(Reason::ReadOnly(self.to_string()));
         }
         match (self, form) {
+            (PoolProperty::Feature(feature), _) if self.is_unknown() || feature == ENCRYPTION && value != "disabled" => wrong(format!("feature '{feature}' unsupported by kernel")),
             (PoolProperty::Feature(_), _) if !matches!(value, "enabled" | "disabled") => {
-                Err(Reason::Text(format!("property '{self}' can only be set to 'enabled' or 'disabled'")))
+                wrong(format!("property '{self}' can only be set to 'enabled' or 'disabled'"))
             }
-            (_, Form::Choice(words)) if !words.contains(&value) => Err(Reason::Text(format!("'{name}' must be one of '{}'", words.join(" | ")))),
-            (PoolProperty::AShift, _) if !matches!(value.parse::<u32>(), Ok(0 | 9..=16)) => {
-                Err(Reason::Text(format!("property '{name}' number {value} is invalid, only values between 9 and 16 are allowed.")))
+            (PoolProperty::Feature(_), _) if !is_new && value == "disabled" => {
+                wrong(format!("property '{self}' can only be set to 'disabled' at creation time"))
             }
+            (_, Form::Choice(words)) if !words.contains(&value) => wrong(format!("'{name}' must be one of '{}'", self.values())),
+            (PoolProperty::ReadOnly, _) => wrong("property 'readonly' can only be set at import time".into()),
+            (PoolProperty::AltRoot, _) if !is_new => wrong("property 'altroot' can only be set during pool creation or import".into()),
+            (PoolProperty::BootFs, _) if is_new => wrong("property 'bootfs' cannot be set at creation or import time".into()),
+            (PoolProperty::CacheFile, _) if !is_path(value) => {
+                wrong("property 'cachefile' must be empty, an absolute path, or 'none'".into())
+            }
+            (PoolProperty::Comment, _) if value.len() > COMMENT_LIMIT => wrong(format!("comment must not exceed {COMMENT_LIMIT} characters")),
+            (PoolProperty::Version, _) if value != "5000" => wrong(format!("property 'version' number {value} is invalid.")),
+            (PoolProperty::AShift, _) => ashift(value),
             _ => Ok(value.to_owned()),
         }
     }
@@ -170,6 +201,8 @@ impl PoolProperty {
             PoolProperty::Guid => host.facts.guid.to_string(),
             PoolProperty::LoadGuid => (host.facts.guid.rotate_left(17) | 1).to_string(),
             PoolProperty::Name => host.name.clone(),
+            PoolProperty::Feature(_) if self.is_unknown() => return Ok(("-".into(), Source::None)),
+            PoolProperty::Feature(name) if name == ENCRYPTION => return Ok(("disabled".into(), Source::Local)),
             PoolProperty::Feature(_) => {
                 let is_active = self.is_active() || self.is_used(host);
                 let value = kept.filter(|_| !is_active).unwrap_or_else(|| if is_active { "active" } else { "enabled" }.into());
@@ -214,6 +247,22 @@ impl PoolProperty {
     }
 }
 
+/// The most bytes of a comment.
+const COMMENT_LIMIT: usize = 32;
+
+fn is_path(value: &str) -> bool {
+    value.is_empty() || value == "none" || value.starts_with('/')
+}
+
+/// A shift of sectors: 0, or 9 to 16.
+fn ashift(value: &str) -> Result<String, Reason> {
+    let number = size::parsed(value)?;
+    if number == 0 || (9..=16).contains(&number) {
+        return Ok(number.to_string());
+    }
+    Err(Reason::Text(format!("property 'ashift' number {number} is invalid, only values between 9 and 16 are allowed.")))
+}
+
 fn percent(number: u64, is_exact: bool) -> String {
     if is_exact { number.to_string() } else { format!("{number}%") }
 }
@@ -237,7 +286,7 @@ mod tests {
         assert_eq!(PoolProperty::named("cap"), Some(PoolProperty::Capacity));
         assert_eq!(PoolProperty::named("allocated"), Some(PoolProperty::Allocated));
         assert_eq!(PoolProperty::named("feature@bookmarks").unwrap().to_string(), "feature@bookmarks");
-        assert_eq!(PoolProperty::named("feature@nothing"), None);
+        assert!(PoolProperty::named("feature@nothing").is_some_and(|feature| feature.is_unknown()));
         assert_eq!(PoolProperty::named("nothing"), None);
     }
 
@@ -252,8 +301,12 @@ mod tests {
 
     #[test]
     fn what_is_set_is_checked() {
-        assert!(PoolProperty::FailMode.checked("panic").is_ok());
-        assert!(PoolProperty::FailMode.checked("never").is_err());
-        assert_eq!(PoolProperty::Size.checked("1").unwrap_err().to_string(), "'size' is readonly");
+        let checked = |property: PoolProperty, value: &str| property.checked(value, false).map_err(|reason| reason.to_string());
+        assert!(checked(PoolProperty::FailMode, "panic").is_ok());
+        assert_eq!(checked(PoolProperty::Delegation, "never").unwrap_err(), "'delegation' must be one of 'on | off'");
+        assert_eq!(checked(PoolProperty::Size, "1").unwrap_err(), "'size' is readonly");
+        assert_eq!(checked(PoolProperty::Comment, &"x".repeat(33)).unwrap_err(), "comment must not exceed 32 characters");
+        let disabled = PoolProperty::named("feature@lz4_compress").unwrap();
+        assert!(disabled.checked("disabled", true).is_ok() && disabled.checked("disabled", false).is_err());
     }
 }

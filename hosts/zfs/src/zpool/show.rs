@@ -2,9 +2,15 @@
 
 use super::pools_of;
 use super::property::PoolProperty;
+use super::repeat::Repeat;
+use super::vdev::{self, Vdev};
 use crate::call::Call;
 use crate::failure::{Action, Failure, Outcome, Reason, Trying};
+use crate::host::Host;
+use crate::name;
+use crate::options::Options;
 use crate::output::{Column, Table};
+use crate::property::listed;
 use crate::setting::{settings, Setting};
 use crate::usage::{Usage, ZpoolCommand};
 
@@ -13,31 +19,43 @@ const LIST: Usage = Usage::Zpool(ZpoolCommand::List);
 const COLUMNS: &str = "name,size,allocated,free,checkpoint,expandsize,fragmentation,capacity,dedupratio,health,altroot";
 
 fn properties(words: &str, usage: Usage) -> Outcome<Vec<PoolProperty>> {
-    let named = |word: &str| {
-        PoolProperty::named(word).ok_or_else(|| Failure::Usage(usage, format!("bad property list: invalid property '{word}'")))
-    };
-    words.split(',').map(named).collect()
+    let bad = |reason: &str| Failure::Usage(usage, format!("bad property list: {reason}"));
+    let named = |word: &str| PoolProperty::named(word).ok_or_else(|| bad(&format!("invalid property '{word}'")));
+    listed(words).map_err(bad)?.into_iter().map(named).collect()
 }
 
 pub fn list(call: &mut Call, words: &[String]) -> Outcome {
     let options = call.options(words, ":gHLo:pPT:v", LIST)?;
+    check_time(&options, LIST)?;
     let columns = properties(options.argument('o').unwrap_or(COLUMNS), LIST)?;
-    let pools = pools_of(call, &options.operands);
-    if pools.is_empty() {
-        if options.operands.is_empty() && !options.has('H') {
-            call.output.line("no pools available");
+    let mut operands = options.operands.clone();
+    let repeat = Repeat::take(&mut operands, LIST)?;
+    let (is_scripted, is_exact) = (options.has('H'), options.has('p'));
+    repeat.run(call, |call, turn| {
+        let pools = pools_of(call, &operands);
+        if pools.is_empty() {
+            if operands.is_empty() && !is_scripted {
+                call.output.line("no pools available");
+            }
+            return Ok(());
         }
-        return Ok(());
-    }
-    let mut rows = Vec::new();
-    for pool in pools {
-        let (columns, is_exact) = (columns.clone(), options.has('p'));
-        let cells = pool.run(move |host| columns.iter().map(|it| it.value(host, is_exact).map(|(text, _)| text)).collect::<Outcome<Vec<_>>>())??;
-        rows.push(cells);
-    }
-    let table = Table { columns: columns.iter().map(PoolProperty::column).collect(), rows };
-    call.output.text(&table.text(options.has('H')));
-    Ok(())
+        let mut rows = Vec::new();
+        for pool in pools {
+            let columns = columns.clone();
+            let cells = pool.run(move |host| columns.iter().map(|it| it.value(host, is_exact).map(|(text, _)| text)).collect::<Outcome<Vec<_>>>())??;
+            rows.push(cells);
+        }
+        let text = Table { columns: columns.iter().map(PoolProperty::column).collect(), rows }.text(is_scripted);
+        let header = text.find('\n').map_or(0, |end| end + 1);
+        call.output.text(if turn > 0 && !is_scripted { &text[header..] } else { &text });
+        Ok(())
+    })
+}
+
+/// A time is told as a date or a number of seconds.
+pub fn check_time(options: &Options, usage: Usage) -> Outcome {
+    let is_known = options.arguments('T').all(|word| matches!(word, "d" | "u"));
+    if is_known { Ok(()) } else { Err(Failure::Usage(usage, String::new())) }
 }
 
 /// A column of `get`.
@@ -58,6 +76,15 @@ impl Field {
             Field::Property => "PROPERTY",
             Field::Value => "VALUE",
             Field::Source => "SOURCE",
+        }
+    }
+
+    /// The fewest letters of its column, with what is asked for.
+    fn least_width(self, wanted: &[PoolProperty]) -> usize {
+        match self {
+            Field::Property => wanted.iter().map(|it| it.to_string().len()).max().unwrap_or(0),
+            Field::Value => wanted.iter().map(PoolProperty::least_width).max().unwrap_or(0),
+            _ => 0,
         }
     }
 
@@ -89,12 +116,12 @@ pub fn get(call: &mut Call, words: &[String]) -> Outcome {
                 };
                 Ok(fields.iter().map(cell).collect())
             };
-            wanted.iter().map(row).collect::<Outcome<Vec<Vec<String>>>>()
+            wanted.iter().filter(|it| !it.is_unknown()).map(row).collect::<Outcome<Vec<Vec<String>>>>()
         })??;
         rows.extend(more);
     }
     if !rows.is_empty() {
-        let columns = fields.iter().map(|field| Column { header: field.header().into(), is_right_aligned: false }).collect();
+        let columns = fields.iter().map(|field| Column { least: field.least_width(&wanted), ..Column::of_words(field.header()) }).collect();
         call.output.text(&Table { columns, rows }.text(options.has('H')));
     }
     Ok(())
@@ -105,7 +132,9 @@ pub fn set(call: &mut Call, words: &[String]) -> Outcome {
     let reason = |reason: &str| Err(Failure::Usage(usage, reason.to_owned()));
     let (pair, name) = match words {
         [] => return reason("missing property=value argument"),
-        [one] if one.starts_with('-') => return reason(&format!("invalid option '{}'", &one[1..])),
+        [one, ..] if one.len() > 1 && one.starts_with('-') => {
+            return reason(&format!("invalid option '{}'", one.chars().nth(1).unwrap_or_default()));
+        }
         [_] => return reason("missing pool name"),
         [pair, name] => (pair, name),
         _ => return reason("too many pool names"),
@@ -117,24 +146,49 @@ pub fn set(call: &mut Call, words: &[String]) -> Outcome {
     let action = || Action::SetProperty(name.clone());
     for Setting { property, value } in settings([pair.as_str()].into_iter())? {
         let known = PoolProperty::named(&property).ok_or(Reason::NoProperty(property)).trying(action)?;
-        let value = known.checked(&value).trying(action)?;
-        pool.run(move |host| host.facts.properties.insert(known.to_string(), value))?;
+        let value = known.checked(&value, false).trying(action)?;
+        let refused = action();
+        pool.run(move |host| {
+            if known == PoolProperty::BootFs && !value.is_empty() {
+                check_boot(host, &value).map_err(|reason| Failure::Cannot(refused, reason))?;
+            }
+            // What is empty is what is not set.
+            host.facts.properties.retain(|name, _| *name != known.to_string());
+            host.facts.properties.extend(Some((known.to_string(), value)).filter(|(_, value)| !value.is_empty()));
+            Ok(())
+        })??;
     }
     call.log(&pool);
     Ok(())
 }
 
+/// A pool boots from a file system of its own.
+fn check_boot(host: &Host, name: &str) -> Result<(), Reason> {
+    match host.tree.whole(name) {
+        _ if name::pool(name) != host.name => Err(Reason::Text(format!("'{name}' is an invalid name"))),
+        None => Err(Reason::Text("no such pool or dataset".into())),
+        Some(_) => Ok(()),
+    }
+}
+
 pub fn status(call: &mut Call, words: &[String]) -> Outcome {
     let options = call.options(words, "c:DegiLpPstT:vx", Usage::Zpool(ZpoolCommand::Status))?;
-    let pools = pools_of(call, &options.operands);
+    check_time(&options, Usage::Zpool(ZpoolCommand::Status))?;
+    let mut operands = options.operands.clone();
+    let repeat = Repeat::take(&mut operands, Usage::Zpool(ZpoolCommand::Status))?;
+    repeat.run(call, |call, _| tell_status(call, &operands, options.has('x')))
+}
+
+fn tell_status(call: &mut Call, operands: &[String], is_brief: bool) -> Outcome {
+    let pools = pools_of(call, operands);
     if pools.is_empty() {
-        if options.operands.is_empty() {
+        if operands.is_empty() {
             call.output.error("no pools available");
         }
         return Ok(());
     }
-    if options.has('x') {
-        match options.operands.first() {
+    if is_brief {
+        match operands.first() {
             Some(name) => call.output.line(&format!("pool '{name}' is healthy")),
             None => call.output.line("all pools are healthy"),
         }
@@ -145,19 +199,19 @@ pub fn status(call: &mut Call, words: &[String]) -> Outcome {
         if place > 0 {
             call.output.line("");
         }
-        call.output.text(&status_text(&pool.name, &facts.devices));
+        call.output.text(&status_text(&pool.name, &facts.vdevs));
     }
     Ok(())
 }
 
-fn status_text(name: &str, devices: &[String]) -> String {
-    let width = devices.iter().map(|device| device.len() + 2).chain([name.len(), 10]).max().unwrap_or(10);
-    let mut text = format!("  pool: {name}\n state: ONLINE\nconfig:\n\n\t{:<width$}  STATE     READ WRITE CKSUM\n", "NAME");
-    text += &format!("\t{name:<width$}  ONLINE       0     0     0\n");
-    for device in devices {
-        text += &format!("\t  {device:<rest$}  ONLINE       0     0     0\n", rest = width - 2);
-    }
-    text + "\nerrors: No known data errors\n"
+fn status_text(name: &str, vdevs: &[Vdev]) -> String {
+    let counted = |line: &str, state: &str, width: usize| match state {
+        "AVAIL" => format!("\t{line:<width$}  {state:<8}\n"),
+        _ => format!("\t{line:<width$}  {state:<8} {:>5} {:>5} {:>5}\n", 0, 0, 0),
+    };
+    let layout = vdev::layout(name, vdevs, counted);
+    let width = layout.lines().next().and_then(|line| line.find("  ONLINE")).map_or(10, |place| place - 1);
+    format!("  pool: {name}\n state: ONLINE\nconfig:\n\n\t{:<width$}  STATE     READ WRITE CKSUM\n{layout}\nerrors: No known data errors\n", "NAME")
 }
 
 pub fn history(call: &mut Call, words: &[String]) -> Outcome {

@@ -21,6 +21,9 @@ const LEGACY: [&str; 28] = [
 pub fn run(call: &mut Call, words: &[String]) -> Outcome {
     let options = call.options(words, "avV:", USAGE)?;
     let usage = |reason: &str| Err(Failure::Usage(USAGE, reason.to_owned()));
+    if let Some(word) = options.argument('V').filter(|word| !matches!(word.parse::<u64>(), Ok(1..=28 | 5000))) {
+        return usage(&format!("invalid version '{word}'"));
+    }
     let has_pools = !options.operands.is_empty();
     if options.has('v') && (options.has('a') || has_pools) {
         return usage("-v option is incompatible with other arguments");

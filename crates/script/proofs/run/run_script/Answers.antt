@@ -1,7 +1,7 @@
-use Rattle.std.proofs.Common.{◌≡◌, true, sym, ap, Err, subst, ◌∙◌, ◌&&◌, rules}
+use Rattle.std.proofs.Common.{◌≡◌, true, is_some, sym, ap, Err, subst, ◌∙◌, ◌&&◌, rules}
 use Rattle.script.specs.Lines.{GivesLine}
 use Rattle.script.specs.Meaning.{meaning}
-use Rattle.script.specs.Served.{IsUnserved}
+use Rattle.script.specs.Served.{IsUnserved, may_miss}
 use Rattle.script.proofs.RunLemmas.{going-end, going-unread, going-unkept, going-unanswered, going-unwritten, going-more, going-stop, going-flushed, going-unflushed, fault-of_counts, found-line, found-none}
 use Rattle.script.proofs.run.run_script.Goals as goal
 
@@ -35,7 +35,7 @@ returns-in-Err-NoMemory-serve_line-clause-err g c =
     let kept = c.as_slice.result.now in
     let yes : c.in-Ok.found ≡ true = search rules in
     let gives = subst (GivesLine told told') (sym c.as_slice.ensures.value) (found-line c.in-Ok.found told told' c.next_line.new.kept.items yes c.in-Ok.ensures.ok) in
-    let cut = subst (IsUnserved g.C.Caller.asks (meaning kept) (g.W.Write.contents c.next_line.new.writer) (g.W.Write.contents c.serve_line.new.writer) c.lines.caller c.serve_line.new.caller) c.in-Err-NoMemory-serve_line.field-0-is c.in-Err-NoMemory-serve_line.ensures.err in
+    let cut = subst (IsUnserved g.C.Caller.asks (meaning kept) (may_miss 0) (g.W.Write.contents c.next_line.new.writer) (g.W.Write.contents c.serve_line.new.writer) c.lines.caller c.serve_line.new.caller) c.in-Err-NoMemory-serve_line.field-0-is c.in-Err-NoMemory-serve_line.ensures.err in
     rw (cut.0) (going-unanswered _ _ _ _ _ _ _ _ _ (going-flushed _ _ _ _ _ _ _ _ _ c.lines.invariant (g.W.Write.contents c.next_line.new.writer) c.in-Ok.ensures.written) told' kept gives _ _ c.serve_line.new.caller cut.1)
 
 pub returns-in-Err-Unwritten-clause-err : goal.returns-in-Err-Unwritten-clause-err
@@ -45,8 +45,8 @@ returns-in-Err-Unwritten-clause-err g c =
     let kept = c.as_slice.result.now in
     let yes : c.in-Ok.found ≡ true = search rules in
     let gives = subst (GivesLine told told') (sym c.as_slice.ensures.value) (found-line c.in-Ok.found told told' c.next_line.new.kept.items yes c.in-Ok.ensures.ok) in
-    let cut = subst (IsUnserved g.C.Caller.asks (meaning kept) (g.W.Write.contents c.next_line.new.writer) (g.W.Write.contents c.serve_line.new.writer) c.lines.caller c.serve_line.new.caller) c.in-Err-Unwritten.field-0-is c.in-Err-Unwritten.ensures.err in
-    going-unwritten _ _ _ _ _ _ _ _ _ (going-flushed _ _ _ _ _ _ _ _ _ c.lines.invariant (g.W.Write.contents c.next_line.new.writer) c.in-Ok.ensures.written) told' kept gives cut.0 c.serve_line.new.caller cut.1 (g.W.Write.contents c.serve_line.new.writer) _ _ c.of_counts-in-Err-Unwritten.result
+    let cut = subst (IsUnserved g.C.Caller.asks (meaning kept) (may_miss 0) (g.W.Write.contents c.next_line.new.writer) (g.W.Write.contents c.serve_line.new.writer) c.lines.caller c.serve_line.new.caller) c.in-Err-Unwritten.field-0-is c.in-Err-Unwritten.ensures.err in
+    going-unwritten _ _ _ _ _ _ _ _ _ (going-flushed _ _ _ _ _ _ _ _ _ c.lines.invariant (g.W.Write.contents c.next_line.new.writer) c.in-Ok.ensures.written) told' kept gives cut.0 c.serve_line.new.caller cut.2 (g.W.Write.contents c.serve_line.new.writer) _ _ c.of_counts-in-Err-Unwritten.result
     (fault-of_counts _ _ _ _ c.of_counts-in-Err-Unwritten.result c.failures-writes.ensures c.failures-in-Err-Unwritten.ensures c.of_counts-in-Err-Unwritten.ensures)
 
 pub returns-then-is_refused-stop-clause-ok : goal.returns-then-is_refused-stop-clause-ok
@@ -57,7 +57,7 @@ returns-then-is_refused-stop-clause-ok g c =
     let yes : c.in-Ok.found ≡ true = search rules in
     let gives = subst (GivesLine told told') (sym c.as_slice.ensures.value) (found-line c.in-Ok.found told told' c.next_line.new.kept.items yes c.in-Ok.ensures.ok) in
     let served = c.in-Ok-serve_line.ensures.ok in
-    going-stop _ _ _ _ _ _ _ _ _ (going-flushed _ _ _ _ _ _ _ _ _ c.lines.invariant (g.W.Write.contents c.next_line.new.writer) c.in-Ok.ensures.written) told' kept gives served.reply c.serve_line.new.caller served.answered (g.W.Write.contents c.serve_line.new.writer) served.written (ap (λ r. r && c.args.stop) (sym served.kind) ∙ c.if-is_refused-stop.true)
+    going-stop _ _ _ _ _ _ _ _ _ (going-flushed _ _ _ _ _ _ _ _ _ c.lines.invariant (g.W.Write.contents c.next_line.new.writer) c.in-Ok.ensures.written) told' kept gives served.reply c.serve_line.new.caller served.answered (g.W.Write.contents c.serve_line.new.writer) served.written (ap (λ r. r && c.args.stop) (sym (c.is_some-is_refused.ensures ∙ ap is_some served.kind)) ∙ c.if-is_refused-stop.true)
 
 pub lines-preserved : goal.lines-preserved
 lines-preserved g c =
@@ -67,4 +67,4 @@ lines-preserved g c =
     let yes : c.in-Ok.found ≡ true = search rules in
     let gives = subst (GivesLine told told') (sym c.as_slice.ensures.value) (found-line c.in-Ok.found told told' c.next_line.new.kept.items yes c.in-Ok.ensures.ok) in
     let served = c.in-Ok-serve_line.ensures.ok in
-    rw (served.kind) (going-more _ _ _ _ _ _ _ _ _ (going-flushed _ _ _ _ _ _ _ _ _ c.lines.invariant (g.W.Write.contents c.next_line.new.writer) c.in-Ok.ensures.written) told' kept gives served.reply c.serve_line.new.caller served.answered (g.W.Write.contents c.serve_line.new.writer) served.written (ap (λ r. r && c.args.stop) (sym served.kind) ∙ c.if-is_refused-stop.false))
+    rw (c.is_some-is_refused.ensures ∙ ap is_some served.kind) (going-more _ _ _ _ _ _ _ _ _ (going-flushed _ _ _ _ _ _ _ _ _ c.lines.invariant (g.W.Write.contents c.next_line.new.writer) c.in-Ok.ensures.written) told' kept gives served.reply c.serve_line.new.caller served.answered (g.W.Write.contents c.serve_line.new.writer) served.written (ap (λ r. r && c.args.stop) (sym (c.is_some-is_refused.ensures ∙ ap is_some served.kind)) ∙ c.if-is_refused-stop.false))

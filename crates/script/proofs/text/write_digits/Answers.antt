@@ -14,4 +14,4 @@ loop-left-preserved g c =
 pub returns : goal.returns
 returns g c =
     let none = eqb-true _ 0 (sym c.loop-left-test.ensures) in
-    on_ok_weaker c.write_all.result (λ last. all_written _ _ _ c.args.bytes.now c.loop-left.left.now c.loop-left.invariant none last) c.write_all.ensures.bytes
+    on_ok_weaker c.put.result (λ last. all_written _ _ _ c.args.bytes.now c.loop-left.left.now c.loop-left.invariant none last) c.put.ensures.bytes

@@ -6,4 +6,4 @@ use Rattle.script.proofs.text.write_names.Given as goal
 
 -- so many of the other names, each after a space
 abbrev pub invariant-loop-name : goal.invariant-loop-name
-invariant-loop-name g l = Appends (g.W.Write.contents l.initial.writer) (g.W.Write.contents l.writer) (flat_map (λ n. codes " " ++ n) (take l.name-index l.others))
+invariant-loop-name g l = Appends (g.W.Sink.contents l.initial.writer) (g.W.Sink.contents l.writer) (flat_map (λ n. codes " " ++ n) (take l.name-index l.others))
