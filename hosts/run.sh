@@ -22,19 +22,22 @@ export YUZGONT_LIB RATTLE_C=$kit/c
 library=$YUZGONT_LIB/libyuzgont_c.a
 [ -e "$library" ] || { echo "there is no $library" >&2; exit 1; }
 
-cc -std=c11 -D_GNU_SOURCE -O2 -g -Wall -Wextra -Wpedantic -Werror -I include -o "$made/host" hosts/c/host.c "$library" "$RATTLE_C/liblibc_c.a" \
-    -Wl,--gc-sections -Wl,--wrap=malloc,--wrap=realloc
+for host in host typed; do
+    cc -std=c11 -D_GNU_SOURCE -O2 -g -Wall -Wextra -Wpedantic -Werror -I include -o "$made/$host" "hosts/c/$host.c" "$library" "$RATTLE_C/liblibc_c.a" \
+        -Wl,--gc-sections -Wl,--wrap=malloc,--wrap=realloc
+done
 cargo build --quiet --release --offline --manifest-path hosts/rust/Cargo.toml --target-dir "$made/rust"
 rust=$made/rust/release
 
-# The linker leaves out what nothing calls, so a host in which each export stands calls each.
-exports() { nm --defined-only "$1" 2>/dev/null | sed -n 's/.* T \(yuzgont_[a-z_0-9]*\)$/\1/p' | sort -u; }
+# The linker leaves out what nothing calls, so hosts of a language in which each export stands call each.
+exports() { nm --defined-only "$@" 2>/dev/null | sed -n 's/.* T \(yuzgont_[a-z_0-9]*\)$/\1/p' | sort -u; }
 every=$(exports "$library")
 [ -n "$every" ]
 
+diff <(echo "$every") <(exports "$made/host" "$made/typed")
+diff <(echo "$every") <(exports "$rust/yuz-host" "$rust/yuz-typed")
 for host in "$made/host" "$rust/yuz-host"; do
     echo "== $host"
-    diff <(echo "$every") <(exports "$host")
     "$host" session hosts/session.script hosts/session.replies
     "$host" calls
     "$host" streams
@@ -42,6 +45,8 @@ for host in "$made/host" "$rust/yuz-host"; do
     "$host" writes "$writes"
 done
 "$made/host" mistakes
+"$made/typed"
+"$rust/yuz-typed"
 "$rust/yuz-host" threads
 
 echo "== make check"
@@ -60,8 +65,8 @@ if [ -x "$zfsp" ]; then
 fi
 
 echo "== valgrind"
-for words in "host session hosts/session.script hosts/session.replies" "host calls" "host streams" "host memory" "host mistakes" "host writes 3000" \
-    "rust/release/yuz-host session hosts/session.script hosts/session.replies" "rust/release/yuz-host calls" "rust/release/yuz-host streams" "rust/release/yuz-host threads"; do
+for words in "host session hosts/session.script hosts/session.replies" "host calls" "host streams" "host memory" "host mistakes" typed "host writes 3000" \
+    "rust/release/yuz-host session hosts/session.script hosts/session.replies" "rust/release/yuz-host calls" "rust/release/yuz-typed" "rust/release/yuz-host streams" "rust/release/yuz-host threads"; do
     valgrind --quiet --error-exitcode=9 --leak-check=full --show-leak-kinds=definite,indirect --errors-for-leak-kinds=definite,indirect $made/$words >/dev/null
     echo "clean: $words"
 done

@@ -26,7 +26,7 @@ impl Caller for Keeper {
 pub fn request_of(alloc: Global, line: &str) -> Option<Request> {
     let mut keeper = Keeper { request: None };
     let mut reply = Vec::new(alloc);
-    let _refused = answer_line(alloc, &mut keeper, line.as_bytes(), &mut reply).ok()?;
+    let _refusal = answer_line(alloc, &mut keeper, line.as_bytes(), &mut reply).ok()?;
     keeper.request
 }
 

@@ -19,3 +19,5 @@ pub mod WritingMade
 pub mod PathHeld
 pub mod PathOpen
 pub mod PathsApart
+pub mod ReadBack
+pub mod Zeros

@@ -1,11 +1,11 @@
 -- What contracts see of an image.
-use Rattle.std.specs.Prelude.{◌≡◌, ◌≢◌, ◌<◌, ◌≤◌, ◌-◌, ◌*◌, ◌%◌, ◌⊎◌, ℕ, List, [], ◌∷◌, ◌++◌, Some, length, replicate, slice_get, vec_capacity}
+use Rattle.std.specs.Prelude.{◌≡◌, ◌≢◌, ◌<◌, ◌≤◌, ◌-◌, ◌*◌, ◌/◌, ◌%◌, ◌⊎◌, ℕ, List, [], ◌∷◌, ◌++◌, Some, length, replicate, slice_get, vec_capacity}
 use Rattle.std.specs.List.{All}
 use Rattle.std.specs.declared.vec.Vec.{Vec}
 use Rattle.std.specs.declared.alloc.Global.{Global}
 use Rattle.zalloc.specs.declared.TheConstants.{MOST_BLOCKS}
 use Rattle.zalloc.specs.declared.BlockState.{BlockState}
-use Rattle.zalloc.specs.declared.BlockState.TheVariants.{Allocated}
+use Rattle.zalloc.specs.declared.BlockState.TheVariants.{Free, Allocated}
 use Rattle.image.specs.ImageBlocks.{block_at}
 use Rattle.base.specs.declared.number.BlockNo.{BlockNo}
 use Rattle.base.specs.declared.refusal.Refusal.{Refusal}
@@ -16,6 +16,15 @@ pub record ShownImage : Type 0 where
   pub bytes : List ℕ
   pub kept : List BlockState
   pub keeps : ℕ
+
+-- the image that is read from bytes: it keeps no number (profile)
+abbrev pub image_of : List ℕ → ShownImage
+image_of bytes = record { bytes = bytes; kept = replicate (length bytes / 512) Free; keeps = 0 }
+
+-- two images have as many blocks, with the same bytes: each walk in one is that in the other (profile)
+pub record AreSameBlocks (one other : ShownImage) : Type 0 where
+  pub bytes : one.bytes ≡ other.bytes
+  pub count : length one.kept ≡ length other.kept
 
 -- bytes, with zeros behind them up to a size (profile)
 unfoldable pub padded : ℕ → List ℕ → List ℕ

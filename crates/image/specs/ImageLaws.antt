@@ -1,5 +1,5 @@
 -- Laws of images.
-use Rattle.std.specs.Prelude.{◌≡◌, ◌≤◌, ◌*◌, ℕ, List, Option, Some, length, take}
+use Rattle.std.specs.Prelude.{◌≡◌, ◌<◌, ◌≤◌, ◌*◌, ℕ, List, Option, Some, length, take}
 use Rattle.zalloc.specs.declared.BlockState.{BlockState}
 use Rattle.base.specs.declared.number.Key.{Key}
 use Rattle.base.specs.Map.{Map, Cell, Block, IsTree, block_of, contents}
@@ -14,7 +14,8 @@ use Rattle.image.specs.ImageBlocks.{block_at}
 use Rattle.image.specs.ImageWalk.{walk}
 use Rattle.image.specs.HasBlocks.{HasBlocks, IsWritable, root_of}
 use Rattle.image.specs.BlockWrites.{blocks_put, images_put, writes_of, AreWritesOf, AreApart}
-use Rattle.image.specs.Image.{AreOpen}
+use Rattle.zalloc.specs.declared.TheConstants.{MOST_BLOCKS}
+use Rattle.image.specs.Image.{ShownImage, image_of, IsImageSize, AreOpen, AreSameBlocks}
 use Rattle.image.specs.PathWrites.{path_writes, IsPathChange, IsPathOpen, AreSourcesApart}
 
 -- where an image holds a map, the walk from the map's root gives its contents
@@ -62,3 +63,9 @@ ChangesKeepTheirSources =
     → IsChange m c g young states v → IsUnique m → AreAllocated m states
     → ((l : ℕ) → l ≤ 5 → before l ≡ option_map block_of (get m (key_over leaf l))) → ((l : ℕ) → l ≤ 5 → after l ≡ option_map block_of (get v.new (key_over leaf l)))
     → AreSourcesApart before after
+
+-- an image that is read from the bytes of all blocks of another has the same blocks; that they are an image's is so from one block on
+abbrev pub ReadsBack : Type 0
+ReadsBack =
+    (i : ShownImage) → length i.bytes ≡ 512 * length i.kept → 0 < length i.kept → length i.kept ≤ MOST_BLOCKS
+    → IsImageSize (length i.bytes) × AreSameBlocks i (image_of i.bytes)

@@ -1,5 +1,5 @@
 //! The image of a pool.
-ghost use Rattle.std.specs.Prelude.{◌≡◌, ◌≤◌, ◌<◌, ◌+◌, ◌*◌, ◌/◌, IfOk, IfErr, OnOk, Some, None, length, map, replicate};
+ghost use Rattle.std.specs.Prelude.{◌≡◌, ◌≤◌, ◌<◌, ◌+◌, ◌*◌, ◌%◌, IfOk, IfErr, OnOk, Some, None, length, map, replicate};
 ghost use Rattle.std.specs.Option.{option_map};
 ghost use Rattle.std.specs.FinMap.{entries};
 ghost use Rattle.base.specs.Counting.{counted};
@@ -8,10 +8,10 @@ ghost use Rattle.zalloc.specs.States.{after_group};
 ghost use Rattle.zalloc.specs.declared.BlockState.TheVariants.{Free};
 ghost use Rattle.image.specs.ImageBlocks.{block_at, pointer_bytes, made_bytes, maybe_block, IsOfTree};
 ghost use Rattle.image.specs.ImageWalk.{walk};
-ghost use Rattle.image.specs.BlockWrites.{bytes_put, images_put, written_pair};
-ghost use Rattle.image.specs.Image.{IsOpen, AreAllOpen, IsImageSize, IsBadOrNoMemory, IsTooManyOrNoMemory, padded};
+ghost use Rattle.image.specs.BlockWrites.{bytes_put};
+ghost use Rattle.image.specs.Image.{IsOpen, IsImageSize, IsBadOrNoMemory, IsTooManyOrNoMemory, image_of, padded};
 
-use crate::block_bytes::{put_block, put_pointer};
+use crate::block_bytes::{put_block, put_copy, put_pointer};
 use crate::walk::{Leaves, gather};
 use base::number::BlockNo;
 use base::refusal::Refusal;
@@ -25,14 +25,15 @@ use zalloc::{Allocator, MOST_BLOCKS, Numbers};
 const BLOCK_SIZE: usize = 512;
 
 /// The blocks of a pool as bytes, beside the states of the numbers that it keeps: a number that is Allocated there is never written
-/// (profile). Contracts see the bytes of all blocks, these states, and how often they were put in.
+/// (profile). Contracts see the bytes of all blocks, these states, and how often they were put in. No other module reaches the bytes to
+/// change them.
 ///
 /// Room for 512 bytes a number is reserved by `new`, and the system gives its pages when they are first used: the bytes end behind the
 /// greatest number that was written, and all beyond are zeros. Beside `new` and `from_bytes` no function takes memory but `read_tree`,
 /// for its answer.
 pub struct Image {
-    pub(crate) written: Vec<u8>,
-    pub(crate) blocks: u32,
+    written: Vec<u8>,
+    blocks: u32,
     kept: Allocator,
     keeps: u64,
 }
@@ -83,7 +84,7 @@ impl Image {
     /// An image of these bytes that keeps no number. TooMany exactly where they aren't 512 for each of 1 to 4,194,304 blocks, NoMemory
     /// where there is none for the states.
     pub fn from_bytes(bytes: Vec<u8>) -> Result<Image, Refusal>
-        ensures ok { IfOk result (λ i. i ≡ record { bytes = bytes.items; kept = replicate (length bytes.items / 512) Free; keeps = 0 }) }
+        ensures ok { IfOk result (λ i. i ≡ image_of bytes.items) }
         ensures size { OnOk result (IsImageSize (length bytes.items)) }
         ensures too_many { result ≡ Err Refusal.TooMany → ¬ IsImageSize (length bytes.items) }
         ensures only { IfErr result IsTooManyOrNoMemory }
@@ -110,24 +111,6 @@ impl Image {
         put_block(&mut self.written, b, block);
     }
 
-    /// Writes blocks one after the other, each at its number, which the kept states don't have Allocated. It takes no memory.
-    pub fn write_all(&mut self, blocks: &[(BlockNo, [u8; 512])])
-        requires { AreAllOpen self.old.kept blocks.now }
-        ensures { self.new ≡ record self.old { bytes = images_put self.old.bytes (map written_pair blocks.now) } }
-    {
-        for block in blocks {
-            self.write_contents(block.0, &block.1);
-        }
-    }
-
-    /// Writes a block that has these bytes.
-    pub(crate) fn write_contents(&mut self, b: BlockNo, bytes: &[u8; 512])
-        requires { IsOpen self.old.kept b.0 }
-        ensures { self.new ≡ record self.old { bytes = bytes_put self.old.bytes (512 * b.0) bytes.now } }
-    {
-        self.write(b, &Block::Contents(bytes));
-    }
-
     /// Changes one of the sixteen pointers of an indirect block, to a block of this level or to none. The kept states don't have the
     /// number Allocated. It takes no memory.
     pub(crate) fn point(&mut self, b: BlockNo, place: u32, level: u8, root: Option<Root>)
@@ -136,6 +119,16 @@ impl Image {
         ensures { self.new ≡ record self.old { bytes = bytes_put self.old.bytes (512 * b.0 + 32 * place) (pointer_bytes level (maybe_block root)) } }
     {
         put_pointer(&mut self.written, b, place, level, root);
+    }
+
+    /// Writes a block as another one stands, which it leaves. The kept states don't have its number Allocated. It takes no memory.
+    pub(crate) fn copy_block(&mut self, from: BlockNo, to: BlockNo)
+        requires open { IsOpen self.old.kept to.0 }
+        requires there { from.0 < length self.old.kept }
+        requires other { ¬ (from.0 ≡ to.0) }
+        ensures { self.new ≡ record self.old { bytes = bytes_put self.old.bytes (512 * to.0) (block_at self.old.bytes from.0) } }
+    {
+        put_copy(&mut self.written, self.blocks, from, to);
     }
 
     /// Puts in the states that it keeps from now on, and gives back those before. It takes no memory.
@@ -181,10 +174,19 @@ impl Image {
         &self.kept
     }
 
+    /// How many blocks it has, at most `MOST_BLOCKS`.
+    pub fn block_count(&self) -> u32
+        ensures { result ≡ length self.now.kept }
+    {
+        self.blocks
+    }
+
     /// The bytes of the blocks by their numbers, up to the greatest that was written: those of all blocks beyond are zeros.
     pub fn bytes(&self) -> &[u8]
         ensures written { self.now.bytes ≡ padded (512 * length self.now.kept) result.now }
         ensures size { length self.now.bytes ≡ 512 * length self.now.kept }
+        ensures whole { length result.now % 512 ≡ 0 }
+        ensures within { length result.now ≤ 512 * length self.now.kept }
     {
         self.written.as_slice()
     }

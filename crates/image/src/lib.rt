@@ -11,12 +11,17 @@
 //! | 24 to 31 | zero |
 //!
 //! A pointer to no block is 32 zero bytes. A freed block's bytes stay until its number is written again.
+//!
+//! The bytes are private to the module `image`, where `write`, `point` and `copy_block` change them, each those of one number, which the kept
+//! states must not have Allocated. All that writes more, as `write_all` and `write_path`, is made of these.
 #![tactic(auto)]
 
 mod block_bytes;
 mod image;
 mod laws;
+mod many;
 mod new_blocks;
+mod output;
 mod path;
 mod walk;
 

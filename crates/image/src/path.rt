@@ -1,13 +1,12 @@
 //! Writes of one changed path.
 ghost use Rattle.std.specs.Prelude.{◌≡◌, ◌<◌, ◌*◌, IfSome, None, length};
-ghost use Rattle.image.specs.BlockWrites.{bytes_put, images_put};
+ghost use Rattle.image.specs.BlockWrites.{images_put};
 ghost use Rattle.image.specs.Image.{IsOpen};
 ghost use Rattle.image.specs.ImageBlocks.{block_at, maybe_block};
 ghost use Rattle.image.specs.PathWrites.{block_on, is_same_block, inner_writes, leaf_writes, path_writes, IsPathOpen, AreSourcesApart};
 
-use crate::block_bytes::{ZEROS, put_copy};
+use crate::block_bytes::ZEROS;
 use crate::image::Image;
-use base::number::BlockNo;
 use node::span;
 use tree::Root;
 
@@ -23,16 +22,6 @@ fn is_same(one: Option<Root>, other: Option<Root>) -> bool
 }
 
 impl Image {
-    /// Writes a block as another stands, which it leaves.
-    fn copy_block(&mut self, from: BlockNo, to: BlockNo)
-        requires open { IsOpen self.old.kept to.0 }
-        requires there { from.0 < length self.old.kept }
-        requires other { ¬ (from.0 ≡ to.0) }
-        ensures { self.new ≡ record self.old { bytes = bytes_put self.old.bytes (512 * to.0) (block_at self.old.bytes from.0) } }
-    {
-        put_copy(&mut self.written, self.blocks, from, to);
-    }
-
     /// Writes what a leaf has, if it is there.
     fn write_leaf(&mut self, new: Option<Root>, bytes: &[u8; 512])
         requires { IfSome new (λ r. IsOpen self.old.kept r.block.0) }

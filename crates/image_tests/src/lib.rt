@@ -8,6 +8,8 @@ mod moments;
 #[cfg(test)]
 mod moved;
 #[cfg(test)]
+mod output;
+#[cfg(test)]
 mod paths;
 #[cfg(test)]
 mod refused;

@@ -12,3 +12,5 @@ pub mod MadeBlocks
 pub mod LiveChange
 pub mod LiveTrees
 pub mod AllRoots
+pub mod Rooted
+pub mod StepMade

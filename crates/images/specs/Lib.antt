@@ -5,3 +5,4 @@ pub mod Opened
 pub mod Updates
 pub mod Writes
 pub mod Roots
+pub mod StepWrites

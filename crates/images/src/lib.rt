@@ -4,9 +4,11 @@
 #![tactic(auto)]
 
 mod contents;
+mod laws;
 mod roots;
 mod writes;
 
 pub use contents::Contents;
+pub use laws::root_laws;
 pub use roots::{DatasetRoot, roots_of};
 pub use writes::{ChangedPath, Writes, blocks_in, path_before, write_down, writes_after};

@@ -1,5 +1,5 @@
 -- The image once what a request leaves to be done is done.
-use Rattle.std.proofs.Common.{◌≡◌, ◌*◌, ℕ, suc, true, false, List, [], ◌∷◌, Option, length, map, refl, sym, ap, subst, ◌∙◌, ◌⊎◌, inl, inr, arith}
+use Rattle.std.proofs.Common.{◌≡◌, ◌*◌, ◌<◌, ◌^◌, ℕ, suc, true, false, List, [], ◌∷◌, Option, length, map, refl, sym, ap, subst, ◌∙◌, ◌⊎◌, inl, inr, arith}
 use Rattle.std.specs.Prelude.{if◌then◌else◌}
 use Rattle.std.specs.List.{All}
 use Rattle.std.proofs.lemmas.Bool.{false_from_ne_true}
@@ -10,6 +10,7 @@ use Rattle.stream.specs.Spelling.{Sending}
 use Rattle.zalloc.specs.declared.BlockState.{BlockState}
 use Rattle.model.specs.Edits.{with_now}
 use Rattle.model.specs.State.{State}
+use Rattle.model.specs.World.{reach_of}
 use Rattle.model.specs.Step.{Step, Follows, done, refused, out_of_memory}
 use Rattle.model.specs.requests.{rule_of}
 use Rattle.model.specs.declared.request.Request.{Request}
@@ -23,14 +24,17 @@ use Rattle.image.specs.ImageBlocks.{block_at}
 use Rattle.image.specs.PathWrites.{block_on}
 use Rattle.image.proofs.Patches.{length-bytes_put}
 use Rattle.image.proofs.PathOpen.{path_open}
+use Rattle.images.specs.Opened.{KeepsJust}
+use Rattle.images.specs.StepWrites.{AreMade, AreStepWrites, StepWrites, writes_nothing}
 use Rattle.images.specs.Stored.{IsStored, changes_maps}
 use Rattle.images.proofs.Drawing.{stored_stay}
+use Rattle.images.proofs.StepMade.{none_made, are_step_writes}
 use Rattle.images.proofs.StepMaps.{step_maps}
 use Rattle.images.proofs.Walking.{bytes_stored}
-use Rattle.pool.specs.Effects.{effected, reply_of, MaySettle, Settles, WritesBlocks, image_after, keeps_of, Images}
-use Rattle.pool.specs.Images.{IsImageOf, AreWrites, is_synced, keeps_after}
+use Rattle.pool.specs.Effects.{effected, reply_of, MaySettle, Settles, Leads, WritesBlocks, image_after, blocks_written, keeps_of, Images}
+use Rattle.pool.specs.Images.{IsImageOf, is_synced, keeps_after}
 use Rattle.images.specs.Writes.{writes_in, MayWrite}
-use Rattle.pool.specs.Kinds.{kind_of}
+use Rattle.pool.specs.Kinds.{kind_of, other_kind}
 use Rattle.pool.specs.Pools.{world_in, IsSound}
 use Rattle.pool.specs.declared.effect.Effect.{Effect}
 use Rattle.pool.specs.declared.effect.Effect.TheVariants.{Nothing, Guids, Blocks, Taken, Synced, Abandoned, Closed}
@@ -39,7 +43,7 @@ use Rattle.images.specs.declared.writes.Writes.TheVariants.{Idle, OnPath, Each}
 use Rattle.pool.specs.declared.kind.Kind.{Kind}
 use Rattle.pool.specs.declared.kind.Kind.TheVariants.{Question, View, Change, Asking}
 use Rattle.pool.specs.declared.worlds.World.{World}
-use Rattle.pool.proofs.Kept.{kept_long}
+use Rattle.pool.proofs.Kept.{kept_long, kept_just}
 
 -- ---- what may be written
 
@@ -59,6 +63,10 @@ length-images_put kept image (w ∷ ws) size allowed =
     let whole = allowed.0.1 in
     length-images_put kept (bytes_put image (512 * w.0) w.1) ws (length-bytes_put image w.1 (512 * w.0) (omega (arith, there, whole, size)) ∙ size) allowed.1
 
+-- each number has 512 bytes
+size_kept : (s : State) (i : ShownImage) → IsImageOf s i → length i.bytes ≡ 512 * length i.kept
+size_kept s i is = is.size ∙ ap (λ n. 512 * n) (sym is.count)
+
 -- ---- the image after it
 
 module _ (s : State) (numbers : List BlockState) (sound : IsSound s numbers) (w : World) where
@@ -69,42 +77,92 @@ module _ (s : State) (numbers : List BlockState) (sound : IsSound s numbers) (w 
   pub images : (e : Effect) → Settles s numbers w e → (q : Request) → Step s q (reply_of e) (effected (with_now s (world_in w)) e) → (changes_maps q ≡ true → WritesBlocks e) → Images s w e
   images (Blocks changed writes) settles q step blocks i is =
       let t = with_now s (world_in w) in
-      let long : length i.kept ≡ s.size = ap length is.kept ∙ kept_long s sound.steady.good in
-      let may = may_open i.kept i.bytes writes is.size (subst (λ k. MayWrite k writes) (sym is.kept) settles.may.2) in
+      let size = size_kept s i is in
+      let may = may_open i.kept i.bytes writes size (subst (λ k. MayWrite k writes) (sym is.kept) settles.may.2) in
       record {
-        size = length-images_put i.kept i.bytes (writes_in (block_at i.bytes) writes) is.size may;
+        count = is.count;
+        size = length-images_put i.kept i.bytes (writes_in (block_at i.bytes) writes) size may ∙ ap (λ n. 512 * n) is.count;
         kept = is.kept;
-        stored = bytes_stored (maps_of_both t.now s.last) i.kept i.bytes (writes_in (block_at i.bytes) writes) is.size may
-            (λ p. subst (λ n. IsTree n (maps_of_both t.now s.last p)) (sym long) (trees p)) (settles.leads (block_at i.bytes) is.stored);
+        stored = bytes_stored (maps_of_both t.now s.last) i.kept i.bytes (writes_in (block_at i.bytes) writes) size may
+            (λ p. subst (λ n. IsTree n (maps_of_both t.now s.last p)) (sym is.count) (trees p)) (settles.leads.stored (block_at i.bytes) is.stored);
       }
     where
       trees : (p : Place) → IsTree s.size (maps_of_both (world_in w) s.last p)
       trees (InNow d) = settles.sound.steady.good.now.trees d
       trees (InLast d) = settles.sound.steady.good.last.trees d
-  images Nothing settles q step blocks i is = record { size = is.size; kept = is.kept; stored = idle (with_now s (world_in w)) q _ step blocks i.bytes is.stored }
-  images (Guids next) settles q step blocks i is = record { size = is.size; kept = is.kept; stored = idle (effected (with_now s (world_in w)) (Guids next)) q _ step blocks i.bytes is.stored }
-  images (Taken taken) settles q step blocks i is = record { size = is.size; kept = is.kept; stored = idle (with_now s (world_in w)) q _ step blocks i.bytes is.stored }
+  images Nothing settles q step blocks i is = record { count = is.count; size = is.size; kept = is.kept; stored = idle (with_now s (world_in w)) q _ step blocks i.bytes is.stored }
+  images (Guids next) settles q step blocks i is = record { count = is.count; size = is.size; kept = is.kept; stored = idle (effected (with_now s (world_in w)) (Guids next)) q _ step blocks i.bytes is.stored }
+  images (Taken taken) settles q step blocks i is = record { count = is.count; size = is.size; kept = is.kept; stored = idle (with_now s (world_in w)) q _ step blocks i.bytes is.stored }
   images (Synced last viewed) settles q step blocks i is = record {
-    size = is.size ∙ ap (λ n. 512 * n) (ap length is.kept ∙ kept_long s sound.steady.good ∙ sym (kept_long (effected (with_now s (world_in w)) (Synced last viewed)) settles.sound.steady.good));
+    count = kept_long (effected (with_now s (world_in w)) (Synced last viewed)) settles.sound.steady.good;
+    size = is.size;
     kept = refl;
     stored = idle (effected (with_now s (world_in w)) (Synced last viewed)) q _ step blocks i.bytes is.stored;
   }
-  images Abandoned settles q step blocks i is = record { size = is.size; kept = is.kept; stored = idle (with_now s (world_in w)) q _ step blocks i.bytes is.stored }
-  images (Closed number) settles q step blocks i is = record { size = is.size; kept = is.kept; stored = idle (effected (with_now s (world_in w)) (Closed number)) q _ step blocks i.bytes is.stored }
+  images Abandoned settles q step blocks i is = record { count = is.count; size = is.size; kept = is.kept; stored = idle (with_now s (world_in w)) q _ step blocks i.bytes is.stored }
+  images (Closed number) settles q step blocks i is = record { count = is.count; size = is.size; kept = is.kept; stored = idle (effected (with_now s (world_in w)) (Closed number)) q _ step blocks i.bytes is.stored }
 
--- it writes to numbers that may be written
-pub are_writes : (s : State) (numbers : List BlockState) (i : ShownImage) → IsImageOf s i → (e : Effect) → MaySettle s.last s.size numbers e → AreWrites i (image_after s.size i e)
-are_writes s numbers i is (Blocks changed writes) may =
-    record { writes = writes_in (block_at i.bytes) writes; allowed = may_open i.kept i.bytes writes is.size (subst (λ k. MayWrite k writes) (sym is.kept) may.2); bytes = refl }
-are_writes s numbers i is Nothing may = record { writes = []; allowed = tt; bytes = refl }
-are_writes s numbers i is (Guids next) may = record { writes = []; allowed = tt; bytes = refl }
-are_writes s numbers i is (Taken taken) may = record { writes = []; allowed = tt; bytes = refl }
-are_writes s numbers i is (Synced last viewed) may = record { writes = []; allowed = tt; bytes = refl }
-are_writes s numbers i is Abandoned may = record { writes = []; allowed = tt; bytes = refl }
-are_writes s numbers i is (Closed number) may = record { writes = []; allowed = tt; bytes = refl }
+-- ---- what is written
 
-pub no_writes : (i : ShownImage) → AreWrites i i
-no_writes i = record { writes = []; allowed = tt; bytes = refl }
+-- it is allowed
+are_allowed : (s : State) (numbers : List BlockState) (i : ShownImage) → IsImageOf s i → (e : Effect) → MaySettle s.last s.size numbers e → AreOpen i.kept (blocks_written i.bytes e)
+are_allowed s numbers i is (Blocks changed writes) may = may_open i.kept i.bytes writes (size_kept s i is) (subst (λ k. MayWrite k writes) (sym is.kept) may.2)
+are_allowed s numbers i is Nothing may = tt
+are_allowed s numbers i is (Guids next) may = tt
+are_allowed s numbers i is (Taken taken) may = tt
+are_allowed s numbers i is (Synced last viewed) may = tt
+are_allowed s numbers i is Abandoned may = tt
+are_allowed s numbers i is (Closed number) may = tt
+
+-- it is what is made
+are_made : (s t : State) (bytes : List ℕ) (e : Effect) → Leads s t e → AreMade s t (blocks_written bytes e)
+are_made s t bytes (Blocks changed writes) leads = leads.made (block_at bytes)
+are_made s t bytes Nothing leads = none_made s t
+are_made s t bytes (Guids next) leads = none_made s t
+are_made s t bytes (Taken taken) leads = none_made s t
+are_made s t bytes (Synced last viewed) leads = none_made s t
+are_made s t bytes Abandoned leads = none_made s t
+are_made s t bytes (Closed number) leads = none_made s t
+
+-- and nothing else is
+are_put : (size : ℕ) (i : ShownImage) (e : Effect) → (image_after size i e).bytes ≡ images_put i.bytes (blocks_written i.bytes e)
+are_put size i (Blocks changed writes) = refl
+are_put size i Nothing = refl
+are_put size i (Guids next) = refl
+are_put size i (Taken taken) = refl
+are_put size i (Synced last viewed) = refl
+are_put size i Abandoned = refl
+are_put size i (Closed number) = refl
+
+module _ (s : State) (numbers : List BlockState) (sound : IsSound s numbers) (low : s.now.group < 2 ^ 64) (i : ShownImage) (is : IsImageOf s i) where
+  all_writes : (t : State) (new : ShownImage) (ws : List (ℕ × List ℕ)) → AreOpen i.kept ws → AreMade s t ws → new.bytes ≡ images_put i.bytes ws → AreStepWrites s t ws i new
+  all_writes t new ws allowed made put =
+      let small = sound.small in
+      are_step_writes s t sound.steady.good (omega (arith, small)) low i new ws is.stored
+      (subst (KeepsJust (reach_of s.last)) (sym is.kept) (kept_just s sound.steady.good)) is.count (size_kept s i is) allowed made put
+
+  -- what a step writes
+  pub effect_writes : (w : World) (e : Effect) → Settles s numbers w e → AreStepWrites s (effected (with_now s (world_in w)) e) (blocks_written i.bytes e) i (image_after s.size i e)
+  effect_writes w e settles =
+      let t = effected (with_now s (world_in w)) e in
+      all_writes t (image_after s.size i e) (blocks_written i.bytes e) (are_allowed s numbers i is e settles.may) (are_made s t i.bytes e settles.leads) (are_put s.size i e)
+
+  -- nothing
+  pub no_writes : (t : State) → AreStepWrites s t [] i i
+  no_writes t = all_writes t i [] tt (none_made s t) refl
+
+  pub unwritten : (q : Request) (r : Reply) (t : State) → StepWrites s q r t i i
+  unwritten q r t = record { writes = []; are = no_writes t; none = λ _. refl }
+
+-- a request that is done and whose reply writes nothing only reads
+pub only_reading : (q : Request) (e : Effect) → writes_nothing q (reply_of e) ≡ true → kind_of q ≡ Question
+only_reading q Nothing none = ap (λ b. if b then Question else other_kind q) none
+only_reading q (Guids next) none = ap (λ b. if b then Question else other_kind q) none
+only_reading q (Blocks changed writes) none = ap (λ b. if b then Question else other_kind q) none
+only_reading q (Taken taken) none = ap (λ b. if b then Question else other_kind q) none
+only_reading q (Synced last viewed) none = ap (λ b. if b then Question else other_kind q) none
+only_reading q Abandoned none = ap (λ b. if b then Question else other_kind q) none
+only_reading q (Closed number) none = ap (λ b. if b then Question else other_kind q) none
 
 -- ---- how often states were put in
 

@@ -16,3 +16,7 @@ pub mod OneUpdate
 pub mod NewBlocks
 pub mod Imaged
 pub mod Done
+pub mod Planned
+pub mod ReadRoots
+pub mod Born
+pub mod Applying

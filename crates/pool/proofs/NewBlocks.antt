@@ -43,10 +43,12 @@ use Rattle.image.specs.HasBlocks.{HasBlocks, AreBirthsRising}
 use Rattle.image.specs.Image.{IsOpen}
 use Rattle.image.specs.ImageBlocks.{bytes_of, pointers_bytes, pointers_of}
 use Rattle.image.proofs.Pointers.{length-pointers_bytes}
+use Rattle.images.specs.StepWrites.{AreMade}
 use Rattle.images.specs.Stored.{AreStored, IsStored, AreMapsBeside}
 use Rattle.images.proofs.Drawing.{stored_stay}
 use Rattle.images.proofs.LiveChange.{put_beside, kept_beside, change_stored, number_open}
 use Rattle.images.proofs.MadeBlocks.{all_made, all_within, each_young}
+use Rattle.images.proofs.StepMade.{all_made as all_new}
 use Rattle.images.proofs.Stays.{changed_from, of_snap}
 use Rattle.images.proofs.Walking.{cell_reached}
 use Rattle.images.proofs.Written.{unique_in, rewrite_rises}
@@ -87,6 +89,23 @@ begun_from w name sent force = by_source (sent.source == 0) force
     by_source true b = put_maps w.file_systems name empty_file_system (λ m h. ⊎_elim (λ (e : m ≡ finmap.empty). inl e) (λ none. absurd none) h)
     by_source false true = by_newest (newest_of w name) refl
     by_source false false = same_maps w.file_systems
+
+-- and its open group
+begun_group : (w : World) (name : Name) (sent : Sending) (force : Bool) → (before_receive w name sent force).group ≡ w.group
+begun_group w name sent force = by_source (sent.source == 0) force
+  where
+    by_system : (t : Snap) (x : Option FileSystem) → (option_map_or (λ (f : FileSystem). record w { file_systems = insert w.file_systems name (back_to_newest t f) }) x w).group ≡ w.group
+    by_system t None = refl
+    by_system t (Some f) = refl
+
+    by_newest : (x : Option Snap) → (option_map_or (λ (t : Snap). with_losses w (with_file_system w name (back_to_newest t))) x w).group ≡ w.group
+    by_newest None = refl
+    by_newest (Some t) = by_system t (get w.file_systems name)
+
+    by_source : (a b : Bool) → (if a then with_new_file_system w name else if b then forced_back w name else w).group ≡ w.group
+    by_source true b = refl
+    by_source false true = by_newest (newest_of w name)
+    by_source false false = refl
 
 -- ---- bytes of blocks
 
@@ -203,11 +222,20 @@ module _ (s : State) (good : IsPoolState s) (m : Member) (force : Bool) (sent : 
     pub each_may : MayWrite (synced_numbers s.size s.last) (Each blocks)
     each_may = (all_in (λ (b : BlockNo × List ℕ). IsOpen (synced_numbers s.size s.last) b.0.0) blocks.items open_at, all_in (λ (b : BlockNo × List ℕ). length b.1 ≡ 512) blocks.items long_at)
 
-    pub each_leads : LeadsTo s (put_freeing s i.to i.freeing) (Each blocks)
-    each_leads image stored =
+    each_stored : (image : ℕ → List ℕ) → IsStored s image → AreStored (maps_of_both now s.last) (blocks_put image (map written_pair blocks.items))
+    each_stored image stored =
         let own = from_now image stored in
         subst (λ ws. AreStored (maps_of_both now s.last) (blocks_put image ws)) (sym are)
         (change_stored begun now is.begun after name new here beside image (blocks_put image (writes_of new is.change.change.made))
         (all_made f.live ch w.group (young_of (datasets_of begun) name s.last.group) is.states is.change.change change unique image (subst (HasBlocks image) old_map (own.blocks (InNow (Live name)))))
         (all_within f.live ch w.group (young_of (datasets_of begun) name s.last.group) is.states is.change.change change unique image)
         (rises image own) own)
+
+    each_new : AreMade s (put_freeing s i.to i.freeing) (map written_pair blocks.items)
+    each_new = subst (AreMade s (put_freeing s i.to i.freeing)) (sym are)
+        (all_new s (put_freeing s i.to i.freeing) name new live_now (writes_of new is.change.change.made) (λ v j.
+        let k = each_young f.live ch w.group (young_of (datasets_of begun) name s.last.group) is.states is.change.change change unique v j in
+        (k.0, k.1, k.2, k.3, k.4 ∙ begun_group s.now name sent force)))
+
+    pub each_leads : LeadsTo s (put_freeing s i.to i.freeing) (Each blocks)
+    each_leads = record { stored = each_stored; made = λ image. each_new }

@@ -38,11 +38,13 @@ use Rattle.image.specs.Image.{IsOpen}
 use Rattle.image.specs.PathWrites.{block_on, path_writes, IsPathChange, IsPathOpen, AreSourcesApart}
 use Rattle.image.proofs.AfterChange.{same_bytes}
 use Rattle.image.proofs.PathsApart.{paths_apart}
+use Rattle.images.specs.StepWrites.{AreMade}
 use Rattle.images.specs.Stored.{IsStored, AreStored, AreMapsBeside}
 use Rattle.images.specs.Updates.{ChangesSome, IsWritten}
 use Rattle.images.proofs.LiveChange.{put_beside, change_stored, number_open}
 use Rattle.images.proofs.MadeBlocks.{path_made, path_within}
 use Rattle.images.proofs.OnePath.{path_young, path_change}
+use Rattle.images.proofs.StepMade.{none_made, path_all_made}
 use Rattle.images.proofs.Standing.{there_some, missing_none}
 use Rattle.images.proofs.Touching.{punch_idle}
 use Rattle.images.proofs.Walking.{cell_reached}
@@ -92,6 +94,9 @@ module _ (s : State) (numbers : List BlockState) (sound : IsSound s numbers) (na
   here : map_of (record s.now { file_systems = new.file_systems; group = new.group }) (Live name) ≡ has.change.new
   here = map_of_live now name (record f { live = m }) here_at
 
+  live_now : live_of new.file_systems name ≡ has.change.new
+  live_now = ap (λ x. option_map_or (λ (f : FileSystem). f.live) x finmap.empty) here_at
+
   beside : AreMapsBeside has.change.new s.now.file_systems new.file_systems
   beside = subst (AreMapsBeside m s.now.file_systems) (sym systems) (put_beside s.now.file_systems name f at m)
 
@@ -129,7 +134,7 @@ module _ (s : State) (numbers : List BlockState) (sound : IsSound s numbers) (na
   had image stored = subst (HasBlocks image) old_map (stored.blocks (InNow (Live name)))
 
   -- nothing was there to punch
-  idle_leads : IsMissing path u → LeadsTo s (with_datasets s new) Idle
+  idle_leads : IsMissing path u → (image : ℕ → List ℕ) → IsStored s image → AreStored (maps_of_both now s.last) image
   idle_leads missing image stored =
       change_stored s now good after.good name m here beside image image (still (untouched u batch was_live missing)) (λ q. inr refl) (rises image stored) stored
     where
@@ -189,6 +194,11 @@ module _ (s : State) (numbers : List BlockState) (sound : IsSound s numbers) (na
         (path_within s.size image f.live m leaf (block_on before) (block_on after_path) bytes tree new_tree unique at_leaf (had image stored))
         (rises image stored) stored
 
+    -- and its blocks are new
+    pub path_new : (image : ℕ → List ℕ) → AreMade s (with_datasets s new) (path_writes image leaf (block_on before) (block_on after_path) bytes 6)
+    path_new image = path_all_made s (with_datasets s new) name m live_now image leaf (block_on before) (block_on after_path) bytes is.2
+        (λ l x low there. path_young s.size f.live m tree u batch s.now.group change.number change.new_is some l x low (ap (λ n. get m (key_over n l)) (sym is.0) ∙ there))
+
   -- so may what is left to be written, and it leads there
   may_write : (writes : Writes) → IsWrittenAs has.change.new u path writes → MayWrite (synced_numbers s.size s.last) writes
   may_write Idle is = tt
@@ -196,8 +206,11 @@ module _ (s : State) (numbers : List BlockState) (sound : IsSound s numbers) (na
   may_write (Each blocks) is = absurd is
 
   leads_to : (writes : Writes) → IsWrittenAs has.change.new u path writes → LeadsTo s (with_datasets s new) writes
-  leads_to Idle is = idle_leads is
-  leads_to (OnPath p bytes) is = path_leads p.value.leaf p.value.before p.value.after bytes (is.0.0, is.1, is.2, is.0.1, is.0.2, is.3)
+  leads_to Idle is = record { stored = idle_leads is; made = λ image. none_made s (with_datasets s new) }
+  leads_to (OnPath p bytes) is = record {
+    stored = path_leads p.value.leaf p.value.before p.value.after bytes (is.0.0, is.1, is.2, is.0.1, is.0.2, is.3);
+    made = path_new p.value.leaf p.value.before p.value.after bytes (is.0.0, is.1, is.2, is.0.1, is.0.2, is.3);
+  }
   leads_to (Each blocks) is = absurd is
 
   module _ (writes : Writes) (left : IsLeftBy u s.now.group done.made.items path writes) where

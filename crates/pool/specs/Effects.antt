@@ -1,5 +1,5 @@
 -- What a request leads to, and what it leaves to be done beside its world.
-use Rattle.std.specs.Prelude.{◌≡◌, ℕ, List, Result, Ok, Err, map, length}
+use Rattle.std.specs.Prelude.{◌≡◌, ℕ, List, [], Result, Ok, Err, map, length}
 use Rattle.base.specs.Counting.{counted}
 use Rattle.base.specs.Surveys.{dead_block}
 use Rattle.base.specs.declared.refusal.Refusal.{Refusal}
@@ -79,6 +79,11 @@ image_after size i (Guids next) = i
 image_after size i (Taken taken) = i
 image_after size i Abandoned = i
 image_after size i (Closed number) = i
+
+-- the blocks that are written into an image of these bytes, each with its number (profile)
+abbrev pub blocks_written : List ℕ → Effect → List (ℕ × List ℕ)
+blocks_written bytes (Blocks done writes) = writes_in (block_at bytes) writes
+blocks_written bytes effect = []
 
 -- how often states were put into it (profile)
 abbrev pub keeps_of : ℕ → Effect → ℕ

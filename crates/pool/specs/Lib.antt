@@ -7,3 +7,4 @@ pub mod Reached
 pub mod Effects
 pub mod Plans
 pub mod Asked
+pub mod Applied

@@ -11,6 +11,7 @@ use Rattle.world.specs.Tables.{world_of}
 use Rattle.removals.specs.Requests.{IsSweptBut}
 use Rattle.steps.specs.Handed.{IsAccounted}
 use Rattle.steps.specs.Steady.{IsSteady}
+use Rattle.host_laws.specs.Both.{AreSnapshotsOne}
 use Rattle.pool.specs.Images.{IsImageOf}
 pub use Rattle.pool.specs.Numbers.{synced_numbers}
 use Rattle.pool.specs.Shown.{Shown, shown}
@@ -55,8 +56,8 @@ abbrev pub AreBelow : Views → ℕ → Type 0
 AreBelow views next = (v : ℕ) (id : SnapId) → get views v ≡ Some id → v < next
 
 -- the pool is sound with this present world, both worlds have their ledgers, no open view has a number that is still to be given, the states
--- of the last sync are those that its world gives, no snapshot of that waited for a sweep but for a view, and the image is that of both
--- worlds (profile)
+-- of the last sync are those that its world gives, no snapshot of that waited for a sweep but for a view, a snapshot of both worlds has one map,
+-- and the image is that of both worlds (profile)
 pub record IsHeld (k : Keep) (w : World) : Type 0 where
   pub sound : IsSound (state_in k w) k.numbers.present
   pub now : IsKept w
@@ -64,4 +65,5 @@ pub record IsHeld (k : Keep) (w : World) : Type 0 where
   pub views : AreBelow k.views.opened k.views.next
   pub synced : k.numbers.synced ≡ synced_numbers k.size (world_in k.last)
   pub swept : IsSweptBut k.last.table (map snap_id k.viewed.items)
+  pub one : AreSnapshotsOne (state_in k w)
   pub image : IsImageOf (state_in k w) k.image

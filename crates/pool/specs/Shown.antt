@@ -21,11 +21,12 @@ pub record Shown : Type 0 where
 abbrev pub shown : State → List BlockState → ShownImage → ℕ → ℕ → Shown
 shown s numbers image nodes segments = record { state = s; numbers = numbers; image = image; nodes = nodes; segments = segments }
 
--- what contracts see of a prepared step: the pool that it was prepared on, the state that it leads to, and how often states were put into the
--- image then (profile)
+-- what contracts see of a prepared step: the pool that it was prepared on, the state that it leads to, the blocks that it writes into the
+-- image, each with its number, and how often states were put into that then (profile)
 pub record Leap : Type 0 where
   pub from : Shown
   pub to : State
+  pub writes : List (ℕ × List ℕ)
   pub keeps : ℕ
 
 -- the code of what they see of an image (profile)
@@ -43,5 +44,5 @@ shown_code =
 -- the code of what they see of a prepared step (profile)
 abbrev pub leap_code : Coded Leap
 leap_code =
-    code_by (Shown × (State × ℕ)) (coded× shown_code (coded× state_code coded_ℕ))
-    (λ x. (x.from, (x.to, x.keeps))) (λ p. record { from = p.0; to = p.1.0; keeps = p.1.1 }) (λ _. refl)
+    code_by (Shown × (State × (List (ℕ × List ℕ) × ℕ))) (coded× shown_code (coded× state_code (coded× (coded_list (coded× coded_ℕ (coded_list coded_ℕ))) coded_ℕ)))
+    (λ x. (x.from, (x.to, (x.writes, x.keeps)))) (λ p. record { from = p.0; to = p.1.0; writes = p.1.1.0; keeps = p.1.1.1 }) (λ _. refl)

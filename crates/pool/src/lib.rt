@@ -14,6 +14,7 @@ mod changing;
 mod cloning;
 mod destroying;
 mod effect;
+mod image_laws;
 mod keep;
 mod kind;
 mod limiting;
@@ -26,6 +27,7 @@ mod syncing;
 mod viewing;
 mod worlds;
 
+pub use image_laws::pool_image_laws;
 pub use images::DatasetRoot;
 pub use pool::{Pool, Ready};
 pub use zalloc::MOST_BLOCKS;

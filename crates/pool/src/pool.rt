@@ -1,22 +1,15 @@
 //! The pool and its steps.
-ghost use Rattle.std.specs.Prelude.{◌≡◌, ◌≢◌, ◌<◌, ◌≤◌, ◌⊎◌, ◌↔◌, ℕ, List, None, Err, IfOk, IfErr, map, take, if◌then◌else◌};
+ghost use Rattle.std.specs.Prelude.{◌≡◌, ◌≢◌, ◌<◌, ◌≤◌, ◌*◌, ◌⊎◌, ◌↔◌, [], None, Err, true, IfOk, IfErr, map, replicate, if◌then◌else◌};
 ghost use Rattle.base.specs.declared.refusal.Refusal.{Refusal};
 ghost use Rattle.model.specs.State.{fresh_state};
 ghost use Rattle.model.specs.Step.{Step};
-ghost use Rattle.model.specs.Numbers.{IsNumbered, HasStates};
-ghost use Rattle.model.specs.Sums.{IsBalanced};
 ghost use Rattle.model.specs.Run.{Run};
-ghost use Rattle.world.specs.RunLaws.{IsViewing};
-ghost use Rattle.world.specs.Worlds.{IsPoolState};
-ghost use Rattle.accounts.specs.Limits.{AreQuotasMet};
+ghost use Rattle.pool.specs.Applied.{IsBetween, IsApplied, AreApplied};
 ghost use Rattle.pool.specs.Kinds.{kind_of};
 ghost use Rattle.pool.specs.Reached.{IsMetered};
-ghost use Rattle.image.specs.BlockWrites.{images_put};
-ghost use Rattle.image.specs.Image.{AreOpen};
-ghost use Rattle.image.specs.ImageBlocks.{block_at};
-ghost use Rattle.images.specs.Stored.{AllWalk};
-ghost use Rattle.pool.specs.Images.{IsWalked, AreWrites, HasMoments, keeps_after};
-ghost use Rattle.pool.specs.Plans.{state_after_plan, keeps_after_plan, CanDo};
+ghost use Rattle.images.specs.StepWrites.{writes_nothing, AreStepWrites, StepWrites};
+ghost use Rattle.pool.specs.Images.{keeps_after};
+ghost use Rattle.pool.specs.Plans.{state_after_plan, writes_of_plan, keeps_after_plan, CanDo};
 ghost use Rattle.pool.specs.Pools.{state_in, shown_in, IsHeld};
 ghost use Rattle.images.specs.Roots.{shown_root, roots_in};
 ghost use Rattle.pool.specs.declared.kind.Kind.{Kind};
@@ -90,24 +83,26 @@ pub struct Ready {
 
 impl Model for Ready {
     ghost use Rattle.pool.specs.Shown.{Leap, leap_code};
-    ghost use Rattle.pool.specs.Plans.{state_after_plan, keeps_after_plan, CanDo};
+    ghost use Rattle.pool.specs.Plans.{state_after_plan, writes_of_plan, keeps_after_plan, CanDo};
 
     ghost Value = { Leap };
 
     ghost coded = { leap_code };
 
-    ghost view = { λ r. record { from = r.from.value; to = state_after_plan r.from.value.state r.plan; keeps = keeps_after_plan r.from.value.image.keeps r.plan } };
+    ghost view = { λ r. record { from = r.from.value; to = state_after_plan r.from.value.state r.plan; writes = writes_of_plan r.from.value.image.bytes r.plan; keeps = keeps_after_plan r.from.value.image.keeps r.plan } };
 
     ghost invariant = { λ r. CanDo r.from.value.state r.from.value.numbers r.plan };
 }
 
 impl Pool {
-    /// A pool with this id and this many blocks, all free: the root file system alone, empty, in group 1. BadName for id 0, else
-    /// TooMany for no block or more than `MOST_BLOCKS`, else NoMemory where there is no room for the blocks and their states.
+    /// A pool with this id and this many blocks, all free: the root file system alone, empty, in group 1, over an image that is all zero.
+    /// BadName for id 0, else TooMany for no block or more than `MOST_BLOCKS`, else NoMemory where there is no room for the blocks and their
+    /// states.
     pub fn create(alloc: Global, id: u32, blocks: u32) -> Result<Pool, Refusal>
         ensures ok { IfOk result (λ p. p.state ≡ fresh_state id blocks) }
         ensures meters { IfOk result (λ p. (p.nodes ≡ 0) × (p.segments ≡ 0)) }
-        ensures walked { IfOk result (λ p. IsWalked p.state p.image) }
+        ensures between { IfOk result IsBetween }
+        ensures zeros { IfOk result (λ p. p.image.bytes ≡ replicate (512 * blocks) 0) }
         ensures keeps { IfOk result (λ p. p.image.keeps ≡ 0) }
         ensures bad_name { (result ≡ Err Refusal.BadName) ↔ (id ≡ 0) }
         ensures too_many { (result ≡ Err Refusal.TooMany) ↔ ((0 < id) × ((blocks < 1) ⊎ (MOST_BLOCKS < blocks))) }
@@ -128,6 +123,7 @@ impl Pool {
         requires { blocks ≤ MOST_BLOCKS }
         ensures ok { IfOk result (λ p. p.state ≡ fresh_state id blocks) }
         ensures meters { IfOk result (λ p. (p.nodes ≡ 0) × (p.segments ≡ 0)) }
+        ensures zeros { IfOk result (λ p. p.image.bytes ≡ replicate (512 * blocks) 0) }
         ensures keeps { IfOk result (λ p. p.image.keeps ≡ 0) }
         ensures only { IfErr result (λ e. e ≡ Refusal.NoMemory) }
     {
@@ -160,22 +156,18 @@ impl Pool {
 
     /// Makes all growths of a request, and its reply. The state stays as it is until `commit`. What changes file systems is made on a copy of
     /// them, which costs a count for each file system; beside it a request costs what `apply` says, and a write a copy of its bytes. What only
-    /// reads copies nothing, and nor does the opening of a view.
+    /// reads copies nothing, and nor does the opening of a view. Nothing is written into the image; what is refused or only reads leaves nothing
+    /// to be written.
     pub fn prepare(&mut self, alloc: Global, request: &Request) -> (Reply, Ready)
         ensures same { self.new.state ≡ self.old.state }
         ensures same_numbers { self.new.numbers ≡ self.old.numbers }
         ensures same_image { self.new.image ≡ self.old.image }
         ensures from { result.1.from ≡ self.new }
+        ensures none { writes_nothing request.now result.0 ≡ true → result.1.writes ≡ [] }
         ensures keeps { result.1.keeps ≡ keeps_after request.now result.0 self.old.image.keeps }
         ensures metered { IsMetered self.old request.now result.0 self.new }
         ensures step { Step self.old.state request.now result.0 result.1.to }
-        ensures numbered { IsNumbered self.old.state }
-        ensures states { HasStates self.old.state self.old.numbers }
-        ensures balanced { IsBalanced self.old.state }
-        ensures kept { IsPoolState self.old.state }
-        ensures quotas { AreQuotasMet self.old.state.now }
-        ensures viewing { IsViewing self.old.state }
-        ensures walked { IsWalked self.old.state self.old.image }
+        ensures between { IsBetween self.old }
     {
         self.facts();
         let (reply, plan) = self.planned(alloc, request);
@@ -189,6 +181,7 @@ impl Pool {
         ensures same_image { self.new.image ≡ self.old.image }
         ensures metered { IsMetered self.old request.now result.0 self.new }
         ensures can { CanDo self.old.state self.old.numbers result.1 }
+        ensures none { writes_nothing request.now result.0 ≡ true → writes_of_plan self.old.image.bytes result.1 ≡ [] }
         ensures keeps { keeps_after_plan self.old.image.keeps result.1 ≡ keeps_after request.now result.0 self.old.image.keeps }
         ensures step { Step self.old.state request.now result.0 (state_after_plan self.old.state result.1) }
     {
@@ -208,6 +201,7 @@ impl Pool {
     fn viewed(&self, alloc: Global, request: &Request) -> (Reply, Plan)
         requires { kind_of request.now ≡ Kind.View }
         ensures can { CanDo self.now.state self.now.numbers result.1 }
+        ensures none { writes_of_plan self.now.image.bytes result.1 ≡ [] }
         ensures keeps { keeps_after_plan self.now.image.keeps result.1 ≡ keeps_after request.now result.0 self.now.image.keeps }
         ensures step { Step self.now.state request.now result.0 (state_after_plan self.now.state result.1) }
     {
@@ -232,6 +226,7 @@ impl Pool {
         ensures same_image { self.new.image ≡ self.old.image }
         ensures metered { IsMetered self.old request.now result.0 self.new }
         ensures can { CanDo self.old.state self.old.numbers result.1 }
+        ensures none { writes_nothing request.now result.0 ≡ true → writes_of_plan self.old.image.bytes result.1 ≡ [] }
         ensures keeps { keeps_after_plan self.old.image.keeps result.1 ≡ keeps_after request.now result.0 self.old.image.keeps }
         ensures step { Step self.old.state request.now result.0 (state_after_plan self.old.state result.1) }
     {
@@ -253,16 +248,32 @@ impl Pool {
         (reply, Plan::Put { to, effect })
     }
 
-    /// Does what was just prepared. It takes no memory. It costs the blocks that it releases, takes and writes; a sync costs what waits, and what
+    /// Does what was just prepared, and writes its blocks into the image, one after the other: at each moment of that the datasets which the last
+    /// sync left can be walked. It takes no memory. It costs the blocks that it releases, takes and writes; a sync costs what waits, and what
     /// only the world before it reached; it and an abandon cost the numbers that have changed since the last sync.
     pub fn commit(&mut self, ready: Ready)
         requires { ready.from ≡ self.old }
         ensures to { self.new.state ≡ ready.to }
-        ensures writes { AreWrites self.old.image self.new.image }
+        ensures writes { AreStepWrites self.old.state ready.to ready.writes self.old.image self.new.image }
+        ensures keeps { self.new.image.keeps ≡ ready.keeps }
+        ensures nodes { self.new.nodes ≡ self.old.nodes }
+        ensures segments { self.new.segments ≡ self.old.segments }
+        ensures between { IsBetween self.new }
+    {
+        self.carry_out(ready);
+        self.facts();
+    }
+
+    // Does what was prepared.
+    fn carry_out(&mut self, ready: Ready)
+        requires { ready.from ≡ self.old }
+        ensures to { self.new.state ≡ ready.to }
+        ensures writes { AreStepWrites self.old.state ready.to ready.writes self.old.image self.new.image }
         ensures keeps { self.new.image.keeps ≡ ready.keeps }
         ensures nodes { self.new.nodes ≡ self.old.nodes }
         ensures segments { self.new.segments ≡ self.old.segments }
     {
+        let _group = self.present.table.group();
         let Ready { plan, from } = ready;
         match plan {
             Plan::Nothing => {}
@@ -281,20 +292,12 @@ impl Pool {
     /// that of the number of its file system's snapshots. A write or a punch costs the path to its leaf, and to free an object its nodes; a
     /// sync and an abandon cost a count for each file system; each other request costs what the function says that makes it, as `Table::create`,
     /// `snap::clones::promote`, `removals::destroy`. What only reads costs what `steps::answer` says, and the opening of a view what
-    /// `sources::sources_of` does.
+    /// `sources::sources_of` does. The blocks that a change makes are written into the image, one after the other, and nothing else is: at each
+    /// moment of that the datasets which the last sync left can be walked.
     pub fn apply(&mut self, alloc: Global, request: &Request, reply: &mut Reply)
         ensures step { Step self.old.state request.now reply.new self.new.state }
-        ensures metered { IsMetered self.old request.now reply.new self.new }
-        ensures numbered { IsNumbered self.new.state }
-        ensures states { HasStates self.new.state self.new.numbers }
-        ensures balanced { IsBalanced self.new.state }
-        ensures kept { IsPoolState self.new.state }
-        ensures quotas { AreQuotasMet self.new.state.now }
-        ensures viewing { IsViewing self.new.state }
-        ensures walked { IsWalked self.new.state self.new.image }
-        ensures writes { AreWrites self.old.image self.new.image }
-        ensures moments { HasMoments self.old.state self.old.image self.new.image }
-        ensures keeps { self.new.image.keeps ≡ keeps_after request.now reply.new self.old.image.keeps }
+        ensures applied { IsApplied self.old request.now reply.new self.new }
+        ensures between { IsBetween self.new }
     {
         self.facts();
         make_done(reply);
@@ -305,14 +308,7 @@ impl Pool {
 
     // What holds of a pool between two steps: it opens the pool to its proof, and reads nothing.
     fn facts(&self)
-        ensures numbered { IsNumbered self.now.state }
-        ensures states { HasStates self.now.state self.now.numbers }
-        ensures balanced { IsBalanced self.now.state }
-        ensures kept { IsPoolState self.now.state }
-        ensures quotas { AreQuotasMet self.now.state.now }
-        ensures viewing { IsViewing self.now.state }
-        ensures walked { IsWalked self.now.state self.now.image }
-        ensures moments { (writes : List (ℕ × List ℕ)) → AreOpen self.now.image.kept writes → (i : ℕ) → AllWalk (block_at (images_put self.now.image.bytes (take i writes))) self.now.state.size self.now.state.last }
+        ensures { IsBetween self.now }
     {
         let _group = self.present.table.group();
     }
@@ -332,9 +328,10 @@ impl Pool {
         requires { reply.old ≡ Reply.Done }
         ensures step { Step self.old.state request.now reply.new self.new.state }
         ensures metered { IsMetered self.old request.now reply.new self.new }
-        ensures writes { AreWrites self.old.image self.new.image }
+        ensures writes { StepWrites self.old.state request.now reply.new self.new.state self.old.image self.new.image }
         ensures keeps { self.new.image.keeps ≡ keeps_after request.now reply.new self.old.image.keeps }
     {
+        let _group = self.present.table.group();
         match kind_of(request) {
             Kind::Question => {
                 self.keep
@@ -370,7 +367,7 @@ impl Pool {
     fn prepared(&mut self, alloc: Global, request: &Request) -> Reply
         ensures step { Step self.old.state request.now result self.new.state }
         ensures metered { IsMetered self.old request.now result self.new }
-        ensures writes { AreWrites self.old.image self.new.image }
+        ensures writes { StepWrites self.old.state request.now result self.new.state self.old.image self.new.image }
         ensures keeps { self.new.image.keeps ≡ keeps_after request.now result self.old.image.keeps }
     {
         let (reply, ready) = self.prepare(alloc, request);
@@ -390,8 +387,8 @@ impl Pool {
 
     /// The blocks of the pool as bytes, each at its number: those of the present datasets, and of those that the last sync left. Constant time.
     pub fn image(&self) -> &Image
-        ensures image { result.now ≡ self.now.image }
-        ensures walked { IsWalked self.now.state result.now }
+        ensures same { result.now ≡ self.now.image }
+        ensures between { IsBetween self.now }
     {
         self.facts();
         &self.keep.image
@@ -414,8 +411,11 @@ impl Pool {
     /// no request was begun.
     pub fn run(&mut self, alloc: Global, requests: &[Request]) -> Result<Vec<Reply>, Refusal>
         ensures ok { IfOk result (λ replies. Run self.old.state requests.now replies.items self.new.state) }
+        ensures applied { IfOk result (λ replies. AreApplied self.old requests.now replies.items self.new) }
+        ensures between { IsBetween self.new }
         ensures err { IfErr result (λ e. (e ≡ Refusal.NoMemory) × (self.new ≡ self.old)) }
     {
+        self.facts();
         let mut replies = Vec::with_capacity(alloc, requests.len())?;
         for request in requests {
             let mut reply = Reply::Done;
@@ -459,9 +459,10 @@ fn in_place(
     ensures held { IsHeld keep.new world.new }
     ensures step { Step (state_in keep.old world.old) request.now reply.new (state_in keep.new world.new) }
     ensures metered { IsMetered (shown_in keep.old world.old meters.old) request.now reply.new (shown_in keep.new world.new meters.new) }
-    ensures writes { AreWrites keep.old.image keep.new.image }
+    ensures writes { StepWrites (state_in keep.old world.old) request.now reply.new (state_in keep.new world.new) keep.old.image keep.new.image }
     ensures keeps { keep.new.image.keeps ≡ keeps_after request.now reply.new keep.old.image.keeps }
 {
+    let _group = world.table.group();
     match keep.perform(alloc, world, request, meters) {
         Ok(effect) => {
             effect.tell(reply);

@@ -14,12 +14,12 @@ use Rattle.model.specs.declared.request.Request.{Request}
 use Rattle.model.specs.declared.request.Request.TheVariants.{OpenView, CloseView}
 use Rattle.model.specs.declared.reply.Reply.{Reply}
 use Rattle.model.specs.declared.reply.Reply.TheVariants.{Done, Refused, Opened}
-use Rattle.session.specs.Handed.{Ran, IsFullOrNoMemory, Placed, Kept}
+use Rattle.session.specs.Handed.{Ran, IsFullOrNoMemory, is_opened, Placed, Kept}
 use Rattle.session.specs.ViewCalls.{is_of_views}
 use Rattle.session.specs.Views.{Viewed}
 use Rattle.runner.specs.Beside.{Gains, where_opened, where_done, opened_by, closed_by}
 use Rattle.runner.specs.Sitting.{Sitting}
-use Rattle.runner.proofs.Holding.{same_held, none_done, any_number, no_position}
+use Rattle.runner.proofs.Holding.{same_held, none_done, none_opened, any_number, no_position}
 
 -- the numbers of views
 abbrev pub numbers : List Viewed → List ℕ
@@ -99,6 +99,14 @@ pub gains_opened : (seat after : Kept) (vs ws : List Viewed) (v : Viewed) (targe
 gains_opened seat after vs ws v target r reply grown ran shown e =
     gains_receipt (at_seat seat vs) (at_seat after ws) (OpenView target) reply r ran
     (subst (λ xs. IsPermutation (where_opened r.entry.reply ++ numbers vs) (numbers xs)) (sym grown) (held_opened vs v r.entry.reply shown)) e
+
+-- where the pool opened none, it holds what it held
+pub gains_unopened : (seat after : Kept) (vs ws : List Viewed) (target : Target) (r : Placed) (reply : Option Reply) → ws ≡ vs → Ran seat (OpenView target) r after
+    → is_opened r.entry.reply ≡ false → IfSome reply (λ x. x ≡ r.entry.reply) → Gains (record { seat = seat; held = numbers vs }) (OpenView target) reply (record { seat = after; held = numbers ws })
+gains_unopened seat after vs ws target r reply same ran none e =
+    let held : IsPermutation (numbers vs) (numbers ws) = subst (λ us. IsPermutation (numbers vs) (numbers us)) (sym same) (IsPermutation-refl (numbers vs)) in
+    gains_receipt (at_seat seat vs) (at_seat after ws) (OpenView target) reply r ran
+    (subst (λ ns. IsPermutation (ns ++ numbers vs) (numbers ws)) (sym (none_opened r.entry.reply none)) held) e
 
 module _ (seat : Kept) (vs rest : List Viewed) (n i : ℕ) (v : Viewed) (first : Some i ≡ position (λ (w : Viewed). w.number == n) vs) (at : v ≡ get_or vs i v) (less : rest ≡ swap_remove vs i v) where
   number : v.number ≡ n

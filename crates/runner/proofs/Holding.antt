@@ -7,10 +7,11 @@ use Rattle.std.proofs.lemmas.List.Sorted.{IsPermutation-refl}
 use Rattle.model.specs.declared.request.Request.{Request}
 use Rattle.model.specs.declared.request.Request.TheVariants.{OpenView, CloseView}
 use Rattle.model.specs.declared.reply.Reply.{Reply}
-use Rattle.model.specs.declared.reply.Reply.TheVariants.{Done}
+use Rattle.model.specs.declared.reply.Reply.TheVariants.{Done, Opened}
+use Rattle.session.specs.Handed.{is_opened}
 use Rattle.session.specs.ViewCalls.{is_of_views}
 use Rattle.session.specs.Views.{Viewed}
-use Rattle.runner.specs.Beside.{where_done, opened_by, closed_by}
+use Rattle.runner.specs.Beside.{where_opened, where_done, opened_by, closed_by}
 
 -- a request that isn't of views opens and closes none
 pub same_held : (q : Request) (r : Reply) (held : List ℕ) → is_of_views q ≡ false → IsPermutation (opened_by q r ++ held) (closed_by q r ++ held)
@@ -22,6 +23,11 @@ same_held request r held e = IsPermutation-refl held
 pub none_done : (n : ℕ) (r : Reply) → r ≢ Done → where_done n r ≡ []
 none_done n Done e = absurd (e refl)
 none_done n reply e = refl
+
+-- a reply that opened no view
+pub none_opened : (r : Reply) → is_opened r ≡ false → where_opened r ≡ []
+none_opened (Opened view sight) e = absurd (cc e)
+none_opened reply e = refl
 
 -- the numbers of views that have one
 pub any_number : (vs : List Viewed) (n : ℕ) → list_any (λ k. k == n) (map (λ (v : Viewed). v.number) vs) ≡ list_any (λ (v : Viewed). v.number == n) vs

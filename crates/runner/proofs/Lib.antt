@@ -1,3 +1,4 @@
 pub mod Rans
 pub mod Holding
 pub mod Gaining
+pub mod Asking

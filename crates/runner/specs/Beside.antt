@@ -1,11 +1,11 @@
 -- A script that runs beside workers.
-use Rattle.std.specs.Prelude.{◌≡◌, ◌==◌, ◌⊎◌, ℕ, Bool, false, List, [], ◌∷◌, ◌++◌, Option, Some, None}
+use Rattle.std.specs.Prelude.{◌≡◌, ◌==◌, ◌⊎◌, ℕ, Bool, false, List, [], ◌∷◌, ◌++◌, All, Option, Some, None}
 use Rattle.std.specs.List.{list_any}
 use Rattle.std.specs.List.Sorted.{IsPermutation}
 use Rattle.base.specs.declared.refusal.Refusal.{Refusal}
 use Rattle.base.specs.declared.refusal.Refusal.TheVariants.{NoView}
 use Rattle.model.specs.declared.request.Request.{Request}
-use Rattle.model.specs.declared.request.Request.TheVariants.{OpenView, CloseView}
+use Rattle.model.specs.declared.request.Request.TheVariants.{OpenView, CloseView, Sync, Slice}
 use Rattle.model.specs.declared.reply.Reply.{Reply}
 use Rattle.model.specs.declared.reply.Reply.TheVariants.{Done, Refused, Opened}
 use Rattle.model.specs.declared.entry.Entry.{Entry}
@@ -55,12 +55,23 @@ pub record HasHistory (opening : State) (seats : List Kept) : Type 0 where
   pub legal : IsLegal opening history end
   pub answered : IsAnswered history seats
 
+-- each receipt of the seat is for this request (profile)
+abbrev pub AsksOnly : Request → Kept → Type 0
+AsksOnly request seat = All (λ r. r.entry.request ≡ request) seat.receipts
+
+-- the workers' seats: one asked for syncs alone, the other for slices of 64 blocks alone (profile)
+pub record AreWorkers (syncer destroyer : Kept) : Type 0 where
+  pub syncs : AsksOnly Sync syncer
+  pub slices : AsksOnly (Slice 64) destroyer
+
 -- The script was run by a seat that had no receipts and held no view: each request gained a receipt, whose reply was written, or it was
--- refused as it stands above. The receipts, together with those of other seats, are a run of the pool from its opening state on
--- (profile)
+-- refused as it stands above. The receipts, together with those of a syncer and a destroyer, are a run of the pool from its opening state
+-- on (profile)
 pub record RanBeside (opening : State) (stop : Bool) (told held held' : Option (List ℕ)) (status : ℕ) : Type 0 where
   pub seat : Kept
-  pub others : List Kept
+  pub syncer : Kept
+  pub destroyer : Kept
   pub new : seat.receipts ≡ []
   pub ran : RanAs Gains stop told held held' (record { seat = seat; held = [] }) status
-  pub history : HasHistory opening (ran.after.seat ∷ others)
+  pub workers : AreWorkers syncer destroyer
+  pub history : HasHistory opening (ran.after.seat ∷ syncer ∷ destroyer ∷ [])

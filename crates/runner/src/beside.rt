@@ -1,8 +1,8 @@
 //! A script that runs beside workers.
 ghost use Rattle.std.specs.Prelude.{◌≡◌, ◌<◌, ◌≤◌, ℕ, List, [], ◌∷◌, IfSome};
-ghost use Rattle.session.specs.Handed.{Kept};
 ghost use Rattle.session.specs.declared.book.book.TheConstants.{CALL_LIMIT};
-ghost use Rattle.runner.specs.Beside.{Gains, HasHistory, RanBeside};
+ghost use Rattle.model.specs.declared.request.Request.TheVariants.{Sync as ToSync, Slice as ToSlice};
+ghost use Rattle.runner.specs.Beside.{Gains, HasHistory, RanBeside, AreWorkers, AsksOnly};
 ghost use Rattle.runner.specs.Status.{RanTo};
 
 use crate::run::{print_fault, run_on};
@@ -83,7 +83,8 @@ fn opened<K: Opening, T: Wait>(
 ) -> Option<(Session<K>, Seat<K>, Workers<K>)>
     requires opening { pool.state ≡ K.opening }
     requires limit { CALL_LIMIT ≡ K.limit }
-    ensures { IfSome result (λ r. r.1.receipts ≡ []) }
+    ensures new { IfSome result (λ r. r.1.receipts ≡ []) }
+    ensures workers { IfSome result (λ r. AreWorkers r.2.syncer r.2.destroyer) }
 {
     let session: Session<K> = match Session::open(alloc, pool, CALL_LIMIT) {
         Ok(session) => session,
@@ -93,11 +94,9 @@ fn opened<K: Opening, T: Wait>(
         }
     };
     let script = session.seat(alloc, rt).ok()?;
-    let workers = Workers {
-        syncer: session.seat(alloc, rt).ok()?,
-        destroyer: session.seat(alloc, rt).ok()?,
-    };
-    Some((session, script, workers))
+    let syncer = session.seat(alloc, rt).ok()?;
+    let destroyer = session.seat(alloc, rt).ok()?;
+    Some((session, script, Workers { syncer, destroyer }))
 }
 
 /// Runs the script by its seat, beside the workers, and gives the exit status and the seat. The views that are left open are forgotten.
@@ -120,6 +119,7 @@ where
     E: Write,
     ensures ran { result.0 < 2 → (held : List ℕ) × RanTo Gains stop (R.remaining reader.old) (W.contents writer.old) (W.contents writer.new)
         (record { seat = seat; held = [] }) (record { seat = result.1; held = held }) result.0 }
+    ensures workers { AreWorkers workers.old.syncer workers.old.destroyer → AreWorkers workers.new.syncer workers.new.destroyer }
 {
     let mut caller = Seated {
         alloc,
@@ -172,10 +172,13 @@ where
     W: Write + Failing,
     E: Write,
     ensures ran { result < 2 → RanTo C.asks stop (R.remaining reader.old) (W.contents writer.old) (W.contents writer.new) caller.old caller.new result }
+    ensures workers { AreWorkers workers.old.syncer workers.old.destroyer → AreWorkers workers.new.syncer workers.new.destroyer }
 {
     let (_, status) = join_mut(
         rt,
-        &mut || run_workers(rt, alloc, shared, workers),
+        &mut || -> ()
+            ensures { AreWorkers workers.entry.now.syncer workers.entry.now.destroyer → AreWorkers workers.exit.now.syncer workers.exit.now.destroyer }
+        { run_workers(rt, alloc, shared, workers) },
         &mut || -> u8
             ensures { result < 2 → RanTo C.asks stop (R.remaining reader.entry.now) (W.contents writer.entry.now) (W.contents writer.exit.now) caller.entry.now caller.exit.now result }
         {
@@ -218,26 +221,33 @@ fn run_workers<K: Opening + Send + Sync, T: Threads + Wait + Sync>(
     alloc: Global,
     shared: &Shared<K>,
     workers: &mut Workers<K>,
-) {
+)
+    ensures { AreWorkers workers.old.syncer workers.old.destroyer → AreWorkers workers.new.syncer workers.new.destroyer }
+{
     let Workers { syncer, destroyer } = workers;
     join_mut(
         rt,
-        &mut || run_syncer(rt, alloc, shared, syncer),
-        &mut || run_destroyer(rt, alloc, shared, destroyer),
+        &mut || -> ()
+            ensures { AsksOnly ToSync syncer.entry.now → AsksOnly ToSync syncer.exit.now }
+        { run_syncer(rt, alloc, shared, syncer) },
+        &mut || -> ()
+            ensures { AsksOnly (ToSlice 64) destroyer.entry.now → AsksOnly (ToSlice 64) destroyer.exit.now }
+        { run_destroyer(rt, alloc, shared, destroyer) },
     );
 }
 
-fn run_syncer<K: Opening, T: Wait>(rt: &T, alloc: Global, shared: &Shared<K>, seat: &mut Seat<K>) {
+/// Asks for syncs alone, one a turn.
+fn run_syncer<K: Opening, T: Wait>(rt: &T, alloc: Global, shared: &Shared<K>, seat: &mut Seat<K>)
+    ensures { AsksOnly ToSync seat.old → AsksOnly ToSync seat.new }
+{
     let mut turns = WorkerTurns::new(rt, &shared.lines);
     let _ = shared.session.run_syncer(alloc, rt, seat, &mut turns);
 }
 
-fn run_destroyer<K: Opening, T: Wait>(
-    rt: &T,
-    alloc: Global,
-    shared: &Shared<K>,
-    seat: &mut Seat<K>,
-) {
+/// Asks for slices of so many blocks alone, one a turn.
+fn run_destroyer<K: Opening, T: Wait>(rt: &T, alloc: Global, shared: &Shared<K>, seat: &mut Seat<K>)
+    ensures { AsksOnly (ToSlice 64) seat.old → AsksOnly (ToSlice 64) seat.new }
+{
     let mut turns = WorkerTurns::new(rt, &shared.lines);
     let _ = shared
         .session
@@ -256,7 +266,7 @@ fn close<K: Opening, E: Write>(
 ) -> u8
     requires { status < 2 }
     ensures same { result < 2 → result ≡ status }
-    ensures history { result < 2 → (others : List Kept) × HasHistory K.opening (script ∷ others) }
+    ensures history { result < 2 → HasHistory K.opening (script ∷ workers.syncer ∷ workers.destroyer ∷ []) }
     ensures fault { 2 ≤ result → result ≡ 3 }
 {
     let Workers { syncer, destroyer } = workers;

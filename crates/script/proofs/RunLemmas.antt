@@ -1,7 +1,7 @@
 -- Lemmas on runs of scripts.
 use Rattle.std.proofs.Common.{◌≡◌, ◌≢◌, ℕ, suc, ◌+◌, ◌<◌, ◌≤◌, Bool, true, false, List, [], ◌∷◌, ◌++◌, Option, None, Some, cond, length, take, eqb, refl, sym, ap, subst, ◌∙◌, inl, inr, arith, append_assoc, append-nil, take_all, length-take, true≢false, add-one, ◌⊎◌}
 use Rattle.std.proofs.lemmas.Bool.{cases_lt, lt-ltb}
-use Rattle.std.proofs.Common.{MatchBool, ◌&&◌, ◌||◌, IsTrue, IfOk, IfErr, OnOk, Result, Ok, Err}
+use Rattle.std.proofs.Common.{MatchBool, ◌&&◌, ◌||◌, is_some, IfOk, IfErr, OnOk, Result, Ok, Err}
 use Rattle.std.specs.Io.KnownBytes.{Keeps, Appends}
 use Rattle.std.proofs.KnownBytes.{Appends-trans, Appends-kept}
 use Rattle.base.specs.Failing.{HasRisen}
@@ -18,7 +18,7 @@ use Rattle.script.specs.declared.run.ScriptFault.{ScriptFault}
 use Rattle.script.specs.declared.run.ScriptFault.TheVariants.{NoMemory}
 use Rattle.script.specs.Lines.{lines, kept_of, line_limit, GivesLine, GivesNone, HasMore, HasNoFeed}
 use Rattle.script.specs.Meaning.{Meaning, Silent, Faulty, Asks, meaning, request_of}
-use Rattle.script.specs.Run.{Relation, is_refusal, output_of, Answers, IsUnanswered, Stops, IsRun, HasRun, HasBegun, IsFaultOf, HasFailed}
+use Rattle.script.specs.Run.{Relation, refusal_of, is_refusal, output_of, Answers, IsUnanswered, Stops, IsRun, HasRun, HasBegun, IsFaultOf, HasFailed}
 use Rattle.script.proofs.LinesLemmas.{lines-nil, lines-last}
 
 -- what a line that is too long asks for
@@ -66,31 +66,27 @@ or_false false = refl
 ok≢err : {T E : Type 0} {x : T} {e : E} → (let r : Result T E = Ok x in r) ≡ Err e → ⊥
 ok≢err h = (subst (λ r. IfOk r (λ _. Unit {0}) × IfErr r (λ _. ⊥)) h (tt, tt)).1
 
-unwritten≢ : (let r : Result Bool LineFault = Err Unwritten in r) ≡ Err LacksMemory → ⊥
+unwritten≢ : (let r : Result (Option Refusal) LineFault = Err Unwritten in r) ≡ Err LacksMemory → ⊥
 unwritten≢ h = cc
-
-is_true-true : (b : Bool) → IsTrue b → b ≡ true
-is_true-true true h = refl
-is_true-true false h = h
 
 or_assoc : (a b c : Bool) → ((a || b) || c) ≡ (a || (b || c))
 or_assoc true b c = refl
 or_assoc false b c = refl
 
 -- a line at fault
-pub served-fault : {C : Type 0} (asks : Relation C) (m : Meaning) (refusal : Refusal) (held held' : Option (List ℕ)) (s : C) (r : Result Bool LineFault)
-    → (refusal ≡ WantsMemory) ⊎ (m ≡ Faulty refusal) → IfOk r (λ b. IsTrue b × Appends held held' (line_of (Refused refusal))) → ((refusal ≡ WantsMemory) → r ≡ Err LacksMemory) → ((r ≡ Err LacksMemory) → held' ≡ held)
+pub served-fault : {C : Type 0} (asks : Relation C) (m : Meaning) (refusal : Refusal) (held held' : Option (List ℕ)) (s : C) (r : Result (Option Refusal) LineFault)
+    → (refusal ≡ WantsMemory) ⊎ (m ≡ Faulty refusal) → IfOk r (λ told. (told ≡ Some refusal) × Appends held held' (line_of (Refused refusal))) → ((refusal ≡ WantsMemory) → r ≡ Err LacksMemory) → ((r ≡ Err LacksMemory) → held' ≡ held)
     → IfOk r (IsServed asks m held held' s s) × IfErr r (IsUnserved asks m held held' s s)
-served-fault asks m refusal held held' s (Ok b) (inl e) ok none err = absurd (ok≢err (none e))
-served-fault asks m refusal held held' s (Ok b) (inr e) ok none err =
-    (record { reply = Some (Refused refusal); answered = subst (λ w. Answers asks w s (Some (Refused refusal)) s) (sym e) (refl, refl); written = ok.1; kind = is_true-true b ok.0 }, tt)
+served-fault asks m refusal held held' s (Ok told) (inl e) ok none err = absurd (ok≢err (none e))
+served-fault asks m refusal held held' s (Ok told) (inr e) ok none err =
+    (record { reply = Some (Refused refusal); answered = subst (λ w. Answers asks w s (Some (Refused refusal)) s) (sym e) (refl, refl); written = ok.1; kind = ok.0 }, tt)
 served-fault asks m refusal held held' s (Err LacksMemory) why ok none err = (tt, (err refl, inl refl))
 served-fault asks m refusal held held' s (Err Unwritten) (inl e) ok none err = absurd (unwritten≢ (none e))
 served-fault asks m refusal held held' s (Err Unwritten) (inr e) ok none err = (tt, (Refused refusal, subst (λ w. Answers asks w s (Some (Refused refusal)) s) (sym e) (refl, refl)))
 
 -- a request that has this reply, which is written or not
-pub served-reply : {C : Type 0} (asks : Relation C) (request : Request) (reply : Reply) (held held' : Option (List ℕ)) (s t : C) (r : Result Bool LineFault)
-    → asks s request (Some reply) t → OnOk r (Appends held held' (line_of reply)) → IfOk r (λ refused. refused ≡ is_refusal (Some reply)) → IfErr r (λ fault. fault ≡ Unwritten)
+pub served-reply : {C : Type 0} (asks : Relation C) (request : Request) (reply : Reply) (held held' : Option (List ℕ)) (s t : C) (r : Result (Option Refusal) LineFault)
+    → asks s request (Some reply) t → OnOk r (Appends held held' (line_of reply)) → IfOk r (λ refusal. refusal ≡ refusal_of (Some reply)) → IfErr r (λ fault. fault ≡ Unwritten)
     → IfOk r (IsServed asks (Asks request) held held' s t) × IfErr r (IsUnserved asks (Asks request) held held' s t)
 served-reply asks request reply held held' s t (Ok refused) told written kind fault =
     (record { reply = Some reply; answered = (reply, refl, told); written = written; kind = kind }, tt)
@@ -328,23 +324,23 @@ and_false true = refl
 and_false false = refl
 
 -- a line that was served by itself is a script of this line alone
-run-alone : {C : Type 0} (asks : Relation C) (line out : List ℕ) (s t : C) (b : Bool) → HasNoFeed line → IsServed asks (meaning line) (Some []) (Some out) s t b
-    → IsRun asks false (lines line) s out t b
+run-alone : {C : Type 0} (asks : Relation C) (line out : List ℕ) (s t : C) (told : Option Refusal) → HasNoFeed line → IsServed asks (meaning line) (Some []) (Some out) s t told
+    → IsRun asks false (lines line) s out t (is_some told)
 unfolding meaning
-run-alone asks [] out s t b none served =
+run-alone asks [] out s t told none served =
     let silent : (served.reply ≡ None) × (t ≡ s) = served.answered in
-    subst (λ ls. IsRun asks false ls s out t b) (sym lines-nil) (record {
+    subst (λ ls. IsRun asks false ls s out t (is_some told)) (sym lines-nil) (record {
       nothing = served.written ∙ ap output_of silent.0;
       same = silent.1;
-      none_refused = served.kind ∙ ap is_refusal silent.0;
+      none_refused = ap is_some served.kind ∙ ap is_refusal silent.0;
     })
-run-alone asks (x ∷ xs) out s t b none served =
+run-alone asks (x ∷ xs) out s t told none served =
     let run = run-one asks false (x ∷ xs) s t served.reply served.answered (and_false (is_refusal served.reply)) in
-    subst (λ ls. IsRun asks false ls s out t b) (sym (lines-last (x ∷ xs) none (λ e. absurd (omega (arith, ap length e)))))
+    subst (λ ls. IsRun asks false ls s out t (is_some told)) (sym (lines-last (x ∷ xs) none (λ e. absurd (omega (arith, ap length e)))))
     (subst (λ (p : List ℕ × Bool). IsRun asks false ((x ∷ xs) ∷ []) s p.0 t p.1)
-    (ap (λ l. (l, is_refusal served.reply || false)) (append-nil (output_of served.reply) ∙ sym served.written) ∙ ap (λ c. (out, c)) (or_false (is_refusal served.reply) ∙ sym served.kind)) run)
+    (ap (λ l. (l, is_refusal served.reply || false)) (append-nil (output_of served.reply) ∙ sym served.written) ∙ ap (λ c. (out, c)) (or_false (is_refusal served.reply) ∙ sym (ap is_some served.kind))) run)
 
-pub runs-alone : {C : Type 0} (asks : Relation C) (line old out : List ℕ) (s t : C) (r : Result Bool LineFault) → old ≡ [] → HasNoFeed line
-    → IfOk r (λ b. IsServed asks (meaning line) (Some old) (Some out) s t b) → IfOk r (λ b. IsRun asks false (lines line) s out t b)
-runs-alone asks line old out s t (Ok b) e none served = run-alone asks line out s t b none (subst (λ l. IsServed asks (meaning line) (Some l) (Some out) s t b) e served)
+pub runs-alone : {C : Type 0} (asks : Relation C) (line old out : List ℕ) (s t : C) (r : Result (Option Refusal) LineFault) → old ≡ [] → HasNoFeed line
+    → IfOk r (λ told. IsServed asks (meaning line) (Some old) (Some out) s t told) → IfOk r (λ told. IsRun asks false (lines line) s out t (is_some told))
+runs-alone asks line old out s t (Ok told) e none served = run-alone asks line out s t told none (subst (λ l. IsServed asks (meaning line) (Some l) (Some out) s t told) e served)
 runs-alone asks line old out s t (Err fault) e none served = tt

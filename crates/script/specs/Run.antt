@@ -1,6 +1,7 @@
 -- The run of a script.
-use Rattle.std.specs.Prelude.{◌≡◌, ◌≢◌, ◌&&◌, ◌||◌, ◌⊎◌, ℕ, Bool, true, false, List, [], ◌∷◌, ◌++◌, Option, Some, None, MatchBool}
+use Rattle.std.specs.Prelude.{◌≡◌, ◌≢◌, ◌&&◌, ◌||◌, ◌⊎◌, ℕ, Bool, true, false, List, [], ◌∷◌, ◌++◌, Option, Some, None, is_some, MatchBool}
 use Rattle.std.specs.Io.KnownBytes.{Keeps, Appends}
+use Rattle.base.specs.declared.refusal.Refusal.{Refusal}
 use Rattle.model.specs.declared.request.Request.{Request}
 use Rattle.model.specs.declared.reply.Reply.{Reply}
 use Rattle.model.specs.declared.reply.Reply.TheVariants.{Done, Refused, Data, Value, Group, Names, Count, Opened, Stream}
@@ -14,18 +15,22 @@ use Rattle.script.specs.Text.{line_of}
 abbrev pub Relation : Type 0 → Type 1
 Relation C = C → Request → Option Reply → C → Type 0
 
+-- the refusal that a reply tells, if it is one (profile)
+abbrev pub refusal_of : Option Reply → Option Refusal
+refusal_of None = None
+refusal_of (Some Done) = None
+refusal_of (Some (Refused refusal)) = Some refusal
+refusal_of (Some (Data bytes)) = None
+refusal_of (Some (Value v)) = None
+refusal_of (Some (Group group)) = None
+refusal_of (Some (Names names)) = None
+refusal_of (Some (Count count)) = None
+refusal_of (Some (Opened view sight)) = None
+refusal_of (Some (Stream bytes)) = None
+
 -- a reply that is a refusal (profile)
 abbrev pub is_refusal : Option Reply → Bool
-is_refusal None = false
-is_refusal (Some Done) = false
-is_refusal (Some (Refused refusal)) = true
-is_refusal (Some (Data bytes)) = false
-is_refusal (Some (Value v)) = false
-is_refusal (Some (Group group)) = false
-is_refusal (Some (Names names)) = false
-is_refusal (Some (Count count)) = false
-is_refusal (Some (Opened view sight)) = false
-is_refusal (Some (Stream bytes)) = false
+is_refusal reply = is_some (refusal_of reply)
 
 -- what is written for a line's reply, if it has one (profile)
 abbrev pub output_of : Option Reply → List ℕ

@@ -1,9 +1,9 @@
 //! Runs of scripts.
-ghost use Rattle.std.specs.Prelude.{◌≡◌, ◌||◌, ◌⊎◌, [], false, Option, Some, None, Err, IsTrue, IfOk, IfErr, OnOk, if◌then◌else◌};
+ghost use Rattle.std.specs.Prelude.{◌≡◌, ◌||◌, ◌⊎◌, [], false, Option, Some, None, Err, is_some, IfOk, IfErr, OnOk, if◌then◌else◌};
 ghost use Rattle.base.specs.Failing.{HasRisen};
 ghost use Rattle.base.specs.declared.refusal.Refusal.{Refusal};
 ghost use Rattle.script.specs.Lines.{lines, HasNoFeed};
-ghost use Rattle.script.specs.Run.{HasRun, HasFailed, IsFaultOf, IsRun, is_refusal};
+ghost use Rattle.script.specs.Run.{HasRun, HasFailed, IsFaultOf, IsRun, refusal_of};
 ghost use Rattle.script.specs.Served.{IsServed, IsUnserved};
 ghost use Rattle.script.specs.Meaning.{Asks, meaning, request_of};
 ghost use Rattle.script.specs.Text.{line_of};
@@ -72,7 +72,7 @@ const REPLY_ROOM: usize = 1_025;
 
 /// Asks a line of a caller, as a script of this line alone would: without its line feed, which makes it a bad line. The reply's line stands
 /// in `reply` then, with its line feed, in the place of what stood there; it is empty for a comment and for an empty line, which ask nothing.
-/// Says whether the line was refused. The cost is linear in the line and its reply, beside the caller's; a `reply` that is used again is
+/// Tells the refusal of a line that was refused. The cost is linear in the line and its reply, beside the caller's; a `reply` that is used again is
 /// not allocated again.
 ///
 /// NoMemory where memory was refused to the line or to what it asks: `reply` is empty then, and the caller is as it was, or had no
@@ -83,9 +83,9 @@ pub fn answer_line<C: Caller>(
     caller: &mut C,
     line: &[u8],
     reply: &mut Vec<u8>,
-) -> Result<bool, LineFault>
-    ensures ok { IfOk result (λ refused. IsServed C.asks (meaning line.now) (Some []) (Some reply.new.items) caller.old caller.new refused) }
-    ensures script { HasNoFeed line.now → IfOk result (λ refused. IsRun C.asks false (lines line.now) caller.old reply.new.items caller.new refused) }
+) -> Result<Option<Refusal>, LineFault>
+    ensures ok { IfOk result (λ refusal. IsServed C.asks (meaning line.now) (Some []) (Some reply.new.items) caller.old caller.new refusal) }
+    ensures script { HasNoFeed line.now → IfOk result (λ refusal. IsRun C.asks false (lines line.now) caller.old reply.new.items caller.new (is_some refusal)) }
     ensures err { IfErr result (λ fault. IsUnserved C.asks (meaning line.now) (Some []) (Some reply.new.items) caller.old caller.new fault) }
 {
     reply.clear();
@@ -135,7 +135,8 @@ pub fn run_script<C: Caller, R: BufRead + Failing, W: Write + Failing>(
             return Ok(refused);
         }
         match serve_line(alloc, caller, line.as_slice(), writer) {
-            Ok(is_refused) => {
+            Ok(refusal) => {
+                let is_refused = refusal.is_some();
                 if is_refused & stop {
                     return Ok(true);
                 }
@@ -151,20 +152,20 @@ pub fn run_script<C: Caller, R: BufRead + Failing, W: Write + Failing>(
     Err(ScriptFault::of_counts(reads, reader.failures()))
 }
 
-/// Answers a line, writes its reply if it has one, and tells whether it was refused.
+/// Answers a line, writes its reply if it has one, and tells by which refusal it was refused, if it was.
 #[tactic(auto, unfolding(crate::specs::Meaning::meaning))]
 fn serve_line<C: Caller, W: Write>(
     alloc: Global,
     caller: &mut C,
     line: &[u8],
     writer: &mut W,
-) -> Result<bool, LineFault>
-    ensures ok { IfOk result (λ refused. IsServed C.asks (meaning line.now) (W.contents writer.old) (W.contents writer.new) caller.old caller.new refused) }
+) -> Result<Option<Refusal>, LineFault>
+    ensures ok { IfOk result (λ refusal. IsServed C.asks (meaning line.now) (W.contents writer.old) (W.contents writer.new) caller.old caller.new refusal) }
     ensures err { IfErr result (λ fault. IsUnserved C.asks (meaning line.now) (W.contents writer.old) (W.contents writer.new) caller.old caller.new fault) }
 {
     match line {
-        [] => Ok(false),
-        [b'#', ..] => Ok(false),
+        [] => Ok(None),
+        [b'#', ..] => Ok(None),
         _ => serve_request(alloc, caller, line, writer),
     }
 }
@@ -175,8 +176,8 @@ fn serve_request<C: Caller, W: Write>(
     caller: &mut C,
     line: &[u8],
     writer: &mut W,
-) -> Result<bool, LineFault>
-    ensures ok { IfOk result (λ refused. IsServed C.asks (request_of line.now) (W.contents writer.old) (W.contents writer.new) caller.old caller.new refused) }
+) -> Result<Option<Refusal>, LineFault>
+    ensures ok { IfOk result (λ refusal. IsServed C.asks (request_of line.now) (W.contents writer.old) (W.contents writer.new) caller.old caller.new refusal) }
     ensures err { IfErr result (λ fault. IsUnserved C.asks (request_of line.now) (W.contents writer.old) (W.contents writer.new) caller.old caller.new fault) }
 {
     match request_at(alloc, line) {
@@ -187,8 +188,8 @@ fn serve_request<C: Caller, W: Write>(
 
 /// Writes that a line is refused, unless it is for want of memory. It stands apart, since a reply takes room on the stack, which is filled first.
 #[inline(never)]
-fn refuse<W: Write>(writer: &mut W, refusal: Refusal) -> Result<bool, LineFault>
-    ensures ok { IfOk result (λ refused. IsTrue refused × Appends (W.contents writer.old) (W.contents writer.new) (line_of (Reply.Refused refusal))) }
+fn refuse<W: Write>(writer: &mut W, refusal: Refusal) -> Result<Option<Refusal>, LineFault>
+    ensures ok { IfOk result (λ told. (told ≡ Some refusal) × Appends (W.contents writer.old) (W.contents writer.new) (line_of (Reply.Refused refusal))) }
     ensures no_memory { (refusal ≡ Refusal.NoMemory) → result ≡ Err LineFault.NoMemory }
     ensures err { (result ≡ Err LineFault.NoMemory) → W.contents writer.new ≡ W.contents writer.old }
 {
@@ -204,8 +205,8 @@ fn serve<C: Caller, W: Write>(
     caller: &mut C,
     request: Request,
     writer: &mut W,
-) -> Result<bool, LineFault>
-    ensures ok { IfOk result (λ refused. IsServed C.asks (Asks request) (W.contents writer.old) (W.contents writer.new) caller.old caller.new refused) }
+) -> Result<Option<Refusal>, LineFault>
+    ensures ok { IfOk result (λ refusal. IsServed C.asks (Asks request) (W.contents writer.old) (W.contents writer.new) caller.old caller.new refusal) }
     ensures err { IfErr result (λ fault. IsUnserved C.asks (Asks request) (W.contents writer.old) (W.contents writer.new) caller.old caller.new fault) }
 {
     let mut reply = Reply::Done;
@@ -216,14 +217,17 @@ fn serve<C: Caller, W: Write>(
     }
 }
 
-/// Writes a reply's line, and tells whether it was a refusal.
-fn report<W: Write>(writer: &mut W, reply: &Reply) -> Result<bool, LineFault>
+/// Writes a reply's line, and tells the refusal that it is, if it is one.
+fn report<W: Write>(writer: &mut W, reply: &Reply) -> Result<Option<Refusal>, LineFault>
     ensures line { OnOk result (Appends (W.contents writer.old) (W.contents writer.new) (line_of reply.now)) }
-    ensures refusal { IfOk result (λ refused. refused ≡ is_refusal (Some reply.now)) }
+    ensures refusal { IfOk result (λ refusal. refusal ≡ refusal_of (Some reply.now)) }
     ensures err { IfErr result (λ fault. fault ≡ LineFault.Unwritten) }
 {
     match write_reply(writer, reply) {
-        Ok(()) => Ok(matches!(reply, Reply::Refused(_))),
+        Ok(()) => match reply {
+            Reply::Refused(refusal) => Ok(Some(*refusal)),
+            _ => Ok(None),
+        },
         Err(_) => Err(LineFault::Unwritten),
     }
 }

@@ -8,3 +8,5 @@ pub mod Stays
 pub mod Alls
 pub mod Decides
 pub mod Answered
+pub mod There
+pub mod Places

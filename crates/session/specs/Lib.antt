@@ -4,6 +4,7 @@ pub mod Views
 pub mod ViewCalls
 pub mod Works
 pub mod Handed
+pub mod Places
 -- What a session's history promises. In the comments "profile" stands for a rule of this project's own.
 pub mod Receipts
 pub mod Asked

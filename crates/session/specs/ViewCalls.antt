@@ -1,5 +1,5 @@
 -- What the calls on views give.
-use Rattle.std.specs.Prelude.{◌≡◌, ◌≢◌, Bool, true, false}
+use Rattle.std.specs.Prelude.{◌≡◌, ◌≢◌, Bool, true, false, Option, None, Some}
 use Rattle.base.specs.declared.name.target.Target.{Target}
 use Rattle.model.specs.declared.request.Request.{Request}
 use Rattle.model.specs.declared.request.Request.TheVariants.{OpenView, CloseView}
@@ -18,6 +18,17 @@ abbrev pub is_of_views : Request → Bool
 is_of_views (OpenView target) = true
 is_of_views (CloseView view) = true
 is_of_views request = false
+
+-- the receipt of a request that opened a view or was refused (profile)
+abbrev pub opening_receipt : {K : Type 0} → OpenedView K → Placed
+opening_receipt (Opened v r) = r
+opening_receipt (Refused r) = r
+
+-- the receipt of a request that closed a view or was refused, and none where nothing ran (profile)
+abbrev pub closing_receipt : {K : Type 0} → ClosedView K → Option Placed
+closing_receipt (closed.Closed r) = Some r
+closing_receipt (closed.Refused r v) = Some r
+closing_receipt (closed.NotRun e v) = None
 
 -- the view is of the name that the request says and shows what the reply says; or the reply opened none (profile)
 abbrev pub IsOpenedBy : {K : Type 0} → Placed → OpenedView K → Type 0

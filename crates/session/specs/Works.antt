@@ -5,7 +5,9 @@ use Rattle.base.specs.declared.refusal.Refusal.TheVariants.{NoMemory}
 use Rattle.model.specs.declared.request.Request.{Request}
 use Rattle.model.specs.declared.request.Request.TheVariants.{Sync, Slice}
 use Rattle.model.specs.declared.reply.Reply.TheVariants.{Refused}
+use Rattle.model.specs.State.{State}
 use Rattle.session.specs.Entering.{IsFullOrNoMemory}
+use Rattle.session.specs.History.{IsStepThere}
 use Rattle.session.specs.Receipts.{Placed, Kept}
 use Rattle.session.specs.Calls.{IsAdded}
 use Rattle.session.specs.declared.workers.Work.{Work}
@@ -39,11 +41,12 @@ HasEnded before rs (Some r) after stopped =
     × (((before ≡ after + length rs + 1) × IsFullOrNoMemory r × All HadMemory rs)
     ⊎ ((before ≡ after + length rs) × (r ≡ NoMemory) × LackedMemoryLast rs))
 
--- so many receipts were added to the seat, each for this request, and it was they, the gate and the refusal that ended the worker
--- (profile)
-pub record IsWork (seat : Kept) (request : Request) (before count : ℕ) (end : Option Refusal) (left : ℕ) (stopped : Bool) (after : Kept) : Type 0 where
+-- so many receipts were added to the seat, each for this request and each a step of the pool in its place, and it was they, the gate and
+-- the refusal that ended the worker (profile)
+pub record IsWork (opening : State) (seat : Kept) (request : Request) (before count : ℕ) (end : Option Refusal) (left : ℕ) (stopped : Bool) (after : Kept) : Type 0 where
   pub receipts : List Placed
   pub added : IsAdded seat receipts after
   pub counted : length receipts ≡ count
   pub asked : All (λ r. r.entry.request ≡ request) receipts
+  pub there : All (IsStepThere opening) receipts
   pub ended : HasEnded before receipts end left stopped

@@ -4,6 +4,9 @@ ghost use Rattle.base.specs.declared.refusal.Refusal.{Refusal};
 ghost use Rattle.std.specs.List.{list_any};
 ghost use Rattle.std.specs.Vec.Iter.{into_iter_items};
 ghost use Rattle.session.specs.Entering.{Ran, IsFullOrNoMemory};
+ghost use Rattle.model.specs.State.{State};
+ghost use Rattle.model.specs.Step.{Step};
+ghost use Rattle.session.specs.History.{IsLegal};
 ghost use Rattle.session.specs.Receipts.{Kept};
 ghost use Rattle.session.specs.Calls.{IsBatch, IsPaced, IsAdded, IsBegun, FollowOn};
 ghost use Rattle.session.specs.ViewCalls.{is_of_views};
@@ -18,9 +21,10 @@ use std::sync::Wait;
 use std::vec::IntoIter;
 
 impl<K: Opening> Session<K> {
-    /// Applies requests one right after another, in one hold of the lock, and gives their receipts. Between two the gate is asked. The
-    /// batch stops early where the gate says no, or where there is no memory for the next reply or its receipt; the receipts then are
-    /// those of the first requests. At `Err` nothing ran: NoView where one of them opens or closes a view, SessionFull where not all would
+    /// Applies requests one right after another, in one hold of the lock, and gives their receipts, whose entries are one run of the pool:
+    /// no other call came between two. Between two the gate is asked. The batch stops early where the gate says no, or where there is no
+    /// memory for the next reply or its receipt; the receipts then are those of the first requests. Of the second of these the contract
+    /// says that the gate had said yes and that there was room: that memory was refused is no fact of a contract, since no value has it. At `Err` nothing ran: NoView where one of them opens or closes a view, SessionFull where not all would
     /// have room, NoMemory where there is none for the entries, for the receipts or for the first reply. The entries' memory is taken
     /// before the lock. A batch of no requests always ends well, with no receipts.
     pub fn batch<R: Wait, G: Gate>(
@@ -31,7 +35,7 @@ impl<K: Opening> Session<K> {
         requests: Vec<Request>,
         gate: &mut G,
     ) -> Result<Vec<Receipt>, Refusal>
-        ensures ok { IfOk result (λ rs. IsBatch K.limit seat.old requests.items rs.items seat.new) }
+        ensures ok { IfOk result (λ rs. IsBatch K.opening K.limit seat.old requests.items rs.items seat.new) }
         ensures empty { requests.items ≡ [] → IsOkAnd result (λ rs. rs.items ≡ []) }
         ensures paced { IfOk result (λ rs. IsPaced (vec_len requests) (G.left gate.old) (vec_len rs) (G.left gate.new) (G.stopped gate.new)) }
         ensures err { OnErr result ((seat.new ≡ seat.old) × (gate.new ≡ gate.old)) }
@@ -105,6 +109,7 @@ fn enter_rest<K: Opening, G: Gate>(
     ensures added { (s : Kept) → Ran s first.entry.request first seat.old → IsAdded s result.items seat.new }
     ensures requested { IsBegun (first.entry.request ∷ map (λ a. a.request) (into_iter_items rest)) result.items }
     ensures follow { FollowOn first.number result.items }
+    ensures ran { (s : State) → Step s first.entry.request first.entry.reply book.old.pool → IsLegal s (map (λ r. r.entry) result.items) book.new.pool }
     ensures paced { IsPaced (1 + length (into_iter_items rest)) (G.left gate.old) (vec_len result) (G.left gate.new) (G.stopped gate.new) }
 {
     receipts.push_reserved(first);

@@ -6,6 +6,7 @@
 mod batches;
 pub mod book;
 mod gate;
+mod histories;
 mod shared;
 mod view;
 mod view_calls;
@@ -15,5 +16,6 @@ pub use crate::book::{
     Book, CALL_LIMIT, Call, Closed, Entered, Opening, Pool, Receipt, SEAT_LIMIT, Seat, enter_call,
 };
 pub use gate::{Gate, Turns};
+pub use histories::history_laws;
 pub use shared::Session;
 pub use view::{ClosedView, OpenedView, View};

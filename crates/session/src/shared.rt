@@ -2,6 +2,7 @@
 ghost use Rattle.std.specs.Prelude.{◌≡◌, ◌<◌, ◌≤◌, ◌⊎◌, true, [], Err, IfOk, IfErr, IfSome, OnErr, is_some};
 ghost use Rattle.session.specs.Entering.{Ran, IsFullOrNoMemory, IsNoLimit, IsUnopened};
 ghost use Rattle.session.specs.Entered.{is_opened};
+ghost use Rattle.session.specs.History.{IsStepThere};
 ghost use Rattle.session.specs.declared.book.book.TheConstants.{SEAT_LIMIT};
 ghost use Rattle.session.specs.ViewCalls.{is_of_views};
 
@@ -51,8 +52,8 @@ impl<K: Opening> Session<K> {
         self.book.lock(rt).give_seat(alloc)
     }
 
-    /// Applies a request, and gives its place in the history. A request that the pool refuses has run, and its entry has the refusal
-    /// as its reply. At `Err` nothing ran: NoView for a request that opens or closes a view, which `open_view` and `close_view` do;
+    /// Applies a request, and gives its place in the history. Its reply is that of a step of the pool from a state that a history leads to
+    /// which has as many entries as its number says. A request that the pool refuses has run, and its entry has the refusal as its reply. At `Err` nothing ran: NoView for a request that opens or closes a view, which `open_view` and `close_view` do;
     /// SessionFull once the session has taken all its calls, NoMemory where there is no memory for the entry or its receipts. The
     /// entry's memory is taken before the lock.
     pub fn call<R: Wait>(
@@ -63,6 +64,7 @@ impl<K: Opening> Session<K> {
         request: Request,
     ) -> Result<Receipt, Refusal>
         ensures ok { IfOk result (λ r. Ran seat.old request r seat.new) }
+        ensures there { IfOk result (λ r. IsStepThere K.opening r) }
         ensures room { IfOk result (λ r. r.number < K.limit) }
         ensures err { OnErr result (seat.new ≡ seat.old) }
         ensures views { is_of_views request ≡ true → result ≡ Err Refusal.NoView }
@@ -86,6 +88,7 @@ impl<K: Opening> Session<K> {
         request: Request,
     ) -> Result<Entered, Refusal>
         ensures ok { IfOk result (λ r. Ran seat.old request r.receipt seat.new) }
+        ensures there { IfOk result (λ r. IsStepThere K.opening r.receipt) }
         ensures room { IfOk result (λ r. r.receipt.number < K.limit) }
         ensures viewed { IfOk result (λ r. IfSome r.viewed (λ v. v.value ≡ r.receipt.entry)) }
         ensures opened { IfOk result (λ r. is_some r.viewed ≡ is_opened r.receipt.entry.reply) }

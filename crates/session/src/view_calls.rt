@@ -2,7 +2,8 @@
 ghost use Rattle.std.specs.Prelude.{◌≡◌, IfOk, IfErr, IfSome, OnErr, is_some};
 ghost use Rattle.session.specs.Entering.{IsFullOrNoMemory};
 ghost use Rattle.session.specs.Entered.{is_opened};
-ghost use Rattle.session.specs.ViewCalls.{HasOpened, HasClosed, IsOpenedBy, IsClosedBy};
+ghost use Rattle.session.specs.History.{IsStepThere};
+ghost use Rattle.session.specs.ViewCalls.{HasOpened, HasClosed, IsOpenedBy, IsClosedBy, opening_receipt, closing_receipt};
 
 use crate::book::{Entered, Opening, Receipt, Seat};
 use crate::shared::Session;
@@ -16,7 +17,8 @@ use std::alloc::Global;
 use std::sync::{Arc, Wait};
 
 impl<K: Opening> Session<K> {
-    /// Opens a view of a snapshot. One that the pool refuses has run: NotSnapshot, NoDataset, Deferred or TooMany. At `Err` nothing ran:
+    /// Opens a view of a snapshot. The receipt is that of a step of the pool, as `call` says of its own. A request that the pool refuses
+    /// has run: NotSnapshot, NoDataset, Deferred or TooMany. At `Err` nothing ran:
     /// SessionFull once the session has taken all its calls, NoMemory where there is no memory for the entry or its receipts. The view
     /// holds the snapshot's tree by one more owner, so that it costs what the name does.
     pub fn open_view<R: Wait>(
@@ -27,6 +29,7 @@ impl<K: Opening> Session<K> {
         target: Target,
     ) -> Result<OpenedView<K>, Refusal>
         ensures ok { IfOk result (λ o. HasOpened target seat.old o seat.new) }
+        ensures there { IfOk result (λ o. IsStepThere K.opening (opening_receipt o)) }
         ensures err { OnErr result (seat.new ≡ seat.old) }
         ensures refusal { IfErr result (λ r. IsFullOrNoMemory r) }
     {
@@ -34,7 +37,7 @@ impl<K: Opening> Session<K> {
         Ok(opened(receipt, viewed))
     }
 
-    /// Closes a view, which is spent then; or hands it back with the receipt of a request that the pool refused, NoView or NoMemory, or
+    /// Closes a view, which is spent then, by a step of the pool, as `call` says of its own; or hands it back with the receipt of a request that the pool refused, NoView or NoMemory, or
     /// with the refusal where nothing ran, SessionFull or NoMemory. What a destroy left for this view alone is to be freed then
     /// (zfs-destroy(8), -d). It costs what the pool's step does.
     pub fn close_view<R: Wait>(
@@ -44,7 +47,8 @@ impl<K: Opening> Session<K> {
         seat: &mut Seat<K>,
         view: View<K>,
     ) -> ClosedView<K>
-        ensures { HasClosed seat.old view result seat.new }
+        ensures closed { HasClosed seat.old view result seat.new }
+        ensures there { IfSome (closing_receipt result) (λ r. IsStepThere K.opening r) }
     {
         let number = view.number();
         match self.ask(alloc, rt, seat, Request::CloseView { view: number }) {

@@ -46,7 +46,7 @@ impl<K: Opening> Session<K> {
         seat: &mut Seat<K>,
         gate: &mut G,
     ) -> (u64, Option<Refusal>)
-        ensures { IsWork seat.old ToSync (G.left gate.old) result.0 result.1 (G.left gate.new) (G.stopped gate.new) seat.new }
+        ensures { IsWork K.opening seat.old ToSync (G.left gate.old) result.0 result.1 (G.left gate.new) (G.stopped gate.new) seat.new }
     {
         run_work(self, alloc, rt, seat, gate, Work::Syncs)
     }
@@ -61,7 +61,7 @@ impl<K: Opening> Session<K> {
         count: u64,
         gate: &mut G,
     ) -> (u64, Option<Refusal>)
-        ensures { IsWork seat.old (ToSlice count) (G.left gate.old) result.0 result.1 (G.left gate.new) (G.stopped gate.new) seat.new }
+        ensures { IsWork K.opening seat.old (ToSlice count) (G.left gate.old) result.0 result.1 (G.left gate.new) (G.stopped gate.new) seat.new }
     {
         run_work(self, alloc, rt, seat, gate, Work::Slices(count))
     }
@@ -76,7 +76,7 @@ fn run_work<K: Opening, R: Wait, G: Gate>(
     gate: &mut G,
     work: Work,
 ) -> (u64, Option<Refusal>)
-    ensures { IsWork seat.old (work_request work) (G.left gate.old) result.0 result.1 (G.left gate.new) (G.stopped gate.new) seat.new }
+    ensures { IsWork K.opening seat.old (work_request work) (G.left gate.old) result.0 result.1 (G.left gate.new) (G.stopped gate.new) seat.new }
 {
     let mut ran = 0;
     'turns: while gate.turn() {

@@ -1,10 +1,11 @@
 //! A book without a lock.
 ghost use Rattle.std.specs.Prelude.{◌≡◌};
 
-use crate::rig::{Wanted, closes_with, get_of, is_receipt, read_of, write_of};
+use crate::rig::{Wanted, closes_with, get_of, is_answered, is_receipt, read_of, write_of};
 use base::refusal::Refusal;
+use model::reply::Reply;
 use model::request::Request;
-use session::{Book, Call, Entered, Opening, Pool, Seat, enter_call};
+use session::{Book, Call, Closed, Entered, Opening, Pool, Seat, enter_call};
 use std::alloc::Global;
 use std::marker::Brand;
 use std::process::Abort;
@@ -88,4 +89,53 @@ fn is_full<K: Opening>(
     let call = Call::new(alloc, seat, request).expect(rt, "memory");
     let entered = enter_call(alloc, book, seat, call);
     matches!(entered, Err(Refusal::SessionFull))
+}
+
+// ---- a seat that is gone
+
+#[test]
+fn a_book_whose_seat_is_gone(rt: HostRuntime) {
+    let pool = Pool::create(rt.alloc(), 1, 1000).expect(&rt, "memory");
+    one_seat_is_gone::<Brand>(&rt, rt.alloc(), pool)
+}
+
+// A seat that has written is dropped: the book can't be closed any more, and is given up.
+fn one_seat_is_gone<K: Opening>(rt: &impl Abort, alloc: Global, pool: Pool)
+    requires opening { pool.state ≡ K.opening }
+    requires limit { 2 ≡ K.limit }
+{
+    let mut book: Book<K> = Book::open(alloc, pool, 2).ok().expect(rt, "opens");
+    let mut gone = book.give_seat(alloc).expect(rt, "a seat");
+    let left = book.give_seat(alloc).expect(rt, "a seat");
+    let write = write_of(alloc, 0, 0, 97);
+    let wrote = is_entered(rt, alloc, &mut book, &mut gone, write, 0, Wanted::Done);
+    drop(gone);
+    let given_up = is_given_up(rt, alloc, book, left);
+    assert!(rt; wrote && given_up);
+}
+
+// Whether a book can't be closed with this seat, and its pool comes back with the write of the one that is gone.
+fn is_given_up<K: Opening>(rt: &impl Abort, alloc: Global, book: Book<K>, left: Seat<K>) -> bool {
+    let seats = vec![in alloc; left].expect(rt, "memory");
+    match book.close(seats) {
+        Ok(closed) => {
+            drop(closed);
+            false
+        }
+        Err((refusal, book, seats)) => {
+            drop(seats);
+            let written = has_the_write(rt, alloc, book.give_up());
+            refusal == Refusal::Busy && written
+        }
+    }
+}
+
+fn has_the_write(rt: &impl Abort, alloc: Global, closed: Closed) -> bool {
+    let Closed { mut pool, history } = closed;
+    let read = read_of(alloc, 0, 0).expect(rt, "memory");
+    let wanted = Reply::Data(Some([97; 512]));
+    let same = is_answered(alloc, &mut pool, &read, &wanted);
+    drop(read);
+    drop(wanted);
+    same && history.len() == 1
 }

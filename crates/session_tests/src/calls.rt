@@ -1,5 +1,6 @@
 //! Calls of several seats, and the end of their session.
 ghost use Rattle.std.specs.Prelude.{◌≡◌};
+ghost use Rattle.model.specs.State.{fresh_state};
 
 use crate::rig::{
     Wanted, closes, closes_with, finds_no_room, get_of, is_reply, opened, read_of, runs, seat_of,
@@ -174,9 +175,15 @@ fn most_calls_and_seats<K: Opening, R: Wait + Abort>(rt: &R, alloc: Global, pool
 
 #[test]
 fn strangers(rt: HostRuntime) {
-    let one = Pool::create(rt.alloc(), 1, 1000).expect(&rt, "memory");
-    let other = Pool::create(rt.alloc(), 1, 1000).expect(&rt, "memory");
+    let one = new_pool(&rt, rt.alloc());
+    let other = new_pool(&rt, rt.alloc());
     receipts_of_a_stranger::<Brand, _>(&rt, rt.alloc(), one, other)
+}
+
+fn new_pool(rt: &impl Abort, alloc: Global) -> Pool
+    ensures { result.state ≡ fresh_state 1 1000 }
+{
+    Pool::create(alloc, 1, 1000).expect(rt, "memory")
 }
 
 // Two sessions of one opening: the receipts of the other's seat are not the history, though their numbers are right.

@@ -73,6 +73,15 @@ pub fn is_reply(reply: &KeptReply, wanted: Wanted) -> bool {
     same
 }
 
+/// Whether a pool by itself answers a request so.
+pub fn is_answered(alloc: Global, pool: &mut Pool, request: &Request, wanted: &Reply) -> bool {
+    let mut reply = Reply::Done;
+    pool.apply(alloc, request, &mut reply);
+    let same = reply.same(wanted);
+    drop(reply);
+    same
+}
+
 /// A session of a pool of 4,000 blocks.
 pub fn opened<K: Opening>(rt: &impl Abort, alloc: Global, pool: Pool, limit: u64) -> Session<K>
     requires opening { pool.state ≡ K.opening }

@@ -1,7 +1,9 @@
 //! Views of snapshots, which are read without the session.
 ghost use Rattle.std.specs.Prelude.{◌≡◌};
 
-use crate::rig::{Wanted, closes, finds_no_room, opened, read_of, runs, seat_of, write_of};
+use crate::rig::{
+    Wanted, closes, finds_no_room, is_answered, opened, read_of, runs, seat_of, write_of,
+};
 use base::name::{SnapName, Target};
 use base::refusal::Refusal;
 use model::reply::Reply;
@@ -142,11 +144,18 @@ pub fn closes_view<K: Opening, R: Wait>(
 
 // ---- a view is read while another thread holds the lock
 
-/// A gate that stands until a flag is set, for at most a million turns of its own, and tells whether it was set.
+/// What two threads tell each other: that one stands at its gate, with the lock held, and that the other has read its view.
+#[derive(Drop)]
+struct Flags {
+    stands: AtomicBool,
+    has_read: AtomicBool,
+}
+
+/// A gate that says that it stands, and stands until the view was read, for at most a million looks; it tells whether it was.
 #[derive(Drop)]
 struct Standing<'f> {
-    flag: &'f AtomicBool,
-    was_set: bool,
+    flags: &'f Flags,
+    saw_read: bool,
     turns: u64,
     stopped: bool,
 }
@@ -161,7 +170,8 @@ impl Gate for Standing<'_> {
             self.stopped = true;
             return false;
         }
-        self.was_set = comes_to_be_set(self.flag);
+        self.flags.stands.store(true, Ordering::SeqCst);
+        self.saw_read = comes_to_be_set(&self.flags.has_read);
         self.turns -= 1;
         true
     }
@@ -195,12 +205,15 @@ fn reads_while_a_batch_stands<K: Opening + Send + Sync, R: Threads + Wait + Abor
     let mut seat = seat_of(rt, alloc, &session);
     let taken = takes_a_snapshot(rt, alloc, &session, &mut seat);
     let view = view(rt, alloc, &session, &mut seat);
-    let flag = AtomicBool::new(false);
-    let (shared, flag, shown) = (&session, &flag, &view);
+    let flags = Flags {
+        stands: AtomicBool::new(false),
+        has_read: AtomicBool::new(false),
+    };
+    let (shared, flags, shown) = (&session, &flags, &view);
     let ((mut seat, stood), read) = join(
         rt,
-        || stands_in_a_batch(rt, alloc, shared, seat, flag),
-        || reads_and_tells(shown, flag),
+        || stands_in_a_batch(rt, alloc, shared, seat, flags),
+        || reads_and_tells(shown, flags),
     );
     let busy = destroys(
         rt,
@@ -216,22 +229,22 @@ fn reads_while_a_batch_stands<K: Opening + Send + Sync, R: Threads + Wait + Abor
     assert!(rt; taken && stood && read && busy && closed && gone && ended);
 }
 
-// Makes two writes in one hold of the lock, and stands between them until the flag is set. Tells whether it was.
+// Makes two writes in one hold of the lock, and stands between them until the view was read. Tells whether it was.
 fn stands_in_a_batch<K: Opening, R: Wait + Abort>(
     rt: &R,
     alloc: Global,
     session: &Session<K>,
     mut seat: Seat<K>,
-    flag: &AtomicBool,
+    flags: &Flags,
 ) -> (Seat<K>, bool) {
     let mut gate = Standing {
-        flag,
-        was_set: false,
+        flags,
+        saw_read: false,
         turns: 2,
         stopped: false,
     };
     let ran = makes_two_writes(rt, alloc, session, &mut seat, &mut gate);
-    (seat, ran && gate.was_set)
+    (seat, ran && gate.saw_read)
 }
 
 fn makes_two_writes<K: Opening, R: Wait + Abort, G: Gate>(
@@ -250,10 +263,12 @@ fn makes_two_writes<K: Opening, R: Wait + Abort, G: Gate>(
     receipts.len() == 2
 }
 
-fn reads_and_tells<K: Opening>(view: &View<K>, flag: &AtomicBool) -> bool {
+// Reads the view once the other thread stands with the lock held. Tells whether it came to stand, and whether the view shows its snapshot.
+fn reads_and_tells<K: Opening>(view: &View<K>, flags: &Flags) -> bool {
+    let stood = comes_to_be_set(&flags.stands);
     let read = shows_the_snapshot(view);
-    flag.store(true, Ordering::SeqCst);
-    read
+    flags.has_read.store(true, Ordering::SeqCst);
+    stood && read
 }
 
 // ---- four read while a fifth changes the pool
@@ -488,14 +503,6 @@ fn closes_and_destroys(rt: &impl Abort, alloc: Global, pool: &mut Pool) -> bool 
         && is_answered(alloc, pool, &Request::Abandon, &Reply::Done);
     drop(destroy);
     drop(busy);
-    same
-}
-
-fn is_answered(alloc: Global, pool: &mut Pool, request: &Request, wanted: &Reply) -> bool {
-    let mut reply = Reply::Done;
-    pool.apply(alloc, request, &mut reply);
-    let same = reply.same(wanted);
-    drop(reply);
     same
 }
 

@@ -5,7 +5,7 @@ use Rattle.model.specs.declared.reply.Reply.{Reply}
 use Rattle.model.specs.declared.reply.Reply.TheVariants as R
 use Rattle.model.specs.declared.reply.Value.TheVariants as V
 use Rattle.yuzgont_c.specs.declared.answer.Answer.{Answer}
-use Rattle.yuzgont_c.specs.declared.answer.Answer.TheVariants.{Done, Refused, NoPool, HasPool, BadLength, NoProperty, NotApplicable}
+use Rattle.yuzgont_c.specs.declared.answer.Answer.TheVariants.{Done, Refused, NoPool, HasPool, BadLength, NoProperty, NotApplicable, BadAmount, NoEntry}
 
 -- its number (profile)
 abbrev pub code_of : Answer → ℤ
@@ -16,6 +16,8 @@ code_of HasPool = negsuc 2
 code_of BadLength = negsuc 3
 code_of NoProperty = negsuc 4
 code_of NotApplicable = negsuc 5
+code_of BadAmount = negsuc 6
+code_of NoEntry = negsuc 7
 
 -- the number of an answer of which this holds (profile)
 abbrev pub Codes : ℤ → (Answer → Type 0) → Type 0
@@ -64,6 +66,16 @@ group_in _ before = before
 abbrev pub count_in : Reply → ℕ → ℕ
 count_in (R.Count count) before = count
 count_in _ before = before
+
+-- the number of the view that was opened, or what was there (profile)
+abbrev pub view_in : Reply → ℕ → ℕ
+view_in (R.Opened view sight) before = view
+view_in _ before = before
+
+-- the names that were listed, or those that were there (profile)
+abbrev pub names_in : Reply → List (List ℕ) → List (List ℕ)
+names_in (R.Names names) before = names
+names_in _ before = before
 
 -- the stream that was made, or the one that was there (profile)
 abbrev pub stream_in : Reply → List ℕ → List ℕ

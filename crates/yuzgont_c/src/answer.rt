@@ -22,6 +22,10 @@ pub enum Answer {
     NoProperty,
     /// What was asked about has no such property: -6.
     NotApplicable,
+    /// A limit's amount is no multiple of 512 bytes, or more than 2^49: -7.
+    BadAmount,
+    /// The last list has no name at this place: -8.
+    NoEntry,
 }
 
 impl Answer {
@@ -37,6 +41,8 @@ impl Answer {
             Answer::BadLength => -4,
             Answer::NoProperty => -5,
             Answer::NotApplicable => -6,
+            Answer::BadAmount => -7,
+            Answer::NoEntry => -8,
         }
     }
 

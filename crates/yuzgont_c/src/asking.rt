@@ -2,12 +2,17 @@
 ghost use Rattle.std.specs.Prelude.{◌≡◌};
 ghost use Rattle.base.specs.Reading.{Reads};
 ghost use Rattle.yuzgont_c.specs.Asking.{asked_write, asked_punch, asked_read, asked_snapshot, asked_get, asked_send_from, asked_receive, property_at};
+ghost use Rattle.yuzgont_c.specs.Asking.{asked_create, asked_free_object, asked_rollback, asked_destroy, asked_clone, asked_promote, asked_open_view};
+ghost use Rattle.yuzgont_c.specs.Asking.{asked_hold, asked_release, asked_holds, asked_bookmark, asked_written_since, asked_would_free, asked_set};
+ghost use Rattle.yuzgont_c.specs.Asking.{pool_property_at, limit_at, amount_at};
 
 use base::data::Data;
-use base::name::{SnapName, Target};
+use base::limit::Blocks;
+use base::name::{Component, DsName, MarkName, SnapName, Tag, Target};
 use base::refusal::Refusal;
 use base::text::Bytes;
-use model::request::{Property, Request};
+use model::limits::Limit;
+use model::request::{PoolProperty, Property, Request};
 use model::snap_names::SnapNames;
 use std::alloc::Global;
 
@@ -30,6 +35,173 @@ const PROPERTIES: [Property; 15] = [
     Property::CreateTxg,
     Property::UserRefs,
 ];
+
+// The properties of a pool, each at its number in `enum yuz_pool_property`.
+const OF_POOL: [PoolProperty; 6] = [
+    PoolProperty::Size,
+    PoolProperty::Allocated,
+    PoolProperty::Free,
+    PoolProperty::Freeing,
+    PoolProperty::Waiting,
+    PoolProperty::Group,
+];
+
+// The limits of a file system, each at its number in `enum yuz_limit`.
+const LIMITS: [Limit; 4] = [
+    Limit::Quota,
+    Limit::RefQuota,
+    Limit::Reservation,
+    Limit::RefReservation,
+];
+
+// The most bytes of a limit: those of 2^40 blocks.
+const MOST_AMOUNT: u64 = 562_949_953_421_312;
+
+// A new file system.
+pub(crate) fn ask_create(alloc: Global, name: &[u8]) -> Result<Request, Refusal>
+    ensures { Reads result (asked_create name.now) }
+{
+    let name = DsName::read(alloc, name)?;
+    Ok(Request::Create { name })
+}
+
+// All blocks of an object become holes.
+pub(crate) fn ask_free_object(alloc: Global, name: &[u8], object: u32) -> Result<Request, Refusal>
+    ensures { Reads result (asked_free_object name.now object) }
+{
+    let target = Target::read(alloc, name)?;
+    Ok(Request::FreeObject { target, object })
+}
+
+// A rollback to a snapshot, with `later` past newer ones.
+pub(crate) fn ask_rollback(alloc: Global, name: &[u8], later: bool) -> Result<Request, Refusal>
+    ensures { Reads result (asked_rollback name.now later) }
+{
+    let target = Target::read(alloc, name)?;
+    Ok(Request::Rollback { target, later })
+}
+
+// A destroy.
+pub(crate) fn ask_destroy(
+    alloc: Global,
+    name: &[u8],
+    recursive: bool,
+    defer: bool,
+) -> Result<Request, Refusal>
+    ensures { Reads result (asked_destroy name.now recursive defer) }
+{
+    let target = Target::read(alloc, name)?;
+    Ok(Request::Destroy {
+        target,
+        recursive,
+        defer,
+    })
+}
+
+// A clone of a snapshot.
+pub(crate) fn ask_clone(alloc: Global, snapshot: &[u8], name: &[u8]) -> Result<Request, Refusal>
+    ensures { Reads result (asked_clone snapshot.now name.now) }
+{
+    let target = Target::read(alloc, snapshot)?;
+    let name = DsName::read(alloc, name)?;
+    Ok(Request::Clone { target, name })
+}
+
+// A promote of a clone.
+pub(crate) fn ask_promote(alloc: Global, name: &[u8]) -> Result<Request, Refusal>
+    ensures { Reads result (asked_promote name.now) }
+{
+    let name = DsName::read(alloc, name)?;
+    Ok(Request::Promote { name })
+}
+
+// A tag that a snapshot gets.
+pub(crate) fn ask_hold(alloc: Global, tag: &[u8], name: &[u8]) -> Result<Request, Refusal>
+    ensures { Reads result (asked_hold tag.now name.now) }
+{
+    let tag = Tag::read(alloc, tag)?;
+    let target = Target::read(alloc, name)?;
+    Ok(Request::Hold { tag, target })
+}
+
+// A tag that a snapshot loses.
+pub(crate) fn ask_release(alloc: Global, tag: &[u8], name: &[u8]) -> Result<Request, Refusal>
+    ensures { Reads result (asked_release tag.now name.now) }
+{
+    let tag = Tag::read(alloc, tag)?;
+    let target = Target::read(alloc, name)?;
+    Ok(Request::Release { tag, target })
+}
+
+// The tags of a snapshot.
+pub(crate) fn ask_holds(alloc: Global, name: &[u8]) -> Result<Request, Refusal>
+    ensures { Reads result (asked_holds name.now) }
+{
+    let target = Target::read(alloc, name)?;
+    Ok(Request::Holds { target })
+}
+
+// A bookmark of a snapshot.
+pub(crate) fn ask_bookmark(alloc: Global, snapshot: &[u8], mark: &[u8]) -> Result<Request, Refusal>
+    ensures { Reads result (asked_bookmark snapshot.now mark.now) }
+{
+    let target = Target::read(alloc, snapshot)?;
+    let mark = MarkName::read(alloc, mark)?;
+    Ok(Request::Bookmark { target, mark })
+}
+
+// What was written since a snapshot.
+pub(crate) fn ask_written_since(
+    alloc: Global,
+    name: &[u8],
+    since: &[u8],
+) -> Result<Request, Refusal>
+    ensures { Reads result (asked_written_since name.now since.now) }
+{
+    let target = Target::read(alloc, name)?;
+    let since = SnapName::read(alloc, since)?;
+    Ok(Request::WrittenSince { target, since })
+}
+
+// What would be freed with the snapshots from one to another.
+pub(crate) fn ask_would_free(
+    alloc: Global,
+    name: &[u8],
+    first: &[u8],
+    last: &[u8],
+) -> Result<Request, Refusal>
+    ensures { Reads result (asked_would_free name.now first.now last.now) }
+{
+    let name = DsName::read(alloc, name)?;
+    let first = Component::read(alloc, first)?;
+    let last = Component::read(alloc, last)?;
+    Ok(Request::WouldFree { name, first, last })
+}
+
+// A limit that is set to an amount, or let go.
+pub(crate) fn ask_set(
+    alloc: Global,
+    name: &[u8],
+    limit: Limit,
+    amount: Option<Blocks>,
+) -> Result<Request, Refusal>
+    ensures { Reads result (asked_set name.now limit amount) }
+{
+    let name = DsName::read(alloc, name)?;
+    Ok(Request::Set {
+        name,
+        limit,
+        amount,
+    })
+}
+
+// A view of a snapshot.
+pub(crate) fn ask_open_view(alloc: Global, name: &[u8]) -> Result<Request, Refusal>
+    ensures { Reads result (asked_open_view name.now) }
+{
+    let target = Target::read(alloc, name)?;
+    Ok(Request::OpenView { target })
+}
 
 // A write of a block.
 pub(crate) fn ask_write(
@@ -141,4 +313,38 @@ pub(crate) fn property_of(number: u32) -> Option<Property>
     ensures { result ≡ property_at number }
 {
     PROPERTIES.get(number as usize).copied()
+}
+
+// The property of a pool of this number in C.
+pub(crate) fn pool_property_of(number: u32) -> Option<PoolProperty>
+    ensures { result ≡ pool_property_at number }
+{
+    OF_POOL.get(number as usize).copied()
+}
+
+// The limit of this number in C.
+pub(crate) fn limit_of(number: u32) -> Option<Limit>
+    ensures { result ≡ limit_at number }
+{
+    LIMITS.get(number as usize).copied()
+}
+
+// The amount of a limit that so many bytes are, or no limit.
+#[tactic(auto, unfolding(script::specs::Words::amount_of_bytes))]
+pub(crate) fn amount_of(bytes: u64) -> Option<Option<Blocks>>
+    ensures { result ≡ amount_at bytes }
+{
+    if bytes > MOST_AMOUNT {
+        return None;
+    }
+    if bytes == 0 {
+        return Some(None);
+    }
+    if bytes % 512 != 0 {
+        return None;
+    }
+    match Blocks::new(bytes / 512) {
+        Ok(blocks) => Some(Some(blocks)),
+        Err(_) => None,
+    }
 }

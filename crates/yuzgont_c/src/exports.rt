@@ -1,9 +1,10 @@
 //! The calls that C makes. Each takes the pool out of the handle, makes the one call of [`Host`] that it is named for, and puts it back.
 ghost use Rattle.std.specs.Prelude.{◌≡◌, Some, None, IfOk, IfErr};
 ghost use Rattle.yuzgont_c.specs.Answers.{Codes};
-ghost use Rattle.yuzgont_c.specs.Asking.{asked_punch, asked_snapshot, asked_receive, property_at};
-ghost use Rattle.yuzgont_c.specs.Calls.{Calls, Creates, IsFresh, CanBe, CreateRefused, Does, Writes, ReadsBlock, GetsOf, Syncs, Slices, Sends, Answers, RepliesPiece, StreamsPiece, Forgotten};
-ghost use Rattle.model.specs.declared.request.Request.TheVariants.{Abandon};
+ghost use Rattle.yuzgont_c.specs.Asking.{asked_create, asked_clone, asked_destroy, asked_promote, asked_rollback, asked_snapshot, asked_bookmark, asked_hold, asked_release, asked_holds};
+ghost use Rattle.yuzgont_c.specs.Asking.{asked_punch, asked_free_object, asked_written_since, asked_would_free, asked_receive, property_at, pool_property_at, limit_at, amount_at};
+ghost use Rattle.yuzgont_c.specs.Calls.{Calls, Creates, IsFresh, CanBe, CreateRefused, Does, Writes, ReadsBlock, TellsNumber, GetsOf, PoolGetsOf, SetsOf, Syncs, Slices, OpensView, Lists, NamesPiece, Sends, Answers, RepliesPiece, StreamsPiece, Forgotten};
+ghost use Rattle.model.specs.declared.request.Request.TheVariants.{Abandon, CloseView, List};
 
 use crate::answer::Answer;
 use crate::handle::YuzPool;
@@ -67,12 +68,12 @@ pub extern "C" fn yuzgont_line(
     alloc: Global,
     pool: &mut YuzPool,
     line: &[u8],
-    refused: &mut bool,
+    refusal: &mut u32,
     size: &mut usize,
 ) -> i32
-    ensures { Codes result (λ answer. Calls (Answers line.now refused.old refused.new size.new) pool.old.slot.host answer pool.new.slot.host) }
+    ensures { Codes result (λ answer. Calls (Answers line.now refusal.old refusal.new size.new) pool.old.slot.host answer pool.new.slot.host) }
 {
-    on_host!(alloc, pool, |host| host.line(line, refused, size))
+    on_host!(alloc, pool, |host| host.line(line, refusal, size))
 }
 
 /// `Host::reply_piece`, whose result goes to `count`.
@@ -248,4 +249,228 @@ pub extern "C" fn yuzgont_forget(alloc: Global, pool: &mut YuzPool) -> i32
     ensures { Codes result (λ answer. Calls Forgotten pool.old.slot.host answer pool.new.slot.host) }
 {
     on_host!(alloc, pool, |host| host.forget())
+}
+
+/// `Host::create_file_system`.
+#[unsafe(no_mangle)]
+pub extern "C" fn yuzgont_create_file_system(alloc: Global, pool: &mut YuzPool, name: &[u8]) -> i32
+    ensures { Codes result (λ answer. Calls (Does (asked_create name.now)) pool.old.slot.host answer pool.new.slot.host) }
+{
+    on_host!(alloc, pool, |host| host.create_file_system(name))
+}
+
+/// `Host::clone_snapshot`.
+#[unsafe(no_mangle)]
+pub extern "C" fn yuzgont_clone(
+    alloc: Global,
+    pool: &mut YuzPool,
+    snapshot: &[u8],
+    name: &[u8],
+) -> i32
+    ensures { Codes result (λ answer. Calls (Does (asked_clone snapshot.now name.now)) pool.old.slot.host answer pool.new.slot.host) }
+{
+    on_host!(alloc, pool, |host| host.clone_snapshot(snapshot, name))
+}
+
+/// `Host::destroy`.
+#[unsafe(no_mangle)]
+pub extern "C" fn yuzgont_destroy(
+    alloc: Global,
+    pool: &mut YuzPool,
+    name: &[u8],
+    recursive: bool,
+    defer: bool,
+) -> i32
+    ensures { Codes result (λ answer. Calls (Does (asked_destroy name.now recursive defer)) pool.old.slot.host answer pool.new.slot.host) }
+{
+    on_host!(alloc, pool, |host| host.destroy(name, recursive, defer))
+}
+
+/// `Host::promote`.
+#[unsafe(no_mangle)]
+pub extern "C" fn yuzgont_promote(alloc: Global, pool: &mut YuzPool, name: &[u8]) -> i32
+    ensures { Codes result (λ answer. Calls (Does (asked_promote name.now)) pool.old.slot.host answer pool.new.slot.host) }
+{
+    on_host!(alloc, pool, |host| host.promote(name))
+}
+
+/// `Host::rollback`.
+#[unsafe(no_mangle)]
+pub extern "C" fn yuzgont_rollback(
+    alloc: Global,
+    pool: &mut YuzPool,
+    snapshot: &[u8],
+    later: bool,
+) -> i32
+    ensures { Codes result (λ answer. Calls (Does (asked_rollback snapshot.now later)) pool.old.slot.host answer pool.new.slot.host) }
+{
+    on_host!(alloc, pool, |host| host.rollback(snapshot, later))
+}
+
+/// `Host::bookmark`.
+#[unsafe(no_mangle)]
+pub extern "C" fn yuzgont_bookmark(
+    alloc: Global,
+    pool: &mut YuzPool,
+    snapshot: &[u8],
+    mark: &[u8],
+) -> i32
+    ensures { Codes result (λ answer. Calls (Does (asked_bookmark snapshot.now mark.now)) pool.old.slot.host answer pool.new.slot.host) }
+{
+    on_host!(alloc, pool, |host| host.bookmark(snapshot, mark))
+}
+
+/// `Host::hold`.
+#[unsafe(no_mangle)]
+pub extern "C" fn yuzgont_hold(
+    alloc: Global,
+    pool: &mut YuzPool,
+    tag: &[u8],
+    snapshot: &[u8],
+) -> i32
+    ensures { Codes result (λ answer. Calls (Does (asked_hold tag.now snapshot.now)) pool.old.slot.host answer pool.new.slot.host) }
+{
+    on_host!(alloc, pool, |host| host.hold(tag, snapshot))
+}
+
+/// `Host::release`.
+#[unsafe(no_mangle)]
+pub extern "C" fn yuzgont_release(
+    alloc: Global,
+    pool: &mut YuzPool,
+    tag: &[u8],
+    snapshot: &[u8],
+) -> i32
+    ensures { Codes result (λ answer. Calls (Does (asked_release tag.now snapshot.now)) pool.old.slot.host answer pool.new.slot.host) }
+{
+    on_host!(alloc, pool, |host| host.release(tag, snapshot))
+}
+
+/// `Host::set`.
+#[unsafe(no_mangle)]
+pub extern "C" fn yuzgont_set(
+    alloc: Global,
+    pool: &mut YuzPool,
+    name: &[u8],
+    limit: u32,
+    amount: u64,
+) -> i32
+    ensures { Codes result (λ answer. Calls (SetsOf name.now (limit_at limit) (amount_at amount)) pool.old.slot.host answer pool.new.slot.host) }
+{
+    on_host!(alloc, pool, |host| host.set(name, limit, amount))
+}
+
+/// `Host::free_object`.
+#[unsafe(no_mangle)]
+pub extern "C" fn yuzgont_free_object(
+    alloc: Global,
+    pool: &mut YuzPool,
+    name: &[u8],
+    object: u32,
+) -> i32
+    ensures { Codes result (λ answer. Calls (Does (asked_free_object name.now object)) pool.old.slot.host answer pool.new.slot.host) }
+{
+    on_host!(alloc, pool, |host| host.free_object(name, object))
+}
+
+/// `Host::open_view`.
+#[unsafe(no_mangle)]
+pub extern "C" fn yuzgont_open_view(
+    alloc: Global,
+    pool: &mut YuzPool,
+    snapshot: &[u8],
+    view: &mut u64,
+) -> i32
+    ensures { Codes result (λ answer. Calls (OpensView snapshot.now view.old view.new) pool.old.slot.host answer pool.new.slot.host) }
+{
+    on_host!(alloc, pool, |host| host.open_view(snapshot, view))
+}
+
+/// `Host::close_view`.
+#[unsafe(no_mangle)]
+pub extern "C" fn yuzgont_close_view(alloc: Global, pool: &mut YuzPool, view: u64) -> i32
+    ensures { Codes result (λ answer. Calls (Does (Some (CloseView view))) pool.old.slot.host answer pool.new.slot.host) }
+{
+    on_host!(alloc, pool, |host| host.close_view(view))
+}
+
+/// `Host::written_since`.
+#[unsafe(no_mangle)]
+pub extern "C" fn yuzgont_written_since(
+    alloc: Global,
+    pool: &mut YuzPool,
+    name: &[u8],
+    since: &[u8],
+    value: &mut u64,
+) -> i32
+    ensures { Codes result (λ answer. Calls (TellsNumber (asked_written_since name.now since.now) value.old value.new) pool.old.slot.host answer pool.new.slot.host) }
+{
+    on_host!(alloc, pool, |host| host.written_since(name, since, value))
+}
+
+/// `Host::would_free`.
+#[unsafe(no_mangle)]
+pub extern "C" fn yuzgont_would_free(
+    alloc: Global,
+    pool: &mut YuzPool,
+    name: &[u8],
+    first: &[u8],
+    last: &[u8],
+    value: &mut u64,
+) -> i32
+    ensures { Codes result (λ answer. Calls (TellsNumber (asked_would_free name.now first.now last.now) value.old value.new) pool.old.slot.host answer pool.new.slot.host) }
+{
+    on_host!(
+        alloc,
+        pool,
+        |host| host.would_free(name, first, last, value)
+    )
+}
+
+/// `Host::pool_get`.
+#[unsafe(no_mangle)]
+pub extern "C" fn yuzgont_pool_get(
+    alloc: Global,
+    pool: &mut YuzPool,
+    property: u32,
+    value: &mut u64,
+) -> i32
+    ensures { Codes result (λ answer. Calls (PoolGetsOf (pool_property_at property) value.old value.new) pool.old.slot.host answer pool.new.slot.host) }
+{
+    on_host!(alloc, pool, |host| host.pool_get(property, value))
+}
+
+/// `Host::list`.
+#[unsafe(no_mangle)]
+pub extern "C" fn yuzgont_list(alloc: Global, pool: &mut YuzPool, size: &mut usize) -> i32
+    ensures { Codes result (λ answer. Calls (Lists (Some List) size.new) pool.old.slot.host answer pool.new.slot.host) }
+{
+    on_host!(alloc, pool, |host| host.list(size))
+}
+
+/// `Host::holds`.
+#[unsafe(no_mangle)]
+pub extern "C" fn yuzgont_holds(
+    alloc: Global,
+    pool: &mut YuzPool,
+    snapshot: &[u8],
+    size: &mut usize,
+) -> i32
+    ensures { Codes result (λ answer. Calls (Lists (asked_holds snapshot.now) size.new) pool.old.slot.host answer pool.new.slot.host) }
+{
+    on_host!(alloc, pool, |host| host.holds(snapshot, size))
+}
+
+/// `Host::name_piece`.
+#[unsafe(no_mangle)]
+pub extern "C" fn yuzgont_name(
+    alloc: Global,
+    pool: &mut YuzPool,
+    index: usize,
+    buffer: &mut [u8],
+    size: &mut usize,
+) -> i32
+    ensures { Codes result (λ answer. Calls (NamesPiece index buffer.old buffer.new size.old size.new) pool.old.slot.host answer pool.new.slot.host) }
+{
+    on_host!(alloc, pool, |host| host.name_piece(index, buffer, size))
 }

@@ -42,15 +42,18 @@ pub enum Error {
     BadLength = -4,
     NoProperty = -5,
     NotApplicable = -6,
+    BadAmount = -7,
+    NoEntry = -8,
 }
 
 impl Error {
-    const ALL: [Error; 36] = {
+    const ALL: [Error; 38] = {
         use Error::*;
         [
             BadName, NoDataset, Exists, NoParent, BadKey, ReadOnly, NotSnapshot, Busy, HasClones, HasChildren, NotNewest, NotClone, NameClash,
             TagExists, NoTag, Deferred, NotAncestor, Quota, RefQuota, NoSpace, TooMany, BadStream, WrongSource, Modified, NoMemory, NoView,
             IsRoot, BadLine, SessionFull, TooManySeats, Null, PoolMissing, PoolThere, BadLength, NoProperty, NotApplicable,
+            BadAmount, NoEntry,
         ]
     };
 

@@ -8,9 +8,11 @@
 //! guids to other contents, and a backup takes an increment from them without a word. [`Pool::new`] draws an id at random.
 
 mod error;
+mod requests;
 mod sys;
 
 pub use error::Error;
+pub use requests::{Entry, Kind, Limit, PoolProperty};
 
 use std::collections::hash_map::RandomState;
 use std::hash::{BuildHasher, Hasher};
@@ -166,6 +168,12 @@ impl Pool {
     /// Receives what will be written, as a snapshot of this name; with `force` the file system goes back to its newest snapshot first.
     pub fn receive<'a>(&'a mut self, name: &'a str, force: bool) -> Receiver<'a> {
         Receiver { pool: self, name, force, bytes: Vec::new() }
+    }
+}
+
+impl Pool {
+    fn handle(&mut self) -> *mut sys::Handle {
+        &mut self.handle
     }
 }
 

@@ -32,4 +32,22 @@ extern "C" {
     pub fn yuzgont_stream(pool: *mut Handle, from: usize, buffer: *mut u8, length: usize, count: *mut usize) -> i32;
     pub fn yuzgont_receive(pool: *mut Handle, name: *const u8, name_length: usize, bytes: *const u8, length: usize, force: bool) -> i32;
     pub fn yuzgont_forget(pool: *mut Handle) -> i32;
+    pub fn yuzgont_create_file_system(pool: *mut Handle, name: *const u8, name_length: usize) -> i32;
+    pub fn yuzgont_clone(pool: *mut Handle, snapshot: *const u8, snapshot_length: usize, name: *const u8, name_length: usize) -> i32;
+    pub fn yuzgont_destroy(pool: *mut Handle, name: *const u8, name_length: usize, recursive: bool, defer: bool) -> i32;
+    pub fn yuzgont_promote(pool: *mut Handle, name: *const u8, name_length: usize) -> i32;
+    pub fn yuzgont_rollback(pool: *mut Handle, snapshot: *const u8, snapshot_length: usize, later: bool) -> i32;
+    pub fn yuzgont_bookmark(pool: *mut Handle, snapshot: *const u8, snapshot_length: usize, mark: *const u8, mark_length: usize) -> i32;
+    pub fn yuzgont_hold(pool: *mut Handle, tag: *const u8, tag_length: usize, snapshot: *const u8, snapshot_length: usize) -> i32;
+    pub fn yuzgont_release(pool: *mut Handle, tag: *const u8, tag_length: usize, snapshot: *const u8, snapshot_length: usize) -> i32;
+    pub fn yuzgont_set(pool: *mut Handle, name: *const u8, name_length: usize, limit: u32, amount: u64) -> i32;
+    pub fn yuzgont_free_object(pool: *mut Handle, name: *const u8, name_length: usize, object: u32) -> i32;
+    pub fn yuzgont_open_view(pool: *mut Handle, snapshot: *const u8, snapshot_length: usize, view: *mut u64) -> i32;
+    pub fn yuzgont_close_view(pool: *mut Handle, view: u64) -> i32;
+    pub fn yuzgont_written_since(pool: *mut Handle, name: *const u8, name_length: usize, since: *const u8, since_length: usize, value: *mut u64) -> i32;
+    pub fn yuzgont_would_free(pool: *mut Handle, name: *const u8, name_length: usize, first: *const u8, first_length: usize, last: *const u8, last_length: usize, value: *mut u64) -> i32;
+    pub fn yuzgont_pool_get(pool: *mut Handle, property: u32, value: *mut u64) -> i32;
+    pub fn yuzgont_list(pool: *mut Handle, count: *mut usize) -> i32;
+    pub fn yuzgont_holds(pool: *mut Handle, snapshot: *const u8, snapshot_length: usize, count: *mut usize) -> i32;
+    pub fn yuzgont_name(pool: *mut Handle, index: usize, buffer: *mut u8, length: usize, size: *mut usize) -> i32;
 }

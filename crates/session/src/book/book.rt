@@ -3,7 +3,7 @@ ghost use Rattle.std.specs.Prelude.{◌≡◌, ◌+◌, ◌≤◌, ◌↔◌, []
 ghost use Rattle.model.specs.Step.{Step};
 ghost use Rattle.session.specs.Entering.{IsFullOrNoMemory, IsNoLimit, IsUnopened, Ran};
 ghost use Rattle.session.specs.Entered.{is_opened};
-ghost use Rattle.session.specs.History.{IsLegal};
+ghost use Rattle.session.specs.History.{IsLegal, IsStepThere};
 
 use crate::book::call::Call;
 use crate::book::entering::{Owners, entry_of};
@@ -76,9 +76,10 @@ impl<K: Opening> Book<K> {
         })
     }
 
-    /// How many more calls it takes.
+    /// How many more calls it takes. The history is a run of the pool from its opening to the present state, whoever asks.
     pub fn room(&self) -> usize
-        ensures { result + length self.now.history ≡ K.limit }
+        ensures left { result + length self.now.history ≡ K.limit }
+        ensures legal { IsLegal K.opening self.now.history self.now.pool }
     {
         self.limit - self.history.len()
     }
@@ -135,6 +136,7 @@ pub fn enter_call<K: Opening>(
     ensures step { IfOk result (λ r. Step book.old.pool call.request r.receipt.entry.reply book.new.pool) }
     ensures viewed { IfOk result (λ r. IfSome r.viewed (λ v. v.value ≡ r.receipt.entry)) }
     ensures opened { IfOk result (λ r. is_some r.viewed ≡ is_opened r.receipt.entry.reply) }
+    ensures there { IfOk result (λ r. IsStepThere K.opening r.receipt) }
     ensures legal { IsLegal K.opening book.new.history book.new.pool }
     ensures book { IfOk result (λ r. book.new ≡ record book.old { history = book.old.history ++ r.receipt.entry ∷ []; pool = book.new.pool }) }
     ensures err { OnErr result ((book.new ≡ book.old) × (seat.new ≡ seat.old)) }

@@ -14,7 +14,8 @@ use pool::Pool;
 use std::marker::PhantomData;
 use std::sync::Arc;
 
-/// What a session leaves: the pool, and the whole history. The entry with number k stands at index k.
+/// What a session leaves: the pool, and the whole history. The entry with number k stands at index k. At each entry's place there is a state,
+/// as `history_laws` says.
 #[derive(Drop)]
 pub struct Closed {
     pub pool: Pool,
@@ -36,6 +37,16 @@ impl<K: Opening> Book<K> {
         if !is_whole(self.seats, self.history.as_slice(), seats.as_slice()) {
             return Err((Refusal::Busy, self, seats));
         }
+        Ok(self.give_up())
+    }
+
+    /// Gives up the pool with its history, and compares no receipt with it: for a session whose seats are not all there any more, which
+    /// `close` would answer Busy for ever. The history is a run to the pool's state all the same, and has the calls of the seats that are
+    /// gone. What a seat that is left keeps can be looked for in it. Constant time.
+    pub fn give_up(self) -> Closed
+        ensures run { IsLegal K.opening (map arc_value result.history.items) result.pool.state }
+        ensures kept { (map arc_value result.history.items ≡ self.history) × (result.pool.state ≡ self.pool) }
+    {
         let Book {
             pool,
             history,
@@ -43,7 +54,7 @@ impl<K: Opening> Book<K> {
             seats: _,
             of: PhantomData,
         } = self;
-        Ok(Closed { pool, history })
+        Closed { pool, history }
     }
 }
 

@@ -5,6 +5,7 @@ use Rattle.image.proofs.Made.{made_writes}
 use Rattle.image.proofs.Moments.{walked_at_moment}
 use Rattle.image.proofs.AfterRewrite.{holds_rewritten}
 use Rattle.image.proofs.PathHeld.{path_held, path_leaves}
+use Rattle.image.proofs.ReadBack.{reads_back}
 use Rattle.image.proofs.Walked.{walked}
 use Rattle.image.proofs.laws.image_laws.Goals as goal
 
@@ -31,3 +32,6 @@ returns-clause-path_open c = λ image bytes kept leaf before after size long is.
 
 pub returns-clause-sources : goal.returns-clause-sources
 returns-clause-sources c = λ m c g young states v leaf before after is unique allocated. paths_apart m c g young states v is unique allocated leaf before after
+
+pub returns-clause-read_back : goal.returns-clause-read_back
+returns-clause-read_back c = reads_back

@@ -1,7 +1,9 @@
+use Rattle.std.proofs.Common.{◌≡◌, ◌<◌, ◌^◌, inl, inr, ⊎_elim, sym, subst, arith}
 use Rattle.pool.specs.Kinds.{kind_of}
-use Rattle.pool.specs.Pools.{state_in, shown_in}
+use Rattle.pool.specs.Pools.{state_in, shown_in, IsHeld}
+use Rattle.pool.specs.declared.kind.Kind.TheVariants.{Change}
 use Rattle.pool.proofs.Done.{no_view, done_of, blocks_of, held_done, writes_done, keeps_done}
-use Rattle.pool.proofs.Imaged.{no_writes}
+use Rattle.pool.proofs.Imaged.{unwritten}
 use Rattle.pool.proofs.Questions.{no_question}
 use Rattle.pool.proofs.Metered.{changed}
 use Rattle.pool.proofs.pool.in_place.Goals as goal
@@ -27,6 +29,7 @@ returns-in-Ok-clause-writes c =
     (done_of (state_in c.args.keep.now c.args.world.now) c.args.keep.now.numbers.present c.perform.new.world c.args.request.now c.perform.result c.in-Ok.effect c.in-Ok.is c.perform.ensures.performed)
     (λ changes. blocks_of c.args.request.now c.perform.result c.in-Ok.effect c.in-Ok.is (c.perform.ensures.blocks changes))
     c.settle.ensures.state c.settle.ensures.numbers c.settle.ensures.image c.settle.ensures.synced c.settle.ensures.kept c.settle.ensures.swept c.settle.ensures.below
+    (subst (λ n. n < 2 ^ 64) c.group-group.ensures (omega arith)) (no_question (kind_of c.args.request.now) c.requires.kind) c.tell.new.reply c.tell.ensures
 
 pub returns-in-Ok-clause-keeps : goal.returns-in-Ok-clause-keeps
 returns-in-Ok-clause-keeps c =
@@ -37,4 +40,12 @@ returns-in-Ok-clause-keeps c =
     (no_question (kind_of c.args.request.now) c.requires.kind) (no_view (kind_of c.args.request.now) c.requires.kind) c.tell.new.reply c.tell.ensures
 
 pub returns-in-Err-clause-writes : goal.returns-in-Err-clause-writes
-returns-in-Err-clause-writes c = no_writes c.args.keep.now.image
+returns-in-Err-clause-writes c =
+    unwritten (state_in c.args.keep.now c.args.world.now) c.args.keep.now.numbers.present c.requires.held.sound (subst (λ n. n < 2 ^ 64) c.group-group.ensures (omega arith))
+    c.args.keep.now.image c.requires.held.image _ _ _
+
+-- what is refused leaves the world as it was
+pub returns-in-Err-clause-held : goal.returns-in-Err-clause-held
+returns-in-Err-clause-held c =
+    let same = c.in-Err.ensures.unchanged (⊎_elim (λ (k : kind_of c.args.request.now ≡ Change). inl k) (λ k. inr k.1) c.requires.kind) in
+    subst (IsHeld c.args.keep.now) (sym same) c.requires.held

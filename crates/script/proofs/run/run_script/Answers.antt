@@ -1,4 +1,4 @@
-use Rattle.std.proofs.Common.{◌≡◌, true, sym, ap, Err, subst, ◌∙◌, ◌&&◌, rules}
+use Rattle.std.proofs.Common.{◌≡◌, true, is_some, sym, ap, Err, subst, ◌∙◌, ◌&&◌, rules}
 use Rattle.script.specs.Lines.{GivesLine}
 use Rattle.script.specs.Meaning.{meaning}
 use Rattle.script.specs.Served.{IsUnserved}
@@ -57,7 +57,7 @@ returns-then-is_refused-stop-clause-ok g c =
     let yes : c.in-Ok.found ≡ true = search rules in
     let gives = subst (GivesLine told told') (sym c.as_slice.ensures.value) (found-line c.in-Ok.found told told' c.next_line.new.kept.items yes c.in-Ok.ensures.ok) in
     let served = c.in-Ok-serve_line.ensures.ok in
-    going-stop _ _ _ _ _ _ _ _ _ (going-flushed _ _ _ _ _ _ _ _ _ c.lines.invariant (g.W.Write.contents c.next_line.new.writer) c.in-Ok.ensures.written) told' kept gives served.reply c.serve_line.new.caller served.answered (g.W.Write.contents c.serve_line.new.writer) served.written (ap (λ r. r && c.args.stop) (sym served.kind) ∙ c.if-is_refused-stop.true)
+    going-stop _ _ _ _ _ _ _ _ _ (going-flushed _ _ _ _ _ _ _ _ _ c.lines.invariant (g.W.Write.contents c.next_line.new.writer) c.in-Ok.ensures.written) told' kept gives served.reply c.serve_line.new.caller served.answered (g.W.Write.contents c.serve_line.new.writer) served.written (ap (λ r. r && c.args.stop) (sym (c.is_some-is_refused.ensures ∙ ap is_some served.kind)) ∙ c.if-is_refused-stop.true)
 
 pub lines-preserved : goal.lines-preserved
 lines-preserved g c =
@@ -67,4 +67,4 @@ lines-preserved g c =
     let yes : c.in-Ok.found ≡ true = search rules in
     let gives = subst (GivesLine told told') (sym c.as_slice.ensures.value) (found-line c.in-Ok.found told told' c.next_line.new.kept.items yes c.in-Ok.ensures.ok) in
     let served = c.in-Ok-serve_line.ensures.ok in
-    rw (served.kind) (going-more _ _ _ _ _ _ _ _ _ (going-flushed _ _ _ _ _ _ _ _ _ c.lines.invariant (g.W.Write.contents c.next_line.new.writer) c.in-Ok.ensures.written) told' kept gives served.reply c.serve_line.new.caller served.answered (g.W.Write.contents c.serve_line.new.writer) served.written (ap (λ r. r && c.args.stop) (sym served.kind) ∙ c.if-is_refused-stop.false))
+    rw (c.is_some-is_refused.ensures ∙ ap is_some served.kind) (going-more _ _ _ _ _ _ _ _ _ (going-flushed _ _ _ _ _ _ _ _ _ c.lines.invariant (g.W.Write.contents c.next_line.new.writer) c.in-Ok.ensures.written) told' kept gives served.reply c.serve_line.new.caller served.answered (g.W.Write.contents c.serve_line.new.writer) served.written (ap (λ r. r && c.args.stop) (sym (c.is_some-is_refused.ensures ∙ ap is_some served.kind)) ∙ c.if-is_refused-stop.false))

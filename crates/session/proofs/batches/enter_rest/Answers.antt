@@ -1,10 +1,12 @@
-use Rattle.std.proofs.Common.{◌≡◌, ◌+◌, ◌∷◌, ◌++◌, ◌∙◌, [], ℕ, List, length, length-append, arith, refl, sym, ap, vec_len}
+use Rattle.std.proofs.Common.{◌≡◌, ◌+◌, ◌∷◌, ◌++◌, ◌∙◌, [], ℕ, List, length, length-append, arith, refl, sym, ap, subst, vec_len}
 use Rattle.std.proofs.lemmas.List.{length-map}
 use Rattle.std.specs.Vec.Iter.{into_iter_items}
+use Rattle.model.specs.Step.{Step}
 use Rattle.model.specs.declared.request.Request.{Request}
 use Rattle.session.specs.Asked.{Asked}
 use Rattle.session.specs.Entering.{Ran}
 use Rattle.session.specs.Receipts.{Placed, Kept}
+use Rattle.session.proofs.There.{first_ran, more_ran}
 use Rattle.session.proofs.SoFar.{IsSoFar, requests_in, first_so_far, first_added, more_so_far, more_added, own_later, begun, stopped_pace, starved_pace, whole_pace}
 use Rattle.session.proofs.batches.enter_rest.Goals as goal
 
@@ -16,6 +18,7 @@ calls-init g c =
       own = rw c.into_iter-call-iterator.ensures.into_iter_gives c.requires.own;
       added = λ s ran. rw rs (first_added s c.args.seat.now c.args.first ran);
       so_far = rw (rs, c.into_iter-call-iterator.ensures.into_iter_gives) so_far;
+      ran = λ s step. rw rs (first_ran s c.args.book.now.pool c.args.first step);
       room = omega (arith, c.requires.room, c.push_reserved.ensures.len, c.push_reserved.ensures.capacity, ap length c.requires.none, ap (λ i. length (into_iter_items i)) c.into_iter-call-iterator.ensures.into_iter_gives);
     }
 
@@ -32,10 +35,12 @@ calls-preserved g c =
     let was : IsSoFar c.args.first.number (g.G.Gate.left c.args.gate.now) all (r.entry.request ∷ requests_in rest) c.calls.receipts.items (length c.calls.book.history) (left + 1) = rw (← next, ← turn) i.so_far in
     let grown : length c.enter_call.new.book.history ≡ length c.calls.book.history + 1 = ap (λ b. length b.history) e.book ∙ length-append c.calls.book.history (r.entry ∷ []) in
     let ran : Ran c.calls.seat r.entry.request r c.enter_call.new.seat = (e.ran.0, refl, e.ran.2) in
+    let step : Step c.calls.book.pool r.entry.request r.entry.reply c.enter_call.new.book.pool = subst (λ q. Step c.calls.book.pool q r.entry.reply c.enter_call.new.book.pool) (sym e.ran.1) e.step in
     record {
       own = own_later c.calls.seat c.enter_call.new.seat (into_iter_items c.calls.call-iterator) rest _ c.in-Some.ensures.steps.0 i.own (ap (λ (s : Kept). s.number) e.ran.2);
       added = λ s first. rw (c.push_reserved-in-calls.ensures.items) (more_added s c.calls.seat c.enter_call.new.seat c.calls.receipts.items r (i.added s first) ran);
       so_far = rw (c.push_reserved-in-calls.ensures.items) (more_so_far c.args.first.number (g.G.Gate.left c.args.gate.now) (length c.calls.book.history) (length c.enter_call.new.book.history) left all (requests_in rest) c.calls.receipts.items r was e.number grown);
+      ran = λ s first. rw (c.push_reserved-in-calls.ensures.items) (more_ran s c.calls.book.pool c.enter_call.new.book.pool c.calls.receipts.items r (i.ran s first) step);
       room = omega (arith, ap length c.in-Some.ensures.steps.0, i.room, c.push_reserved-in-calls.ensures.len, c.push_reserved-in-calls.ensures.capacity);
     }
 
@@ -62,6 +67,15 @@ returns-in_default-clause-follow g c = c.calls.invariant.so_far.follow
 
 pub returns-clause-follow : goal.returns-clause-follow
 returns-clause-follow g c = c.calls.invariant.so_far.follow
+
+pub returns-then-not-turn-clause-ran : goal.returns-then-not-turn-clause-ran
+returns-then-not-turn-clause-ran g c = c.calls.invariant.ran
+
+pub returns-in_default-clause-ran : goal.returns-in_default-clause-ran
+returns-in_default-clause-ran g c = λ s step. rw (c.in_default.ensures.err.0) (c.calls.invariant.ran s step)
+
+pub returns-clause-ran : goal.returns-clause-ran
+returns-clause-ran g c = c.calls.invariant.ran
 
 pub returns-then-not-turn-clause-paced : goal.returns-then-not-turn-clause-paced
 returns-then-not-turn-clause-paced g c =

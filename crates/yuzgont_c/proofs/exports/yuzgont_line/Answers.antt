@@ -5,4 +5,4 @@ use Rattle.yuzgont_c.proofs.Handles.{unopened}
 use Rattle.yuzgont_c.proofs.exports.yuzgont_line.Goals as goal
 
 pub returns-in_default : goal.returns-in_default
-returns-in_default c = (NoPool, search rules, unopened (Answers c.args.line.now c.args.refused.now c.args.refused.now c.args.size.now) _ _ c.in_default.ensures.taken c.in_default.ensures.left)
+returns-in_default c = (NoPool, search rules, unopened (Answers c.args.line.now c.args.refusal.now c.args.refusal.now c.args.size.now) _ _ c.in_default.ensures.taken c.in_default.ensures.left)

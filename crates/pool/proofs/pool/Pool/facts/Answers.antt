@@ -1,10 +1,11 @@
-use Rattle.std.proofs.Common.{◌<◌, ◌^◌, ◌∙◌, length, ap, subst, sym, arith}
+use Rattle.std.proofs.Common.{◌<◌, ◌^◌, subst, sym, arith}
 use Rattle.images.specs.Opened.{KeepsJust}
-use Rattle.images.proofs.Walking.{walks_now, walks_last, walks_at_each_moment}
+use Rattle.images.proofs.Walking.{walks_now, walks_last}
 use Rattle.image.specs.ImageBlocks.{block_at}
 use Rattle.model.specs.World.{reach_of}
 use Rattle.pool.specs.Pools.{state_in}
-use Rattle.pool.proofs.Kept.{kept_just, kept_long}
+use Rattle.pool.proofs.Born.{have_births}
+use Rattle.pool.proofs.Kept.{kept_just}
 use Rattle.world.proofs.steps.States.{state_numbered}
 use Rattle.steps.proofs.questions.Properties.{are_balanced}
 use Rattle.steps.proofs.requests.Seeing.{once, closed}
@@ -23,17 +24,20 @@ returns c =
     let low : s.now.group < 2 ^ 64 = subst (λ n. n < 2 ^ 64) c.group-group.ensures (omega arith) in
     let just = subst (KeepsJust (reach_of s.last)) (sym is.kept) (kept_just s good) in
     rw (← c.self.view_is) (record {
-      numbered = state_numbered s sound.steady.good;
+      numbered = state_numbered s good;
       states = sound.states;
       balanced = are_balanced s sound.steady numbers sound.states;
-      kept = sound.steady.good;
+      kept = good;
       quotas = sound.steady.limits.now;
-      walked = record { now = walks_now s good few low (block_at image.bytes) is.stored; last = walks_last s good few low (block_at image.bytes) is.stored; kept = just };
-      moments = λ writes allowed. walks_at_each_moment s good few low image.kept image.bytes writes is.stored just (ap length is.kept ∙ kept_long s good) is.size allowed;
       viewing = record {
         numbers = c.self.invariant.views;
-        there = sound.steady.good.views;
-        now = record { once = once s.size s.now sound.steady.good.now; closed = closed s.size s.now sound.steady.good.now };
-        last = record { once = once s.size s.last sound.steady.good.last; closed = closed s.size s.last sound.steady.good.last };
+        there = good.views;
+        now = record { once = once s.size s.now good.now; closed = closed s.size s.now good.now };
+        last = record { once = once s.size s.last good.last; closed = closed s.size s.last good.last };
       };
+      swept = sound.steady.swept;
+      births = have_births s good is.stored.rising;
+      snapshots = c.self.invariant.one;
+      walked = record { now = walks_now s good few low (block_at image.bytes) is.stored; last = walks_last s good few low (block_at image.bytes) is.stored; kept = just };
+      image = is;
     })

@@ -1,5 +1,6 @@
 use Rattle.std.proofs.Common.{◌≡◌, ◌*◌, ℕ, List, Some, None, length, replicate, sym, ap, subst, ◌∙◌, ⊎_elim, arith}
 use Rattle.std.specs.Prelude.{Vec}
+use Rattle.std.proofs.lemmas.List.{length-replicate}
 use Rattle.std.specs.declared.alloc.Global.{Global}
 use Rattle.std.specs.FinMap as finmap
 use Rattle.std.specs.FinMap.{get, insert, get-empty}
@@ -24,6 +25,7 @@ use Rattle.steps.proofs.numbers.Known.{states_of, known_are}
 use Rattle.steps.proofs.requests.Fresh.{none_first, first_steady, first_unlimited, first_numbers}
 use Rattle.pool.specs.declared.keep.Keep.{Keep}
 use Rattle.pool.specs.declared.worlds.World.{World}
+use Rattle.host_laws.proofs.Both.{begin_one}
 use Rattle.pool.specs.Images.{IsImageOf}
 use Rattle.pool.specs.Numbers.{synced_numbers}
 use Rattle.pool.specs.Pools.{state_in, IsSound, IsHeld}
@@ -55,11 +57,13 @@ all_free id blocks = known_are (reach_of fresh_world) (reach_of fresh_world) blo
 
 first_image : (id blocks : ℕ) (i : ShownImage) → length i.bytes ≡ 512 * length i.kept → i.kept ≡ replicate blocks Free → IsImageOf (fresh_state id blocks) i
 unfolding fresh_state
-first_image id blocks i size kept = record {
-  size = size;
-  kept = kept ∙ all_free id blocks;
-  stored = none_stored (maps_of_both fresh_world fresh_world) (block_at i.bytes) nothing_there;
-}
+first_image id blocks i size kept =
+    let count : length i.kept ≡ blocks = ap length kept ∙ length-replicate blocks Free in record {
+      count = count;
+      size = size ∙ ap (λ n. 512 * n) count;
+      kept = kept ∙ all_free id blocks;
+      stored = none_stored (maps_of_both fresh_world fresh_world) (block_at i.bytes) nothing_there;
+    }
 
 pub invariant_of-result : goal.invariant_of-result
 unfolding fresh_state fresh_world
@@ -80,6 +84,7 @@ invariant_of-result c =
       views = none_below 1;
       synced = c.in_ok-numbers.ensures.synced ∙ all_free c.args.id c.args.blocks;
       swept = λ name f u at i d. absurd (none_first name f u at i);
+      one = begin_one c.args.id c.args.blocks;
       image = first_image c.args.id c.args.blocks image c.bytes-nothing.ensures.size (ap (λ (i : ShownImage). i.kept) c.in_ok-image.ensures.ok);
     })))
 
@@ -91,3 +96,6 @@ returns-clause-ok c =
 
 pub returns-clause-keeps : goal.returns-clause-keeps
 returns-clause-keeps c = ap (λ (i : ShownImage). i.keeps) c.in_ok-image.ensures.ok
+
+pub returns-clause-zeros : goal.returns-clause-zeros
+returns-clause-zeros c = ap (λ (i : ShownImage). i.bytes) c.in_ok-image.ensures.ok

@@ -20,7 +20,7 @@ pub returns-in-Closed : goal.returns-in-Closed
 returns-in-Closed g c =
     let v : Viewed = c.swap_remove-view.result in
     let first : Some c.in-Some.place ≡ position (λ (w : Viewed). w.number == c.args.number) c.self.inside.views.items = c.in-Some.ensures.first ∙ ap (position (λ (w : Viewed). w.number == c.args.number)) c.deref.ensures.value in
-    let e = c.in-Closed.ensures in
+    let e = c.in-Closed.ensures.closed in
     subst (λ s. Gains s (CloseView c.args.number) c.reply_of.result (record { seat = c.close_view.new.seat; held = numbers c.swap_remove-view.new.self.items })) c.self.view_is
     (gains_closed c.self.inside.seat c.self.inside.views.items c.swap_remove-view.new.self.items c.args.number c.in-Some.place v first c.swap_remove-view.ensures.value c.swap_remove-view.ensures.items
     c.close_view.new.seat c.in-Closed.receipt c.reply_of.result e.0 e.1 c.reply_of.ensures)
@@ -29,7 +29,7 @@ pub returns-in-Refused : goal.returns-in-Refused
 returns-in-Refused g c =
     let v : Viewed = c.swap_remove-view.result in
     let first : Some c.in-Some.place ≡ position (λ (w : Viewed). w.number == c.args.number) c.self.inside.views.items = c.in-Some.ensures.first ∙ ap (position (λ (w : Viewed). w.number == c.args.number)) c.deref.ensures.value in
-    let e = c.in-Refused.ensures in
+    let e = c.in-Refused.ensures.closed in
     subst (λ s. Gains s (CloseView c.args.number) c.reply_of-in-Refused.result (record { seat = c.close_view.new.seat; held = numbers c.push_reserved.new.self.items })) c.self.view_is
     (gains_refused c.self.inside.seat c.self.inside.views.items c.swap_remove-view.new.self.items c.args.number c.in-Some.place v first c.swap_remove-view.ensures.value c.swap_remove-view.ensures.items
     c.close_view.new.seat c.push_reserved.new.self.items c.in-Refused.view c.in-Refused.receipt c.reply_of-in-Refused.result e.2 c.push_reserved.ensures.items e.0 e.1 c.reply_of-in-Refused.ensures)
@@ -38,7 +38,7 @@ pub returns-in-NotRun : goal.returns-in-NotRun
 returns-in-NotRun g c =
     let v : Viewed = c.swap_remove-view.result in
     let first : Some c.in-Some.place ≡ position (λ (w : Viewed). w.number == c.args.number) c.self.inside.views.items = c.in-Some.ensures.first ∙ ap (position (λ (w : Viewed). w.number == c.args.number)) c.deref.ensures.value in
-    let e = c.in-NotRun.ensures in
+    let e = c.in-NotRun.ensures.closed in
     subst (λ s. Gains s (CloseView c.args.number) (Some (Refused c.in-NotRun.refusal)) (record { seat = c.close_view.new.seat; held = numbers c.push_reserved-in-NotRun.new.self.items })) c.self.view_is
     (gains_nothing c.self.inside.seat c.self.inside.views.items c.swap_remove-view.new.self.items c.args.number c.in-Some.place v first c.swap_remove-view.ensures.value c.swap_remove-view.ensures.items
     c.close_view.new.seat c.push_reserved-in-NotRun.new.self.items c.in-NotRun.view c.in-NotRun.refusal e.1 c.push_reserved-in-NotRun.ensures.items e.0 e.2)

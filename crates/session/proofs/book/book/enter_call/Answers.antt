@@ -9,6 +9,7 @@ use Rattle.model.specs.Step.{Step}
 use Rattle.model.specs.declared.entry.Entry.{Entry}
 use Rattle.session.specs.Books.{Pages}
 use Rattle.session.proofs.Legal.{sound_more, legal_more}
+use Rattle.session.proofs.There.{step_there}
 use Rattle.session.proofs.book.book.enter_call.Goals as goal
 
 -- a history that isn't full has room
@@ -103,6 +104,11 @@ returns-clause-step g c =
     let w = c.in-Some.ensures.some in
     subst (λ (m : State). Step m c.args.call.request (arc_value c.in-Some.owners.theirs).reply c.entry_of.new.pool.state) (ap (λ (p : Pages). p.pool) c.book.view_is)
     (subst (λ (x : Entry). Step c.book.inside.pool.state c.args.call.request x.reply c.entry_of.new.pool.state) (sym w.owners.third_is) w.step)
+
+pub returns-clause-there : goal.returns-clause-there
+returns-clause-there g c =
+    step_there g.K.Opening.opening c.args.book.now.pool c.entry_of.new.pool.state c.args.book.now.history c.args.call.request _ c.is_full.ensures.legal
+    (returns-clause-number g c) (returns-clause-ran g c).1 (returns-clause-step g c)
 
 pub returns-clause-book : goal.returns-clause-book
 returns-clause-book g c = let same = c.in-Some.ensures.some.owners.third_is in grind (arith, common_steps, same)

@@ -7,6 +7,7 @@ use Rattle.session.specs.Views.{Viewed}
 use Rattle.session.specs.ViewCalls.{HasClosed, IsClosedBy}
 use Rattle.session.specs.declared.view.ClosedView.{ClosedView}
 use Rattle.session.specs.declared.view.ClosedView.TheVariants.{Closed, Refused, NotRun}
+use Rattle.session.proofs.There.{closed_there}
 use Rattle.session.proofs.shared.Session.close_view.Goals as goal
 
 -- what a request that ran came to, once it is told apart
@@ -17,7 +18,10 @@ told view seat after r (Refused own v) ran (is, not_done, same) =
     (subst (λ (x : Placed). Ran seat (CloseView view.number) x after) (sym is) ran, subst (λ (x : Placed). x.entry.reply ≢ Done) (sym is) not_done, same)
 told view seat after r (NotRun e v) ran never = elim never [ ]
 
-pub returns-in-Ok : goal.returns-in-Ok
-returns-in-Ok g c =
+pub returns-in-Ok-clause-closed : goal.returns-in-Ok-clause-closed
+returns-in-Ok-clause-closed g c =
     told c.args.view c.args.seat.now c.ask.new.seat c.in-Ok.field-0.receipt c.closed.result
     (subst (λ n. Ran c.args.seat.now (CloseView n) c.in-Ok.field-0.receipt c.ask.new.seat) c.number-number.ensures c.in-Ok.ensures.ok) c.closed.ensures
+
+pub returns-in-Ok-clause-there : goal.returns-in-Ok-clause-there
+returns-in-Ok-clause-there g c = closed_there g.K.Opening.opening c.in-Ok.field-0.receipt c.args.view c.closed.result c.closed.ensures c.in-Ok.ensures.there

@@ -9,6 +9,7 @@ use Rattle.session.specs.Views.{opened_name}
 use Rattle.session.specs.ViewCalls.{HasOpened, IsOpenedBy}
 use Rattle.session.specs.declared.view.OpenedView.{OpenedView}
 use Rattle.session.specs.declared.view.OpenedView.TheVariants.{Opened, Refused}
+use Rattle.session.proofs.There.{opened_there}
 use Rattle.session.proofs.shared.Session.open_view.Goals as goal
 
 -- what a request that ran came to, once it is told apart
@@ -26,3 +27,6 @@ told target seat after r (Refused own) ran (is, none) = (
 pub returns-clause-ok : goal.returns-clause-ok
 returns-clause-ok g c =
     told c.args.target c.args.seat.now c.ask.new.seat c.in_ok-receipt.field-0.receipt c.opened.result c.in_ok-receipt.ensures.ok c.opened.ensures
+
+pub returns-clause-there : goal.returns-clause-there
+returns-clause-there g c = opened_there g.K.Opening.opening c.in_ok-receipt.field-0.receipt c.opened.result c.opened.ensures c.in_ok-receipt.ensures.there

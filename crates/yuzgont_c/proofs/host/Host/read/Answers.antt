@@ -11,5 +11,5 @@ returns c =
     reads _ _ _ _ _ _ _ _ _ _ is (
       said _ _ _ c.ask_read_one-reply.result (λ reply. (c.fill.result ≡ answer_of reply) × ReadInto reply c.args.buffer.now c.args.is_hole.now c.fill.new.buffer c.fill.new.is_hole)
           (c.ask_read_one-reply.ensures.asked _ c.ask_read-request.ensures) (c.fill.ensures.answer, c.fill.ensures.filled),
-      c.ask_read_one-reply.ensures.bytes,
+      c.ask_read_one-reply.ensures.results,
     )

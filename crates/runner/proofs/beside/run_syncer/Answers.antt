@@ -1,0 +1,5 @@
+use Rattle.runner.proofs.Asking.{asks_on}
+use Rattle.runner.proofs.beside.run_syncer.Goals as goal
+
+pub returns : goal.returns
+returns g c = asks_on _ _ _ _ _ _ _ _ _ c.run_syncer.ensures

@@ -1,0 +1,374 @@
+/* The typed calls, each compared with what a line of the same pool tells; and want of memory at each. It prints one line, and ends with
+ * status 1 where a call isn't what it should be. */
+#include "yuzgont.h"
+
+#include <inttypes.h>
+#include <stdio.h>
+#include <stdlib.h>
+#include <string.h>
+
+#define NAME(text) (text), (sizeof(text) - 1)
+
+/* Which request for memory is refused: the first is 1, and 0 refuses none. The linker puts these in the place of malloc and realloc. */
+static long refused_at;
+static long requests;
+
+void *__real_malloc(size_t size);
+void *__real_realloc(void *block, size_t size);
+
+static bool is_refused_now(void) {
+    requests += 1;
+    return requests == refused_at;
+}
+
+void *__wrap_malloc(size_t size) { return is_refused_now() ? NULL : __real_malloc(size); }
+
+void *__wrap_realloc(void *block, size_t size) { return is_refused_now() ? NULL : __real_realloc(block, size); }
+
+static void wrong(const char *what, int code) {
+    fprintf(stderr, "typed: %s: %d (%s)\n", what, code, yuz_text(code));
+    exit(1);
+}
+
+static void told_so(const char *what, int code, int wanted) {
+    if (code != wanted) wrong(what, code);
+}
+
+static void done(const char *what, int code) { told_so(what, code, YUZ_DONE); }
+
+/* What a line is answered, without its line feed. */
+static void expect_line(yuz_pool *pool, const char *line, const char *wanted) {
+    char text[4096];
+    size_t size = 0, count = 0;
+    uint32_t refusal = 0;
+    done(line, yuz_line(pool, line, strlen(line), &refusal, &size));
+    done(line, yuz_reply(pool, 0, text, sizeof text, &count));
+    if (count != size || size != strlen(wanted) + 1 || memcmp(text, wanted, size - 1) != 0) {
+        fprintf(stderr, "typed: %s: %.*swanted %s\n", line, (int)count, text, wanted);
+        exit(1);
+    }
+}
+
+static void expect_number(yuz_pool *pool, const char *line, uint64_t value) {
+    char wanted[32];
+    snprintf(wanted, sizeof wanted, "%" PRIu64, value);
+    expect_line(pool, line, wanted);
+}
+
+static void write_block(yuz_pool *pool, const char *name, uint32_t object, uint32_t number, int byte) {
+    uint8_t block[YUZ_BLOCK_SIZE];
+    memset(block, byte, sizeof block);
+    done("write", yuz_write(pool, name, strlen(name), object, number, block, sizeof block));
+}
+
+/* A pool with p/a, p/a@s and p/a@t, and a clone p/c of p/a@s. */
+static void prepare(yuz_pool *pool) {
+    uint64_t group;
+    done("create", yuz_create(pool, 1, 1000));
+    done("create_file_system", yuz_create_file_system(pool, NAME("p/a")));
+    write_block(pool, "p/a", 0, 0, 97);
+    done("snapshot", yuz_snapshot(pool, NAME("p/a@s"), false));
+    write_block(pool, "p/a", 0, 1, 98);
+    done("punch", yuz_punch(pool, NAME("p/a"), 0, 0));
+    done("snapshot", yuz_snapshot(pool, NAME("p/a@t"), false));
+    done("clone", yuz_clone(pool, NAME("p/a@s"), NAME("p/c")));
+    done("sync", yuz_sync(pool, &group));
+}
+
+/* Requests that change file systems and snapshots. */
+static void try_datasets(void) {
+    yuz_pool pool = YUZ_NO_POOL;
+    prepare(&pool);
+    expect_line(&pool, "list", "p p/a p/a@s p/a@t p/c");
+    expect_line(&pool, "get origin p/c", "p/a@s");
+    told_so("create twice", yuz_create_file_system(&pool, NAME("p/a")), YUZ_EXISTS);
+    told_so("destroy with a clone", yuz_destroy(&pool, NAME("p/a@s"), false, false), YUZ_HAS_CLONES);
+    done("destroy deferred", yuz_destroy(&pool, NAME("p/a@s"), false, true));
+    expect_line(&pool, "get defer_destroy p/a@s", "on");
+    done("promote", yuz_promote(&pool, NAME("p/c")));
+    expect_line(&pool, "list", "p p/a p/a@t p/c p/c@s");
+    done("bookmark", yuz_bookmark(&pool, NAME("p/a@t"), NAME("p/a#m")));
+    done("hold", yuz_hold(&pool, NAME("kept"), NAME("p/a@t")));
+    told_so("destroy with a tag", yuz_destroy(&pool, NAME("p/a@t"), false, false), YUZ_BUSY);
+    expect_line(&pool, "holds p/a@t", "kept");
+    done("release", yuz_release(&pool, NAME("kept"), NAME("p/a@t")));
+    expect_line(&pool, "holds p/a@t", "-");
+    write_block(&pool, "p/a", 1, 5, 99);
+    done("rollback", yuz_rollback(&pool, NAME("p/a@t"), true));
+    expect_line(&pool, "read p/a 1 5", "hole");
+    told_so("bookmark stays", yuz_rollback(&pool, NAME("p/c@s"), false), YUZ_DONE);
+    write_block(&pool, "p/a", 1, 5, 99);
+    done("free_object", yuz_free_object(&pool, NAME("p/a"), 1));
+    expect_line(&pool, "read p/a 1 5", "hole");
+    done("destroy", yuz_destroy(&pool, NAME("p/a"), true, false));
+    expect_line(&pool, "list", "p p/c");
+    yuz_free(&pool);
+}
+
+/* Limits, and numbers of datasets and of the pool. */
+static void try_numbers(void) {
+    static const char *const words[] = {"pget size", "pget allocated", "pget free", "pget freeing", "pget waiting", "pget group"};
+    yuz_pool pool = YUZ_NO_POOL;
+    uint64_t value = 0;
+    prepare(&pool);
+    done("set", yuz_set(&pool, NAME("p/a"), YUZ_LIMIT_QUOTA, 102400));
+    done("set", yuz_set(&pool, NAME("p/a"), YUZ_LIMIT_REF_QUOTA, 51200));
+    done("set", yuz_set(&pool, NAME("p/a"), YUZ_LIMIT_RESERVATION, 20480));
+    done("set", yuz_set(&pool, NAME("p/a"), YUZ_LIMIT_REF_RESERVATION, 10240));
+    expect_line(&pool, "get quota p/a", "102400");
+    expect_line(&pool, "get refquota p/a", "51200");
+    expect_line(&pool, "get reservation p/a", "20480");
+    expect_line(&pool, "get refreservation p/a", "10240");
+    done("set none", yuz_set(&pool, NAME("p/a"), YUZ_LIMIT_QUOTA, 0));
+    expect_line(&pool, "get quota p/a", "0");
+    told_so("an odd amount", yuz_set(&pool, NAME("p/a"), YUZ_LIMIT_QUOTA, 1), YUZ_BAD_AMOUNT);
+    told_so("a great amount", yuz_set(&pool, NAME("p/a"), YUZ_LIMIT_QUOTA, ((uint64_t)1 << 49) + 512), YUZ_BAD_AMOUNT);
+    told_so("no limit", yuz_set(&pool, NAME("p/a"), 4, 512), YUZ_NO_PROPERTY);
+    for (uint32_t property = YUZ_POOL_SIZE; property <= YUZ_POOL_GROUP; property++) {
+        done(words[property], yuz_pool_get(&pool, property, &value));
+        expect_number(&pool, words[property], value);
+    }
+    told_so("no pool property", yuz_pool_get(&pool, 6, &value), YUZ_NO_PROPERTY);
+    done("written_since", yuz_written_since(&pool, NAME("p/a@t"), NAME("p/a@s"), &value));
+    expect_number(&pool, "get written@s p/a@t", value);
+    if (value == 0) wrong("nothing was written", 0);
+    done("destroy", yuz_destroy(&pool, NAME("p/c"), true, false));
+    done("would_free", yuz_would_free(&pool, NAME("p/a"), NAME("s"), NAME("s"), &value));
+    expect_number(&pool, "wouldfree p/a s s", value);
+    if (value == 0) wrong("nothing would be freed", 0);
+    yuz_free(&pool);
+}
+
+static void try_views(void) {
+    yuz_pool pool = YUZ_NO_POOL;
+    uint64_t view = 0;
+    prepare(&pool);
+    done("open_view", yuz_open_view(&pool, NAME("p/a@t"), &view));
+    told_so("a number of a view", (int)view, 1);
+    told_so("destroy with a view", yuz_destroy(&pool, NAME("p/a@t"), false, false), YUZ_BUSY);
+    done("close_view", yuz_close_view(&pool, view));
+    told_so("close_view twice", yuz_close_view(&pool, view), YUZ_NO_VIEW);
+    done("destroy", yuz_destroy(&pool, NAME("p/a@t"), false, false));
+    yuz_free(&pool);
+}
+
+/* The names of a list are those of the line `list`, and each entry's numbers those of lines. */
+static void try_lists(void) {
+    static const char *const names[] = {"p", "p/a", "p/a@s", "p/a@t", "p/a#m", "p/c"};
+    static const enum yuz_kind kinds[] = {YUZ_FILE_SYSTEM, YUZ_FILE_SYSTEM, YUZ_SNAPSHOT, YUZ_SNAPSHOT, YUZ_BOOKMARK, YUZ_FILE_SYSTEM};
+    yuz_pool pool = YUZ_NO_POOL;
+    char name[YUZ_NAME_SIZE], line[300];
+    size_t count = 0, size = 0;
+    prepare(&pool);
+    done("bookmark", yuz_bookmark(&pool, NAME("p/a@t"), NAME("p/a#m")));
+    done("list", yuz_list(&pool, &count));
+    if (count != 6) wrong("a list of another length", (int)count);
+    for (size_t at = 0; at < count; at++) {
+        yuz_entry_record entry;
+        done("entry", yuz_entry(&pool, at, name, &size, &entry));
+        if (size != strlen(names[at]) || memcmp(name, names[at], size) != 0 || entry.kind != kinds[at]) wrong(names[at], (int)at);
+        if (entry.kind != YUZ_FILE_SYSTEM) {
+            snprintf(line, sizeof line, "get guid %s", names[at]);
+            expect_number(&pool, line, entry.guid);
+            snprintf(line, sizeof line, "get createtxg %s", names[at]);
+            expect_number(&pool, line, entry.group);
+        }
+        if (entry.kind != YUZ_BOOKMARK) {
+            snprintf(line, sizeof line, "get used %s", names[at]);
+            expect_number(&pool, line, entry.used);
+            snprintf(line, sizeof line, "get referenced %s", names[at]);
+            expect_number(&pool, line, entry.referenced);
+        }
+    }
+    done("name", yuz_name(&pool, 2, name, 3, &size));
+    if (size != 5 || memcmp(name, "p/a", 3) != 0) wrong("the front of a name", (int)size);
+    told_so("past the last name", yuz_name(&pool, 6, name, sizeof name, &size), YUZ_NO_ENTRY);
+    done("hold", yuz_hold(&pool, NAME("one"), NAME("p/a@t")));
+    done("hold", yuz_hold(&pool, NAME("two"), NAME("p/a@t")));
+    done("holds", yuz_holds(&pool, NAME("p/a@t"), &count));
+    done("name", yuz_name(&pool, 1, name, sizeof name, &size));
+    if (count != 2 || size != 3 || memcmp(name, "two", 3) != 0) wrong("the second tag", (int)count);
+    done("forget", yuz_forget(&pool));
+    told_so("no list", yuz_name(&pool, 0, name, sizeof name, &size), YUZ_NO_ENTRY);
+    yuz_free(&pool);
+}
+
+/* A stream in memory, written by a sink and read by a source. */
+struct kept {
+    uint8_t bytes[65536];
+    size_t length, at;
+};
+
+static int keep(void *context, const uint8_t *bytes, size_t length) {
+    struct kept *kept = context;
+    if (length > sizeof kept->bytes - kept->length) return 77;
+    memcpy(kept->bytes + kept->length, bytes, length);
+    kept->length += length;
+    return 0;
+}
+
+static ptrdiff_t give(void *context, uint8_t *buffer, size_t length) {
+    struct kept *kept = context;
+    size_t left = kept->length - kept->at, count = left < length ? left : length;
+    count = count < 1000 ? count : 1000;
+    memcpy(buffer, kept->bytes + kept->at, count);
+    kept->at += count;
+    return (ptrdiff_t)count;
+}
+
+static ptrdiff_t fail(void *context, uint8_t *buffer, size_t length) {
+    (void)context, (void)buffer, (void)length;
+    return -1;
+}
+
+static int stop(void *context, const uint8_t *bytes, size_t length) {
+    (void)context, (void)bytes, (void)length;
+    return 42;
+}
+
+struct changed {
+    uint64_t written, holes;
+    bool is_first_hole, is_second_written;
+};
+
+static int count_change(void *context, uint32_t object, uint32_t block, uint32_t count, const uint8_t *bytes) {
+    struct changed *changed = context;
+    if (bytes == NULL) changed->holes += count;
+    else changed->written += count;
+    if (object == 0 && block == 0 && bytes == NULL) changed->is_first_hole = true;
+    if (object == 0 && block == 1 && bytes != NULL && bytes[0] == 98) changed->is_second_written = true;
+    return 0;
+}
+
+static void try_streams(void) {
+    yuz_pool pool = YUZ_NO_POOL, backup = YUZ_NO_POOL;
+    static struct kept kept;
+    struct changed changed = {0};
+    prepare(&pool);
+    done("create", yuz_create(&backup, 2, 1000));
+    done("send_to", yuz_send_to(&pool, NAME("p/a@s"), NULL, 0, keep, &kept));
+    told_so("a sink that stops", yuz_send_to(&pool, NAME("p/a@s"), NULL, 0, stop, NULL), 42);
+    told_so("a source that fails", yuz_receive_from(&backup, NAME("p/a@s"), fail, NULL, false), YUZ_SOURCE_FAILED);
+    done("receive_from", yuz_receive_from(&backup, NAME("p/a@s"), give, &kept, false));
+    expect_line(&backup, "list", "p p/a p/a@s");
+    done("diff", yuz_diff(&pool, NAME("p/a@t"), NAME("p/a@s"), count_change, &changed));
+    if (changed.written != 1 || !changed.is_second_written || !changed.is_first_hole) wrong("the difference", (int)changed.written);
+    memset(&changed, 0, sizeof changed);
+    done("diff in full", yuz_diff(&pool, NAME("p/a@s"), NULL, 0, count_change, &changed));
+    if (changed.written != 1 || changed.written + changed.holes != 256 * 4096) wrong("all blocks", (int)changed.holes);
+    yuz_free(&pool);
+    yuz_free(&backup);
+}
+
+static int do_create(yuz_pool *pool) { return yuz_create_file_system(pool, NAME("p/b")); }
+static int do_clone(yuz_pool *pool) { return yuz_clone(pool, NAME("p/a@t"), NAME("p/d")); }
+static int do_destroy(yuz_pool *pool) { return yuz_destroy(pool, NAME("p/c"), true, false); }
+static int do_promote(yuz_pool *pool) { return yuz_promote(pool, NAME("p/c")); }
+static int do_rollback(yuz_pool *pool) { return yuz_rollback(pool, NAME("p/a@t"), false); }
+static int do_bookmark(yuz_pool *pool) { return yuz_bookmark(pool, NAME("p/a@t"), NAME("p/a#m")); }
+static int do_hold(yuz_pool *pool) { return yuz_hold(pool, NAME("kept"), NAME("p/a@t")); }
+static int do_set(yuz_pool *pool) { return yuz_set(pool, NAME("p/a"), YUZ_LIMIT_QUOTA, 102400); }
+static int do_free_object(yuz_pool *pool) { return yuz_free_object(pool, NAME("p/a"), 0); }
+
+static int do_release(yuz_pool *pool) {
+    int code = yuz_release(pool, NAME("none"), NAME("p/a@t"));
+    return code == YUZ_NO_TAG ? YUZ_DONE : code;
+}
+
+static int do_view(yuz_pool *pool) {
+    uint64_t view;
+    return yuz_open_view(pool, NAME("p/a@t"), &view);
+}
+
+static int do_close(yuz_pool *pool) {
+    int code = yuz_close_view(pool, 7);
+    return code == YUZ_NO_VIEW ? YUZ_DONE : code;
+}
+
+static int do_written(yuz_pool *pool) {
+    uint64_t value;
+    return yuz_written_since(pool, NAME("p/a@t"), NAME("p/a@s"), &value);
+}
+
+static int do_would_free(yuz_pool *pool) {
+    uint64_t value;
+    return yuz_would_free(pool, NAME("p/a"), NAME("t"), NAME("t"), &value);
+}
+
+static int do_pool_get(yuz_pool *pool) {
+    uint64_t value;
+    return yuz_pool_get(pool, YUZ_POOL_FREE, &value);
+}
+
+static int do_list(yuz_pool *pool) {
+    size_t count;
+    return yuz_list(pool, &count);
+}
+
+static int do_holds(yuz_pool *pool) {
+    size_t count;
+    return yuz_holds(pool, NAME("p/a@t"), &count);
+}
+
+static int do_line(yuz_pool *pool) {
+    size_t size;
+    uint32_t refusal;
+    return yuz_line(pool, NAME("create p/b"), &refusal, &size);
+}
+
+/* All that lines tell of a pool that the calls below change. */
+static char *told(yuz_pool *pool) {
+    static const char *const lines[] = {"list", "get used p", "get quota p/a", "get origin p/c", "get userrefs p/a@t", "pget group", "pget allocated", "pget freeing", "pget waiting", "read p/a 0 1"};
+    char *text = NULL, piece[2048];
+    size_t size, count;
+    uint32_t refusal;
+    FILE *out = open_memstream(&text, &size);
+    for (size_t i = 0; i < sizeof lines / sizeof *lines; i++) {
+        done(lines[i], yuz_line(pool, lines[i], strlen(lines[i]), &refusal, &size));
+        done(lines[i], yuz_reply(pool, 0, piece, sizeof piece, &count));
+        fwrite(piece, 1, count, out);
+    }
+    fclose(out);
+    return text;
+}
+
+/* Refuses each request for memory of one call on such a pool, until it makes fewer. Says how many those are. */
+static long refuse_each(const char *what, int (*call)(yuz_pool *)) {
+    for (long at = 1;; at++) {
+        yuz_pool pool = YUZ_NO_POOL;
+        prepare(&pool);
+        char *before = told(&pool);
+        requests = 0;
+        refused_at = at;
+        int code = call(&pool);
+        bool was_refused = requests >= at;
+        refused_at = 0;
+        /* Some growth can be done without. */
+        if (code != YUZ_DONE && (code != YUZ_NO_MEMORY || !was_refused)) wrong(what, code);
+        if (code == YUZ_NO_MEMORY) {
+            char *after = told(&pool);
+            if (strcmp(before, after) != 0) wrong("a refused call has changed something", (int)at);
+            free(after);
+            done(what, call(&pool));
+        }
+        free(before);
+        yuz_free(&pool);
+        if (!was_refused) return at - 1;
+    }
+}
+
+int main(void) {
+    static const struct {
+        const char *what;
+        int (*call)(yuz_pool *);
+    } each[] = {{"create", do_create}, {"clone", do_clone}, {"destroy", do_destroy}, {"promote", do_promote}, {"rollback", do_rollback}, {"bookmark", do_bookmark}, {"hold", do_hold}, {"release", do_release}, {"set", do_set}, {"free_object", do_free_object}, {"open_view", do_view}, {"close_view", do_close}, {"written_since", do_written}, {"would_free", do_would_free}, {"pool_get", do_pool_get}, {"list", do_list}, {"holds", do_holds}, {"a line that changes", do_line}};
+    try_datasets();
+    try_numbers();
+    try_views();
+    try_lists();
+    try_streams();
+    printf("typed: %s, each call tells what its line tells; refused requests for memory:", yuz_version());
+    for (size_t i = 0; i < sizeof each / sizeof *each; i++) printf(" %s %ld", each[i].what, refuse_each(each[i].what, each[i].call));
+    printf("; nothing was changed\n");
+    return 0;
+}

@@ -1,0 +1,63 @@
+//! The typed calls, each compared with what a line of the same pool tells.
+
+use std::error::Error as StdError;
+use yuzgont::{Error, Kind, Limit, Pool, PoolProperty};
+
+type Outcome = Result<(), Box<dyn StdError>>;
+
+/// What a line is answered, without its line feed.
+fn told(pool: &mut Pool, line: &str) -> Result<String, Box<dyn StdError>> {
+    Ok(String::from_utf8(pool.line(line)?.text)?.trim_end().to_string())
+}
+
+fn expect(pool: &mut Pool, line: &str, wanted: &str) -> Outcome {
+    assert_eq!(told(pool, line)?, wanted, "{line}");
+    Ok(())
+}
+
+fn main() -> Outcome {
+    let mut pool = Pool::create(1, 1000)?;
+    pool.create_file_system("p/a")?;
+    pool.write("p/a", 0, 0, &[97; 512])?;
+    pool.snapshot("p/a@s", false)?;
+    pool.write("p/a", 0, 1, &[98; 512])?;
+    pool.snapshot("p/a@t", false)?;
+    pool.clone_snapshot("p/a@s", "p/c")?;
+    assert_eq!(pool.destroy("p/a@s", false, false), Err(Error::HasClones));
+    pool.destroy("p/a@s", false, true)?;
+    pool.promote("p/c")?;
+    pool.bookmark("p/a@t", "p/a#m")?;
+    expect(&mut pool, "list", "p p/a p/a@t p/a#m p/c p/c@s")?;
+    let kinds: Vec<Kind> = pool.entries()?.iter().map(|entry| entry.kind).collect();
+    assert_eq!(kinds, [Kind::FileSystem, Kind::FileSystem, Kind::Snapshot, Kind::Bookmark, Kind::FileSystem, Kind::Snapshot]);
+    for entry in pool.entries()? {
+        for (word, value) in [("guid", entry.guid), ("createtxg", entry.group), ("used", entry.used), ("referenced", entry.referenced)] {
+            expect(&mut pool, &format!("get {word} {}", entry.name), &value.map_or("-".to_string(), |value| value.to_string()))?;
+        }
+    }
+    pool.hold("one", "p/a@t")?;
+    pool.hold("two", "p/a@t")?;
+    assert_eq!(pool.holds("p/a@t")?, ["one", "two"]);
+    pool.release("one", "p/a@t")?;
+    expect(&mut pool, "holds p/a@t", "two")?;
+    let view = pool.open_view("p/a@t")?;
+    pool.close_view(view)?;
+    assert_eq!(pool.close_view(view), Err(Error::NoView));
+    pool.set("p/a", Limit::Quota, 51_200)?;
+    expect(&mut pool, "get quota p/a", "51200")?;
+    assert_eq!(pool.set("p/a", Limit::Quota, 1), Err(Error::BadAmount));
+    let written = pool.written_since("p/a", "p/c@s")?;
+    expect(&mut pool, "get written@p/c@s p/a", &written.to_string())?;
+    let freed = pool.would_free("p/a", "t", "t")?;
+    expect(&mut pool, "wouldfree p/a t t", &freed.to_string())?;
+    let size = pool.pool_get(PoolProperty::Size)?;
+    expect(&mut pool, "pget size", &size.to_string())?;
+    pool.write("p/a", 1, 0, &[99; 512])?;
+    pool.free_object("p/a", 1)?;
+    expect(&mut pool, "read p/a 1 0", "hole")?;
+    pool.write("p/a", 1, 0, &[99; 512])?;
+    pool.rollback("p/a@t", false)?;
+    expect(&mut pool, "read p/a 1 0", "hole")?;
+    println!("typed: each call tells what its line tells");
+    Ok(())
+}
