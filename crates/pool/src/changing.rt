@@ -70,8 +70,7 @@ impl Keep {
         Ok(Effect::Blocks(done, writes))
     }
 
-    // Why nothing is changed where no update is asked for, since numbers are outside their limits: that there is no such file system comes
-    // first.
+    // Why nothing is changed where numbers are outside their limits, so that no update is asked for: NoDataset comes first.
     fn outside_the_limits(&self, world: &World, name: &DsName, refusal: Refusal) -> Refusal
         requires { IsHeld self.now world.now }
         ensures { (q : Request) → Asks q (Target.FileSystem name.now) (Err refusal) → Step (state_in self.now world.now) q (Reply.Refused result) (state_in self.now world.now) }

@@ -96,8 +96,7 @@ impl Model for Ready {
 
 impl Pool {
     /// A pool with this id and this many blocks, all free: the root file system alone, empty, in group 1, over an image that is all zero.
-    /// BadName for id 0, else TooMany for no block or more than `MOST_BLOCKS`, else NoMemory where there is no room for the blocks and their
-    /// states.
+    /// BadName for id 0, else TooMany for no block or more than `MOST_BLOCKS`, else NoMemory where there is none for the blocks' bytes and states.
     pub fn create(alloc: Global, id: u32, blocks: u32) -> Result<Pool, Refusal>
         ensures ok { IfOk result (λ p. p.state ≡ fresh_state id blocks) }
         ensures meters { IfOk result (λ p. (p.nodes ≡ 0) × (p.segments ≡ 0)) }
@@ -313,8 +312,7 @@ impl Pool {
         let _group = self.present.table.group();
     }
 
-    // Has the table look first where the file system stands that a request is to change, since what refuses the request, what does it and
-    // what writes its blocks are functions of their own, each of which asks for it by its name. Nothing is changed.
+    // Has the table look first where the file system of a request stands, since what refuses, does and writes each ask for it by its name.
     fn look_at(&mut self, request: &Request)
         ensures { self.new ≡ self.old }
     {
@@ -394,9 +392,9 @@ impl Pool {
         &self.keep.image
     }
 
-    /// The roots of the present datasets, or of those that the last sync left, in the order of a list, without bookmarks: for each file system,
-    /// in byte order of the names, that of its live tree and then those of its snapshots, the oldest first. `Image::read_tree` walks from one
-    /// to the dataset's contents. NoMemory where there is none for them. It costs the names.
+    /// The roots of the present datasets, or of those that the last sync left: for each file system, in byte order of the names, that of its
+    /// live tree, then those of its snapshots, the oldest first. `Image::read_tree` reads a dataset from its root. NoMemory where there is none
+    /// for them. It costs the names.
     pub fn roots(&self, alloc: Global, last: bool) -> Result<Vec<DatasetRoot>, Refusal>
         ensures ok { IfOk result (λ roots. map shown_root roots.items ≡ roots_in (if last then self.now.state.last else self.now.state.now).file_systems) }
         ensures err { IfErr result (λ e. e ≡ Refusal.NoMemory) }
@@ -407,8 +405,7 @@ impl Pool {
         roots_of(alloc, &self.present.table)
     }
 
-    /// One step for each request, in their order, and the replies. NoMemory where there is none for the list of replies, and then
-    /// no request was begun.
+    /// One step for each request, in order, and the replies. NoMemory where there is none for the list of replies: nothing was begun then.
     pub fn run(&mut self, alloc: Global, requests: &[Request]) -> Result<Vec<Reply>, Refusal>
         ensures ok { IfOk result (λ replies. Run self.old.state requests.now replies.items self.new.state) }
         ensures applied { IfOk result (λ replies. AreApplied self.old requests.now replies.items self.new) }

@@ -61,9 +61,9 @@ pool_gets at property before after h k answer is tells = subst (λ (o : Option P
 pub there : (most id blocks : ℕ) (old new : Option Host) (h : Host) → Some h ≡ old → new ≡ Some h → Creates most id blocks old HasPool new
 there most id blocks old new h e f = subst (λ (o : Option Host). Creates most id blocks o HasPool new) e (refl, f)
 
-pub made : (most id blocks : ℕ) (old new : Option Host) (k : Host) → None ≡ old → new ≡ Some k → CanBe most id blocks × IsFresh id blocks k → Creates most id blocks old Done new
-made most id blocks old new k e f fresh =
-    subst (λ (o : Option Host). Creates most id blocks o Done new) e (subst (λ (n : Option Host). Creates most id blocks None Done n) (sym f) (refl, fresh.0, fresh.1))
+pub made : (most id blocks : ℕ) (old new : Option Host) (k : Host) → None ≡ old → new ≡ Some k → CanBe most id blocks → IsFresh id blocks k → Creates most id blocks old Done new
+made most id blocks old new k e f can fresh =
+    subst (λ (o : Option Host). Creates most id blocks o Done new) e (subst (λ (n : Option Host). Creates most id blocks None Done n) (sym f) (refl, can, fresh))
 
 pub unmade : (most id blocks : ℕ) (old new : Option Host) (why : Refusal) → None ≡ old → new ≡ None → CreateRefused most id blocks why → Creates most id blocks old (Refused why) new
 unmade most id blocks old new why e f refused =

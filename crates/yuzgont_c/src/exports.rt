@@ -45,7 +45,8 @@ pub extern "C" fn yuzgont_create(alloc: Global, pool: &mut YuzPool, id: u32, blo
 
 // A host in memory of its own.
 fn created(alloc: Global, id: u32, blocks: u32) -> Result<Box<Host>, Refusal>
-    ensures ok { IfOk result (λ host. CanBe MOST_BLOCKS id blocks × IsFresh id blocks host.value) }
+    ensures can { IfOk result (λ _. CanBe MOST_BLOCKS id blocks) }
+    ensures fresh { IfOk result (λ host. IsFresh id blocks host.value) }
     ensures err { IfErr result (λ why. CreateRefused MOST_BLOCKS id blocks why) }
 {
     let host = Host::create(alloc, id, blocks)?;

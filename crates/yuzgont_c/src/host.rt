@@ -40,7 +40,8 @@ pub struct Host {
 impl Host {
     /// A host of a new pool. BadName for id 0, else TooMany for no block or more than `MOST_BLOCKS`, else NoMemory, as `Pool::create`.
     pub fn create(alloc: Global, id: u32, blocks: u32) -> Result<Host, Refusal>
-        ensures ok { IfOk result (λ host. CanBe MOST_BLOCKS id blocks × IsFresh id blocks host) }
+        ensures can { IfOk result (λ _. CanBe MOST_BLOCKS id blocks) }
+        ensures fresh { IfOk result (λ host. IsFresh id blocks host) }
         ensures err { IfErr result (λ why. CreateRefused MOST_BLOCKS id blocks why) }
     {
         let pool = Pool::create(alloc, id, blocks)?;
