@@ -394,15 +394,16 @@ impl Pool {
 
     /// The roots of the present datasets, or of those that the last sync left: for each file system, in byte order of the names, that of its
     /// live tree, then those of its snapshots, the oldest first. `Image::read_tree` reads a dataset from its root. NoMemory where there is none
-    /// for them. It costs the names.
+    /// for them. It costs the names, and a node for each dataset, which the pool's counts leave out.
     pub fn roots(&self, alloc: Global, last: bool) -> Result<Vec<DatasetRoot>, Refusal>
         ensures ok { IfOk result (λ roots. map shown_root roots.items ≡ roots_in (if last then self.now.state.last else self.now.state.now).file_systems) }
         ensures err { IfErr result (λ e. e ≡ Refusal.NoMemory) }
     {
+        let mut meter = Meter::new(Toll::new());
         if last {
-            return roots_of(alloc, &self.keep.last.table);
+            return roots_of(alloc, &self.keep.last.table, &mut meter);
         }
-        roots_of(alloc, &self.present.table)
+        roots_of(alloc, &self.present.table, &mut meter)
     }
 
     /// One step for each request, in order, and the replies. NoMemory where there is none for the list of replies: nothing was begun then.
