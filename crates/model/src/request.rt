@@ -2,6 +2,7 @@
 ghost use Rattle.std.specs.Prelude.{◌≡◌, ◌↔◌, IsTrue};
 
 use crate::limits::Limit;
+use crate::receiving::Receiving;
 use crate::snap_names::SnapNames;
 use base::data::Data;
 use base::limit::Blocks;
@@ -244,17 +245,25 @@ pub enum Request {
         target: Target,
         from: Option<Target>,
     },
-    /// Receives a stream as a snapshot of this name, with the sender's guid (zfs-receive(8)): a full one into a new file system, and one from
-    /// a source into the file system whose newest snapshot that is; with `force` (-F) it goes back to that snapshot first. The reply is Done.
-    /// It is refused BadStream where the bytes are no stream; for a full one Exists where the file system is there, NoParent where the one
-    /// above it isn't; for another NoDataset where the file system isn't there, Exists where the snapshot is, WrongSource where the newest
-    /// snapshot isn't the source, Modified where the live map isn't that snapshot's and not `force`; then TooMany where there are 1,024 file
-    /// systems and one is new, 65,536 snapshots, or the open group is the last one, and then Quota, RefQuota or NoSpace as a write is: the
-    /// first of these, or NoMemory.
+    /// Receives a stream as a snapshot of this name, with the sender's guid (zfs-receive(8)): one in full into a new file system, and one from
+    /// a source into the file system whose newest snapshot that is; `mode` says what else it may begin with. The reply is Done. It is refused
+    /// BadStream where the bytes are no stream, or are in full at `Origin` or from a source at `Replace`; then:
+    /// - one in full Exists where the file system is there, NoParent where the one above it isn't;
+    /// - one in full at `Replace` NoDataset where the file system isn't there, Exists where it is a clone;
+    /// - one from a source NoDataset where the file system isn't there, Exists where the snapshot is, WrongSource where the newest snapshot isn't
+    ///   the source, Modified where the live map isn't that snapshot's and not `Back`;
+    /// - one at `Past` NoDataset where the file system isn't there, WrongSource where none of its snapshots is the source, Exists where the
+    ///   snapshot is and would stay;
+    /// - one at `Origin` NoDataset where the origin isn't there, Deferred where its destroy is deferred, WrongSource where it isn't the source,
+    ///   and then as one in full.
+    ///
+    /// Where snapshots would go, it is then refused Busy where one of them has a tag or an open view, HasClones where one has a clone. Then
+    /// comes TooMany, where there are 1,024 file systems and one is new, one snapshot more than stay would be over 65,536, or the open group is
+    /// the last one; and then Quota, RefQuota or NoSpace as a write is: the first of these, or NoMemory.
     Receive {
         snapshot: SnapName,
         bytes: Bytes,
-        force: bool,
+        mode: Receiving,
     },
 }
 
@@ -416,14 +425,14 @@ impl Request {
                 Request::Receive {
                     snapshot: n,
                     bytes: a,
-                    force: f,
+                    mode: f,
                 },
                 Request::Receive {
                     snapshot: m,
                     bytes: b,
-                    force: g,
+                    mode: g,
                 },
-            ) => n.same(m) && a.same(b) && *f == *g,
+            ) => n.same(m) && a.same(b) && f.same(g),
             _ => false,
         }
     }

@@ -1,12 +1,14 @@
 //! The datasets before, in and after a receive.
 //!
-//! A receive begins with the file system that is there, or with a new one for a full stream; its records are one batch of changes of the
-//! live map, which is then kept as a snapshot with the sender's guid (zfs-receive(8)).
+//! A receive begins with the file system that is there, which may go back or be emptied first, or with a new one, which may be a clone; its
+//! records are one batch of changes of the live map, which is then kept as a snapshot with the sender's guid (zfs-receive(8)).
 #![tactic(auto)]
 
 mod after;
 mod before;
+mod going;
 mod refused;
+mod sources;
 mod updates;
 
 pub use crate::after::finish;

@@ -1,4 +1,4 @@
-//! File systems that are emptied before they go.
+//! File systems that are emptied, as before they go.
 ghost use Rattle.std.specs.Prelude.{◌≡◌, [], false, Some, IsSome, IfOk, IfErr, OnOk, map};
 ghost use Rattle.std.specs.List.{filter, list_any};
 ghost use Rattle.std.specs.List.Sorted.{IsPermutation, IsNonDecreasingBy};
@@ -84,9 +84,9 @@ fn vacate(edit: &mut WorkingCopy, alloc: Global, name: &DsName) -> Result<(), Re
         .add_tree(&lost.tree, lost.after, u64::from(lost.count))
 }
 
-// Empties this file system, which is as the edit has it, with its snapshots, none of which has a clone. NoMemory where there is none for
-// it, and then the edit is of no use. It costs what `WorkingCopy::remove_newer` does.
-fn empty_one(
+/// Empties this file system, which is as the edit has it, with its snapshots, none of which has a clone. NoMemory where there is none for
+/// it, and then the edit is of no use. It costs what `WorkingCopy::remove_newer` does.
+pub fn empty_one(
     edit: &mut WorkingCopy,
     alloc: Global,
     file_system: &FileSystem,

@@ -10,6 +10,7 @@ use base::name::{SnapName, Target};
 use base::refusal::Refusal;
 use base::text::Bytes;
 use hex::FromHexError;
+use model::receiving::Receiving;
 use model::request::Request;
 use std::alloc::Global;
 
@@ -65,7 +66,7 @@ pub(crate) fn receive(alloc: Global, operands: Option<&[u8]>) -> Result<Request,
     received(alloc, rest, force)
 }
 
-// A receive of a stream as a snapshot, by force or not.
+// A receive of a stream as a snapshot, which by force goes back to the newest one first.
 #[tactic(auto, unfolding(crate::specs::Meaning::received_of))]
 fn received(alloc: Global, operands: Option<&[u8]>, force: bool) -> Result<Request, Refusal>
     ensures { Means result (received_of force (words_left (option_copied operands.entry))) }
@@ -75,10 +76,15 @@ fn received(alloc: Global, operands: Option<&[u8]>, force: bool) -> Result<Reque
     };
     let bytes = bytes_said(alloc, digits)?;
     let snapshot = SnapName::read(alloc, snapshot)?;
+    let mode = if force {
+        Receiving::Back
+    } else {
+        Receiving::Plain
+    };
     Ok(Request::Receive {
         snapshot,
         bytes,
-        force,
+        mode,
     })
 }
 
