@@ -74,6 +74,16 @@ def reply_by_definition(copy):
     return status, said, "write.rows", "first.script"
 
 
+def row_of_values(copy):
+    copy.edit("crates/ground_rows/stdout", r" => ok$", " => none")
+    return *copy.python("bench/ground.py"), "ground_rows: stands "
+
+
+def row_of_a_pool(copy):
+    copy.edit("crates/pool_rows/stdout", r"\Aok$", "error 1 BadName")
+    return *copy.python("bench/pool_rows.py"), "stands error 1 BadName"
+
+
 def body_deleted(copy):
     edit = copy.first(f"crates/{CRATE}/refused/*.edit")
     edit.unlink()
@@ -160,6 +170,8 @@ def machine_twice(copy):
 BROKEN = {
     "a reply of an example": (reply, ZFSP),
     "a row, and a reply by the definition": (reply_by_definition, None),
+    "a row of plain values": (row_of_values, None),
+    "a row of a pool": (row_of_a_pool, None),
     "a wrong body deleted": (body_deleted, None),
     "a wrong body that wasn't tried": (body_without_line, None),
     "a wrong body made right": (body_made_right, None),
