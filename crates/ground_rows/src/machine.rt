@@ -1,19 +1,15 @@
 //! What carries out rows.
-use crate::counted;
 use crate::dead::DeadLists;
 use crate::lists::Lists;
-use crate::names::name_row;
 use crate::numbers::Allocators;
 use crate::pairs::TwoStates;
 use crate::told::Told;
-use crate::values::value_row;
 use crate::words::Words;
 use std::alloc::Global;
 
 /// All that rows speak of.
 #[derive(Drop)]
 pub struct Machine {
-    alloc: Global,
     lists: Lists,
     numbers: Allocators,
     pair: TwoStates,
@@ -43,7 +39,6 @@ fn one_of(steps: &str, number: u64) -> &str {
 impl Machine {
     pub fn new(alloc: Global) -> Machine {
         Machine {
-            alloc,
             lists: Lists::new(alloc),
             numbers: Allocators::new(alloc),
             pair: TwoStates::new(alloc),
@@ -123,9 +118,6 @@ impl Machine {
             "number" => self.numbers.row(&mut words),
             "states" => self.pair.row(&mut words),
             "dead" => self.dead.row(&mut words),
-            "name" => name_row(self.alloc, &mut words),
-            "value" => value_row(self.alloc, &mut words),
-            "counted" => counted::row(self.alloc, &mut words),
             _ => Told::Unknown,
         }
     }

@@ -1,4 +1,4 @@
-//! Rows for the lowest crates: names, numbers and bytes, lists that copies share, block numbers, and dead lists.
+//! Rows for the lowest crates: lists that copies share, block numbers, and dead lists.
 //!
 //! Each line of the standard input is a row, or a comment that begins with `#`. A row names what is done and to what, and the program prints
 //! it again with what that tells: `list.push 0 7 => ok`. `bench/ground.py` tells the same of plain lists, and has a line for each kind of row.
@@ -12,15 +12,12 @@
 //! Status 3 is want of memory for a line, or a failed read or write.
 #![tactic(auto)]
 
-mod counted;
 mod dead;
 mod lists;
 mod machine;
-mod names;
 mod numbers;
 mod pairs;
 mod told;
-mod values;
 mod words;
 
 use machine::Machine;

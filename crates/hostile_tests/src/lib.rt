@@ -17,5 +17,3 @@ mod standing;
 mod together;
 #[cfg(test)]
 mod walked;
-#[cfg(test)]
-mod ways;

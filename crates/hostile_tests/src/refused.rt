@@ -1,11 +1,11 @@
-//! Memory that is refused to each kind of request, in each way to ask it. Each test passes whichever request for memory is refused, one in
-//! a run: what was asked then has changed nothing that a pool tells, and asked again it is answered as ever.
+//! Memory that is refused to each kind of request, by calls and by batches. Each test passes whichever request for memory is refused, one in
+//! a run: what was asked then has changed nothing that a pool tells, and asked again it is answered as ever. `bench/pool_rows.py` does the same
+//! to a pool.
 ghost use Rattle.std.specs.Prelude.{◌≡◌};
 
 use crate::blocks::have_same_blocks;
 use crate::rig::{lacks_memory, request_at_last};
-use crate::seated::{Calls, Seated};
-use crate::ways::{Ask, Plain, Steps, Told};
+use crate::seated::{Calls, Seated, Told};
 use model::reply::Reply;
 use model::request::Request;
 use pool::Pool;
@@ -42,18 +42,18 @@ const OF_NAMES: &str =
     get written@s2 {},get written@t {},holds {},send {},read {} 0 0,read {} 0 1,read {} 0 2,read {} 0 5,read {} 0 16,\
     read {} 1 0,read {} 255 4095";
 
-/// A pool that is asked in some way, and a plain one beside it.
-struct Both<'r, S: Ask, R: Abort> {
+/// A seat that is asked, and a pool beside it.
+struct Both<'r, 's, K: Opening, R: Wait + Abort> {
     rt: &'r R,
     alloc: Global,
-    subject: S,
+    subject: Seated<'r, 's, K, R>,
     beside: Pool,
     /// The last stream, in digits.
     stream: String,
 }
 
-impl<'r, S: Ask, R: Abort> Both<'r, S, R> {
-    fn new(rt: &'r R, alloc: Global, subject: S) -> Both<'r, S, R> {
+impl<'r, 's, K: Opening, R: Wait + Abort> Both<'r, 's, K, R> {
+    fn new(rt: &'r R, alloc: Global, subject: Seated<'r, 's, K, R>) -> Both<'r, 's, K, R> {
         Both {
             rt,
             alloc,
@@ -63,7 +63,7 @@ impl<'r, S: Ask, R: Abort> Both<'r, S, R> {
         }
     }
 
-    fn end(self) -> (S, Pool) {
+    fn end(self) -> (Seat<K>, Pool) {
         let Both {
             rt: _,
             alloc: _,
@@ -72,7 +72,7 @@ impl<'r, S: Ask, R: Abort> Both<'r, S, R> {
             stream,
         } = self;
         drop(stream);
-        (subject, beside)
+        (subject.end(), beside)
     }
 
     /// Whether each line is done, and answered as beside.
@@ -190,28 +190,6 @@ fn applied_at_last(alloc: Global, pool: &mut Pool, request: &Request) -> Reply {
     reply
 }
 
-/// Whether a pool that is asked in steps goes along with another, and has the same blocks in the end.
-fn steps_go_on(rt: &impl Abort, alloc: Global, steps: Steps) -> bool {
-    let pool = Pool::create(alloc, 1, BLOCKS).expect(rt, "memory for a pool");
-    let mut both = Both::new(rt, alloc, Plain { pool, steps });
-    let go_on = both.go_on();
-    let (plain, beside) = both.end();
-    let are_same = have_same_blocks(rt, alloc, &plain.pool, &beside);
-    drop(plain);
-    drop(beside);
-    go_on && are_same
-}
-
-#[test]
-fn refused_memory_at_once(rt: HostRuntime) {
-    assert!(rt; steps_go_on(&rt, rt.alloc(), Steps::AtOnce));
-}
-
-#[test]
-fn refused_memory_in_two(rt: HostRuntime) {
-    assert!(rt; steps_go_on(&rt, rt.alloc(), Steps::InTwo));
-}
-
 #[test]
 fn refused_memory_in_calls(rt: HostRuntime) {
     let pool = Pool::create(rt.alloc(), 1, BLOCKS).expect(&rt, "memory for a pool");
@@ -247,8 +225,8 @@ fn seat_goes_on<K: Opening, R: Wait + Abort>(
     let seat = session.seat(alloc, rt).expect(rt, "a seat");
     let mut both = Both::new(rt, alloc, Seated::new(rt, session, seat, calls));
     let go_on = both.go_on();
-    let (seated, beside) = both.end();
-    (go_on, seated.end(), beside)
+    let (seat, beside) = both.end();
+    (go_on, seat, beside)
 }
 
 /// Whether a book is closed with this seat, and leaves a pool with these blocks.

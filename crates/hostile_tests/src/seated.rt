@@ -1,12 +1,40 @@
 //! A seat that is asked lines, as a pool is: by calls or by batches, by its views and its workers.
 use crate::rig::is_out_of_memory;
-use crate::ways::{Ask, Told};
 use base::name::Target;
 use base::refusal::Refusal;
+use model::reply::Reply;
 use model::request::Request;
 use session::{ClosedView, OpenedView, Opening, Receipt, Seat, Session, Turns, View};
 use std::alloc::Global;
 use std::sync::Wait;
+
+/// What became of a request.
+#[derive(Drop)]
+pub enum Told {
+    /// Its entry, with the reply.
+    Entered(Receipt),
+    /// A worker has made it.
+    Worked,
+    /// Memory was refused to it.
+    NoMemory,
+    /// It should have run.
+    Wrong,
+}
+
+impl Told {
+    /// Whether the reply is this one, as far as it is told.
+    pub fn is(&self, wanted: &Reply) -> bool {
+        match self {
+            Told::Entered(receipt) => receipt.entry.reply.is(wanted),
+            Told::Worked => true,
+            Told::NoMemory | Told::Wrong => false,
+        }
+    }
+
+    pub fn is_no_memory(&self) -> bool {
+        matches!(self, Told::NoMemory)
+    }
+}
 
 /// How calls are made that neither open nor close a view, and aren't a worker's.
 #[derive(Clone, Copy)]
@@ -23,18 +51,6 @@ pub struct Seated<'t, 's, K: Opening, R: Wait> {
     seat: Seat<K>,
     view: Option<View<K>>,
     calls: Calls,
-}
-
-impl<K: Opening, R: Wait> Ask for Seated<'_, '_, K, R> {
-    fn ask(&mut self, alloc: Global, request: Request) -> Told {
-        match request {
-            Request::OpenView { target } => self.open(alloc, target),
-            Request::CloseView { view: _ } => self.close(alloc),
-            Request::Sync => self.sync(alloc),
-            Request::Slice { count } => self.slice(alloc, count),
-            request => self.call(alloc, request),
-        }
-    }
 }
 
 impl<'t, 's, K: Opening, R: Wait> Seated<'t, 's, K, R> {
@@ -63,6 +79,17 @@ impl<'t, 's, K: Opening, R: Wait> Seated<'t, 's, K, R> {
         } = self;
         drop(view);
         seat
+    }
+
+    /// Asks a request once.
+    pub fn ask(&mut self, alloc: Global, request: Request) -> Told {
+        match request {
+            Request::OpenView { target } => self.open(alloc, target),
+            Request::CloseView { view: _ } => self.close(alloc),
+            Request::Sync => self.sync(alloc),
+            Request::Slice { count } => self.slice(alloc, count),
+            request => self.call(alloc, request),
+        }
     }
 
     fn open(&mut self, alloc: Global, target: Target) -> Told {

@@ -1,19 +1,8 @@
 //! Rows on names.
-use crate::told::Told;
-use crate::words::{Words, place_of};
+use crate::row::{Row, yes_or_no};
 use base::name::{Component, DsName, MarkName, Member, SnapName, Tag, Target};
 use base::refusal::Refusal;
 use std::alloc::Global;
-
-/// The kinds of names, in the order of `read` and `same`.
-const KINDS: &str = "system,component,tag,snapshot,bookmark,target";
-
-fn is(outcome: Result<bool, Refusal>) -> Told {
-    match outcome {
-        Ok(is) => Told::Is(is),
-        Err(refusal) => Told::Refused(refusal),
-    }
-}
 
 fn has_parts(member: &Member, parts: (&[u8], &[u8])) -> bool {
     member.file_system.as_bytes() == parts.0 && member.component.as_bytes() == parts.1
@@ -23,16 +12,22 @@ fn has_equal_copy(target: &Target) -> Result<bool, Refusal> {
     Ok(target.same(&target.clone()?))
 }
 
-/// Whether a name of this kind is read as these bytes, or as these parts of it.
-fn read(alloc: Global, kind: u32, bytes: &[u8], parts: (&[u8], &[u8])) -> Result<bool, Refusal> {
+/// Whether a name without parts is read as these bytes.
+fn read_word(alloc: Global, kind: &str, bytes: &[u8]) -> Result<bool, Refusal> {
     match kind {
-        1 => Ok(DsName::read(alloc, bytes)?.as_bytes() == bytes),
-        2 => Ok(Component::read(alloc, bytes)?.as_bytes() == bytes),
-        3 => Ok(Tag::read(alloc, bytes)?.as_bytes() == bytes),
-        4 => Ok(has_parts(SnapName::read(alloc, bytes)?.member(), parts)),
-        5 => Ok(has_parts(MarkName::read(alloc, bytes)?.member(), parts)),
-        6 => has_equal_copy(&Target::read(alloc, bytes)?),
-        _ => Ok(false),
+        "system" => Ok(DsName::read(alloc, bytes)?.as_bytes() == bytes),
+        "component" => Ok(Component::read(alloc, bytes)?.as_bytes() == bytes),
+        "tag" => Ok(Tag::read(alloc, bytes)?.as_bytes() == bytes),
+        _ => has_equal_copy(&Target::read(alloc, bytes)?),
+    }
+}
+
+/// Whether a name of this kind is read as these bytes, or as these parts of it.
+fn read(alloc: Global, kind: &str, bytes: &[u8], parts: (&[u8], &[u8])) -> Result<bool, Refusal> {
+    match kind {
+        "snapshot" => Ok(has_parts(SnapName::read(alloc, bytes)?.member(), parts)),
+        "bookmark" => Ok(has_parts(MarkName::read(alloc, bytes)?.member(), parts)),
+        _ => read_word(alloc, kind, bytes),
     }
 }
 
@@ -72,14 +67,14 @@ fn same_members(alloc: Global, one: &[u8], other: &[u8]) -> Result<bool, Refusal
     Ok(one.member().same(MarkName::read(alloc, other)?.member()))
 }
 
-fn same(alloc: Global, kind: u32, one: &[u8], other: &[u8]) -> Result<bool, Refusal> {
+fn same(alloc: Global, kind: &str, one: &[u8], other: &[u8]) -> Result<bool, Refusal> {
     match kind {
-        1 => same_systems(alloc, one, other),
-        2 => same_components(alloc, one, other),
-        3 => same_tags(alloc, one, other),
-        4 => same_snapshots(alloc, one, other),
-        5 => same_bookmarks(alloc, one, other),
-        6 => same_targets(alloc, one, other),
+        "system" => same_systems(alloc, one, other),
+        "component" => same_components(alloc, one, other),
+        "tag" => same_tags(alloc, one, other),
+        "snapshot" => same_snapshots(alloc, one, other),
+        "bookmark" => same_bookmarks(alloc, one, other),
+        "target" => same_targets(alloc, one, other),
         _ => same_members(alloc, one, other),
     }
 }
@@ -103,29 +98,29 @@ fn made_bookmark(alloc: Global, system: &[u8], component: &[u8]) -> Result<bool,
     Ok(has_parts(made.member(), (system, component)))
 }
 
-/// Carries out `read KIND NAME [SYSTEM COMPONENT]`, `same KIND NAME NAME`, `snapshot SYSTEM COMPONENT` or `bookmark SYSTEM COMPONENT`.
-pub fn name_row(alloc: Global, words: &mut Words) -> Told {
-    match words.word() {
+/// Whether a name with a blank is read as a file system's.
+fn read_blank(alloc: Global, one: &str, other: &str) -> Result<bool, Refusal> {
+    let name = format!(in alloc; "{one} {other}")?;
+    read(alloc, "system", name.as_bytes(), (b"", b""))
+}
+
+/// Whether that is so, of `read KIND NAME [SYSTEM COMPONENT]`, `blank NAME NAME`, `same KIND NAME NAME`, `snapshot SYSTEM COMPONENT` or
+/// `bookmark SYSTEM COMPONENT`.
+fn is_so(alloc: Global, row: Row) -> Result<bool, Refusal> {
+    let (one, other) = (row.first.as_bytes(), row.second.as_bytes());
+    match row.call {
         "read" => {
-            let kind = place_of(KINDS, words.word());
-            let name = words.word().as_bytes();
-            let system = words.word().as_bytes();
-            is(read(alloc, kind, name, (system, words.word().as_bytes())))
+            let parts = (row.third.as_bytes(), row.fourth.as_bytes());
+            read(alloc, row.first, other, parts)
         }
-        "blank" => is(read(alloc, 1, words.rest.as_bytes(), (b"", b""))),
-        "same" => {
-            let kind = place_of(KINDS, words.word());
-            let one = words.word().as_bytes();
-            is(same(alloc, kind, one, words.word().as_bytes()))
-        }
-        "snapshot" => {
-            let system = words.word().as_bytes();
-            is(made_snapshot(alloc, system, words.word().as_bytes()))
-        }
-        "bookmark" => {
-            let system = words.word().as_bytes();
-            is(made_bookmark(alloc, system, words.word().as_bytes()))
-        }
-        _ => Told::Unknown,
+        "same" => same(alloc, row.first, other, row.third.as_bytes()),
+        "snapshot" => made_snapshot(alloc, one, other),
+        "bookmark" => made_bookmark(alloc, one, other),
+        _ => read_blank(alloc, row.first, row.second),
     }
+}
+
+/// What a row on names tells.
+pub fn told(alloc: Global, row: Row) -> Result<String, Refusal> {
+    yes_or_no(alloc, is_so(alloc, row)?)
 }
