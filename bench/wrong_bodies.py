@@ -207,17 +207,17 @@ def elsewhere(said):
 
 
 class Trial:
-    """The wrong bodies of one crate, over what is kept of its proof; with a seed only those of one round, which the seed chooses."""
+    """The wrong bodies of one crate, over what is kept of its proof; with an order only those of one round, of which that word chooses the first."""
 
     # The jobs of a check.
     jobs = 1
 
-    def __init__(self, libraries, crate, is_told=False, seed=None):
-        self.rt, self.crate, self.is_told, self.is_brief = libraries.rt, crate, is_told, seed is not None
+    def __init__(self, libraries, crate, is_told=False, order=None):
+        self.rt, self.crate, self.is_told, self.is_brief = libraries.rt, crate, is_told, order is not None
         self.folder = Path(crate.folder)
         self.edits = [Edit(crate.name, self.folder, it) for it in edits_of(self.folder)]
         if self.is_brief:
-            self.edits.sort(key=lambda it: hashlib.sha256(f"{seed} {crate.name} {name_of(it.file)}".encode()).hexdigest())
+            self.edits.sort(key=lambda it: hashlib.sha256(f"{order} {crate.name} {name_of(it.file)}".encode()).hexdigest())
         self.is_proved = bool(libraries.entry(crate))
         self.said = {it: (BAD, it.fault) for it in self.edits if it.fault}
         self.rounds, self.begun = 0, time.monotonic()
@@ -424,8 +424,8 @@ def changed_crates():
     return {it.split("/")[1] for it in files if it.count("/") > 2 and it.split("/")[2] in (*PARTS, *PLACES)}
 
 
-def seed_of_tree():
-    """The digest of HEAD's tree, in which nobody has a say."""
+def order_of_tree():
+    """The digest of HEAD's tree, by which crates and their wrong bodies are put in an order in which nobody has a say."""
     return git("rev-parse", "HEAD^{tree}") or "".join(map(digest_of, folders().values()))
 
 
@@ -434,7 +434,7 @@ def planned():
     here, changed = folders(), changed_crates()
     if changed is None:
         print("wrong_bodies: git has no earlier commit here, so which crates have changed is not known")
-    tree = seed_of_tree()
+    tree = order_of_tree()
     others = sorted({*here} - (changed or set()), key=lambda it: hashlib.sha256(f"{tree} {it}".encode()).hexdigest())
     return [it for it in here if it in (changed or set())], others
 
@@ -449,7 +449,7 @@ class Gate:
     """The trials of one gate."""
 
     def __init__(self, libraries, minutes):
-        self.libraries, self.minutes, self.table, self.seed = libraries, minutes, Table(), seed_of_tree()
+        self.libraries, self.minutes, self.table, self.order = libraries, minutes, Table(), order_of_tree()
         self.missing = libraries.take(libraries.crates)
         libraries.proved()
         self.faults, self.bodies, self.tried = [], 0, []
@@ -461,7 +461,7 @@ class Gate:
         if missing:
             self.faults.append(f"{name}: the libraries of {' '.join(missing)} are missing: run rt ci")
             return
-        trial = Trial(self.libraries, crate, seed=self.seed)
+        trial = Trial(self.libraries, crate, order=self.order)
         if not trial.run():
             self.faults.append(f"{name} is not proved as it stands")
             return

@@ -18,8 +18,8 @@ use std::{env, fs, thread};
 
 const USAGE: &str = "usage: yuzd [--log FILE]
 Keeps pools in memory and answers zfs and zpool, in the foreground. Its socket stands in the folder YUZFRONT_DIR, else in `yuzfront` in
-XDG_RUNTIME_DIR, else in /tmp/yuzfront-UID. The pools end with it. FILE gets a line a command: its status, the program, the arguments and
-the first line of its errors, with tabs between them.";
+XDG_RUNTIME_DIR, else in `yuzfront-UID` in the folder for temporary files (TMPDIR). The pools end with it. FILE gets a line a command: its
+status, the program, the arguments and the first line of its errors, with tabs between them.";
 
 /// What `--version` says, and what it has to.
 pub const NOTE: &str = "None of this program is proved: it is a host of the library, which is.";

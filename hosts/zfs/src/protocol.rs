@@ -165,12 +165,13 @@ impl Request {
     }
 }
 
-/// The folder of the socket: YUZFRONT_DIR, else `yuzfront` in XDG_RUNTIME_DIR, else one in /tmp that has the user's number.
+/// The folder of the socket: YUZFRONT_DIR, else `yuzfront` in XDG_RUNTIME_DIR, else `yuzfront-UID` in the folder
+/// for temporary files (TMPDIR), with the user's number.
 pub fn folder() -> PathBuf {
     let set = |name| env::var_os(name).filter(|value| !value.is_empty()).map(PathBuf::from);
     set("YUZFRONT_DIR")
         .or_else(|| set("XDG_RUNTIME_DIR").map(|folder| folder.join("yuzfront")))
-        .unwrap_or_else(|| PathBuf::from(format!("/tmp/yuzfront-{}", sys::user())))
+        .unwrap_or_else(|| env::temp_dir().join(format!("yuzfront-{}", sys::user())))
 }
 
 /// The folder has to be the user's, and nobody else may write to it: who has the socket gets the descriptors of clients.
@@ -180,8 +181,8 @@ pub fn check_folder(folder: &Path) -> io::Result<()> {
     if facts.uid() != sys::user() {
         return refused("the folder is another user's");
     }
-    if facts.mode() & 0o002 != 0 {
-        return refused("anybody may write to the folder");
+    if facts.mode() & 0o022 != 0 {
+        return refused("others may write to the folder");
     }
     Ok(())
 }
@@ -240,8 +241,10 @@ mod tests {
         let mode = |mode| fs::set_permissions(&folder, fs::Permissions::from_mode(mode)).unwrap();
         mode(0o700);
         assert!(check_folder(&folder).is_ok());
-        mode(0o777);
-        assert_eq!(check_folder(&folder).unwrap_err().kind(), io::ErrorKind::PermissionDenied);
+        for of_others in [0o777, 0o702, 0o720] {
+            mode(of_others);
+            assert_eq!(check_folder(&folder).unwrap_err().kind(), io::ErrorKind::PermissionDenied);
+        }
         fs::remove_dir(&folder).unwrap();
         assert!(check_folder(&folder).is_err());
     }
