@@ -1,19 +1,18 @@
 #!/usr/bin/env python3
-"""Tells of the rows of crates/ground_rows what plain Python values tell, and compares.
+"""Tells of the rows of base_rows, stream_rows, ground_rows and snapshot_rows what plain Python values tell, and compares.
 
     python3 bench/ground.py
     python3 bench/ground.py --write
-    python3 bench/ground.py PROGRAM
+    python3 bench/ground.py PROGRAM ..
 
-The rows are those of crates/ground_rows/stdin, and what they tell stands in crates/ground_rows/stdout, which `rt ci` compares with what the
-program prints. This script was written from the documentation of the crates: a list is a Python list, an allocator a list of states, and a
-dead list a list of entries beside a list of cuts. Without a word it compares the file with what it tells itself, and with --write it writes
-the file.
+The rows of a crate stand in its stdin, and what they tell in its stdout, which `rt ci` compares with what its program prints. This script was
+written from the documentation of the crates: a list is a Python list, an allocator a list of states, and a dead list a list of entries beside a
+list of cuts. Without a word it compares the files with what it tells itself, and with --write it writes them.
 
-With a built program each request for memory of each list of rows in REFUSED is refused in turn. Then one row tells `error 25 NoMemory`, and
-all others, of which the last ones look at everything, tell what they do where that row is left out; or the run ends with status 3 after a
-beginning of its lines; or nothing is missed. Anything else is printed, and so is a list of which no row was refused; the exit status is 1
-then.
+With the built program of a crate each request for memory of each of its lists of rows in REFUSED is refused in turn. Then one row tells
+`error 25 NoMemory`, and all others, of which the last ones look at everything, tell what they do where that row is left out; or the run ends
+with status 3 after a beginning of its lines; or nothing is missed. Anything else is printed, and so is a list of which no row was refused; the
+exit status is 1 then.
 """
 
 import argparse
@@ -25,37 +24,20 @@ from collections import Counter
 from concurrent.futures import ThreadPoolExecutor
 from pathlib import Path
 
+import plain
 import refused
+import snapshot_rows
+from row_words import LETTERS, MASK, PAST, REFUSALS, Refused, Words, error, is_component, is_system, mixed, yes
 
 ROOT = Path(__file__).resolve().parent.parent
-CRATE = ROOT / "crates" / "ground_rows"
-MASK = (1 << 64) - 1
-PAST = 1 << 32
+CRATES = ROOT / "crates"
 FREE, ALLOCATED, WAITING = 1, 2, 3
 MOST_BLOCKS = 4194304
-REFUSALS = (
-    "BadName NoDataset Exists NoParent BadKey ReadOnly NotSnapshot Busy HasClones HasChildren NotNewest NotClone NameClash TagExists NoTag "
-    "Deferred NotAncestor Quota RefQuota NoSpace TooMany BadStream WrongSource Modified NoMemory NoView IsRoot BadLine SessionFull TooManySeats"
-).split()
-LETTERS = set("abcdefghijklmnopqrstuvwxyzABCDEFGHIJKLMNOPQRSTUVWXYZ0123456789-_.:")
-
-
-def mixed(total, number):
-    """The sum of a sequence whose last number this is."""
-    total = (total * 6364136223846793005 + number) & MASK
-    return (total << 23 | total >> 41) & MASK
+BRACES = re.compile("{(.*?)}")
 
 
 def following(seed):
     return (seed * 6364136223846793005 + 1442695040888963407) & MASK
-
-
-class Refused(Exception):
-    """A refusal, by its name."""
-
-
-def error(name):
-    return f"error {REFUSALS.index(name) + 1} {name}"
 
 
 def parts(told):
@@ -67,30 +49,6 @@ def parts(told):
     if words[0] == "error":
         return [8, int(words[1]), 0, 0]
     return [4 + len(words), *map(int, words), *[0] * (3 - len(words))]
-
-
-def yes(is_so):
-    return "yes" if is_so else "no"
-
-
-class Words:
-    """The words of a row, where `{}` is a number."""
-
-    def __init__(self, text, number):
-        self.rest, self.stands = text, number
-
-    def word(self):
-        word, _, self.rest = self.rest.partition(" ")
-        return word
-
-    def long(self):
-        word = self.word()
-        if word == "{}":
-            return self.stands
-        return (self.stands >> 8) % int(word[1:-1]) if word.startswith("{") else int(word)
-
-    def number(self):
-        return self.long() & 0xFFFFFFFF
 
 
 class Lists:
@@ -410,14 +368,6 @@ class DeadLists:
         return f"{len(it.cuts) + 1} {len(it.cuts)} {total}"
 
 
-def is_component(text):
-    return bool(text) and set(text) <= LETTERS and text not in (".", "..")
-
-
-def is_system(text):
-    return len(text) <= 255 and all(is_component(it) for it in text.split("/"))
-
-
 def split_member(text, mark):
     """The two parts of a snapshot's or a bookmark's name."""
     system, found_mark, component = text.partition(mark)
@@ -504,11 +454,43 @@ COUNTED = {
 }
 
 
+def stream_of(words):
+    """The source, the target and the records of a stream's text."""
+    source, target, *records = words.rest.split(" ")
+    split = [record.split(".") for record in records]
+    return int(source), int(target), [
+        ((0, int(one)), bytes([int(other)]).ljust(512, b"\0")) if kind == "w" else ((int(one), int(other)), None) for kind, one, other in split
+    ]
+
+
+def damaged(stream):
+    """The beginnings of a stream's bytes, those that differ from them in one byte, and the bytes with one more."""
+    for at, byte in enumerate(stream):
+        yield stream[:at]
+        yield stream[:at] + bytes([byte ^ 1]) + stream[at + 1 :]
+    yield stream + b"\0"
+
+
+def stream_row(words):
+    """A reader or writer is called once at least for each of 76 records, so that more than 76 calls can fail: where it does, that is told."""
+    call = words.word()
+    if call == "laws":
+        return "ok"
+    if call in ("readers", "writers"):
+        return "yes"
+    stream = plain.spelled(*stream_of(words)) if call in ("write", "again") else bytes.fromhex(words.rest)
+    if call == "write":
+        return stream.hex()
+    if call == "damaged":
+        return str(sum(plain.told_by(it) is None for it in damaged(stream)))
+    return "stream" if plain.told_by(stream) else "bad"
+
+
 class Machine:
     """What plain values tell of rows."""
 
     def __init__(self):
-        self.kinds = {"list": Lists(), "number": Allocators(), "states": States(), "dead": DeadLists()}
+        self.kinds = {"list": Lists(), "number": Allocators(), "states": States(), "dead": DeadLists(), **snapshot_rows.kinds()}
 
     def row(self, row, number):
         kind, _, rest = row.partition(".")
@@ -516,7 +498,7 @@ class Machine:
         try:
             if kind in self.kinds:
                 return self.kinds[kind].row(words)
-            return {"name": name_row, "value": value_row, "counted": lambda it: COUNTED[it.word()]}[kind](words)
+            return {"name": name_row, "value": value_row, "stream": stream_row, "counted": lambda it: COUNTED[it.word()]}[kind](words)
         except Refused as refused:
             return error(refused.args[0])
 
@@ -556,32 +538,39 @@ def expanded(lines):
         numbers, _, rows = line[4:].partition(": ")
         first, last, step = map(int, numbers.split())
         for number in range(first, last + 1, step):
-            yield from re.sub("{}", str(number), rows).split(" & ")
+            yield from BRACES.sub(lambda found: str(Words("", number).chosen(found[1])), rows).split(" & ")
 
 
 LOOKS = ["list.look 0", "list.look 1", "list.look 2", "list.look 3"]
 DEAD_LOOKS = [f"dead.{it} {at}" for at in range(3) for it in ("look", "cuts")] + ["dead.after 0 4", "dead.upto 0 4", "dead.after 1 4", "dead.upto 1 4"]
+ONE_LEAF = "0 4294967297 w.0.97 " + " ".join(f"f.{level}.{index}" for level in range(5) for index in range(1, 16))
 NAMES = "system p/a,component s,tag t,snapshot p/a@s p/a s,bookmark p/a#s p/a s,target p/a,target p/a@s,target p/a#b"
 
-# Rows whose requests for memory are refused, one after another, each list by itself.
+# Rows whose requests for memory are refused, one after another, each list of a crate by itself.
 REFUSED = {
-    "a list of two chunks and two elements, and copies that change": [
-        "for 0 129 1: list.push 0 {}",
-        *LOOKS,
-        *("list.copy 0 1", "list.remove 1 70", "list.remove 1 70", "list.remove 1 70", "list.look 1"),
-        *("list.copy 0 1", "list.set 1 70 1000", "list.set 1 71 1000", "list.look 1"),
-        *("list.copy 0 1", "list.pop 1", "list.pop 1", "list.pop 1", "list.share 1 7", "list.look 1"),
-        *("list.split 0 2 65", *LOOKS, "list.append 0 2", *LOOKS),
-    ],
-    "a dead list of 150 entries": [
-        *(f"dead.push 0 {block} {block % 9}" for block in range(150)),
-        *("dead.reserve 0 1000", *DEAD_LOOKS, "dead.cut 0 3", "dead.cut 0 6", *DEAD_LOOKS, "dead.join 0 3", *DEAD_LOOKS),
-        *("dead.take 0 1 4", *DEAD_LOOKS, "dead.copy 1 2", "dead.append 0 2", *DEAD_LOOKS),
-    ],
-    "block numbers": ["number.new 0 7", "number.copy 0 1", "number.look 0 8", "number.look 1 8", "number.counts 0", "number.counts 1"],
-    "block numbers in two states": ["states.new 7", "states.take 1", "states.group", "states.take 2", "states.counts 0", "states.counts 1", "states.look 8"],
-    "names": [f"name.read {it}" for it in NAMES.split(",")],
-    "values": ["value.grown", "value.blocks 7 7", "value.bytes ab ab"],
+    "base_rows": {
+        "names": [f"name.read {it}" for it in NAMES.split(",")],
+        "values": ["value.grown", "value.blocks 7 7", "value.bytes ab ab"],
+    },
+    "stream_rows": {"a stream with a leaf": [f"stream.write {ONE_LEAF}", f"stream.again {ONE_LEAF}"]},
+    "snapshot_rows": snapshot_rows.REFUSED,
+    "ground_rows": {
+        "a list of two chunks and two elements, and copies that change": [
+            "for 0 129 1: list.push 0 {}",
+            *LOOKS,
+            *("list.copy 0 1", "list.remove 1 70", "list.remove 1 70", "list.remove 1 70", "list.look 1"),
+            *("list.copy 0 1", "list.set 1 70 1000", "list.set 1 71 1000", "list.look 1"),
+            *("list.copy 0 1", "list.pop 1", "list.pop 1", "list.pop 1", "list.share 1 7", "list.look 1"),
+            *("list.split 0 2 65", *LOOKS, "list.append 0 2", *LOOKS),
+        ],
+        "a dead list of 150 entries": [
+            *(f"dead.push 0 {block} {block % 9}" for block in range(150)),
+            *("dead.reserve 0 1000", *DEAD_LOOKS, "dead.cut 0 3", "dead.cut 0 6", *DEAD_LOOKS, "dead.join 0 3", *DEAD_LOOKS),
+            *("dead.take 0 1 4", *DEAD_LOOKS, "dead.copy 1 2", "dead.append 0 2", *DEAD_LOOKS),
+        ],
+        "block numbers": ["number.new 0 7", "number.copy 0 1", "number.look 0 8", "number.look 1 8", "number.counts 0", "number.counts 1"],
+        "block numbers in two states": ["states.new 7", "states.take 1", "states.group", "states.take 2", "states.counts 0", "states.counts 1", "states.look 8"],
+    },
 }
 
 
@@ -607,7 +596,7 @@ def refuse_all(program):
     is_wrong = False
     with tempfile.TemporaryDirectory() as folder, ThreadPoolExecutor(os.cpu_count()) as workers:
         machine = refused.Machine(refused.compiled(Path(folder)), [program.resolve()])
-        for name, rows in REFUSED.items():
+        for name, rows in REFUSED[program.name].items():
             lines = list(expanded(rows))
             plain, asks = told(lines), machine.asks([it.encode() for it in lines])
             verdicts = list(workers.map(lambda number: judged(machine, lines, plain, number), range(1, asks + 1)))
@@ -625,23 +614,28 @@ def told(lines):
     return [line if not line or line.startswith("#") else f"{line} => {machine.line(line)}" for line in lines]
 
 
+def stands(crate, is_written):
+    """How many rows of a crate stand as they are told here. Ends where one doesn't."""
+    wanted = "".join(f"{it}\n" for it in told((CRATES / crate / "stdin").read_text().splitlines()))
+    if is_written:
+        (CRATES / crate / "stdout").write_text(wanted)
+    text = (CRATES / crate / "stdout").read_text()
+    for one, other in zip(text.splitlines(), wanted.splitlines()):
+        if one != other:
+            sys.exit(f"{crate}: stands {one}\nplain  {other}")
+    if text != wanted:
+        sys.exit(f"{crate}: stdout has another number of lines")
+    return wanted.count(" => ")
+
+
 def main():
     arguments = argparse.ArgumentParser(usage=__doc__)
-    arguments.add_argument("program", nargs="?", type=Path)
+    arguments.add_argument("programs", nargs="*", type=Path)
     arguments.add_argument("--write", action="store_true")
     words = arguments.parse_args()
-    if words.program:
-        return refuse_all(words.program)
-    wanted = "".join(f"{it}\n" for it in told((CRATE / "stdin").read_text().splitlines()))
-    if words.write:
-        (CRATE / "stdout").write_text(wanted)
-    stands = (CRATE / "stdout").read_text()
-    for one, other in zip(stands.splitlines(), wanted.splitlines()):
-        if one != other:
-            sys.exit(f"stands {one}\nplain  {other}")
-    if stands != wanted:
-        sys.exit("stdout has another number of lines")
-    print(f"{wanted.count(' => ')} rows stand as plain values tell them")
+    if words.programs:
+        return any([refuse_all(it) for it in words.programs])
+    print(f"{sum(stands(it, words.write) for it in REFUSED)} rows stand as plain values tell them")
     return False
 
 

@@ -74,6 +74,21 @@ def reply_by_definition(copy):
     return status, said, "write.rows", "first.script"
 
 
+def rows_told(copy):
+    """A row that stands otherwise than plain values tell it; each crate of rows has its own."""
+    said = ""
+    for crate in ("base_rows", "stream_rows", "ground_rows", "snapshot_rows"):
+        file = copy.root / f"crates/{crate}/stdout"
+        text = file.read_text()
+        copy.edit(f"crates/{crate}/stdout", r"\bok$", "none")
+        status, told = copy.python("bench/ground.py")
+        file.write_text(text)
+        if not status:
+            return status, f"{crate}: {told}"
+        said += told
+    return 1, said, "base_rows: stands ", "stream_rows: stands ", "ground_rows: stands ", "snapshot_rows: stands "
+
+
 def body_deleted(copy):
     edit = copy.first(f"crates/{CRATE}/refused/*.edit")
     edit.unlink()
@@ -90,19 +105,20 @@ def body_made_right(copy):
     edit = copy.first(f"crates/{CRATE}/refused/*.edit")
     old = re.search(r"^old: (.*)$", edit.read_text(), re.M)[1]
     copy.edit(edit.relative_to(copy.root), r"^new: .*$", lambda _: f"new: {old}")
-    return *copy.python("bench/wrong_bodies.py", "--verify"), f"{CRATE}/refused/{edit.stem} changes nothing", f"{CRATE} has changed since"
+    return *copy.python("bench/wrong_bodies.py", "--verify"), f"{CRATE}/refused/{edit.stem} changes nothing", f"{CRATE}/refused/{edit.stem} has changed since"
 
 
 def line_of_another_function(copy):
-    copy.edit("bench/wrong_bodies.txt", rf"^({CRATE} .*\n  \S+: ).*$", rf"\1{CRATE}::Nothing::at_all: returns")
+    copy.edit("bench/wrong_bodies.txt", rf"^({CRATE}\n  \S+ \S+: ).*$", rf"\1{CRATE}::Nothing::at_all: returns")
     return *copy.python("bench/wrong_bodies.py", "--verify"), "strikes another function than its line says"
 
 
 def digest_by_hand(copy):
-    """With the digest put right by hand no check of digests sees the change, so the crate has to be among those that are tried anew."""
+    """With the digests put right by hand no check of digests sees the change, so the crate has to be among those that are tried anew."""
     copy.commit()
-    copy.edit(f"crates/{CRATE}/src/lib.rt", r"\Z", "// changed\n")
-    forge = f"import wrong_bodies as w; t = w.Table(); t.write('{CRATE}', w.digest_of(w.folders()['{CRATE}']), t.bodies['{CRATE}'])"
+    copy.edit(f"crates/{CRATE}/specs/Lib.antt", r"\Z", "-- changed\npub mod Changed\n")
+    lines = "{it: (x.digest(it), why) for it, (_, why) in t.bodies['" + CRATE + "'].items()}"
+    forge = f"import wrong_bodies as w; t = w.Table(); x = w.Texts(w.folders()['{CRATE}']); t.write('{CRATE}', {lines})"
     copy.run(sys.executable, "-c", f"import sys; sys.path.insert(0, 'bench'); {forge}")
     status, said = copy.python("bench/wrong_bodies.py", "--verify")
     plan = copy.python("bench/wrong_bodies.py", "--gate", "--plan")[1]
@@ -160,6 +176,7 @@ def machine_twice(copy):
 BROKEN = {
     "a reply of an example": (reply, ZFSP),
     "a row, and a reply by the definition": (reply_by_definition, None),
+    "rows that no plain value tells so": (rows_told, None),
     "a wrong body deleted": (body_deleted, None),
     "a wrong body that wasn't tried": (body_without_line, None),
     "a wrong body made right": (body_made_right, None),

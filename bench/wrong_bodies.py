@@ -1,7 +1,7 @@
 #!/usr/bin/env python3
 """Shows that the prover refuses each wrong body of the crates, many in one check, and keeps what refused each in bench/wrong_bodies.txt.
 
-    python3 bench/wrong_bodies.py [--all] [--list] [--at-once N] [--jobs J] [CRATE ..]
+    python3 bench/wrong_bodies.py [--all | --changed] [--list] [--at-once N] [--jobs J] [CRATE ..]
     python3 bench/wrong_bodies.py --verify
     python3 bench/wrong_bodies.py --gate [--minutes M] [--plan]
 
@@ -15,10 +15,12 @@ An edit is refused; or only by a name, where the proof names what the edit took 
 crate alone is still proved with it; or BAD, where it can't be applied, read or typed; or NOT TRIED, where there was no verdict. All but the
 first are faults, and the crate's lines then stay as they were.
 
-bench/wrong_bodies.txt has a line a crate, with the digest of its texts, and below it a line a wrong body: its file, the function whose proof
-failed, and the goal of it that refused the body, as returns-clause-NAME for a clause NAME of the contract. This script alone writes it.
-Without a crate's name those crates are tried whose texts have changed since their lines were written, or with --all every one; --list prints
-a line for each edit, N crates are tried at once, one if left out, and each check has J jobs, one if left out.
+bench/wrong_bodies.txt has a line a crate, and below it a line a wrong body: its file, a digest, the function whose proof failed, and the goal of
+it that refused the body, as returns-clause-NAME for a clause NAME of the contract. The digest is of what the refusal rests on, without comments:
+the edit, the function that it strikes with its contract, what is written of that function's proof, and the crate's definitions. This script
+alone writes the file. Of a crate that is named all wrong bodies are tried, or with --changed those whose digests have changed; without a name
+those of all crates whose digests have changed, or with --all every one. --list prints a line for each edit, N crates are tried at once, one if
+left out, and each check has J jobs, one if left out.
 
 --verify tries nothing. It compares the digests with the texts, and the lines with the files: each wrong body has one, of the function that it
 strikes. --gate tries a round of wrong bodies anew of each crate whose texts differ from main's (or, on main itself, from the last commit's), and
@@ -153,6 +155,21 @@ class Failure:
         return f"{self.function}: {' '.join(self.goals) or 'no goal with a name'}"
 
 
+def only(edits):
+    """The flags that leave a check to the functions which these edits strike, or to their modules where a name is not known; none where one strikes
+    no function of a module."""
+    names = []
+    for edit in edits:
+        for (_, path, _, _), of in zip(edit.pairs, edit.functions):
+            module = "::".join(it for it in path[len("src/") : -len(".rt")].split("/") if it not in ("lib", "main", "mod"))
+            found = re.fullmatch(r"\w+::((?:\w+::)*)(?:\(\?:\\w\+::\)\*\?)?\(\?:([\w:]+)\|fn::.*", of or "")
+            name = found[1] + found[2] if found else module
+            if not of or not name:
+                return []
+            names.append(name)
+    return [it for name in sorted({*names}) for it in ("--only", name)]
+
+
 def goals_in(said):
     """The goals that a line of a check names: at its beginning, or behind `did not prove`."""
     unproved = re.search(r"did not prove ((?:`[^`]+`(?:, | and )?)+)", said)
@@ -181,7 +198,7 @@ def own_failures(edit, lines):
 def judge(rt, edit, rows, ran, texts, is_alone):
     """What a round says of one of its edits, and why, which of a refused one is its failures; None where it has to be tried again."""
     lines = ran.stdout.split("\n")
-    is_verdict = ran.returncode == 1 and any(it.startswith("logic=not-proved") for it in lines)
+    is_verdict = ran.returncode == 1 and any(it.startswith(("logic=not-proved", "only=")) for it in lines)
     bad = [it for it in lines if rt.unread(it, texts) or not is_verdict and re.search(r"\berror\[[\w-]+\]", it)]
     at = {(path, int(row)) for it in bad for path, row in re.findall(r"((?:src|specs)/\S+?):(\d+):\d+", it)}
     if bad and (is_alone or rows & at):
@@ -207,15 +224,15 @@ def elsewhere(said):
 
 
 class Trial:
-    """The wrong bodies of one crate, over what is kept of its proof; with an order only those of one round, of which that word chooses the first."""
+    """The wrong bodies of one crate, or those of these names; with an order only those of one round, of which that word chooses the first."""
 
     # The jobs of a check.
     jobs = 1
 
-    def __init__(self, libraries, crate, is_told=False, order=None):
+    def __init__(self, libraries, crate, is_told=False, order=None, names=None):
         self.rt, self.crate, self.is_told, self.is_brief = libraries.rt, crate, is_told, order is not None
         self.folder = Path(crate.folder)
-        self.edits = [Edit(crate.name, self.folder, it) for it in edits_of(self.folder)]
+        self.edits = [Edit(crate.name, self.folder, it) for it in edits_of(self.folder) if names is None or name_of(it) in names]
         if self.is_brief:
             self.edits.sort(key=lambda it: hashlib.sha256(f"{order} {crate.name} {name_of(it.file)}".encode()).hexdigest())
         self.is_proved = bool(libraries.entry(crate))
@@ -244,13 +261,13 @@ class Trial:
             self.try_rounds(seed, room)
         return True
 
-    def checked(self, texts, seed, room):
+    def checked(self, texts, flags, seed, room):
         """A check of the crate with these texts, over a copy of what is kept, whose files the two share."""
         kept = f"{room}/{self.rounds}"
         shutil.copytree(seed, kept, copy_function=link_or_copy)
-        ran = self.rt.checked(self.crate, texts, ["--jobs", str(self.jobs)], kept)
-        if ran.returncode == -signal.SIGKILL:
-            # most likely for memory
+        ran = self.rt.checked(self.crate, texts, ["--jobs", str(self.jobs), *flags], kept)
+        if ran.returncode == -signal.SIGKILL or flags and ran.returncode == 2:
+            # most likely for memory, or a name fits no function or several
             ran = self.rt.checked(self.crate, texts, ["--jobs", str(self.jobs)], kept)
         if os.listdir(seed):
             shutil.rmtree(kept)
@@ -263,12 +280,14 @@ class Trial:
         waiting, alone = [it for it in self.edits if it not in self.said], []
         known = len(self.said)
         while (waiting or alone) and not (self.is_brief and len(self.said) > known):
+            is_last = not waiting
             taken, texts = round_of(waiting or alone[:1])
             self.rounds += 1
-            ran, again = self.checked(texts, seed, room), []
+            # The crate itself is proved, so a round asks for the functions that it strikes alone, and only an edit's last try for the whole crate.
+            ran, again = self.checked(texts, [] if is_last else only(taken), seed, room), []
             for edit, rows in taken.items():
                 (waiting if edit in waiting else alone).remove(edit)
-                kind, why = judge(self.rt, edit, rows, ran, texts, len(taken) == 1)
+                kind, why = judge(self.rt, edit, rows, ran, texts, is_last)
                 if kind:
                     self.tell(edit, kind, why)
                 else:
@@ -311,13 +330,67 @@ def counts_of(folder):
     return [len([*(folder / it).glob("*.edit")]) for it in PLACES]
 
 
-def digest_of(folder):
-    """The digest of a crate's source, definitions, proofs and wrong bodies."""
-    total = hashlib.sha256()
-    files = [it for part in PARTS for it in (folder / part).rglob("*") if it.is_file()]
-    for file in sorted(files) + edits_of(folder):
-        total.update(repr((str(file.relative_to(folder)), file.read_bytes())).encode())
-    return total.hexdigest()[:32]
+def told_by(path, text):
+    """What a file's text says to the prover: all of it without the lines that are comments."""
+    mark = "//" if path.endswith(".rt") else "--"
+    return "\n".join(it for it in text.split("\n") if not it.lstrip().startswith(mark))
+
+
+def function_at(text, at):
+    """The text of the function around a place of a laid out file, with its attributes and contract; the whole text outside each function."""
+    lines, row = text.split("\n"), text.count("\n", 0, at)
+    head, least = row, indent(lines[row]) + bool(HEAD.match(lines[row]))
+    while head >= 0 and not (indent(lines[head]) < least and HEAD.match(lines[head])):
+        if lines[head].strip() and not lines[head].lstrip().startswith(("//", "#")):
+            least = min(least, max(indent(lines[head]), 1))
+        head -= 1
+    if head < 0:
+        return text
+    depth, end, has_body = indent(lines[head]), head, False
+    for end in range(head, len(lines)):
+        line = lines[end]
+        has_body = has_body or indent(line) == depth and line.endswith("{")
+        if indent(line) == depth and line.strip() in ("}", "{}") or end == head and line.endswith("}") or not has_body and line.endswith(";"):
+            break
+    while head > 0 and lines[head - 1].lstrip().startswith(("#[", "//")):
+        head -= 1
+    return "\n".join(lines[head : end + 1])
+
+
+class Texts:
+    """The texts of a crate, of which digests are made."""
+
+    def __init__(self, folder):
+        self.folder = folder
+        self.edits = {name_of(it): Edit(folder.name, folder, it) for it in edits_of(folder)}
+        self.proofs = [it for it in sorted((folder / "proofs").rglob("*")) if it.is_dir()]
+        self.specs = [self.told(it) for it in sorted((folder / "specs").rglob("*.antt"))]
+
+    def told(self, file):
+        path = str(file.relative_to(self.folder))
+        return path, told_by(path, file.read_text())
+
+    def proof_of(self, functions):
+        """What is written of the proofs of these functions; the folder of a cycle of calls begins with a plus."""
+        for place in self.proofs:
+            path = "::".join([self.folder.name, *(it.lstrip("+") for it in place.relative_to(self.folder / "proofs").parts)])
+            if any(of and re.fullmatch(of, path) for of in functions):
+                yield from map(self.told, sorted(place.glob("*.antt")))
+
+    def digest(self, name):
+        """The digest of what the refusal of a wrong body rests on."""
+        edit = self.edits[name]
+        made = [edit.file.read_text(), edit.functions, self.specs, [*self.proof_of(edit.functions)]]
+        for _, path, old, _ in edit.pairs:
+            text = (self.folder / path).read_text() if (self.folder / path).is_file() else ""
+            made.append(told_by(path, function_at(text, text.index(old) + indent(old)) if old and text.count(old) == 1 else text))
+        return hashlib.sha256(repr(made).encode()).hexdigest()[:16]
+
+    def whole(self):
+        """The digest of all texts of the crate."""
+        files = [self.told(it) for part in ("src", "proofs") for it in sorted((self.folder / part).rglob("*")) if it.is_file()]
+        edits = [(name, it.file.read_text()) for name, it in self.edits.items()]
+        return hashlib.sha256(repr([files, self.specs, edits]).encode()).hexdigest()[:32]
 
 
 def folders():
@@ -326,69 +399,77 @@ def folders():
 
 
 class Table:
-    """bench/wrong_bodies.txt: the digest of each crate, and what refused each of its wrong bodies."""
+    """bench/wrong_bodies.txt: of each wrong body of a crate the digest and what refused it."""
 
-    HEAD = "# Written by bench/wrong_bodies.py alone: a crate with the digest of its texts, and each of its wrong bodies with what refused it.\n"
-    CRATE = re.compile(r"(\w+) ([0-9a-f]{32})")
-    # A crate that was last tried before the goals were kept: how many wrong bodies it has in must-fail/ and in refused/.
+    HEAD = "# Written by bench/wrong_bodies.py alone: each crate's wrong bodies, with the digest of what their refusal rests on, and what refused each.\n"
+    CRATE = re.compile(r"(\w+)")
+    # A crate that was last tried before the goals were kept: the digest of its texts, and how many wrong bodies it has in must-fail/ and in refused/.
     COUNTED = re.compile(r"(\w+) ([0-9a-f]{32}) (\d+) (\d+) refused")
-    BODY = re.compile(r"  ([\w-]+/\S+): (.+)")
+    BODY = re.compile(r"  ([\w-]+/\S+) ([0-9a-f]{16}): (.+)")
 
     def __init__(self):
-        self.digests, self.bodies, self.counted = {}, {}, {}
+        self.bodies, self.counted = {}, {}
         name = None
         for line in LINES.read_text().splitlines() if LINES.is_file() else []:
             crate, body, counted = (it.fullmatch(line) for it in (self.CRATE, self.BODY, self.COUNTED))
             if counted:
-                self.digests[counted[1]], self.bodies[counted[1]], self.counted[counted[1]] = counted[2], {}, line
+                self.bodies[counted[1]], self.counted[counted[1]] = {}, counted
             elif crate:
                 name = crate[1]
-                self.digests[name], self.bodies[name] = crate[2], {}
+                self.bodies[name] = {}
             elif body and name:
-                self.bodies[name][body[1]] = body[2]
+                self.bodies[name][body[1]] = body[2], body[3]
 
-    def is_current(self, name, folder):
-        return self.digests.get(name) == digest_of(folder)
+    def stale(self, texts):
+        """The wrong bodies of a crate that have no line, or whose digests have changed since."""
+        name = texts.folder.name
+        if name in self.counted and self.counted[name][2] == texts.whole():
+            return set()
+        kept = self.bodies.get(name, {})
+        return {it for it in texts.edits if it not in kept or kept[it][0] != texts.digest(it)}
 
     def faults(self):
         """What is wrong with the table, a line each: a crate or a wrong body without a line, or the other way round, or a line of another function."""
         here = folders()
-        for name in sorted({*here, *self.digests}):
+        for name in sorted({*here, *self.bodies}):
             if name not in here:
                 yield f"{name} has lines and no wrong body"
                 continue
-            if not self.is_current(name, here[name]):
-                yield f"{name} has changed since its wrong bodies were tried"
+            texts = Texts(here[name])
             if name in self.counted:
-                if [int(it) for it in self.COUNTED.fullmatch(self.counted[name]).groups()[2:]] != counts_of(here[name]):
+                if texts.whole() != self.counted[name][2]:
+                    yield f"{name} has changed since its wrong bodies were tried"
+                if [int(it) for it in self.counted[name].groups()[2:]] != counts_of(here[name]):
                     yield f"{name} has another number of wrong bodies than were tried"
                 continue
-            edits = {name_of(it): Edit(name, here[name], it) for it in edits_of(here[name])}
-            for body in sorted({*edits, *self.bodies.get(name, {})}):
-                why = self.fault_of(edits.get(body), self.bodies.get(name, {}).get(body))
-                if why:
+            for body in sorted({*texts.edits, *self.bodies.get(name, {})}):
+                for why in self.faults_of(texts, body, self.bodies.get(name, {}).get(body)):
                     yield f"{name}/{body} {why}"
 
     @staticmethod
-    def fault_of(edit, line):
+    def faults_of(texts, body, line):
+        edit = texts.edits.get(body)
         if not edit or not line:
-            return "has a line and no file" if line else "has no line"
+            yield "has a line and no file" if line else "has no line"
+            return
         if edit.fault:
-            return edit.fault
-        told = [it.partition(": ")[0] for it in line.split("; ")]
-        is_own = all(it.startswith(ELSE) or any(of and re.fullmatch(of, it) for of in edit.functions) for it in told)
-        return "" if is_own else "strikes another function than its line says"
+            yield edit.fault
+        if line[0] != texts.digest(body):
+            yield "has changed since it was tried"
+        told = [it.partition(": ")[0] for it in line[1].split("; ")]
+        if not all(it.startswith(ELSE) or any(of and re.fullmatch(of, it) for of in edit.functions) for it in told):
+            yield "strikes another function than its line says"
 
-    def write(self, name, digest, lines):
-        """Puts a crate's lines in the place of those that it had, and drops those of crates that are gone."""
-        self.digests[name], self.bodies[name] = digest, lines
+    def write(self, name, lines):
+        """Puts these lines of a crate in the place of those that it had, and drops those of bodies and crates that are gone."""
+        here = folders()
+        left = {name_of(it) for it in edits_of(here[name])}
+        self.bodies[name] = {it: line for it, line in ({**self.bodies.get(name, {}), **lines}).items() if it in left}
         self.counted.pop(name, None)
         text = self.HEAD
-        for it in sorted({*self.digests} & {*folders()}):
-            if it in self.counted:
-                text += f"{self.counted[it]}\n"
-                continue
-            text += f"{it} {self.digests[it]}\n" + "".join(f"  {body}: {why}\n" for body, why in sorted(self.bodies[it].items()))
+        for it in sorted({*self.bodies} & {*here}):
+            text += f"{self.counted[it][0]}\n" if it in self.counted else f"{it}\n"
+            text += "".join(f"  {body} {digest}: {why}\n" for body, (digest, why) in sorted(self.bodies[it].items()))
         LINES.write_text(text)
 
 
@@ -397,7 +478,7 @@ def verify():
     stale = sorted({it.split()[0].split("/")[0] for it in faults})
     print("".join(f"wrong_bodies: {it}\n" for it in faults), end="")
     if stale:
-        print(f"wrong_bodies: python3 bench/wrong_bodies.py {' '.join(stale)}")
+        print(f"wrong_bodies: python3 bench/wrong_bodies.py --changed {' '.join(stale)}")
     print(f"{sum(len(edits_of(it)) for it in here.values())} wrong bodies of {len(here)} crates, {len(faults)} faults")
     return 1 if faults else 0
 
@@ -409,8 +490,8 @@ def git(*words):
 
 
 def changed_crates():
-    """The crates whose texts differ from those of main when it last passed: from where this branch left main, or on main itself from its last
-    commit but one, as main goes on only by what has passed. None where git doesn't tell."""
+    """The crates whose texts, without comments, differ from those of main when it last passed: from where this branch left main, or on main itself
+    from its last commit but one, as main goes on only by what has passed. None where git doesn't tell."""
     head, base = git("rev-parse", "HEAD"), None
     for main in ("origin/main", "main"):
         found = git("merge-base", main, "HEAD")
@@ -420,13 +501,22 @@ def changed_crates():
     base = base or git("rev-parse", "--verify", "-q", "HEAD^")
     if not base:
         return None
-    files = (git("diff", "--name-only", base, "--", "crates") or "").split("\n") + (git("ls-files", "-o", "--exclude-standard", "crates") or "").split("\n")
-    return {it.split("/")[1] for it in files if it.count("/") > 2 and it.split("/")[2] in (*PARTS, *PLACES)}
+    files = (git("diff", "--name-only", "--no-renames", base, "--", "crates") or "").split("\n") + (git("ls-files", "-o", "--exclude-standard", "crates") or "").split("\n")
+    files = [it for it in files if it.count("/") > 2 and it.split("/")[2] in (*PARTS, *PLACES)]
+    return {it.split("/")[1] for it in files if told_before(base, it) != told_now(it)}
+
+
+def told_before(base, path):
+    return told_by(path, git("show", f"{base}:{path}") or "").strip()
+
+
+def told_now(path):
+    return told_by(path, (ROOT / path).read_text()).strip() if (ROOT / path).is_file() else ""
 
 
 def order_of_tree():
     """The digest of HEAD's tree, by which crates and their wrong bodies are put in an order in which nobody has a say."""
-    return git("rev-parse", "HEAD^{tree}") or "".join(map(digest_of, folders().values()))
+    return git("rev-parse", "HEAD^{tree}") or "".join(Texts(it).whole() for it in folders().values())
 
 
 def planned():
@@ -466,7 +556,7 @@ class Gate:
             self.faults.append(f"{name} is not proved as it stands")
             return
         lines, names = trial.lines(), {name_of(it.file) for it in trial.tried()}
-        kept = lines if name in self.table.counted else {it: line for it, line in self.table.bodies.get(name, {}).items() if it in names}
+        kept = lines if name in self.table.counted else {it: line for it, (_, line) in self.table.bodies.get(name, {}).items() if it in names}
         self.faults += [f"{name}/{it}: its line says {kept.get(it)}, and now it is {lines.get(it, 'not refused')}" for it in sorted({*lines, *kept}) if lines.get(it) != kept.get(it)]
         self.faults += [f"{name}: {trial.told()}"] * bool(trial.faults())
         self.bodies += len(trial.tried())
@@ -509,35 +599,39 @@ class Anew:
             if crate.build_rlib(["--jobs", "1"], anew=False):
                 sys.exit(f"wrong_bodies: {crate.name} is not proved")
 
-    def try_crate(self, crate):
-        """Tries the wrong bodies of a crate, and writes its lines where each is refused and no text has changed meanwhile."""
+    def try_crate(self, crate, names):
+        """Tries these wrong bodies of a crate, and writes their lines where each is refused and no text of theirs has changed meanwhile."""
         folder = Path(crate.folder)
-        digest, trial = digest_of(folder), Trial(self.libraries, crate, self.is_told)
+        before, trial = Texts(folder), Trial(self.libraries, crate, self.is_told, names=names)
+        digests = {it: before.digest(it) for it in names}
         is_tried = trial.run()
         print(f"{crate.name}: {trial.told()}" + ("" if is_tried else ", it is not proved as it stands"), flush=True)
         with self.writing:
             self.faults += trial.faults()
-            if not trial.faults() and digest == digest_of(folder):
-                Table().write(crate.name, digest, trial.lines())
+            after, lines = Texts(folder), trial.lines()
+            if not trial.faults() and all(it in after.edits and after.digest(it) == digest for it, digest in digests.items()):
+                Table().write(crate.name, {it: (digests[it], line) for it, line in lines.items()})
 
-    def run(self, crates, at_once):
+    def run(self, bodies, at_once):
+        """Tries the wrong bodies of these crates, a set of names for each."""
+        crates = [it for it in self.libraries.crates if bodies.get(it.name)]
         self.make_below(crates)
         with ThreadPoolExecutor(at_once) as pool:
-            list(pool.map(self.try_crate, crates))
+            list(pool.map(lambda it: self.try_crate(it, bodies[it.name]), crates))
         print(f"{self.faults} faults")
         return 1 if self.faults else 0
 
 
 def try_anew(asked):
-    """Tries the wrong bodies of the crates that are asked for, or of those that have changed."""
-    anew, here, table = Anew(asked.list), folders(), Table()
-    crates = [it for it in anew.libraries.crates if it.name in here]
-    return anew.run([it for it in crates if it.name in asked.crates or not asked.crates and (asked.all or not table.is_current(it.name, here[it.name]))], asked.at_once)
+    """Tries the wrong bodies that are asked for: of the crates that are named or of all, all or those that have changed."""
+    table, texts = Table(), {name: Texts(folder) for name, folder in folders().items() if not asked.crates or name in asked.crates}
+    is_all = asked.all or asked.crates and not asked.changed
+    return Anew(asked.list).run({name: {*it.edits} if is_all else table.stale(it) for name, it in texts.items()}, asked.at_once)
 
 
 def main():
     options = argparse.ArgumentParser(description=__doc__, formatter_class=argparse.RawDescriptionHelpFormatter)
-    for word in ("--verify", "--gate", "--plan", "--all", "--list"):
+    for word in ("--verify", "--gate", "--plan", "--all", "--changed", "--list"):
         options.add_argument(word, action="store_true")
     options.add_argument("--minutes", type=float, default=5)
     options.add_argument("--at-once", type=int, default=1)

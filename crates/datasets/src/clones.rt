@@ -35,7 +35,7 @@ impl CloneName {
         &self.name
     }
 
-    // One more owner of the name. NoMemory where there is none for it.
+    // An equal entry, which shares the name. NoMemory where there is none for it.
     fn copy(&self) -> Result<CloneName, Refusal>
         ensures ok { IfOk result (λ c. key_of c ≡ key_of self.now) }
         ensures err { IfErr result (λ e. e ≡ Refusal.NoMemory) }
@@ -47,7 +47,7 @@ impl CloneName {
         })
     }
 
-    // How it compares with a clone of this origin and this name.
+    // Compares it with a clone of this origin and this name: by origin, and then by name.
     fn compare(&self, origin: SnapshotId, name: &[u8]) -> Ordering
         ensures { result ≡ key_cmp (key_of self.now) (snap_id origin, name.now) }
     {
@@ -58,7 +58,7 @@ impl CloneName {
     }
 }
 
-// Whether its origin comes before that snapshot.
+// Whether its origin sorts before that snapshot.
 fn is_before(clone: &CloneName, id: SnapshotId) -> bool
     ensures { result ≡ is_lt (id_cmp (key_of clone.now).0 (snap_id id)) }
 {
@@ -72,7 +72,7 @@ fn has_origin(clone: &CloneName, id: SnapshotId) -> bool
     id == clone.origin
 }
 
-// Where the clone of this origin and name stands, or else where it would.
+// The place of the clone of this origin and name, or, as Err, the place where it would be inserted.
 fn place(clones: &[CloneName], origin: SnapshotId, name: &[u8]) -> Result<usize, usize>
     requires { IsInOrder clones.now }
     ensures found { IfOk result (IsCloneAt (map key_in clones.now) (snap_id origin, name.now)) }
@@ -81,7 +81,7 @@ fn place(clones: &[CloneName], origin: SnapshotId, name: &[u8]) -> Result<usize,
     clones.binary_search_by(|clone| clone.compare(origin, name))
 }
 
-// One more owner of each of these names. NoMemory where there is none for that.
+// A copy of these entries, which shares the names. NoMemory where there is none for that.
 fn shared(alloc: Global, clones: &[CloneName]) -> Result<Vec<CloneName>, Refusal>
     ensures ok { IfOk result (λ v. map key_in v.items ≡ map key_in clones.now) }
     ensures err { IfErr result (λ e. e ≡ Refusal.NoMemory) }
@@ -93,7 +93,8 @@ fn shared(alloc: Global, clones: &[CloneName]) -> Result<Vec<CloneName>, Refusal
     Ok(copies)
 }
 
-// Puts a clone of that origin, if there is one, among these, for which there is room. It costs their number.
+// Inserts a clone of that origin in its place. Does nothing where there is no origin, or the clone is there already. There must be room for one
+// more entry. It costs their number.
 fn put(entries: &mut Vec<CloneName>, origin: Option<SnapshotId>, name: Arc<DsName>)
     requires order { IsInOrder entries.old.items }
     requires room { vec_len entries.old < vec_capacity entries.old }
@@ -112,7 +113,7 @@ fn put(entries: &mut Vec<CloneName>, origin: Option<SnapshotId>, name: Arc<DsNam
     }
 }
 
-// Takes the clone of that origin and this name out, where there is such an origin. It costs their number.
+// Removes the clone of that origin and this name. Does nothing where there is no origin, or no such clone. It costs the number of entries.
 fn leave_from(entries: &mut Vec<CloneName>, origin: Option<SnapshotId>, name: &DsName)
     requires order { IsInOrder entries.old.items }
     ensures order { IsInOrder entries.new.items }
@@ -128,8 +129,8 @@ fn leave_from(entries: &mut Vec<CloneName>, origin: Option<SnapshotId>, name: &D
     }
 }
 
-/// An index of clones: each with its origin, in order of these, and those of one origin in byte order of their names. Contracts see it as the
-/// set of its pairs. Copies share the names.
+/// An index of clones, sorted by origin, and for one origin by name in byte order. Contracts see it as the set of its pairs of an origin and a
+/// name. Copies share the names.
 #[derive(Drop)]
 pub(crate) struct CloneIndex {
     entries: Vec<CloneName>,
@@ -150,7 +151,7 @@ impl Model for CloneIndex {
 }
 
 impl CloneIndex {
-    /// An index without a clone. Constant time.
+    /// An empty index. Constant time.
     pub(crate) fn new(alloc: Global) -> CloneIndex
         ensures { result ≡ finmap.empty }
     {
@@ -159,7 +160,7 @@ impl CloneIndex {
         }
     }
 
-    /// An equal index, by one more owner of each name. NoMemory where there is none for that. It costs the number of clones.
+    /// An equal index, which shares the names. NoMemory where there is none for that. It costs the number of clones.
     pub(crate) fn copy(&self) -> Result<CloneIndex, Refusal>
         ensures ok { IfOk result (λ i. i ≡ self.now) }
         ensures err { IfErr result (λ e. e ≡ Refusal.NoMemory) }
@@ -180,8 +181,8 @@ impl CloneIndex {
         those
     }
 
-    /// Adds a clone of that origin, if there is one. NoMemory where there is none for it; then the index is as it was. It costs the number of
-    /// clones.
+    /// Adds a clone of that origin. Does nothing where there is no origin, or the clone is there already. NoMemory where there is none for it;
+    /// then the index is as it was. It costs the number of clones.
     pub(crate) fn enter(
         &mut self,
         origin: Option<SnapshotId>,
@@ -201,15 +202,16 @@ impl CloneIndex {
         Ok(())
     }
 
-    /// Takes the clone of that origin and this name out, where there is such an origin. It costs the number of clones.
+    /// Removes the clone of that origin and this name. Does nothing where there is no origin, or no such clone. It costs the number of clones.
     pub(crate) fn leave(&mut self, origin: Option<SnapshotId>, name: &DsName)
         ensures { self.new ≡ without_origin self.old name.now (option_map snap_id origin) }
     {
         leave_from(&mut self.entries, origin, name);
     }
 
-    /// Promotes a clone of that snapshot, which the other file system has (zfs-promote(8)): the clone has the other's origin, and the other the
-    /// clone's. NoMemory where there is none for it; then the index is as it was. It costs the number of clones.
+    /// Promotes `clone`, whose origin is that snapshot of `owner` (zfs-promote(8)): the clone gets the origin of `owner`, if it has one, and
+    /// that snapshot becomes the origin of `owner`. NoMemory where there is none for it; then the index is as it was. It costs the number of
+    /// clones.
     pub(crate) fn promote(
         &mut self,
         origin: SnapshotId,

@@ -53,15 +53,14 @@ use zalloc::Allocator;
 
 /// File systems by name. Contracts see the map from their names to them.
 ///
-/// They stand in byte order of their names, so that `p/a-x` comes between `p/a` and `p/a/x`. Those that were copied from one another
-/// share the file systems that none of them changed. They keep the place of the last change, `near`, where a search for a name looks
-/// first.
+/// They are kept in byte order of their names, so that `p/a-x` comes between `p/a` and `p/a/x`. Copies share the file systems that none of them
+/// has changed. `near` is the place of the last change, where a search for a name looks first.
 #[derive(Drop)]
 pub(crate) struct FileSystems {
     rows: Vec<Arc<FileSystem>>,
     snapshot_count: usize,
     clones: CloneIndex,
-    /// Where the file system that was changed last stood: a search looks there first. Any number will do.
+    /// The place of the file system that was changed last. A search looks there first. It is only a hint, so that any number is allowed.
     near: usize,
 }
 
@@ -82,7 +81,7 @@ impl Model for FileSystems {
 }
 
 impl FileSystems {
-    /// One file system alone, of this name, without a block or a snapshot. NoMemory where there is none for it. Constant time.
+    /// A single file system of this name, without a block or a snapshot. NoMemory where there is none for it. Constant time.
     pub(crate) fn new(alloc: Global, name: &DsName) -> Result<FileSystems, Refusal>
         ensures ok { IfOk result (λ t. t ≡ insert finmap.empty name.now empty_file_system) }
         ensures err { IfErr result (λ e. e ≡ Refusal.NoMemory) }
@@ -98,7 +97,7 @@ impl FileSystems {
         })
     }
 
-    /// Equal file systems, by one more owner of each, as `Table::copy` says. It costs the number of file systems, and that of clones.
+    /// A copy, which shares each file system, as `Table::copy` says. It costs the number of file systems, and that of clones.
     pub(crate) fn copy(&self) -> Result<FileSystems, Refusal>
         ensures ok { IfOk result (λ t. t ≡ self.now) }
         ensures err { IfErr result (λ e. e ≡ Refusal.NoMemory) }
@@ -164,9 +163,9 @@ impl FileSystems {
         *self.rows.allocator()
     }
 
-    /// Adds this file system, whose name none of these has, and which has no snapshot; where it is a clone, its origin is a snapshot of one of
-    /// these (zfs-create(8), zfs-clone(8)). NoMemory where there is none for it; then all are as they were. It costs the number of file
-    /// systems, and where it is a clone, that of clones.
+    /// Adds this file system (zfs-create(8), zfs-clone(8)). No other may have its name, and it must not have a snapshot. Where it is a clone,
+    /// its origin must be a snapshot of one of the others. NoMemory where there is none for it; then all are as they were. It costs the number
+    /// of file systems, and where it is a clone, that of clones.
     pub(crate) fn add(&mut self, file_system: FileSystem) -> Result<(), Refusal>
         requires absent { get self.old file_system.name ≡ None }
         requires bare { file_system.system.snaps ≡ [] }
@@ -183,7 +182,7 @@ impl FileSystems {
         Ok(())
     }
 
-    /// Looks for a name first where the file system of this name stands, as `Table::look_at` says.
+    /// Makes the next searches look first at the file system of this name, as `Table::look_at` says.
     pub(crate) fn look_at(&mut self, name: &DsName)
         ensures { self.new ≡ self.old }
     {
@@ -192,7 +191,7 @@ impl FileSystems {
         }
     }
 
-    /// Where a search looks first, as `Table::near` says.
+    /// The place where a search looks first, as `Table::near` says.
     pub(crate) fn near(&self) -> usize {
         self.near
     }
@@ -231,8 +230,8 @@ impl FileSystems {
         Ok(())
     }
 
-    /// Puts a batch of changes of the live tree of this file system in force, as `Table::apply_live` says, in this group. Where others share
-    /// the file system, a copy of it, by one more owner of its name, its tree and its snapshots, is changed and takes its place.
+    /// Applies a batch of changes to the live tree of this file system in this group, as `Table::apply_live` says. Where others share the file
+    /// system, a copy of it, which shares its name, its tree and its snapshots, is changed and takes its place.
     pub(crate) fn apply_live(
         &mut self,
         name: &DsName,
@@ -264,9 +263,9 @@ impl FileSystems {
         file_system.apply(alloc, updates, group, synced, allocator, meter, segments)
     }
 
-    /// A snapshot of the live map of this file system after its others, as `Table::take_snapshot` says, of a group and guid that no other
-    /// snapshot has together. NoMemory also where there are as many snapshots as a usize counts. Where others share the file system, a copy of
-    /// it takes its place.
+    /// Takes a snapshot of the live map of this file system, which becomes its newest one, as `Table::take_snapshot` says. No other snapshot may
+    /// have both this group and this guid. NoMemory also where there are as many snapshots as a usize counts. Where others share the file
+    /// system, a copy of it takes its place.
     pub(crate) fn take_snapshot(
         &mut self,
         alloc: Global,
@@ -294,9 +293,9 @@ impl FileSystems {
         Ok(())
     }
 
-    /// Takes the snapshot of this group, which is there and no clone's origin, out of this file system, as `Table::remove_snapshot` says, and
-    /// answers the blocks that are lost with it, which neither what stands before it has nor what comes after it. Where others share the file
-    /// system, a copy of it takes its place.
+    /// Removes the snapshot of this group from this file system, as `Table::remove_snapshot` says. It must be there and not be the origin of a
+    /// clone. The answer lists its blocks that neither the dataset before it nor the one after it has. Where others share the file system, a
+    /// copy of it takes its place.
     pub(crate) fn splice(
         &mut self,
         alloc: Global,
@@ -322,8 +321,8 @@ impl FileSystems {
         Ok(lost)
     }
 
-    /// From now on the destroy of the snapshot of this group, which is there, of this file system is deferred, as `Table::defer` says. Where
-    /// others share the file system, a copy of it takes its place.
+    /// Marks the destroy of the snapshot of this group of this file system as deferred, as `Table::defer` says. The snapshot must be there.
+    /// Where others share the file system, a copy of it takes its place.
     pub(crate) fn defer(
         &mut self,
         alloc: Global,
@@ -344,8 +343,8 @@ impl FileSystems {
         file_system.defer(alloc, group)
     }
 
-    /// From now on the snapshot of this group, which is there, of this file system has these tags, as `Table::set_tags` says. Where others share
-    /// the file system, a copy of it takes its place.
+    /// Replaces the tags of the snapshot of this group of this file system, as `Table::set_tags` says. The snapshot must be there. Where others
+    /// share the file system, a copy of it takes its place.
     pub(crate) fn set_tags(
         &mut self,
         alloc: Global,
@@ -367,7 +366,7 @@ impl FileSystems {
         file_system.set_tags(alloc, group, tags)
     }
 
-    /// From now on this file system has these bookmarks, as `Table::set_bookmarks` says. Where others share it, a copy of it takes its place.
+    /// Replaces the bookmarks of this file system, as `Table::set_bookmarks` says. Where others share it, a copy of it takes its place.
     pub(crate) fn set_bookmarks(
         &mut self,
         alloc: Global,
@@ -388,7 +387,7 @@ impl FileSystems {
         Ok(())
     }
 
-    /// From now on this file system has this limit, or none, as `Table::set_limit` says. Where others share it, a copy of it takes its place.
+    /// Sets this limit of this file system, or removes it, as `Table::set_limit` says. Where others share it, a copy of it takes its place.
     pub(crate) fn set_limit(
         &mut self,
         alloc: Global,
@@ -410,8 +409,8 @@ impl FileSystems {
         Ok(())
     }
 
-    /// Makes the map of its newest snapshot, which is there, the live map of this file system, as `Table::rollback` says, and answers what is
-    /// lost with the one before: its blocks that the snapshot hasn't. Where others share the file system, a copy of it takes its place.
+    /// Makes the map of its newest snapshot, which must be there, the live map of this file system, as `Table::rollback` says. It answers the
+    /// blocks of the former live map that the snapshot doesn't have. Where others share the file system, a copy of it takes its place.
     pub(crate) fn rollback(
         &mut self,
         alloc: Global,
@@ -433,8 +432,8 @@ impl FileSystems {
         file_system.rollback(alloc, segments)
     }
 
-    /// What is lost with this file system, which is there and has no snapshot, where it goes, as `Table::lost_with` says: the blocks of its live
-    /// tree, by one more owner of that.
+    /// The blocks that no dataset has any more once this file system is removed, as `Table::lost_with` says. It must be there and have no
+    /// snapshot. The answer shares its live tree.
     pub(crate) fn lost(&self, name: &DsName) -> Result<Lost, Refusal>
         requires there { IsSome (get self.now name.now) }
         requires bare { snaps_at self.now name.now ≡ [] }
@@ -448,7 +447,7 @@ impl FileSystems {
         self.rows[place].lost()
     }
 
-    /// Takes out this file system, which is there and has no snapshot, as `Table::remove` says.
+    /// Removes this file system, as `Table::remove` says. It must be there and have no snapshot.
     pub(crate) fn take_out(&mut self, name: &DsName)
         requires there { IsSome (get self.old name.now) }
         requires bare { snaps_at self.old name.now ≡ [] }
@@ -462,8 +461,8 @@ impl FileSystems {
         let _gone = self.rows.remove(place);
     }
 
-    /// Empties this file system, which is there and has no snapshot, as `Table::vacate` says; and answers what is lost with that. Where it is a
-    /// clone, it costs the number of clones too.
+    /// Empties this file system, as `Table::vacate` says, and answers the blocks that no dataset has any more. It must be there and have no
+    /// snapshot. Where it is a clone, it costs the number of clones too.
     pub(crate) fn vacate(&mut self, alloc: Global, name: &DsName) -> Result<Lost, Refusal>
         requires there { IsSome (get self.old name.now) }
         requires bare { snaps_at self.old name.now ≡ [] }

@@ -8,7 +8,7 @@ ghost use Rattle.file_system.specs.Rows.{entry_in};
 use file_system::FileSystem;
 use std::sync::Arc;
 
-/// Where the file system of this name stands, or else where it would. It costs the logarithm of their number.
+/// The place of the file system of this name, or, as Err, the place where it would be inserted. It costs the logarithm of their number.
 pub(crate) fn place(file_systems: &[Arc<FileSystem>], name: &[u8]) -> Result<usize, usize>
     requires { IsTrue (is_sorted name_cmp (map entry_in file_systems.now)) }
     ensures found { IfOk result (IsAt (map entry_in file_systems.now) name.now) }
@@ -17,8 +17,8 @@ pub(crate) fn place(file_systems: &[Arc<FileSystem>], name: &[u8]) -> Result<usi
     file_systems.binary_search_by(|file_system| file_system.compare(name))
 }
 
-/// What `place` answers. It looks first at the row at `near`, whatever number that is: where the file system of this name stands there, it is
-/// found in constant time but for the length of the name, and else the search costs the logarithm of their number.
+/// Answers what `place` does, but looks first at the row at `near`, which may be any number. Where that row has this name, it costs only the
+/// length of the name, and else the logarithm of the number of file systems.
 pub(crate) fn place_near(
     file_systems: &[Arc<FileSystem>],
     near: usize,
@@ -36,7 +36,7 @@ pub(crate) fn place_near(
     place(file_systems, name)
 }
 
-/// Where a file system of this name would stand, which isn't there. It costs the logarithm of their number.
+/// The place where a file system of this name would be inserted. No file system has this name. It costs the logarithm of their number.
 pub(crate) fn gap(file_systems: &[Arc<FileSystem>], name: &[u8]) -> usize
     requires sorted { IsTrue (is_sorted name_cmp (map entry_in file_systems.now)) }
     requires absent { get (from_sorted {R = name_cmp} (map entry_in file_systems.now)) name.now ≡ None }

@@ -1,4 +1,4 @@
-//! A clone and the file system of its origin, which change places where they stand.
+//! The promote of a clone in the rows of a list of file systems.
 ghost use Rattle.std.specs.Prelude.{◌≡◌, ◌≢◌, ◌<◌, IfErr, OnOk, OnErr, map, length};
 ghost use Rattle.std.specs.Arc.{arc_value};
 ghost use Rattle.base.specs.declared.refusal.Refusal.{Refusal};
@@ -16,9 +16,9 @@ use model::snapshot_id::SnapshotId;
 use std::alloc::Global;
 use std::sync::Arc;
 
-/// Promotes the clone in the row at this place, whose origin is that snapshot of the row at the other place, and in the index of the clones
-/// (zfs-promote(8)). Where others share a row, a copy of it takes its place. NoMemory where there is none for it; then all are as they were.
-/// It costs what `FileSystem::promotion` and `CloneIndex::promote` do.
+/// Promotes the clone in the row at `place`, whose origin is that snapshot of the row at `other`, in both rows and in the index of clones
+/// (zfs-promote(8)). Where others share a row, a copy of it takes its place. NoMemory where there is none for it; then all are as they were. It
+/// costs what `FileSystem::promotion` and `CloneIndex::promote` do.
 pub(crate) fn promote_at(
     alloc: Global,
     rows: &mut [Arc<FileSystem>],
@@ -60,7 +60,7 @@ pub(crate) fn promote_at(
     )
 }
 
-// Promotes the clone in the first row, whose origin is that snapshot of the second. It fails before it changes anything.
+// Promotes the clone in the row `clone`, whose origin is that snapshot of the row `owner`. On error nothing has changed.
 fn promote_row(
     alloc: Global,
     clone: &mut Arc<FileSystem>,

@@ -1,4 +1,4 @@
-//! The rows of a list of file systems, each of which other lists may own too.
+//! The rows of a list of file systems, which other lists may share.
 ghost use Rattle.std.specs.Prelude.{◌≡◌, ◌+◌, ◌<◌, ◌≤◌, ◌++◌, Some, None, IsSome, IfSome, IfNone, slice_get, IfOk, IfErr, OnOk, map, length, vec_len, vec_capacity};
 ghost use Rattle.std.specs.Arc.{arc_value};
 ghost use Rattle.std.specs.Borrow.{sem};
@@ -17,7 +17,8 @@ use model::snapshot_id::SnapshotId;
 use std::alloc::Global;
 use std::sync::Arc;
 
-// Adds one more owner of each of these rows, for which there is room. NoMemory where there is none for one. It costs their number.
+// Adds another `Arc` of each of these rows to `owners`, which must have room for them. NoMemory where there is none for one. It costs their
+// number.
 fn share(rows: &[Arc<FileSystem>], owners: &mut Vec<Arc<FileSystem>>) -> Result<(), Refusal>
     requires { vec_len owners.old + length rows.now ≤ vec_capacity owners.old }
     ensures items { OnOk result (map arc_value owners.new.items ≡ map arc_value owners.old.items ++ map arc_value rows.now) }
@@ -31,7 +32,7 @@ fn share(rows: &[Arc<FileSystem>], owners: &mut Vec<Arc<FileSystem>>) -> Result<
     Ok(())
 }
 
-/// One more owner of each of these rows, with room for no more. NoMemory where there is none for that. It costs their number.
+/// Another `Arc` of each of these rows, in a vector with room for no more. NoMemory where there is none for that. It costs their number.
 pub(crate) fn shared(
     alloc: Global,
     rows: &[Arc<FileSystem>],
@@ -45,7 +46,7 @@ pub(crate) fn shared(
     Ok(owners)
 }
 
-/// Puts a row at this place among others, where there is room for it. It costs their number.
+/// Inserts a row at this place among others. There must be room for it. It costs their number.
 pub(crate) fn put(rows: &mut Vec<Arc<FileSystem>>, place: usize, added: Arc<FileSystem>)
     requires room { vec_len rows.old < vec_capacity rows.old }
     requires within { place ≤ vec_len rows.old }
@@ -56,8 +57,8 @@ pub(crate) fn put(rows: &mut Vec<Arc<FileSystem>>, place: usize, added: Arc<File
     };
 }
 
-/// A row's file system, to be changed: where the row has other owners, a copy of it comes to its place first. NoMemory where there is none
-/// for that; then it is as it was. Constant time.
+/// Lends a row's file system for a change. Where the row has other owners, a copy takes its place first. NoMemory where there is none for that;
+/// then the row is as it was. Constant time.
 pub(crate) fn own(row: &mut Arc<FileSystem>, alloc: Global) -> Result<&mut FileSystem, Refusal>
     ensures* writes_back { sem 𝓛 (LendsRow row.entry result) }
     ensures value { IfOk result (λ f. f.now ≡ arc_value row.old) }
@@ -73,8 +74,8 @@ pub(crate) fn own(row: &mut Arc<FileSystem>, alloc: Global) -> Result<&mut FileS
     }
 }
 
-/// Where the first row stands that has the snapshot of this identity, or None where no row has it. It costs for each row the logarithm of
-/// the number of its snapshots.
+/// The place of the first row that has the snapshot of this identity, or None where no row has it. It costs for each row the logarithm of the
+/// number of its snapshots.
 pub(crate) fn owner_place(rows: &[Arc<FileSystem>], id: SnapshotId) -> Option<usize>
     requires { (r : Row) → IsIn (map arc_value rows.now) r → AreRising 0 r.system.snaps }
     ensures within { IfSome result (λ place. place < length rows.now) }

@@ -58,7 +58,7 @@ pub const FILE_SYSTEM_LIMIT: usize = 1024;
 /// A pool has at most this many snapshots (profile).
 pub const SNAPSHOT_LIMIT: usize = 65536;
 
-/// The last group, which nothing closes (profile).
+/// The last group, which is never closed (profile).
 pub const LAST_GROUP: u64 = 9223372036854775807;
 
 /// The datasets of a pool: its file systems with their snapshots, and the group that is open. The root `p` is always there, and so is
@@ -68,7 +68,7 @@ pub struct Table {
     group: Group,
 }
 
-// Written by hand, so that it is proved once: a derived one would be laid out anew in each crate that drops a table.
+// Written by hand, so that it is proved once: a derived `Drop` is expanded anew in each crate that drops a table.
 impl Drop for Table {
     fn drop(self) {
         let Table { systems, group: _ } = self;
@@ -90,7 +90,7 @@ impl Model for Table {
 }
 
 impl Table {
-    /// The root file system `p` alone, without a block or a snapshot, in group 1 (zpool-create(8)). NoMemory where there is none for
+    /// A table with only the root file system `p`, without a block or a snapshot, in group 1 (zpool-create(8)). NoMemory where there is none for
     /// it. Constant time.
     pub fn new(alloc: Global) -> Result<Table, Refusal>
         ensures ok { IfOk result (λ t. t ≡ record { file_systems = insert finmap.empty root_name empty_file_system; group = 1 }) }
@@ -103,8 +103,8 @@ impl Table {
         })
     }
 
-    /// An equal table, by one more owner of each file system: no name, tree, snapshot or block is visited. NoMemory where there is
-    /// none for as many rows as there are, or for an owner. It costs the number of file systems.
+    /// An equal table, which shares each file system. No name, tree, snapshot or block is visited. NoMemory where there is none for the rows, or
+    /// for an `Arc`. It costs the number of file systems.
     pub fn copy(&self) -> Result<Table, Refusal>
         ensures ok { IfOk result (λ t. t ≡ self.now) }
         ensures err { IfErr result (λ e. e ≡ Refusal.NoMemory) }
@@ -116,8 +116,9 @@ impl Table {
         })
     }
 
-    /// What holds of every table, for a proof that needs it: each file system but the root has its parent, a snapshot its group in order and
-    /// an identity of its own, a number names one block, and all snapshots and bookmarks are of closed groups. It does nothing.
+    /// Does nothing. Its contract states the invariants of every table, for proofs: the parent of each file system but the root is there, the
+    /// snapshots of a file system are in order of their groups, each snapshot has an identity of its own, each number names one block, and all
+    /// snapshots and bookmarks are of closed groups.
     pub fn facts(&self)
         ensures good { AreFileSystems self.now.file_systems self.now.group }
         ensures numbers { AreNumbersOne self.now }
@@ -170,8 +171,8 @@ impl Table {
         Some(snapshot)
     }
 
-    /// The snapshot of this name with its file system, or none. It costs the logarithm of the number of file systems, and that of the number
-    /// of snapshots of its own.
+    /// The snapshot of this name with its file system, or none. It costs the logarithm of the number of file systems, and that of the number of
+    /// snapshots of that file system.
     pub fn snapshot_named(
         &self,
         file_system: &DsName,
@@ -200,9 +201,9 @@ impl Table {
         None
     }
 
-    /// Why a file system of this name can't be added, if it can't: Exists where one of that name is there, else NoParent where
-    /// its parent isn't, else TooMany where there are `FILE_SYSTEM_LIMIT` already (zfs-create(8); the limit is profile). It
-    /// costs the logarithm of their number.
+    /// The error with which a file system of this name can't be added, or None: Exists where one of that name is there, else NoParent where its
+    /// parent isn't there, else TooMany where there are `FILE_SYSTEM_LIMIT` already (zfs-create(8); the limit is profile). It costs the
+    /// logarithm of their number.
     #[tactic(auto, unfolding(model::specs::requests::Create::create_refusal))]
     pub fn create_refusal(&self, name: &DsName) -> Option<Refusal>
         ensures { result ≡ create_refusal self.now.file_systems name.now }
@@ -219,8 +220,8 @@ impl Table {
         None
     }
 
-    /// Adds a file system of this name, which nothing refuses, as `create_refusal` tells, without a block or a snapshot (zfs-create(8)).
-    /// NoMemory where there is none for it, and then the table is as it was. It costs the number of file systems and the length of the name.
+    /// Adds a file system of this name, without a block or a snapshot (zfs-create(8)). `create_refusal` must be None. NoMemory where there is
+    /// none for it, and then the table is as it was. It costs the number of file systems and the length of the name.
     pub fn create(&mut self, name: &DsName) -> Result<(), Refusal>
         requires can { create_refusal self.old.file_systems name.now ≡ None }
         ensures ok { OnOk result (self.new ≡ with_system self.old name.now empty_file_system) }
@@ -231,10 +232,10 @@ impl Table {
         self.systems.add(file_system)
     }
 
-    /// Adds a clone of this snapshot, which is there, under this name, which nothing refuses, as `create_refusal` tells (zfs-clone(8)): its
-    /// live map is the snapshot's, by one more owner of its tree, and the snapshot is its origin. NoMemory where there is none for it, and
-    /// then the table is as it was. It costs the number of file systems, the logarithm of the number of snapshots of the snapshot's own, and
-    /// the length of the name.
+    /// Adds a clone of this snapshot under this name (zfs-clone(8)): its live map is the snapshot's, whose tree it shares, and its origin is the
+    /// snapshot. The snapshot must be there, and `create_refusal` must be None. NoMemory where there is none for it, and then the table is as it
+    /// was. It costs the number of file systems, the logarithm of the number of snapshots of the snapshot's own file system, and the length of
+    /// the name.
     pub fn add_clone(&mut self, name: &DsName, snapshot: &Member) -> Result<(), Refusal>
         requires can { create_refusal self.old.file_systems name.now ≡ None }
         requires there { IsSome (snap_named (world_of self.old) snapshot.now) }
@@ -249,12 +250,11 @@ impl Table {
         self.systems.add(file_system)
     }
 
-    /// Promotes the clone of this name (zfs-promote(8)): it gets the snapshots of the file system of its origin up to the origin, and the
-    /// other's origin; the other keeps its newer snapshots, and has the clone's origin as its own. No block is visited, and none is lost.
-    /// NoMemory where there is none for it, or the snapshots of one have more blocks than a u64 counts, and then the table is as it was. It
-    /// costs for each file system the logarithm of the number of its snapshots, the number of the snapshots of both with the segments of
-    /// their dead lists, and for each snapshot that changes its file system the logarithm of their number and at most three chunks of an
-    /// index.
+    /// Promotes the clone of this name (zfs-promote(8)). It gets the snapshots of the file system of its origin up to the origin, and that file
+    /// system's origin. That file system keeps its newer snapshots, and the clone's former origin becomes its own. No block is visited, and none
+    /// is freed. NoMemory where there is none for it, or the snapshots of one have more blocks than a u64 counts, and then the table is as it
+    /// was. It costs for each file system the logarithm of the number of its snapshots, the number of the snapshots of both with the segments of
+    /// their dead lists, and for each snapshot that changes its file system the logarithm of their number and at most three chunks of an index.
     pub fn promote(
         &mut self,
         alloc: Global,
@@ -270,26 +270,25 @@ impl Table {
         self.systems.promote(alloc, name, segments)
     }
 
-    /// Looks for a name first where the file system of this name stands, from now on, if there is one: so whatever asks for it next finds it
-    /// at once. The table is the same. It costs the logarithm of the number of file systems.
+    /// Makes the next searches look first at the file system of this name, if there is one, so that the next search for it takes constant time
+    /// but for the length of the name. The table is unchanged. It costs the logarithm of the number of file systems.
     pub fn look_at(&mut self, name: &DsName)
         ensures { self.new ≡ self.old }
     {
         self.systems.look_at(name)
     }
 
-    /// Where the file system stands that was looked for or changed last, if that is still there: nothing rests on it, and whoever asks looks
-    /// whether it stands there. Constant time.
+    /// The place of the file system that was changed last, or passed to `look_at`, if it is still there. It is a hint; callers check it.
+    /// Constant time.
     pub fn near(&self) -> usize {
         self.systems.near()
     }
 
-    /// Puts a batch of changes of the live tree of this file system in force at once, where the last sync left group `synced` open:
-    /// the answer names the numbers that the new blocks have, and takes none; of the blocks that the tree drops it names those that
-    /// no snapshot has. NoDataset exactly where there is no file system of this name; else NoSpace exactly where the Free numbers
-    /// and those of the dropped young blocks are too few; else NoMemory where there is no memory, or the snapshots would have more blocks
-    /// than a u64 counts. At `Err` the table is as it was.
-    /// It costs the logarithm of the number of file systems, and the change.
+    /// Applies a batch of changes to the live tree of this file system at once. `synced` is the group that the last sync left open. The answer
+    /// has the numbers of the new blocks, which aren't taken from the allocator here. Of the blocks that the tree drops, it has those that no
+    /// snapshot has. NoDataset exactly where there is no file system of this name; else NoSpace exactly where the Free numbers and those of the
+    /// dropped young blocks are too few; else NoMemory where there is no memory, or the snapshots would have more blocks than a u64 counts.
+    /// After an error the table is as it was. It costs the logarithm of the number of file systems, and the change.
     pub fn apply_live(
         &mut self,
         name: &DsName,
@@ -316,9 +315,9 @@ impl Table {
         )
     }
 
-    /// Keeps the live map of this file system as a snapshot, with this name within it, this guid and this creation group, which is
-    /// closed (zfs-snapshot(8)). NoMemory where there is none for it, and then the table is as it was. It costs the logarithm of the
-    /// number of file systems; and where another table shares its snapshots, a 1,024th of their number.
+    /// Takes a snapshot of the live map of this file system, with this name within it, this guid and this creation group, which must be closed
+    /// (zfs-snapshot(8)). NoMemory where there is none for it, and then the table is as it was. It costs the logarithm of the number of file
+    /// systems; and where another table shares its snapshots, a 1,024th of their number.
     pub fn take_snapshot(
         &mut self,
         alloc: Global,
@@ -336,7 +335,7 @@ impl Table {
             .take_snapshot(alloc, name, component, guid, group)
     }
 
-    /// Opens the next group. Constant time.
+    /// Closes the open group and opens the next one. Constant time.
     pub fn close_group(&mut self)
         requires { self.old.group + 1 < 2 ^ 64 }
         ensures { self.new ≡ record self.old { group = self.old.group + 1 } }
@@ -344,9 +343,9 @@ impl Table {
         self.group = Group(self.group.0 + 1);
     }
 
-    /// Keeps the live map of this file system as a snapshot of the group that is open, with this name within it and this guid, and
-    /// closes that group (zfs-snapshot(8)). NoMemory where there is none for it, and then the table is as it was. It costs the
-    /// logarithm of the number of file systems; and where another table shares its snapshots, a 1,024th of their number.
+    /// Takes a snapshot of the live map of this file system in the open group, with this name within it and this guid, and closes that group
+    /// (zfs-snapshot(8)). NoMemory where there is none for it, and then the table is as it was. It costs the logarithm of the number of file
+    /// systems; and where another table shares its snapshots, a 1,024th of their number.
     pub fn keep_live(
         &mut self,
         alloc: Global,
@@ -367,11 +366,11 @@ impl Table {
         Ok(())
     }
 
-    /// Takes the snapshot of this identity, of which no file system is a clone, as `has_clone` tells, out of this file system
-    /// (zfs-destroy(8)): what comes after it keeps its blocks, and the answer lists the blocks that no dataset has any more, each once;
-    /// nobody has walked them. NoDataset exactly where the file system has no such snapshot; else NoMemory where there is none for it. At
-    /// `Err` the table is as it was. It costs the logarithms of the numbers of file systems and of snapshots, the segments of two dead lists
-    /// with the entries of at most one of them, and a 32nd of the number of snapshots of its file system.
+    /// Removes the snapshot of this identity from this file system (zfs-destroy(8)). No file system may be a clone of it, as `has_clone` tells.
+    /// The next dataset keeps its blocks. The answer lists the blocks that no dataset has any more, each once; they aren't visited. NoDataset
+    /// exactly where the file system has no such snapshot; else NoMemory where there is none for it. After an error the table is as it was. It
+    /// costs the logarithms of the numbers of file systems and of snapshots, the segments of two dead lists with the entries of at most one of
+    /// them, and a 32nd of the number of snapshots of its file system.
     pub fn remove_snapshot(
         &mut self,
         alloc: Global,
@@ -392,9 +391,9 @@ impl Table {
         self.systems.splice(alloc, file_system, id.group, segments)
     }
 
-    /// From now on the destroy of the snapshot of this identity of this file system is deferred (zfs-destroy(8), -d). NoDataset exactly where
-    /// the file system has no such snapshot; else NoMemory where there is none for it. At `Err` the table is as it was. It costs the
-    /// logarithms of the numbers of file systems and of snapshots, and a walk over the chunks of its file system's.
+    /// Marks the destroy of the snapshot of this identity of this file system as deferred (zfs-destroy(8), -d). NoDataset exactly where the file
+    /// system has no such snapshot; else NoMemory where there is none for it. After an error the table is as it was. It costs the logarithms of
+    /// the numbers of file systems and of snapshots, and a walk over the chunks of its file system's snapshots.
     pub fn defer(
         &mut self,
         alloc: Global,
@@ -412,9 +411,9 @@ impl Table {
         self.systems.defer(alloc, file_system, id.group)
     }
 
-    /// From now on the snapshot of this identity of this file system has these tags (zfs-hold(8), zfs-release(8)). NoDataset exactly where the
-    /// file system has no such snapshot; else NoMemory where there is none for it. At `Err` the table is as it was. It costs the logarithms of
-    /// the numbers of file systems and of snapshots, and a walk over the chunks of its file system's.
+    /// Replaces the tags of the snapshot of this identity of this file system (zfs-hold(8), zfs-release(8)). NoDataset exactly where the file
+    /// system has no such snapshot; else NoMemory where there is none for it. After an error the table is as it was. It costs the logarithms of
+    /// the numbers of file systems and of snapshots, and a walk over the chunks of its file system's snapshots.
     pub fn set_tags(
         &mut self,
         alloc: Global,
@@ -433,8 +432,8 @@ impl Table {
         self.systems.set_tags(alloc, file_system, id.group, tags)
     }
 
-    /// From now on this file system has these bookmarks (zfs-bookmark(8)), which are of closed groups. NoDataset exactly where there is no
-    /// file system of this name; else NoMemory where there is none for it. At `Err` the table is as it was. It costs the logarithm of the
+    /// Replaces the bookmarks of this file system (zfs-bookmark(8)). They must be of closed groups. NoDataset exactly where there is no file
+    /// system of this name; else NoMemory where there is none for it. After an error the table is as it was. It costs the logarithm of the
     /// number of file systems.
     pub fn set_bookmarks(
         &mut self,
@@ -451,9 +450,9 @@ impl Table {
         self.systems.set_bookmarks(alloc, name, bookmarks)
     }
 
-    /// From now on this file system has this limit, or none; whether the limits hold then isn't asked (zfsprops(7): quota, refquota,
-    /// reservation, refreservation). NoDataset exactly where there is no file system of this name; else NoMemory where there is none for
-    /// it. At `Err` the table is as it was. It costs the logarithm of the number of file systems.
+    /// Sets this limit of this file system to this amount, or to none (zfsprops(7): quota, refquota, reservation, refreservation). It doesn't
+    /// check whether the limits hold then. NoDataset exactly where there is no file system of this name; else NoMemory where there is none for
+    /// it. After an error the table is as it was. It costs the logarithm of the number of file systems.
     pub fn set_limit(
         &mut self,
         alloc: Global,
@@ -469,11 +468,11 @@ impl Table {
         self.systems.set_limit(alloc, name, limit, amount)
     }
 
-    /// Makes the map of its newest snapshot the live map of this file system (zfs-rollback(8)), by one more owner of its tree, and answers
-    /// what no dataset has any more: of the blocks of the tree that was live those that were born after the snapshot. Nobody has walked
-    /// them. NoDataset exactly where there is no file system of this name or it has no snapshot; else NoMemory where there is none for it,
-    /// or the snapshots have more blocks than a u64 counts. At `Err` the table is as it was. It costs the logarithm of the number of file
-    /// systems, the number of the file system's snapshots, and the segments of their dead lists.
+    /// Makes the map of its newest snapshot the live map of this file system, which shares the snapshot's tree (zfs-rollback(8)). It answers the
+    /// blocks that no dataset has any more: those of the former live tree that were born after the snapshot. They aren't visited. NoDataset
+    /// exactly where there is no file system of this name or it has no snapshot; else NoMemory where there is none for it, or the snapshots have
+    /// more blocks than a u64 counts. After an error the table is as it was. It costs the logarithm of the number of file systems, the number of
+    /// the file system's snapshots, and the segments of their dead lists.
     pub fn rollback(
         &mut self,
         alloc: Global,
@@ -492,9 +491,9 @@ impl Table {
         self.systems.rollback(alloc, name, segments)
     }
 
-    /// What is lost with this file system, which is there and has no snapshot, and is neither the root nor a parent, where it goes
-    /// (zfs-destroy(8)): the blocks of its live tree. Nobody has walked them. NoMemory where there is none for one more owner of that tree. It
-    /// costs the logarithm of the number of file systems.
+    /// The blocks that no dataset has any more once this file system is removed (zfs-destroy(8)): those of its live tree that were born after
+    /// its origin, or all where it has none. They aren't visited. The file system must be there, have no snapshot, and be neither the root nor a
+    /// parent. NoMemory where there is none to share that tree. It costs the logarithm of the number of file systems.
     pub fn lost_with(&self, name: &DsName) -> Result<Lost, Refusal>
         requires there { CanRemoveFileSystem self.now name.now }
         ensures lost { IfOk result (Loses self.now (without_system self.now name.now)) }
@@ -503,8 +502,8 @@ impl Table {
         self.systems.lost(name)
     }
 
-    /// Takes out this file system, which is there and has no snapshot, and is neither the root nor a parent (zfs-destroy(8)); what is lost
-    /// with it, `lost_with` tells before. It costs the number of file systems, and where it is a clone, that of clones.
+    /// Removes this file system (zfs-destroy(8)). It must be there, have no snapshot, and be neither the root nor a parent. `lost_with`, called
+    /// before, tells which blocks no dataset has any more then. It costs the number of file systems, and where it is a clone, that of clones.
     pub fn remove(&mut self, name: &DsName)
         requires there { CanRemoveFileSystem self.old name.now }
         ensures { self.new ≡ without_system self.old name.now }
@@ -512,9 +511,10 @@ impl Table {
         self.systems.take_out(name);
     }
 
-    /// Empties this file system, which is there and has no snapshot: no block, no origin, no limit, no bookmark is left to it
-    /// (zfs-destroy(8)); and answers what is lost with that: the blocks of its live tree. Nobody has walked them. NoMemory where there is none
-    /// for it, and then the table is as it was. It costs the logarithm of the number of file systems and the length of the name.
+    /// Empties this file system: it has no block, no origin, no limit and no bookmark any more (zfs-destroy(8)). It must be there and have no
+    /// snapshot. The answer is the blocks that no dataset has any more: those of its live tree that were born after its origin, or all where it
+    /// has none. They aren't visited. NoMemory where there is none for it, and then the table is as it was. It costs the logarithm of the number
+    /// of file systems and the length of the name.
     pub fn vacate(&mut self, alloc: Global, name: &DsName) -> Result<Lost, Refusal>
         requires there { IsSome (get self.old.file_systems name.now) }
         requires bare { snaps_at self.old.file_systems name.now ≡ [] }
@@ -526,7 +526,7 @@ impl Table {
         self.systems.vacate(alloc, name)
     }
 
-    // How many snapshots the file system of this name has, and none where it isn't there.
+    // The number of snapshots of the file system of this name, or 0 where it isn't there.
     fn snapshots_of(&self, name: &DsName) -> usize
         ensures { result ≡ length (snaps_at self.now.file_systems name.now) }
     {
@@ -547,7 +547,7 @@ impl Table {
         }
     }
 
-    /// Whether a file system has this one's name as its parent's (zfs(8)). It costs the number of file systems.
+    /// Whether this name is that of the parent of a file system (zfs(8)). It costs the number of file systems.
     pub fn has_child(&self, name: &DsName) -> bool
         ensures { result ≡ nat_lt 0 (length (children_of (world_of self.now) name.now)) }
     {
@@ -582,7 +582,7 @@ impl Table {
     }
 }
 
-// Whether the name of this file system's parent is that one.
+// Whether `parent` is the name of this file system's parent.
 fn is_child(file_system: &FileSystem, parent: &DsName) -> bool
     ensures { result ≡ option_map_or (same_name parent.now) (parent_of file_system.now.name) false }
 {
@@ -592,7 +592,7 @@ fn is_child(file_system: &FileSystem, parent: &DsName) -> bool
     name == parent.as_bytes()
 }
 
-// Whether one of these file systems is a child of that one.
+// Whether one of these file systems is a child of `parent`.
 fn any_child(file_systems: &[Arc<FileSystem>], parent: &DsName) -> bool
     ensures { result ≡ list_any (λ a. option_map_or (same_name parent.now) (parent_of (arc_value {X = Row} a).name) false) file_systems.now }
 {

@@ -1,34 +1,15 @@
-//! Tests of `datasets`, `snap`, `clones`, `removals`, `marks`, `space` and `sources` from outside.
+//! Tests of tables and of what stands on them from outside, of what no script shows. `bench/refused.txt` has a script for each kind of request, with
+//! each request for memory refused in turn.
 #![tactic(auto)]
 
 #[cfg(test)]
-mod cloned;
-#[cfg(test)]
-mod edits;
-#[cfg(test)]
-mod free;
-#[cfg(test)]
-mod gone;
-#[cfg(test)]
-mod in_place;
-#[cfg(test)]
-mod limited;
-#[cfg(test)]
-mod made;
-#[cfg(test)]
-mod marked;
-#[cfg(test)]
-mod now;
+mod history;
 #[cfg(test)]
 mod parents;
 #[cfg(test)]
 mod reached;
 #[cfg(test)]
-mod removing;
-#[cfg(test)]
 mod starts;
-#[cfg(test)]
-mod swept;
 #[cfg(test)]
 mod tables;
 #[cfg(test)]

@@ -1,5 +1,5 @@
 //! How many segments of dead lists a question on space reads.
-use crate::starts::with_history;
+use crate::history::with_history;
 use base::meter::SegMeter;
 use base::name::{SnapName, Target};
 use base::refusal::Refusal;

@@ -1,6 +1,5 @@
 //! What sends may start from.
-use crate::marked::bookmark_named;
-use crate::now::{cloned, take, with_child};
+use crate::history::with_history;
 use base::meter::SegMeter;
 use base::name::{DsName, SnapName};
 use base::refusal::Refusal;
@@ -11,21 +10,7 @@ use snap::clones::promote;
 use std::alloc::Global;
 use toll::Toll;
 
-/// `p/a` with the snapshots `s`, `t` and `u` of groups 1, 2 and 3, and a bookmark `b` of the first; and its clone `p/c` of the second with a
-/// snapshot `v` of group 4, and a bookmark `w` of that.
-pub fn with_history(alloc: Global) -> Result<Table, Refusal> {
-    let mut table = with_child(alloc)?;
-    take(alloc, &mut table, b"p/a@s", 1)?;
-    bookmark_named(alloc, &mut table, b"p/a@s", b"p/a#b")?;
-    take(alloc, &mut table, b"p/a@t", 2)?;
-    cloned(alloc, &mut table, b"p/a@t")?;
-    take(alloc, &mut table, b"p/a@u", 3)?;
-    take(alloc, &mut table, b"p/c@v", 4)?;
-    bookmark_named(alloc, &mut table, b"p/c@v", b"p/c#w")?;
-    Ok(table)
-}
-
-/// The same with `p/c` promoted: it has `s` and `t` then.
+/// That table with `p/c` promoted: it has `s` and `t` then.
 fn with_promoted(alloc: Global) -> Result<Table, Refusal> {
     let mut table = with_history(alloc)?;
     let clone = DsName::read(alloc, b"p/c")?;

@@ -5,7 +5,7 @@ use datasets::Table;
 use std::alloc::Global;
 use std::process::Abort;
 
-pub fn name(rt: &impl Abort, alloc: Global, bytes: &[u8]) -> DsName {
+fn name(rt: &impl Abort, alloc: Global, bytes: &[u8]) -> DsName {
     DsName::read(alloc, bytes).expect(rt, "memory for a name")
 }
 
@@ -13,7 +13,7 @@ pub fn fresh(rt: &impl Abort, alloc: Global) -> Table {
     Table::new(alloc).expect(rt, "memory for a table")
 }
 
-pub fn copied(rt: &impl Abort, table: &Table) -> Table {
+fn copied(rt: &impl Abort, table: &Table) -> Table {
     table.copy().expect(rt, "memory for a copy")
 }
 
@@ -25,7 +25,7 @@ fn created(table: &mut Table, named: &DsName) -> Result<(), Refusal> {
     table.create(named)
 }
 
-pub fn create(rt: &impl Abort, alloc: Global, table: &mut Table, bytes: &[u8]) {
+fn create(rt: &impl Abort, alloc: Global, table: &mut Table, bytes: &[u8]) {
     let named = name(rt, alloc, bytes);
     let created = created(table, &named);
     drop(named);
@@ -88,39 +88,4 @@ fn looks_first_where_it_looked_last(rt: HostRuntime) {
     let absent = near_after(&rt, alloc, &mut table, b"p/z");
     drop(table);
     assert!(rt; first == 0 && third == 2 && absent == 2);
-}
-
-/// Whether memory was all that could be wanting.
-pub fn is_out_of_memory<T: Drop>(refused: Result<T, Refusal>) -> bool {
-    match refused {
-        Ok(_) => true,
-        Err(refusal) => refusal.same(Refusal::NoMemory),
-    }
-}
-
-fn is_made_or_left(table: &mut Table, made: &DsName) -> bool {
-    let wanted = match created(table, made) {
-        Ok(()) => 2,
-        Err(refusal) if refusal.same(Refusal::NoMemory) => 1,
-        Err(_) => 0,
-    };
-    is_out_of_memory(table.copy()) && table.len() == wanted
-}
-
-/// Whether a table is made, a create adds to it or leaves it, and a copy leaves it, or memory is all that is wanting.
-fn is_made_or_refused(alloc: Global, made: &DsName) -> bool {
-    match Table::new(alloc) {
-        Ok(mut table) => is_made_or_left(&mut table, made),
-        Err(refusal) => refusal.same(Refusal::NoMemory),
-    }
-}
-
-/// Run it with each allocation refused in turn: whatever is refused, the table stays as it was.
-#[test]
-fn refused_memory_changes_nothing(rt: HostRuntime) {
-    let alloc = rt.alloc();
-    let made = name(&rt, alloc, b"p/a");
-    let is_right = is_made_or_refused(alloc, &made);
-    drop(made);
-    assert!(rt; is_right);
 }

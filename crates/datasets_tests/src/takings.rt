@@ -1,5 +1,4 @@
 //! The snapshots of a request.
-use crate::now::with_child;
 use crate::tables::{family, fresh};
 use base::name::SnapName;
 use base::number::Group;
@@ -8,7 +7,6 @@ use datasets::Table;
 use snap::{Guids, snapshot};
 use std::alloc::Global;
 use std::process::Abort;
-use std::slice::from_ref;
 
 fn snap_name(rt: &impl Abort, alloc: Global, bytes: &[u8]) -> SnapName {
     SnapName::read(alloc, bytes).expect(rt, "memory for a name")
@@ -66,28 +64,4 @@ fn guids_run_out(rt: HostRuntime) {
     let is_right = runs_out(&rt, alloc, &mut table);
     drop(table);
     assert!(rt; is_right);
-}
-
-/// Whether the table has a snapshot more of each file system, or stays as it was.
-fn takes_or_not(alloc: Global, table: &mut Table, recursive: bool) -> Result<bool, Refusal> {
-    let one = SnapName::read(alloc, b"p@s")?;
-    let guids = Guids { pool: 7, next: 1 };
-    match snapshot(alloc, table, from_ref(&one), recursive, guids) {
-        Ok(count) => Ok(is_at(table, Group(2), count)),
-        Err(refusal) => Ok(refusal.same(Refusal::NoMemory) && is_at(table, Group(1), 0)),
-    }
-}
-
-fn takes_by_name(alloc: Global, recursive: bool) -> Result<bool, Refusal> {
-    let mut table = with_child(alloc)?;
-    takes_or_not(alloc, &mut table, recursive)
-}
-
-/// Run it with each allocation refused in turn: the table has the snapshots, or stays as it was.
-#[test]
-fn refused_memory_takes_nothing(rt: HostRuntime) {
-    let one = takes_by_name(rt.alloc(), false);
-    let all = takes_by_name(rt.alloc(), true);
-    assert!(rt; one == Ok(true) || one == Err(Refusal::NoMemory));
-    assert!(rt; all == Ok(true) || all == Err(Refusal::NoMemory));
 }

@@ -1,4 +1,4 @@
-//! What is to be freed.
+//! The blocks that are to be freed.
 ghost use Rattle.std.specs.Prelude.{◌≡◌, length, min, IfOk, OnOk, OnErr};
 ghost use Rattle.std.specs.FinSet as set;
 ghost use Rattle.std.specs.FinSet.{union, difference};
@@ -20,15 +20,15 @@ use std::marker::Model;
 use std::sync::Arc;
 use tree::Tree;
 
-/// Blocks that are to be freed (zpoolprops(7): freeing), as whole pieces: trees, each with a group that its blocks were born after,
-/// and dead lists. Contracts see the set of the blocks.
+/// Blocks that are to be freed (zpoolprops(7): freeing), as whole pieces: dead lists, and trees, each with a group that the blocks to be freed
+/// were born after. Contracts see the set of the blocks.
 pub struct Freeing {
     pieces: SharedList<Piece>,
     len: u64,
     alloc: Global,
 }
 
-// By hand, so that it is proved once: a derived one is laid out anew in each crate that drops the type.
+// Written by hand, so that it is proved once: a derived `Drop` is expanded anew in each crate that drops the type.
 impl Drop for Freeing {
     fn drop(self) {
         let Freeing {
@@ -57,7 +57,7 @@ impl Model for Freeing {
     ghost invariant = { λ f. AreDifferent (members f.pieces) × (f.len ≡ length (members f.pieces)) };
 }
 
-/// Some of the blocks, and what is left without them.
+/// The blocks that a slice takes, and the rest without them.
 #[derive(Drop)]
 pub struct Slice {
     pub rest: Freeing,
@@ -83,7 +83,7 @@ impl Freeing {
         self.len
     }
 
-    /// An equal one, which shares all pieces: it costs the chunks that have them, and visits no block. NoMemory where memory is refused.
+    /// An equal one, which shares all pieces. It costs the chunks of pieces, and visits no block. NoMemory where memory is refused.
     pub fn copy(&self) -> Result<Freeing, Refusal>
         ensures ok { IfOk result (λ f. f ≡ self.now) }
         ensures err { OnErr result (result ≡ Err Refusal.NoMemory) }
@@ -96,9 +96,9 @@ impl Freeing {
         })
     }
 
-    /// Adds the blocks of a tree that were born after a group, and these are that many. No block is visited: it costs one piece, or the
-    /// last chunk of pieces where a copy has that too, and nothing where there is no such block. NoMemory where memory is refused or there are then more blocks than a u64 counts,
-    /// and then nothing is changed.
+    /// Adds the blocks of a tree that were born after the group `cut`; `count` must be their number. No block is visited. It costs one piece, or
+    /// the last chunk of pieces where a copy shares that, and nothing where there is no such block. NoMemory where memory is refused, or where
+    /// there are then more blocks than a u64 counts; then nothing is changed.
     pub fn add_tree(&mut self, tree: &Tree, cut: Group, count: u64) -> Result<(), Refusal>
         requires count { count ≡ set.len (after cut.0 (blocks tree.now)) }
         requires apart { AreDisjoint self.old (after cut.0 (blocks tree.now)) }
@@ -123,8 +123,9 @@ impl Freeing {
         Ok(())
     }
 
-    /// Adds the blocks of a dead list's entries. No entry is visited: it costs one piece, or the last chunk of pieces where a copy has
-    /// that too, and nothing where there is no entry. NoMemory where memory is refused or there are then more blocks than a u64 counts, and then nothing is changed.
+    /// Adds the blocks of a dead list's entries. No entry is visited. It costs one piece, or the last chunk of pieces where a copy shares that,
+    /// and nothing where there is no entry. NoMemory where memory is refused, or where there are then more blocks than a u64 counts; then
+    /// nothing is changed.
     pub fn add_dead(&mut self, list: Arc<Deadlist>) -> Result<(), Refusal>
         requires once { AreDifferent (dead_blocks list.value.entries) }
         requires apart { AreDisjoint self.old (dead_set list.value.entries) }
@@ -143,16 +144,16 @@ impl Freeing {
         Ok(())
     }
 
-    /// Takes that many of the blocks, or all where they are fewer, off the pieces that were added last, in the order of their trees and
-    /// lists, and gives them with the others. NoMemory where memory is refused.
+    /// Takes `n` of the blocks, or all where there are fewer, from the pieces that were added last, in the order of their trees and lists. The
+    /// answer has these blocks and the rest. NoMemory where memory is refused.
     ///
-    /// It costs the chunks that have pieces, of which it makes the last anew. Of a dead list it costs the entries that it takes, and a
-    /// step for each segment and each full chunk before them; the meter of segments counts all of the list. Of a tree it costs the nodes
-    /// that it visits, each with its sixteen places, and the other meter counts them. Over a run of slices, each of what the one before
-    /// has left, no node is visited twice: those of the blocks that are taken, and tops that are no younger than their cut, each of them a
-    /// tree's root or one of the at most sixteen below a block that is taken. So one slice alone may visit more than sixteen for a block
-    /// that it takes. A tree of which blocks are left goes back as at most 7 pieces of at most 12 subtrees each, and each piece that is taken
-    /// costs one more owner of its subtrees.
+    /// It costs the chunks of pieces, of which it makes the last one anew. For a dead list it costs the entries that it takes, and a step for
+    /// each segment and each full chunk before them; `segments` counts all segments of the list. For a tree it costs the nodes that it visits,
+    /// each with its sixteen places, and `meter` counts these nodes. Over a series of slices, each of the rest of the one before, no node is
+    /// visited twice. The visited nodes are those of the taken blocks, and tops that weren't born after their cut. Each such top is a tree's
+    /// root, or one of the at most sixteen nodes below a taken block. So a single slice may visit more than sixteen nodes for a block that it
+    /// takes. A tree with blocks left goes back as at most 7 pieces of at most 12 subtrees each. Each piece that is taken apart costs another
+    /// reference to each of its subtrees.
     pub fn slice(
         &self,
         n: u64,

@@ -14,24 +14,24 @@ use std::mem;
 use std::sync::Arc;
 use tree::Subtree;
 
-/// How many subtrees there is room for at first where some are taken apart: as many as fit into 1,032 bytes, the most that glibc's `malloc`
-/// keeps at hand. A tree leaves at most 76.
+/// The first capacity of a vector of subtrees that are taken apart. So many subtrees fit into 1,032 bytes, the largest block that glibc's
+/// `malloc` caches. A tree leaves at most 76 subtrees.
 const ROOM: usize = 43;
 
-/// How many subtrees a piece has at most (profile): a slice takes owners of those alone of the pieces that it takes apart.
+/// A piece has at most this many subtrees (profile). A slice takes references to subtrees only of the pieces that it takes apart.
 const PIECE_TOPS: usize = 12;
 
 /// A piece of what is to be freed.
 #[derive(Drop)]
 pub(crate) enum Piece {
-    /// The blocks of subtrees that were born after a cut, the last subtree's first.
+    /// The blocks of subtrees that were born after the cut. Those of the last subtree come first.
     Trees { tops: Vec<Subtree>, cut: Group },
 
-    /// The blocks of the entries of a dead list, but for that many of the first.
+    /// The blocks of the entries of a dead list from the index `first` on.
     Dead { list: Arc<Deadlist>, first: u64 },
 }
 
-/// The same subtrees again, by one more owner of each, with room for more.
+/// A copy of these subtrees, which shares their nodes, with room for more.
 fn copy_of_tops(alloc: Global, tops: &[Subtree]) -> Result<Vec<Subtree>, Refusal>
     ensures ok { IfOk result (λ v. v.items ≡ tops.now) }
     ensures err { OnErr result (result ≡ Err Refusal.NoMemory) }
@@ -43,7 +43,7 @@ fn copy_of_tops(alloc: Global, tops: &[Subtree]) -> Result<Vec<Subtree>, Refusal
     Ok(copies)
 }
 
-/// Puts subtrees behind the pieces, at most `PIECE_TOPS` in each.
+/// Adds these subtrees after the pieces, at most `PIECE_TOPS` in each new piece.
 fn keep_tops(
     pieces: &mut SharedList<Piece>,
     alloc: Global,
@@ -69,7 +69,7 @@ fn keep_tops(
     Ok(())
 }
 
-/// Takes that many entries of a dead list from an index on.
+/// Adds `count` entries of a dead list, from the index `first` on, to the taken blocks, or all where there are fewer.
 fn take_entries(
     list: &Deadlist,
     first: u64,
@@ -90,7 +90,8 @@ fn take_entries(
     Ok(())
 }
 
-/// Takes entries of a dead list from an index on until that many blocks are taken, and puts it behind the pieces if any are left.
+/// Takes entries of a dead list, from the index `first` on, until `wanted` blocks are taken. If entries are left, adds the list with these after
+/// the pieces.
 fn take_dead(
     pieces: &mut SharedList<Piece>,
     list: &Arc<Deadlist>,
@@ -119,7 +120,7 @@ fn take_dead(
     Ok(())
 }
 
-/// Takes blocks of a piece until that many are taken, and puts what is left of it behind the pieces.
+/// Takes blocks of a piece until `wanted` blocks are taken. Adds what is left of the piece after the pieces.
 fn take_piece(
     pieces: &mut SharedList<Piece>,
     alloc: Global,
@@ -147,7 +148,7 @@ fn take_piece(
     }
 }
 
-/// Takes that many blocks off the pieces, the last piece first.
+/// Takes `wanted` blocks from the pieces, from the last piece first.
 pub(crate) fn take_blocks(
     pieces: &mut SharedList<Piece>,
     alloc: Global,

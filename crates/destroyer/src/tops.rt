@@ -9,7 +9,7 @@ use base::number::{Dead, Group};
 use base::refusal::Refusal;
 use tree::Subtree;
 
-/// Takes one top off, if it was born after the cut, and puts the subtrees directly below on the others.
+/// Takes the top of a subtree, if it was born after the cut, and adds the subtrees directly below it to the others.
 fn peel_top(
     top: Subtree,
     cut: Group,
@@ -32,7 +32,7 @@ fn peel_top(
     Ok(())
 }
 
-/// Takes tops off until that many blocks are taken or no subtree is left.
+/// Takes tops of subtrees until `wanted` blocks are taken or no subtree is left.
 pub(crate) fn take_tops(
     tops: &mut Vec<Subtree>,
     cut: Group,

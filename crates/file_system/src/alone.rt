@@ -1,4 +1,4 @@
-//! What one snapshot has alone.
+//! The blocks of a snapshot that no neighbour has.
 ghost use Rattle.std.specs.Prelude.{◌≡◌, ◌==◌, ◌<◌, IsSome, IfOk, IfErr, OnOk, OnErr};
 ghost use Rattle.std.specs.List.{find};
 ghost use Rattle.std.specs.Option.{option_copied};
@@ -46,7 +46,7 @@ impl Model for Alone {
 }
 
 impl Alone {
-    /// How many blocks these are. Constant time.
+    /// The number of blocks. Constant time.
     pub fn len(&self) -> u64
         ensures { result ≡ len self.now }
     {
@@ -54,7 +54,7 @@ impl Alone {
     }
 }
 
-// The dead list of a snapshot, and this one, of the live map, where there is none. Constant time.
+// The dead list of the snapshot, or `dead`, that of the live map, where there is no snapshot. Constant time.
 fn dead_of<'a>(kept: Option<&'a Kept>, dead: &'a Deadlist) -> &'a Deadlist
     ensures { result.now.entries ≡ entries_of (option_copied kept.entry) dead.now.entries }
 {
@@ -76,7 +76,7 @@ fn entries_of(alloc: Global, dead: &Deadlist, segments: &mut SegMeter) -> Result
     Ok(entries)
 }
 
-// The same as a set. It costs their number times the logarithm of it.
+// The entries of a dead list as a set. NoMemory where there is none for them. It costs their number times the logarithm of it.
 fn set_of(
     alloc: Global,
     dead: &Deadlist,
@@ -95,9 +95,10 @@ fn set_of(
 }
 
 impl FileSystem {
-    /// The blocks of the snapshot of this group, which is there, that neither what stands before it has nor what comes after it: those
-    /// that are lost where it goes, unless a clone of it has them (zfs-destroy(8): -n). NoMemory where there is none for them. It costs the
-    /// logarithm of the number of snapshots, about the square of that of the entries of the next dead list, and the number of these blocks.
+    /// The blocks of the snapshot of this group, which must be there, that neither the dataset before it nor the one after it has. A destroy of
+    /// the snapshot frees them, unless a clone of it has them (zfs-destroy(8): -n). NoMemory where there is none for them. It costs the
+    /// logarithm of the number of snapshots, about the square of the logarithm of the number of entries of the next dead list, and the number of
+    /// these blocks.
     pub fn alone(
         &self,
         alloc: Global,
@@ -117,7 +118,8 @@ impl FileSystem {
         Ok(Alone { blocks, alloc })
     }
 
-    /// How many these are. It costs the same but for their number, and takes no memory (zfsprops(7): used).
+    /// The number of blocks that `alone` answers (zfsprops(7): used). It takes no memory. It costs the logarithm of the number of snapshots, and
+    /// about the square of the logarithm of the number of entries of the next dead list.
     pub fn alone_count(&self, group: Group, segments: &mut SegMeter) -> u64
         requires there { IsSome (find (λ t. t.group == group.0) self.now.system.snaps) }
         requires above { AreAbove self.now.below self.now.system }
@@ -128,9 +130,9 @@ impl FileSystem {
         dead_of(around.after, &self.dead).space_after(since, segments)
     }
 
-    /// Takes those blocks out, which are all the origin's, that the oldest dataset of this clone has (zfs-destroy(8): -n). NoMemory where
-    /// there is none for it; then all are as they were. It costs the entries of the oldest dead list and these blocks, for each the
-    /// logarithm of the number of these entries.
+    /// Removes from `alone` the blocks that the oldest dataset of this clone has: its first snapshot, or else its live map (zfs-destroy(8): -n).
+    /// All blocks of `alone` must be the origin's. NoMemory where there is none for it; then `alone` is as it was. It costs for each entry of
+    /// the oldest dead list, and for each block of `alone`, the logarithm of the number of these entries.
     pub fn strike(&self, alone: &mut Alone, segments: &mut SegMeter) -> Result<(), Refusal>
         requires { (b : Block) → Has alone.old b → Has (blocks self.now.below) b }
         ensures ok { OnOk result (alone.new ≡ difference alone.old (oldest_blocks self.now.system.live self.now.system.snaps)) }

@@ -1,4 +1,4 @@
-//! How many blocks a file system counts as its live map's, and as its snapshots'.
+//! The counts of blocks used by a file system's live map and by its snapshots.
 ghost use Rattle.std.specs.Prelude.{◌≡◌, ◌≤◌, ◌+◌, map, IfOk, IfErr};
 ghost use Rattle.std.specs.Option.{option_copied};
 ghost use Rattle.std.specs.FinSet.{difference};
@@ -21,23 +21,23 @@ use shared_list::SharedList;
 use snapshots::Kept;
 use tree::Tree;
 
-/// How many blocks its live map has that its origin hasn't (zfsprops(7): usedbydataset), and how many its snapshots have that neither the
-/// live map nor the origin has (zfsprops(7): usedbysnapshots).
+/// Two counts of blocks of a file system: those of its live map that its origin doesn't have (zfsprops(7): usedbydataset), and those of its
+/// snapshots that neither the live map nor the origin has (zfsprops(7): usedbysnapshots).
 #[derive(Clone, Copy)]
 pub struct UsedBlocks {
     pub by_dataset: u32,
     pub by_snapshots: u64,
 }
 
-/// What is left of them once a live map lets go some blocks: how many blocks it still shares with the origin, and what the snapshots have
-/// then.
+/// The counts after a live map drops some blocks: how many blocks it still shares with the origin, and how many blocks the snapshots have that
+/// neither the live map nor the origin has.
 #[derive(Clone, Copy)]
 pub struct Rest {
     pub shared: u32,
     pub by_snapshots: u64,
 }
 
-/// The counts of a file system without a snapshot whose live map is its origin's, or has no block. Constant time.
+/// The counts of a file system without a snapshot whose live map is that of its origin, or is empty. Constant time.
 pub fn no_counts() -> UsedBlocks
     ensures by_dataset { result.by_dataset ≡ 0 }
     ensures by_snapshots { result.by_snapshots ≡ 0 }
@@ -48,8 +48,8 @@ pub fn no_counts() -> UsedBlocks
     }
 }
 
-/// What is left of the counts where a live map of so many blocks lets go these, above an origin of the group `base` and a newest
-/// snapshot of the group `newest`. NoMemory where there are more blocks than a u64 counts. It costs their number.
+/// The counts after a live map of `nodes` blocks drops the blocks `released`. `base` is the group of the origin, and `newest` that of the newest
+/// snapshot. NoMemory where there are more blocks than a u64 counts. It costs the number of dropped blocks.
 pub fn rest_of(
     counts: UsedBlocks,
     nodes: u32,
@@ -74,7 +74,7 @@ pub fn rest_of(
     })
 }
 
-/// The counts with a live map of so many blocks, where so many are left. Constant time.
+/// The counts once the live map has `nodes` blocks, from the counts after its drops. Constant time.
 pub fn counts_with(rest: Rest, nodes: u32) -> UsedBlocks
     requires { rest.shared ≤ nodes }
     ensures by_dataset { result.by_dataset + rest.shared ≡ nodes }
@@ -86,9 +86,9 @@ pub fn counts_with(rest: Rest, nodes: u32) -> UsedBlocks
     }
 }
 
-/// The counts of these snapshots and a live map with its dead list, above this origin, from their dead lists (zfsprops(7): usedbydataset,
-/// usedbysnapshots). NoMemory where there are more blocks than a u64 counts. It costs the number of snapshots, and the segments of all the
-/// dead lists.
+/// The counts of a file system with these snapshots, this live map and this origin, from the dead lists of the snapshots and of the live map
+/// (zfsprops(7): usedbydataset, usedbysnapshots). NoMemory where there are more blocks than a u64 counts. It costs the number of snapshots, and
+/// the segments of all the dead lists.
 pub fn recounted(
     kept: &SharedList<Kept>,
     origin: Option<&Origin>,
@@ -116,7 +116,7 @@ pub fn recounted(
     })
 }
 
-// All datasets, on that side of the cut.
+// Asks for the entries on that side of the cut, in the dead lists of all datasets.
 fn asked_of(side: Side, cut: Group) -> Asked
     ensures from { result.from ≡ None }
     ensures until { result.until ≡ None }

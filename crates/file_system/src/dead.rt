@@ -1,4 +1,4 @@
-//! A change of a live tree, with what it lets go put onto the dead list.
+//! Changes of a live tree and of its dead list.
 ghost use Rattle.std.specs.Prelude.{◌≡◌, ◌≤◌, ◌<◌, length, filter, IfOk, IfErr, OnOk, OnErr};
 ghost use Rattle.std.specs.Arc.{arc_value};
 ghost use Rattle.std.specs.List.Sorted.{IsPermutation};
@@ -15,7 +15,7 @@ use std::alloc::Global;
 use std::sync::Arc;
 use tree::{Changed, Draft, Tree, Update};
 
-/// How many of these entries were born by the group. It costs their number.
+/// The number of entries that were born no later than the group. It costs their number.
 pub fn count_upto(entries: &[Dead], newest: Group) -> usize
     ensures { result ≡ length (filter (is_upto newest.0) entries.now) }
 {
@@ -25,11 +25,11 @@ pub fn count_upto(entries: &[Dead], newest: Group) -> usize
         .count()
 }
 
-/// Puts a draft of a batch of changes of a live tree in force, and of what it lets go those blocks onto the dead list that were born by
-/// the group of the newest snapshot: where the list is, if it has no other owner, and else onto a copy of it, which comes to its place.
-/// NoMemory where there is none for the nodes or the list; then the tree is as it was, and so is the list but for the order of its
-/// entries. It costs what `Tree::put` does, whose nodes the meter counts, the blocks let go, and where one is put
-/// onto the list now and then its segments.
+/// Applies a draft of a batch of changes to a live tree. The dropped blocks that were born no later than the group of the newest snapshot go
+/// onto the dead list. The list is changed in place where it has no other owner; else a longer copy takes its place. NoMemory where there is
+/// none for the nodes or the list; then the tree is as it was, and so is the list except for the order of its entries. It costs what `Tree::put`
+/// does, whose nodes the meter counts, and the number of dropped blocks. Where a block goes onto the list, it sometimes costs the list's
+/// segments too.
 pub fn put(
     dead: &mut Arc<Deadlist>,
     live: &mut Tree,
@@ -65,7 +65,7 @@ pub fn put(
     Ok(changed)
 }
 
-/// The same, onto this list, which has room for no more yet.
+/// Does what `put` does, with a dead list that has no other owner. It first reserves room in the list.
 fn put_onto(
     list: &mut Deadlist,
     live: &mut Tree,
@@ -93,7 +93,7 @@ fn put_onto(
     Ok(changed)
 }
 
-/// A copy of a dead list with those of these entries behind its own that were born by the group.
+/// A copy of a dead list. Those of the released blocks that were born no later than the group are added at its end.
 fn longer(
     dead: &Deadlist,
     alloc: Global,

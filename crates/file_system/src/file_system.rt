@@ -55,10 +55,11 @@ use std::sync::Arc;
 use tree::{Changed, Tree, Update};
 use zalloc::Allocator;
 
-/// A file system: its name, its live dataset, its snapshots in order of their creation groups, its origin where it is a clone, its limits,
-/// and its bookmarks (On-Disk Specification, chapter 4; zfs-bookmark(8)). Contracts see its name, what a world has under that name, and the map of
-/// the origin, which is the empty one where there is none. Copies share the name, the tree, the dead lists, the snapshots, the origin and
-/// the bookmarks. It keeps two counts of blocks: of its live map without its origin's, and of its snapshots without those of either.
+/// A file system: its name, its live dataset, its snapshots in order of their creation groups, its origin where it is a clone, its limits, and
+/// its bookmarks (On-Disk Specification, chapter 4; zfs-bookmark(8)). Contracts see its name, what a world has under that name, and the map of
+/// the origin, which is empty where there is no origin. Copies share the name, the tree, the dead lists, the snapshots, the origin and the
+/// bookmarks. It keeps two counts of blocks: those of its live map that its origin doesn't have, and those of its snapshots that neither the
+/// live map nor the origin has.
 pub struct FileSystem {
     pub(crate) name: Arc<DsName>,
     pub(crate) live: Tree,
@@ -70,7 +71,7 @@ pub struct FileSystem {
     pub(crate) counts: UsedBlocks,
 }
 
-// By hand, so that it is proved once: a derived one is laid out anew in each crate that drops the type.
+// Written by hand, so that it is proved once: a derived `Drop` is expanded anew in each crate that drops the type.
 impl Drop for FileSystem {
     fn drop(self) {
         let FileSystem {
@@ -136,8 +137,8 @@ impl FileSystem {
         })
     }
 
-    /// A clone of a snapshot, under this name: its live map is the snapshot's, by one more owner of its tree, and the snapshot is its
-    /// origin; it has neither a limit nor a bookmark (zfs-clone(8)). NoMemory where there is none for it. It costs the length of the name.
+    /// A clone of a snapshot, under this name: its live map is the snapshot's, whose tree it shares, and its origin is the snapshot. It has
+    /// neither a limit nor a bookmark (zfs-clone(8)). NoMemory where there is none for it. It costs the length of the name.
     pub fn clone_of(
         alloc: Global,
         name: &DsName,
@@ -171,7 +172,7 @@ impl FileSystem {
         &self.name
     }
 
-    /// Its name behind an owner, of which others can be one more. Constant time.
+    /// Its name in an `Arc`, which others can share. Constant time.
     pub fn owned_name(&self) -> &Arc<DsName>
         ensures { arc_value result.now ≡ self.now.name }
     {
@@ -222,7 +223,7 @@ impl FileSystem {
         self.limits
     }
 
-    /// From now on it has this limit, or none (zfsprops(7)). Constant time.
+    /// Sets this limit to this amount, or to none (zfsprops(7)). Constant time.
     pub fn set_limit(&mut self, limit: Limit, amount: Option<Blocks>)
         ensures { self.new ≡ with_system self.old (limited self.old.system limit amount) }
     {
@@ -236,7 +237,7 @@ impl FileSystem {
         &self.bookmarks
     }
 
-    /// From now on it has these bookmarks (zfs-bookmark(8), zfs-destroy(8)). Constant time.
+    /// Replaces its bookmarks (zfs-bookmark(8), zfs-destroy(8)). Constant time.
     pub fn set_bookmarks(&mut self, bookmarks: Arc<Bookmarks>)
         ensures { self.new ≡ with_system self.old (record self.old.system { bookmarks = arc_value bookmarks }) }
     {
@@ -250,7 +251,7 @@ impl FileSystem {
         group_of(self.snapshots.last(), base_group(origin_in(&self.origin)))
     }
 
-    /// How many blocks its live dataset has that its newest snapshot hasn't, or else its origin, and all of them where it has neither
+    /// The number of blocks of its live dataset that its newest snapshot, or else its origin, doesn't have, and all of them where it has neither
     /// (zfsprops(7): written). Constant time.
     pub fn written(&self) -> u32
         ensures { result ≡ size_without (blocks self.now.system.live) (newest_blocks (blocks self.now.below) self.now.system.snaps) }
@@ -263,31 +264,31 @@ impl FileSystem {
         )
     }
 
-    /// How many blocks the snapshot of this name has that the one before it hasn't, or, where it is the oldest, the origin, and all of them
-    /// where there is neither (zfsprops(7): written); none where there is no such snapshot. It costs what `snapshot_named` does.
+    /// The number of blocks of the snapshot of this name that the previous snapshot, or for the oldest one the origin, doesn't have, and all of
+    /// them where there is neither (zfsprops(7): written). None where there is no such snapshot. It costs what `snapshot_named` does.
     pub fn written_at(&self, component: &[u8]) -> Option<u32>
         ensures { result ≡ written_from (blocks self.now.below) self.now.system.snaps component.now }
     {
         self.kept_named(component).map(|kept| kept.written)
     }
 
-    /// How many blocks its live dataset has that its origin hasn't, and all of them where it has no origin (zfsprops(7): usedbydataset).
-    /// Constant time.
+    /// The number of blocks of its live dataset that its origin doesn't have, and all of them where it has no origin (zfsprops(7):
+    /// usedbydataset). Constant time.
     pub fn used_by_dataset(&self) -> u32
         ensures { result ≡ size_without (blocks self.now.system.live) (blocks self.now.below) }
     {
         self.counts.by_dataset
     }
 
-    /// How many blocks its snapshots have that neither its live dataset nor its origin has (zfsprops(7): usedbysnapshots). Constant time.
+    /// The number of blocks of its snapshots that neither its live dataset nor its origin has (zfsprops(7): usedbysnapshots). Constant time.
     pub fn used_by_snapshots(&self) -> u64
         ensures { result ≡ size_without (blocks_of_all (map (λ t. t.map) self.now.system.snaps)) (blocks_of_all (self.now.system.live ∷ self.now.below ∷ [])) }
     {
         self.counts.by_snapshots
     }
 
-    /// An equal file system, by one more owner of its name, of its tree, of its dead list, of its snapshots, of its origin and of its
-    /// bookmarks. NoMemory where there is none for that. Constant time.
+    /// An equal file system, which shares its name, its tree, its dead list, its snapshots, its origin and its bookmarks. NoMemory where there
+    /// is none for that. Constant time.
     pub fn copy(&self) -> Result<FileSystem, Refusal>
         ensures ok { IfOk result (λ f. f ≡ self.now) }
         ensures err { IfErr result (λ e. e ≡ Refusal.NoMemory) }
@@ -324,7 +325,7 @@ impl FileSystem {
         same_bytes(self.name.as_bytes(), name)
     }
 
-    // What is kept of the snapshot of this name, or none.
+    // The kept snapshot of this name, or None.
     fn kept_named(&self, component: &[u8]) -> Option<&Kept>
         ensures snapshot { option_map (λ k. k.snapshot) (option_copied result) ≡ find (λ t. same_name t.name component.now) self.now.system.snaps }
         ensures written { option_map (λ k. k.written) (option_copied result) ≡ written_from (blocks self.now.below) self.now.system.snaps component.now }
@@ -332,7 +333,7 @@ impl FileSystem {
         self.snapshots.get(component)
     }
 
-    /// A snapshot of its live map after its others.
+    /// Takes a snapshot of its live map, which becomes its newest one. NoMemory where there is none for it; then all is as it was.
     pub fn take(
         &mut self,
         alloc: Global,
@@ -358,10 +359,10 @@ impl FileSystem {
         Ok(())
     }
 
-    /// Takes out the snapshot of this group, which is there. Its dead list becomes a part of that of what comes after it; the blocks that
-    /// neither what stands before it nor what comes after it has are lost: the answer, which nobody has to walk. It costs the logarithm
-    /// of the number of snapshots, the chunks of them, and for each of the two dead lists about the square of the logarithm of its entries,
-    /// and where runs of them become one, these.
+    /// Removes the snapshot of this group, which must be there. Its dead list becomes a part of that of the dataset after it. The answer is the
+    /// list of the blocks that neither the dataset before it nor the one after it has; they aren't visited. NoMemory where there is none for it;
+    /// then all is as it was. It costs the logarithm of the number of snapshots, their chunks, and for each of the two dead lists about the
+    /// square of the logarithm of the number of its entries; and where runs of entries are merged, the entries of these runs.
     pub fn splice(
         &mut self,
         alloc: Global,
@@ -391,9 +392,9 @@ impl FileSystem {
         Ok(lost)
     }
 
-    /// From now on the destroy of the snapshot of this group, which is there, is deferred (zfs-destroy(8), -d). NoMemory where there is
-    /// none for it; then all is as it was. It costs the logarithm of the number of snapshots, a walk over the chunks of them, the length
-    /// of its name, and at most a chunk of them and one of their index.
+    /// Marks the destroy of the snapshot of this group, which must be there, as deferred (zfs-destroy(8), -d). NoMemory where there is none for
+    /// it; then all is as it was. It costs the logarithm of the number of snapshots, a walk over their chunks, the length of its name, and at
+    /// most one chunk of the snapshots and one of their index.
     pub fn defer(&mut self, alloc: Global, group: Group) -> Result<(), Refusal>
         requires there { IsSome (find (λ t. t.group == group.0) self.old.system.snaps) }
         requires above { AreAbove self.old.below self.old.system }
@@ -404,8 +405,8 @@ impl FileSystem {
         self.edit(alloc, group, SnapshotEdit::Defer)
     }
 
-    /// From now on the snapshot of this group, which is there, has these tags (zfs-hold(8), zfs-release(8)). NoMemory where there is none
-    /// for it; then all is as it was. It costs what `defer` does.
+    /// Replaces the tags of the snapshot of this group, which must be there (zfs-hold(8), zfs-release(8)). NoMemory where there is none for it;
+    /// then all is as it was. It costs what `defer` does.
     pub fn set_tags(&mut self, alloc: Global, group: Group, tags: Arc<Holds>) -> Result<(), Refusal>
         requires there { IsSome (find (λ t. t.group == group.0) self.old.system.snaps) }
         requires above { AreAbove self.old.below self.old.system }
@@ -416,7 +417,7 @@ impl FileSystem {
         self.edit(alloc, group, SnapshotEdit::SetTags(tags))
     }
 
-    // Makes this edit of the snapshot of this group, which is there. NoMemory where there is none for it; then all is as it was.
+    // Applies this edit to the snapshot of this group, which must be there. NoMemory where there is none for it; then all is as it was.
     fn edit(&mut self, alloc: Global, group: Group, edit: SnapshotEdit) -> Result<(), Refusal>
         requires there { IsSome (find (λ t. t.group == group.0) self.old.system.snaps) }
         requires above { AreAbove self.old.below self.old.system }
@@ -431,7 +432,7 @@ impl FileSystem {
         Ok(())
     }
 
-    /// What is lost where the live map goes.
+    /// The blocks that no dataset has any more once the live map is gone. They aren't visited. NoMemory where there is none for it.
     pub fn lost(&self) -> Result<Lost, Refusal>
         requires { IsAbove (blocks self.now.below) (origin_group self.now.system.origin) self.now.system.live self.now.system.snaps }
         ensures ok { IfOk result (IsLost (blocks self.now.below) (origin_group self.now.system.origin) self.now.system.live self.now.system.snaps) }
@@ -445,9 +446,9 @@ impl FileSystem {
         })
     }
 
-    /// The live map becomes that of the newest snapshot, which shares its tree, and the blocks are counted again. NoMemory where there is
-    /// none for it, or the snapshots have more blocks than a u64 counts; then all is as it was. It costs the number of snapshots, and the
-    /// segments of their dead lists.
+    /// Makes the map of the newest snapshot, which must be there, the live map. They share the tree, and the blocks are counted again. The
+    /// answer is the blocks that no dataset has any more. NoMemory where there is none for it, or the snapshots have more blocks than a u64
+    /// counts; then all is as it was. It costs the number of snapshots, and the segments of their dead lists.
     pub fn rollback(&mut self, alloc: Global, segments: &mut SegMeter) -> Result<Lost, Refusal>
         requires there { 0 < length self.old.system.snaps }
         requires above { AreAbove self.old.below self.old.system }
@@ -470,10 +471,11 @@ impl FileSystem {
         Ok(lost)
     }
 
-    /// Puts a batch of changes of the live tree in force at once, where the last sync left group `synced` open. It takes no number,
-    /// and of the blocks that the tree drops it releases those that no snapshot has; the others go onto the dead list, and those that the
-    /// origin hasn't are from then on counted as the snapshots'. NoSpace where the numbers are too few, NoMemory where there is none for it
-    /// or the snapshots have more blocks than a u64 counts; then all is as it was. It costs what the draft and the put of the tree do.
+    /// Applies a batch of changes to the live tree at once. `synced` is the group that the last sync left open. It takes no number from the
+    /// allocator. Of the blocks that the tree drops, it releases those that no snapshot has. The others go onto the dead list, and those of them
+    /// that the origin doesn't have are then counted as used by the snapshots. NoSpace where there are too few numbers. NoMemory where there is
+    /// none for it, or where the snapshots have more blocks than a u64 counts. After an error all is as it was. It costs what `Tree::draft` and
+    /// `Tree::put` do.
     pub fn apply(
         &mut self,
         alloc: Global,
@@ -526,8 +528,8 @@ fn is_born_after(dead: &Dead, group: Group) -> bool
     dead.birth.0 > group.0
 }
 
-// The snapshots to change: where they are, if they have no other owner, and else in a copy of them, which comes to their place. NoMemory
-// where there is none for the copy. By then they have one owner, so that they are there; but no contract says how many there are.
+// Lends the snapshots for a change. Where they have another owner, a copy takes their place first. NoMemory where there is none for the copy.
+// The second `get_mut` succeeds, since there is one owner by then; but no contract gives the number of owners.
 fn own(line: &mut Arc<SnapshotList>, alloc: Global) -> Result<&mut SnapshotList, Refusal>
     ensures* lends { sem 𝓛 (LendsLine line.entry result) }
     ensures value { IfOk result (λ l. l.now ≡ arc_value line.old) }
@@ -546,7 +548,7 @@ fn own(line: &mut Arc<SnapshotList>, alloc: Global) -> Result<&mut SnapshotList,
     }
 }
 
-// No bookmark, which others can own too.
+// An empty list of bookmarks in an `Arc`.
 fn no_bookmarks(alloc: Global) -> Result<Arc<Bookmarks>, Refusal>
     ensures ok { IfOk result (λ b. arc_value b ≡ finmap.empty) }
     ensures err { IfErr result (λ e. e ≡ Refusal.NoMemory) }
@@ -554,7 +556,7 @@ fn no_bookmarks(alloc: Global) -> Result<Arc<Bookmarks>, Refusal>
     Ok(Arc::new(alloc, Bookmarks::new(alloc))?)
 }
 
-// A copy of a name, which others can own too.
+// A copy of a name in an `Arc`.
 fn shared_name(alloc: Global, name: &DsName) -> Result<Arc<DsName>, Refusal>
     ensures ok { IfOk result (λ a. arc_value a ≡ name.now) }
     ensures err { IfErr result (λ e. e ≡ Refusal.NoMemory) }

@@ -1,4 +1,4 @@
-//! What has gone from each dataset of a file system to the one after it, counted from the dead lists.
+//! Counts, from the dead lists, of the blocks that a dataset of a file system lacks and the dataset before it has.
 ghost use Rattle.std.specs.Prelude.{◌≡◌, ◌≤◌, ◌+◌, ◌-◌, ◌*◌, ◌^◌, min, map, length};
 ghost use Rattle.std.specs.List.{sum_by};
 ghost use Rattle.std.specs.Option.{option_map};
@@ -13,15 +13,16 @@ use deadlist::deadlist::Deadlist;
 use shared_list::SharedList;
 use snapshots::Kept;
 
-/// Which entries of a dead list count: those of blocks born by a group, or after it.
+/// Which entries of a dead list are counted: those of blocks born no later than a group, or born after it.
 #[derive(Clone, Copy)]
 pub enum Side {
     Upto,
     After,
 }
 
-/// Which entries of the dead lists of a file system count: of the datasets after a snapshot's group, or of all, and no later than another,
-/// or of all up to the live map, those on one side of a cut.
+/// Which entries of the dead lists of a file system are counted. The dead lists are those of the snapshots after the group `from`, or of all
+/// where it is None, and no later than the group `until`. Where `until` is None, all later ones count, and that of the live map too. Of these
+/// lists, the entries on one side of the cut are counted.
 #[derive(Clone, Copy)]
 pub struct Asked {
     pub from: Option<Group>,
@@ -30,7 +31,7 @@ pub struct Asked {
     pub cut: Group,
 }
 
-// Whether a snapshot of this group is asked for. Constant time.
+// Whether the dead list of a snapshot of this group is counted. Constant time.
 fn asks_for(asked: Asked, group: Group) -> bool
     ensures { result ≡ is_asked asked (Some group.0) }
 {
@@ -45,7 +46,7 @@ fn asks_for(asked: Asked, group: Group) -> bool
     is_later && is_by
 }
 
-// How many entries of this dead list stand on the side of the cut. It costs segments of it.
+// The number of entries of this dead list on the asked side of the cut. It costs the segments of the list.
 fn count_on(dead: &Deadlist, asked: Asked, segments: &mut SegMeter) -> u64
     ensures count { result ≡ count_on asked.side asked.cut.0 dead.now.entries }
     ensures meter { segments.new ≤ segments.old + (length dead.now.cuts + 1) }
@@ -56,7 +57,7 @@ fn count_on(dead: &Deadlist, asked: Asked, segments: &mut SegMeter) -> u64
     }
 }
 
-// How many entries of a snapshot's dead list count. Where the snapshot is asked for it costs the segments of the list.
+// The number of counted entries of a snapshot's dead list. Where the list is counted, it costs the segments of the list.
 fn count_kept(kept: &Kept, asked: Asked, segments: &mut SegMeter) -> u64
     ensures count { result ≡ kept_count asked kept.now }
     ensures meter { segments.new ≤ segments.old + kept_segments asked kept.now }
@@ -68,7 +69,7 @@ fn count_kept(kept: &Kept, asked: Asked, segments: &mut SegMeter) -> u64
     }
 }
 
-// How many entries of the dead lists of these snapshots count, and no more than the greatest u64. It costs what `count_gone` does.
+// The number of counted entries of the dead lists of these snapshots, at most the greatest u64. It costs what `count_gone` does.
 fn count_snapshots(kept: &SharedList<Kept>, asked: Asked, segments: &mut SegMeter) -> u64
     ensures count { result ≡ min (2 ^ 64 - 1) (sum_by (kept_count asked) kept.now) }
     ensures meter { segments.new ≤ segments.old + sum_by (kept_segments asked) kept.now }
@@ -80,8 +81,8 @@ fn count_snapshots(kept: &SharedList<Kept>, asked: Asked, segments: &mut SegMete
     total
 }
 
-/// How many entries of the dead lists of these snapshots and of the live map count, and no more than the greatest u64. It costs the number
-/// of snapshots, and the segments of the dead lists of those that are asked for.
+/// The number of counted entries of the dead lists of these snapshots and of the live map, at most the greatest u64. It costs the number of
+/// snapshots, and the segments of the dead lists that are counted.
 pub fn count_gone(
     kept: &SharedList<Kept>,
     dead: &Deadlist,
@@ -99,7 +100,7 @@ pub fn count_gone(
 }
 
 impl FileSystem {
-    // How many blocks on the side of the cut have gone with the datasets that are asked for, counted as by `gone_upto`, at the same cost.
+    // The number of counted entries of the dead lists of this file system. It costs what `gone_upto` does.
     fn gone_with(&self, asked: Asked, segments: &mut SegMeter) -> u64
         ensures count { result ≡ min (2 ^ 64 - 1) (sum_by (λ g. size_on asked.side asked.cut.0 g.blocks) (dead_between (option_map (λ g. g.0) asked.from) (option_map (λ g. g.0) asked.until) self.now)) }
         ensures meter { segments.new ≤ segments.old + length (dead_between (option_map (λ g. g.0) asked.from) (option_map (λ g. g.0) asked.until) self.now) }
@@ -107,10 +108,11 @@ impl FileSystem {
         count_gone(self.snapshots.list(), &self.dead, asked, segments)
     }
 
-    /// How many blocks born by the cut have gone from a dataset of this file system to the one after it: with each snapshot whose group is
-    /// after `from` and no later than `until`, and with the live map where `until` is none; a block counts with each that it has gone with.
-    /// The count stops at the greatest u64. It costs the number of snapshots, and for each dead list of those between, which has one
-    /// segment, about the square of the logarithm of its entries (zfsprops(7): written@snapshot).
+    /// The number of blocks born no later than the cut that a dataset of this file system lacks and the dataset before it has (zfsprops(7):
+    /// written@snapshot). It is the sum over the snapshots whose group is after `from` and no later than `until`, and the live map where `until`
+    /// is None. A block counts once for each of these datasets that lacks it while the dataset before has it. The count stops at the greatest
+    /// u64. It costs the number of snapshots, and for each of these dead lists, which has one segment, about the square of the logarithm of the
+    /// number of its entries.
     pub fn gone_upto(
         &self,
         from: Option<Group>,
@@ -132,8 +134,8 @@ impl FileSystem {
         self.gone_with(asked, segments)
     }
 
-    /// How many blocks born after the cut have gone so, counted as by `gone_upto`, at the same cost (zfsprops(7): used;
-    /// zfs-destroy(8): -n).
+    /// The number of blocks born after the cut that a dataset of this file system lacks and the dataset before it has, summed up as in
+    /// `gone_upto` and at the same cost (zfsprops(7): used; zfs-destroy(8): -n).
     pub fn gone_after(
         &self,
         from: Option<Group>,

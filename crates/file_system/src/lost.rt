@@ -1,9 +1,9 @@
-//! What is lost where a live map goes.
+//! The blocks to free once a live map is gone.
 use base::number::Group;
 use tree::Tree;
 
-/// What is lost where a live map goes: of the blocks of its tree those that were born after a group, and how many they are (On-Disk
-/// Specification, chapter 4: ds_prev_snap_txg). Nobody has walked them.
+/// The blocks that no dataset has any more once a live map is gone: those of its tree that were born after a group, and their number (On-Disk
+/// Specification, chapter 4: ds_prev_snap_txg). The blocks aren't visited.
 #[derive(Drop)]
 pub struct Lost {
     pub tree: Tree,

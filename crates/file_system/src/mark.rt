@@ -1,4 +1,4 @@
-//! A snapshot that is changed where it stands: its destroy is deferred, or it has other tags.
+//! Changes of a snapshot in its list: a deferred destroy, or other tags.
 ghost use Rattle.std.specs.Prelude.{◌≡◌, ◌<◌, IfOk, IfErr, length};
 ghost use Rattle.base.specs.declared.refusal.Refusal.{Refusal};
 ghost use Rattle.file_system.specs.Deferred.{IsEdited, edit_of};
@@ -12,13 +12,13 @@ use std::sync::Arc;
 /// A change of a snapshot that leaves its name, its map and its group as they are.
 #[derive(Drop)]
 pub enum SnapshotEdit {
-    /// Its destroy is deferred (zfs-destroy(8), -d).
+    /// Its destroy becomes deferred (zfs-destroy(8), -d).
     Defer,
-    /// It has these tags (zfs-hold(8), zfs-release(8)).
+    /// Its tags are replaced by these (zfs-hold(8), zfs-release(8)).
     SetTags(Arc<Holds>),
 }
 
-// Makes the edit of this snapshot. Constant time.
+// Applies the edit to this snapshot. Constant time.
 fn make(snapshot: &mut Snapshot, edit: SnapshotEdit)
     ensures { snapshot.new ≡ edit_of edit snapshot.old }
 {
@@ -28,8 +28,8 @@ fn make(snapshot: &mut Snapshot, edit: SnapshotEdit)
     }
 }
 
-/// What is kept of the snapshot at that place, with this edit of it. It costs the length of its name, and a walk over the chunks before it.
-/// NoMemory where there is none for it.
+/// A copy of the kept snapshot at that place, with this edit. It costs the length of its name, and a walk over the chunks before it. NoMemory
+/// where there is none for it.
 pub fn edited(kept: &SharedList<Kept>, place: usize, edit: SnapshotEdit) -> Result<Kept, Refusal>
     requires { place < length kept.now }
     ensures ok { IfOk result (λ k. IsEdited (edit_of edit) kept.now place k) }

@@ -1,4 +1,4 @@
-//! What a clone begins from.
+//! The origin of a clone.
 ghost use Rattle.std.specs.Prelude.{◌≡◌, IfOk, IfErr};
 ghost use Rattle.std.specs.Arc.{arc_value};
 ghost use Rattle.std.specs.Option.{option_map, option_copied};
@@ -16,8 +16,8 @@ use std::alloc::Global;
 use std::sync::Arc;
 use tree::Tree;
 
-/// The origin of a clone: the identity of a snapshot, by which it is found wherever a promote has put it, and one more owner of its tree
-/// (On-Disk Specification, chapter 4: dd_clone_parent_obj; zfs-clone(8)).
+/// The origin of a clone: the identity of a snapshot, and its tree, which the origin shares with it (On-Disk Specification, chapter 4:
+/// dd_clone_parent_obj; zfs-clone(8)). The identity stays the same when a promote moves the snapshot to another file system.
 #[derive(Drop)]
 pub struct Origin {
     snapshot: SnapshotId,
@@ -48,7 +48,7 @@ impl Origin {
     }
 }
 
-/// This snapshot as an origin, by one more owner of its tree. NoMemory where there is none for it. Constant time.
+/// This snapshot as an origin, which shares its tree. NoMemory where there is none for it. Constant time.
 pub fn origin_of(alloc: Global, snapshot: &Snapshot) -> Result<Arc<Origin>, Refusal>
     ensures snapshot { IfOk result (λ o. snap_id (arc_value o).snapshot ≡ id_of snapshot.now) }
     ensures tree { IfOk result (λ o. (arc_value o).tree ≡ snapshot.now.map) }
@@ -58,7 +58,7 @@ pub fn origin_of(alloc: Global, snapshot: &Snapshot) -> Result<Arc<Origin>, Refu
     Ok(Arc::new(alloc, origin)?)
 }
 
-/// The origin that stands behind an owner, or none. Constant time.
+/// A reference to the origin, or None where there is none. Constant time.
 pub fn origin_in(origin: &Option<Arc<Origin>>) -> Option<&Origin>
     ensures { option_copied result ≡ option_map arc_value origin.now }
 {
@@ -68,7 +68,7 @@ pub fn origin_in(origin: &Option<Arc<Origin>>) -> Option<&Origin>
     }
 }
 
-/// One more owner of an origin, or none where there is none. NoMemory where there is none for an owner. Constant time.
+/// Another `Arc` of the origin, or None where there is none. NoMemory where there is none for it. Constant time.
 pub fn copy_of_origin(origin: &Option<Arc<Origin>>) -> Result<Option<Arc<Origin>>, Refusal>
     ensures ok { IfOk result (λ o. option_map arc_value o ≡ option_map arc_value origin.now) }
     ensures err { IfErr result (λ e. e ≡ Refusal.NoMemory) }
@@ -79,7 +79,7 @@ pub fn copy_of_origin(origin: &Option<Arc<Origin>>) -> Result<Option<Arc<Origin>
     }
 }
 
-/// An origin's creation group, and 0 where there is none. Constant time.
+/// The creation group of the origin, or 0 where there is none. Constant time.
 pub fn base_group(origin: Option<&Origin>) -> Group
     ensures { result.0 ≡ group_below (option_copied origin.entry) }
 {
@@ -89,7 +89,7 @@ pub fn base_group(origin: Option<&Origin>) -> Group
     }
 }
 
-/// How many blocks an origin has, and none where there is no origin. Constant time.
+/// The number of blocks of the origin, or 0 where there is none. Constant time.
 pub fn base_count(origin: Option<&Origin>) -> u32
     ensures { result ≡ len (blocks_below (option_copied origin.entry)) }
 {

@@ -1,4 +1,4 @@
-//! A clone and the file system of its origin, which change places.
+//! The promote of a clone: it and the file system of its origin change places.
 ghost use Rattle.std.specs.Prelude.{◌≡◌, ◌≤◌, ◌++◌, length, take, drop, IfOk, IfErr};
 ghost use Rattle.std.specs.Arc.{arc_value};
 ghost use Rattle.std.specs.Option.{option_map};
@@ -22,7 +22,7 @@ use snapshots::SnapshotList;
 use std::alloc::Global;
 use std::sync::Arc;
 
-/// What a promote puts into a file system: its snapshots, its origin, where it is a clone then, and what it counts with these.
+/// What a promote puts into a file system: its new snapshots, its new origin, if it has one, and its counts of blocks with these.
 #[derive(Drop)]
 pub struct Lineage {
     snapshots: Arc<SnapshotList>,
@@ -30,9 +30,9 @@ pub struct Lineage {
     counts: UsedBlocks,
 }
 
-// The first `count` of these snapshots, and the others, where each name is one snapshot's: where there are no others, the first are these
-// by one more owner. NoMemory where there is none for it. It costs what `SnapshotList::split_at` does where there are others, and else constant
-// time.
+// A list of the first `count` of these snapshots, and a list of the others. Names must be unique. Where there are no others, the first list is
+// another `Arc` of `line`. NoMemory where there is none for it. Where there are others, it costs what `SnapshotList::split_at` does, and else
+// constant time.
 fn parted(
     alloc: Global,
     line: &Arc<SnapshotList>,
@@ -53,8 +53,8 @@ fn parted(
     Ok((first, Arc::new(alloc, rest)?))
 }
 
-// These snapshots and the others after them, where each name is one snapshot's: these alone where there are no others. NoMemory where there
-// is none for it. It costs what `SnapshotList::joined` does where there are others, and else constant time.
+// A list of these snapshots followed by the others. Names must be unique among all of them. Where there are no others, it is `line` itself.
+// NoMemory where there is none for it. Where there are others, it costs what `SnapshotList::joined` does, and else constant time.
 fn appended(
     alloc: Global,
     line: Arc<SnapshotList>,
@@ -72,13 +72,14 @@ fn appended(
 }
 
 impl FileSystem {
-    /// What a promote puts into this file system, whose origin is that snapshot of the other, and into the other (zfs-promote(8)): the first
-    /// has the snapshots of the other up to its origin before its own, and the other's origin; the other has its newer snapshots, and that
-    /// snapshot as its origin. Each keeps its limits and its bookmarks. Both are as they were until `set_lineage`. No block is visited, and each
-    /// dead list stays as it is, since no dataset has another before it; what the live map and the snapshots of each have alone is counted
-    /// again. NoMemory where there is none for it, or the snapshots of one have more blocks than a u64 counts. It costs the number of
-    /// snapshots of both and the segments of their dead lists, for the counts; and where the origin isn't the other's newest snapshot or the
-    /// first has some, for each snapshot of the smaller part the logarithm of their number and at most three chunks of an index.
+    /// What a promote puts into this clone, whose origin is that snapshot of `owner`, and into `owner` (zfs-promote(8)). The clone gets the
+    /// snapshots of `owner` up to its origin, before its own, and the origin of `owner`. `owner` keeps its newer snapshots, and that snapshot
+    /// becomes its origin. Each keeps its limits and its bookmarks. Both are as they were until `set_lineage`. No block is visited. Each dead
+    /// list stays as it is, since each dataset still has the same dataset before it. The blocks used by the live map and by the snapshots of
+    /// each are counted again. NoMemory where there is none for it, or where the snapshots of one have more blocks than a u64 counts. It costs
+    /// the number of snapshots of both and the segments of their dead lists, for the counts. Where the origin isn't the newest snapshot of
+    /// `owner`, or the clone has snapshots, it costs also for each snapshot of the smaller part the logarithm of their number and at most three
+    /// chunks of an index.
     pub fn promotion(
         &self,
         alloc: Global,
@@ -102,8 +103,8 @@ impl FileSystem {
         Ok((clone, rest))
     }
 
-    /// From now on it has these snapshots above this origin, as `promotion` made them for it. Constant time, and it costs what the drop of
-    /// those before costs where they have no other owner.
+    /// Replaces its snapshots, its origin and its counts by those that `promotion` made for it. It costs constant time, and the drop of the
+    /// former ones where they have no other owner.
     pub fn set_lineage(&mut self, line: Lineage)
         requires { IsLineageFor self.old line }
         ensures { self.new ≡ with_lineage self.old line }
@@ -113,9 +114,10 @@ impl FileSystem {
         self.counts = line.counts;
     }
 
-    // These snapshots above this origin, of which the newest has the blocks that its newest snapshot has, with its counts above them.
-    // NoMemory where there is none for it, or they have more blocks than a u64 counts. It costs the number of these snapshots, and the
-    // segments of all their dead lists and of its own.
+    // The lineage of this file system with these snapshots and this origin. The newest of these snapshots, or else this origin, must have the
+    // same blocks as the newest snapshot, or else the origin, of this file system has now. The blocks are counted again. NoMemory where there is
+    // none for it, or where the snapshots have more blocks than a u64 counts. It costs the number of these snapshots, and the segments of all
+    // their dead lists and of its own.
     fn line(
         &self,
         snapshots: Arc<SnapshotList>,

@@ -1,4 +1,4 @@
-//! A snapshot that goes from those of a file system.
+//! The removal of a snapshot from a file system.
 ghost use Rattle.std.specs.Prelude.{◌≡◌, ℕ, ◌+◌, ◌<◌, ◌≤◌, ◌==◌, [], Some, None, IsSome, IfOk, IfErr, length, take, nat_lt, slice_get};
 ghost use Rattle.std.specs.List.{find, last_or};
 ghost use Rattle.std.specs.Option.{option_copied, option_map};
@@ -29,7 +29,7 @@ fn is_before(kept: &Kept, group: Group) -> bool
     kept.snapshot.group() < group
 }
 
-/// Where the snapshot of this group stands, which is there. It costs the logarithm of the number of snapshots, and a walk over their
+/// The place of the snapshot of this group, which must be there. It costs the logarithm of the number of snapshots, and a walk over their
 /// chunks.
 pub fn place_of(kept: &SharedList<Kept>, group: Group) -> usize
     requires rising { AreRising 0 (snaps_in kept.now) }
@@ -40,7 +40,7 @@ pub fn place_of(kept: &SharedList<Kept>, group: Group) -> usize
     kept.partition_point(|kept: &Kept| is_before(kept, group))
 }
 
-/// What stands around the snapshot of this group, which is there. It costs the logarithm of the number of snapshots.
+/// The snapshot of this group, which must be there, with its neighbours. It costs the logarithm of the number of snapshots.
 pub fn around_of(kept: &SharedList<Kept>, group: Group) -> Around<'_, Kept>
     requires rising { AreRising 0 (snaps_in kept.now) }
     requires there { IsSome (find (λ t. t.group == group.0) (snaps_in kept.now)) }
@@ -49,7 +49,7 @@ pub fn around_of(kept: &SharedList<Kept>, group: Group) -> Around<'_, Kept>
     kept.around(|kept: &Kept| is_before(kept, group))
 }
 
-/// What is kept of the snapshot of this identity, or none. It costs the logarithm of the number of snapshots.
+/// The kept snapshot of this identity, or None. It costs the logarithm of the number of snapshots.
 pub fn kept_of(kept: &SharedList<Kept>, id: SnapshotId) -> Option<&Kept>
     requires { AreRising 0 (snaps_in kept.now) }
     ensures { option_map (λ k. k.snapshot) (option_copied result) ≡ find (λ t. same_id (id_of t) (snap_id id)) (snaps_in kept.now) }
@@ -62,7 +62,7 @@ pub fn kept_of(kept: &SharedList<Kept>, id: SnapshotId) -> Option<&Kept>
     }
 }
 
-/// The snapshot before that place, or None where the first stands there. It costs a walk over the chunks before it.
+/// The snapshot before that place, or None where that is the first place. It costs a walk over the chunks before it.
 pub fn before(kept: &SharedList<Kept>, place: usize) -> Option<&Kept>
     requires { place ≤ length kept.now }
     ensures { option_copied result ≡ last_or None (take place kept.now) }
@@ -73,9 +73,10 @@ pub fn before(kept: &SharedList<Kept>, place: usize) -> Option<&Kept>
     kept.get(place - 1)
 }
 
-/// The dead list of what comes after the snapshot at that place, once that is gone, and what is lost with it: from the dead list that it
-/// has now, and from the group of what stands below the first of the snapshots. No list is cut. It costs for each list the square of the
-/// logarithm of its entries, and where runs of them become one, these. NoMemory where there is none for it.
+/// The dead lists for a removal of the snapshot at that place: first the new dead list of the dataset after it, and then the list of the
+/// snapshot's blocks that neither neighbour has. `next` is the dead list of the dataset after it so far, and `base` the group of the origin. No
+/// list is cut. It costs for each list the square of the logarithm of the number of its entries, and where runs of entries are merged, the
+/// entries of these runs. NoMemory where there is none for it.
 pub fn joined(
     kept: &SharedList<Kept>,
     base: Group,
@@ -102,8 +103,9 @@ pub fn joined(
     }
 }
 
-/// What is kept of the snapshot after the one at that place, once that is gone, and what is lost with it, where the first of them stands
-/// above this origin. It costs what `joined` does, and the length of its name. NoMemory where there is none for it.
+/// The kept snapshot after the one at that place, as it is once that one is removed, and the list of the removed snapshot's blocks that neither
+/// neighbour has. `origin` is the origin of the file system. It costs what `joined` does, and the length of the next snapshot's name. NoMemory
+/// where there is none for it.
 pub fn joined_next(
     kept: &SharedList<Kept>,
     origin: Option<&Origin>,

@@ -1,4 +1,4 @@
-//! What is read off what stands before a dataset: a snapshot, or else the origin of its file system, or nothing.
+//! The group and the blocks of what comes before a dataset: a snapshot, or else the origin of its file system, or nothing.
 ghost use Rattle.std.specs.Prelude.{◌≡◌, map};
 ghost use Rattle.std.specs.Option.{option_copied};
 ghost use Rattle.std.specs.FinSet.{len, difference};
@@ -15,7 +15,7 @@ use deadlist::deadlist::Deadlist;
 use snapshots::Kept;
 use tree::Tree;
 
-/// How many blocks a snapshot has, or else the origin; none where there is neither. Constant time.
+/// The number of blocks of the snapshot, or else of the origin, or 0 where there is neither. Constant time.
 fn count_of(kept: Option<&Kept>, origin: Option<&Origin>) -> u32
     ensures { result ≡ len (blocks_kept (blocks_below (option_copied origin.entry)) (option_copied kept.entry)) }
 {
@@ -25,7 +25,7 @@ fn count_of(kept: Option<&Kept>, origin: Option<&Origin>) -> u32
     }
 }
 
-/// A snapshot's creation group, and this one where there is no snapshot. Constant time.
+/// The creation group of the snapshot, or `base` where there is none. Constant time.
 pub fn group_of(kept: Option<&Kept>, base: Group) -> Group
     ensures { result.0 ≡ group_kept base.0 (option_copied kept.entry) }
 {
@@ -35,8 +35,8 @@ pub fn group_of(kept: Option<&Kept>, base: Group) -> Group
     }
 }
 
-/// How many blocks a dataset has that the snapshot before it hasn't, or else the origin, and all of them where there is neither, by its
-/// dead list (zfsprops(7): written). Constant time.
+/// The number of blocks of a dataset that the snapshot before it, or else the origin, doesn't have, and all of its blocks where there is
+/// neither. It is computed from the dataset's dead list (zfsprops(7): written). Constant time.
 pub fn written_over(
     before: Option<&Kept>,
     origin: Option<&Origin>,

@@ -1,12 +1,12 @@
 //! Rows on dead lists.
 ghost use Rattle.std.specs.Prelude.{◌≤◌, OnOk};
 
-use crate::told::{Told, done, mixed};
-use crate::words::{Words, place_of};
 use base::meter::SegMeter;
 use base::number::{BlockNo, Dead, Group};
 use base::refusal::Refusal;
 use deadlist::deadlist::Deadlist;
+use row_machine::told::{Told, done, mixed};
+use row_machine::words::{Words, place_of};
 use std::alloc::{AllocError, Global};
 use std::mem;
 use toll::Toll;

@@ -1,7 +1,7 @@
 //! Rows on lists whose copies share what they have in common.
-use crate::told::{Told, done_or_refused, mixed};
-use crate::words::{Words, place_of};
 use base::refusal::Refusal;
+use row_machine::told::{Told, done_or_refused, mixed};
+use row_machine::words::{Words, place_of};
 use shared_list::SharedList;
 use std::alloc::{AllocError, Global};
 use std::mem;

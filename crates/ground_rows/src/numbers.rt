@@ -1,8 +1,8 @@
 //! Rows on block numbers.
-use crate::told::{Told, done, mixed};
-use crate::words::{Words, place_of};
 use base::number::BlockNo;
 use base::refusal::Refusal;
+use row_machine::told::{Told, done, mixed};
+use row_machine::words::{Words, place_of};
 use std::alloc::Global;
 use std::mem;
 use zalloc::{Allocator, BlockState, Counts, MOST_BLOCKS};

@@ -1,9 +1,9 @@
 //! Rows on block numbers that have a synced state beside the present one.
 use crate::numbers::{counts, found, look, state_of};
-use crate::told::Told;
-use crate::words::{Words, place_of};
 use base::number::BlockNo;
 use base::refusal::Refusal;
+use row_machine::told::Told;
+use row_machine::words::{Words, place_of};
 use std::alloc::Global;
 use std::mem;
 use zalloc::{Allocator, BlockState, MOST_BLOCKS, Numbers};

@@ -1,6 +1,6 @@
 //! What a host may conclude from a pool's replies.
 //!
-//! Its functions have no bodies: their contracts are the laws. They stand on `laws`, and no crate below the pool needs them.
+//! Its functions have no bodies: their contracts are the laws. They are proved from `laws`, and no crate below the pool needs them.
 #![tactic(auto)]
 
 mod sending;

@@ -1,13 +1,14 @@
-//! What a Send that isn't refused tells, as the contract of a function without a body.
+//! The laws of the reply to a Send that isn't refused, as the contract of a function without a body.
 ghost use Rattle.host_laws.specs.Answered.{SendsAreAnswered, BookmarkSendsAreAnswered};
 
-/// A Send that isn't refused, in a state with lineages and births whose numbers each name one block (`lineage_laws` of `laws`: each state of a
-/// pool, and each that a run leads to), names a snapshot that is there, and is answered by the stream of that one since where its source is. A
-/// source stands before the snapshot in its lineage, or is a bookmark of its file system, of a lower group. The records carry what an older
-/// snapshot holds, or nothing in a full send, to what the snapshot holds (zfs-send(8), -i).
+/// A Send that isn't refused names a snapshot that is there, and its reply is the stream of that snapshot since the group of its source. The law
+/// is of a state with lineages and births whose numbers each name one block (`lineage_laws` of `laws`: each state of a pool, and each that a run
+/// leads to). A source is an older snapshot of the snapshot's lineage, or a bookmark of its file system with a lower group. The records, applied
+/// to the contents of the older snapshot, or to nothing in a full send, give the contents of the snapshot (zfs-send(8), -i).
 ///
-/// From a bookmark that was made of a snapshot they carry what that one held, after each run at whose end the bookmark is there and in which no
-/// Abandon goes back to before it, whatever has become of the snapshot (zfs-bookmark(8)).
+/// The records from a bookmark, applied to the contents of the snapshot that the bookmark was made of, give the contents of the sent snapshot,
+/// whatever has become of the former. That is so after each run that ends with the bookmark there and in which no Abandon goes back to before it
+/// (zfs-bookmark(8)).
 pub fn answered_send_laws()
     ensures answered { SendsAreAnswered }
     ensures bookmarks { BookmarkSendsAreAnswered }

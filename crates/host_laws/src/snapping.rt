@@ -1,12 +1,13 @@
-//! What becomes of a snapshot over an Abandon, as the contract of a function without a body.
+//! The laws of snapshots across an Abandon, as the contract of a function without a body.
 ghost use Rattle.host_laws.specs.Both.{SnapshotsBeginOne, SnapshotsLastOne, SnapshotsStay, SnapshotsReturn};
 
-/// A snapshot that is in the present world and in the last synced one has one map in both: so it is in a new pool, and again after every run
-/// from a state with lineages (`lineage_laws` of `laws`), whatever numbers its steps choose.
+/// A snapshot that is both in the present world and in the last synced one has the same map in both. That holds in a new pool, and is kept by
+/// every run from a state with lineages (`lineage_laws` of `laws`), whatever numbers its steps choose.
 ///
-/// So a snapshot that is there before a run and after it has the map that it had, where no Abandon of the run goes back to before it: the world
-/// that was synced last has it as the run begins, or a Sync of the run comes before each Abandon that is done. One that the last synced world
-/// alone has, since it was destroyed after that, has that world's map where it is there again (zfs-snapshot(8)).
+/// So a snapshot that is there before a run and after it has the same map at both, where no Abandon of the run goes back to before the snapshot.
+/// No Abandon does where the last synced world has the snapshot as the run begins, or where a Sync of the run comes before each Abandon that is
+/// done. A snapshot that only the last synced world has, because it was destroyed after that sync, has that world's map if it is there again
+/// after the run (zfs-snapshot(8)).
 pub fn kept_snapshot_laws()
     ensures begin { SnapshotsBeginOne }
     ensures last { SnapshotsLastOne }

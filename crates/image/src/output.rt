@@ -8,8 +8,8 @@ use std::io;
 use std::io::Write;
 
 impl Image {
-    /// Writes the bytes of all blocks, 512 for each in the order of the numbers, and does not flush the writer. `from_bytes` makes an equal
-    /// image of them. It takes no memory of its own, and costs the blocks. After an error it is open how much was written.
+    /// Writes the bytes of all blocks, 512 for each in the order of the numbers, and does not flush the writer. `from_bytes` of them
+    /// has the same blocks. It takes no memory of its own, and costs the blocks. After an error it is open how much was written.
     pub fn write_to<W: Write>(&self, writer: &mut W) -> io::Result<()>
         ensures { OnOk result (Appends (W.contents writer.old) (W.contents writer.new) self.now.bytes) }
     {

@@ -1,4 +1,4 @@
-//! The bytes of a leaf that is to be written.
+//! The bytes of a leaf to write.
 ghost use Rattle.std.specs.Prelude.{◌≡◌, IfOk, IfErr, length, replicate};
 ghost use Rattle.base.specs.declared.refusal.Refusal.{Refusal};
 
@@ -8,14 +8,14 @@ use image::ZEROS;
 use std::alloc::Global;
 use std::marker::Model;
 
-/// The bytes of a leaf: lent by whoever asks to write them, or a copy of them, or the zeros of a leaf that isn't there. Contracts see the
-/// list of them.
+/// The bytes of a leaf: lent by the caller that asks to write them, or a copy of them, or the zeros of a leaf that isn't there. Contracts see
+/// them as a list.
 #[derive(Drop)]
 pub struct Contents<'a> {
     held: Held<'a>,
 }
 
-// Where they are.
+// Who holds the bytes.
 #[derive(Drop)]
 enum Held<'a> {
     Lent(&'a [u8; 512]),
@@ -33,7 +33,7 @@ impl<'a> Model for Contents<'a> {
 }
 
 impl<'a> Contents<'a> {
-    /// These, lent. Constant time.
+    /// Contents that borrow these bytes. Constant time.
     pub(crate) fn lent(bytes: &'a [u8; 512]) -> Contents<'a>
         ensures same { result ≡ bytes.now }
         ensures size { length result ≡ 512 }
@@ -43,7 +43,7 @@ impl<'a> Contents<'a> {
         }
     }
 
-    /// Those of a leaf that isn't there: zeros. Constant time.
+    /// The contents of a leaf that isn't there: zeros. Constant time.
     pub(crate) fn zeros() -> Contents<'a>
         ensures { result ≡ replicate 512 0 }
     {
@@ -61,7 +61,7 @@ impl<'a> Contents<'a> {
         }
     }
 
-    /// The same bytes, of which those that are lent are copied. NoMemory where there is none for the copy.
+    /// The same bytes; those that are lent are copied. NoMemory where the copy can't be allocated.
     pub(crate) fn owned(self, alloc: Global) -> Result<Contents<'static>, Refusal>
         ensures ok { IfOk result (λ c. c ≡ self.entry) }
         ensures err { IfErr result (λ e. e ≡ Refusal.NoMemory) }

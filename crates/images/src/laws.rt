@@ -1,8 +1,8 @@
-//! Laws of roots, as the contract of a function without a body.
+//! Laws of dataset roots, stated as the contract of a function without a body.
 ghost use Rattle.images.specs.Roots.{RootsAreWalked};
 
-/// Where the walk from the root of each dataset of a world is its contents, so it is from each root that `roots_of` tells of the world's table:
-/// of the live map of its file system, or of the snapshot that it names.
+/// If each dataset of a world can be walked in the image from its root, then the walk from each root that `roots_of` gives for the world's table
+/// yields the contents of that root's dataset: the live map of its file system, or the snapshot that the root names.
 pub fn root_laws()
     ensures walked { RootsAreWalked }
 {}

@@ -1,6 +1,6 @@
-//! The image of a pool's datasets: what a change of a live map leaves to be written into it, and where the roots of the datasets are.
+//! The image of a pool's datasets: the blocks that a change of a live map writes into it, and where the roots of the datasets are.
 //!
-//! Its lemmas say that an image has the blocks of the present datasets and of those that the last sync left, and that each step keeps that.
+//! Its lemmas say that an image has the blocks of the present datasets and of those that the last sync left, and that each step preserves this.
 #![tactic(auto)]
 
 mod contents;

@@ -12,17 +12,17 @@ use datasets::{FileSystem, Table};
 use std::alloc::Global;
 use tree::{Root, Tree};
 
-/// Where a dataset's topmost block is.
+/// Where the topmost block of a dataset is.
 #[derive(Drop)]
 pub struct DatasetRoot {
     pub file_system: DsName,
-    /// The name of a snapshot within the file system; none stands for its live tree.
+    /// The name of a snapshot within the file system; None for the live tree.
     pub snapshot: Option<Component>,
-    /// None where it has no block.
+    /// None where the dataset has no block.
     pub root: Option<Root>,
 }
 
-// The root of a tree, under copies of the names. NoMemory where there is none for them.
+// The root of a tree, with copies of the names. NoMemory where the names can't be copied.
 fn root_at(
     file_system: &DsName,
     snapshot: Option<&Component>,
@@ -55,7 +55,7 @@ fn push_snapshots(roots: &mut Vec<DatasetRoot>, file_system: &FileSystem) -> Res
     Ok(())
 }
 
-// Adds the root of a file system, and those of its snapshots.
+// Adds the root of a file system's live tree, and those of its snapshots.
 fn push_roots(roots: &mut Vec<DatasetRoot>, file_system: &FileSystem) -> Result<(), Refusal>
     ensures ok { OnOk result (map shown_root roots.new.items ≡ map shown_root roots.old.items ++ own_roots (entry_of file_system.now)) }
     ensures err { IfErr result (λ e. e ≡ Refusal.NoMemory) }
@@ -64,8 +64,8 @@ fn push_roots(roots: &mut Vec<DatasetRoot>, file_system: &FileSystem) -> Result<
     push_snapshots(roots, file_system)
 }
 
-/// The roots of the datasets of a table: of each file system, in byte order of the names, that of its live tree, and then those of its
-/// snapshots, the oldest first. NoMemory where there is none for them. It costs the names.
+/// The roots of a table's datasets. The file systems come in byte order of their names; for each, the root of its live tree comes first, then
+/// those of its snapshots, the oldest first. NoMemory where the roots or their names can't be allocated. It costs the names.
 pub fn roots_of(alloc: Global, table: &Table) -> Result<Vec<DatasetRoot>, Refusal>
     ensures ok { IfOk result (λ roots. map shown_root roots.items ≡ roots_in table.now.file_systems) }
     ensures err { IfErr result (λ e. e ≡ Refusal.NoMemory) }

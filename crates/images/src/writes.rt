@@ -21,7 +21,7 @@ use node::span;
 use std::alloc::Global;
 use tree::{NewBlock, Root, Update};
 
-/// The path to a leaf that one update changes: where its blocks are before and after, each at its level.
+/// The path to a leaf that one update changes: where each of its blocks is before and after the update, indexed by level.
 #[derive(Drop)]
 pub struct ChangedPath {
     pub leaf: u32,
@@ -29,25 +29,25 @@ pub struct ChangedPath {
     pub after: [Option<Root>; 6],
 }
 
-/// What a change of a live map leaves to be written.
+/// The blocks that a change of a live map writes into the image.
 #[derive(Drop)]
 pub enum Writes<'a> {
-    /// Nothing: the map is what it was.
+    /// Nothing: the map is unchanged.
     Idle,
-    /// The path that one update changed, in memory of its own, and the bytes of its leaf, if that is there afterwards: a move of it costs a
+    /// The path that one update changed, and the bytes of its leaf, if the leaf is there after the update. The path is boxed, so a move costs a
     /// few words.
     OnPath {
         path: Box<ChangedPath>,
         bytes: Contents<'a>,
     },
-    /// These blocks, each at its number.
+    /// These blocks, each with its number.
     Each {
         blocks: Vec<(BlockNo, [u8; 512])>,
     },
 }
 
 impl<'a> Writes<'a> {
-    /// The same with a copy of the bytes that are lent to it, if any. NoMemory where there is none for it.
+    /// The same writes; bytes that are lent are copied. NoMemory where the copy can't be allocated.
     pub fn owned(self, alloc: Global) -> Result<Writes<'static>, Refusal>
         ensures ok { IfOk result (λ w. w ≡ self.entry) }
         ensures err { IfErr result (λ e. e ≡ Refusal.NoMemory) }
@@ -63,7 +63,7 @@ impl<'a> Writes<'a> {
     }
 }
 
-/// Writes them. It takes no memory.
+/// Writes the blocks into the image. It allocates nothing.
 pub fn write_down(image: &mut Image, writes: &Writes<'_>)
     requires { MayWrite image.old.kept writes.now }
     ensures { image.new ≡ record image.old { bytes = images_put image.old.bytes (writes_in (block_at image.old.bytes) writes.now) } }
@@ -89,8 +89,8 @@ fn first_leaf(update: &Update) -> u32
     }
 }
 
-// Where the blocks are on the path to a leaf of a live tree, each at its level; none where there is no file system of this name. It costs
-// the logarithm of the number of file systems, and the path.
+// Where each block on the path to a leaf of a live tree is, indexed by level; None at each level where there is no file system of this name. It
+// costs the logarithm of the number of file systems, and the path.
 fn path_in(table: &Table, name: &DsName, leaf: u32, meter: &mut Meter) -> [Option<Root>; 6]
     requires { leaf < 1048576 }
     ensures { IsPathOf (live_of table.now.file_systems name.now) leaf (block_on result) }
@@ -101,7 +101,7 @@ fn path_in(table: &Table, name: &DsName, leaf: u32, meter: &mut Meter) -> [Optio
     }
 }
 
-// Whether an update punches what wasn't there.
+// Whether an update punches a block that wasn't there.
 fn is_missing(before: &[Option<Root>; 6], update: &Update) -> bool
     requires { IsOfTree update.now }
     ensures missing { IsTrue result → IsMissing before.now update.now }
@@ -124,8 +124,8 @@ fn bytes_of<'a>(update: &Update<'a>) -> Contents<'a>
     }
 }
 
-/// The path that an update of a live tree is to change, before it is in force. NoMemory where there is none for it. It takes 296 bytes, and
-/// costs the logarithm of the number of file systems, and the path.
+/// The path that an update of a live tree will change, read before the update is applied. NoMemory where the path can't be allocated. It takes
+/// 296 bytes, and costs the logarithm of the number of file systems, and the path.
 pub fn path_before(
     alloc: Global,
     table: &Table,
@@ -150,7 +150,7 @@ pub fn path_before(
     }
 }
 
-// Puts on a path where these new blocks of a group are, each at its level, and nothing else. It costs their number.
+// Sets the path to the new blocks of a group, each at its level; each level without a new block becomes None. It costs the number of new blocks.
 fn place(path: &mut [Option<Root>; 6], made: &[NewBlock], group: Group)
     ensures { ArePlaced group.0 made.now (block_on path.new) }
 {
@@ -166,8 +166,8 @@ fn place(path: &mut [Option<Root>; 6], made: &[NewBlock], group: Group)
     }
 }
 
-/// What this update of a live tree leaves to be written once it is in force in this group, where this is the path that it was to change, and
-/// these are the new blocks that it has made. It reaches no node, and costs the new blocks.
+/// The blocks that an update of a live tree writes into the image, once the update is applied in this group. `path` is the path that it was to
+/// change, from `path_before`, and `made` are the new blocks that it has made. It reaches no node, and costs the new blocks.
 pub fn writes_after<'a>(
     group: Group,
     update: &Update<'a>,
@@ -189,8 +189,8 @@ pub fn writes_after<'a>(
     }
 }
 
-/// The new blocks of a live tree, as they are to be written. NoMemory where there is none for them. It takes 516 bytes a block, and costs the
-/// logarithm of the number of file systems, and for each the nodes from the root down.
+/// The new blocks of a live tree, each with its number and the bytes to write. NoMemory where they can't be allocated. It takes 516 bytes a
+/// block, and costs the logarithm of the number of file systems, and for each block the nodes from the root down.
 pub fn blocks_in(
     alloc: Global,
     table: &Table,

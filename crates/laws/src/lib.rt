@@ -1,4 +1,4 @@
-//! What is true of every run of a pool.
+//! Laws that hold of every run of a pool.
 //!
 //! Its functions have no bodies: their contracts are the laws.
 #![tactic(auto)]

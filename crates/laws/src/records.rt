@@ -1,4 +1,4 @@
-//! What the records of a send come to: they carry what one map holds to what another holds.
+//! The laws of the records of a send: applied to the contents of one map, they give the contents of another.
 //!
 //! Its functions have no bodies: their contracts are the laws. Other crates cite its `proofs/` too.
 

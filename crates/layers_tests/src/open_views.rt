@@ -1,6 +1,5 @@
 //! The open views of a pool: opened and closed by hand, and as many as there may be.
 use base::number::{Group, Guid};
-use base::refusal::Refusal;
 use model::snapshot_id::SnapshotId;
 use std::alloc::Global;
 use views::{VIEW_LIMIT, Views};
@@ -156,30 +155,4 @@ fn are_few(alloc: Global) -> bool {
 #[test]
 fn as_many_views_are_open_as_there_may_be(rt: HostRuntime) {
     assert!(rt; are_few(rt.alloc()));
-}
-
-/// Room for views; where it is refused it is asked for again.
-fn made(alloc: Global) -> Option<Views> {
-    match Views::new(alloc) {
-        Ok(views) => Some(views),
-        Err(refusal) => {
-            if refusal != Refusal::NoMemory {
-                return None;
-            }
-            Views::new(alloc).ok()
-        }
-    }
-}
-
-/// Once there is room, neither opening nor closing asks for memory.
-fn refuses_well(alloc: Global) -> bool {
-    let Some(mut views) = made(alloc) else {
-        return false;
-    };
-    is_full_at_the_limit(&mut views)
-}
-
-#[test]
-fn refused_memory_makes_no_views(rt: HostRuntime) {
-    assert!(rt; refuses_well(rt.alloc()));
 }

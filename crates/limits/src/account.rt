@@ -1,4 +1,4 @@
-//! What of a file system its limits are asked of.
+//! The counts of a file system that its limits are checked against.
 ghost use Rattle.std.specs.Option.{unwrap_or};
 ghost use Rattle.std.specs.Prelude.{◌≡◌, ◌≤◌, ◌<◌, ◌^◌};
 ghost use Rattle.model.specs.Sums.{used_by_refreservation as by_refreservation};
@@ -10,18 +10,19 @@ ghost use Rattle.limits.specs.Rows.{IsRowOf, own_in, unwritten_in, account_at};
 use datasets::FileSystem;
 use model::limits::{Limit, Limits};
 
-/// What of a file system its limits are asked of, in blocks, beside what its children use.
+/// The counts of a file system that its limits are checked against, in blocks and without what its children use, and the limits.
 #[derive(Clone, Copy)]
 pub struct Account {
-    /// What of its `used` isn't its children's (zfsprops(7): usedbydataset, usedbysnapshots, usedbyrefreservation).
+    /// The part of its `used` that isn't its children's (zfsprops(7): usedbydataset, usedbysnapshots, usedbyrefreservation).
     pub here: u64,
-    /// What its live map has (zfsprops(7): referenced).
+    /// The number of blocks of its live map (zfsprops(7): referenced).
     pub referenced: u64,
     /// Its limits (zfsprops(7): quota, refquota, reservation, refreservation).
     pub limits: Limits,
 }
 
-/// What of a file system's refreservation isn't written, and 0 where it has none (zfsprops(7): usedbyrefreservation). Constant time.
+/// The part of a file system's refreservation that isn't written yet, in blocks; 0 where it has no refreservation (zfsprops(7):
+/// usedbyrefreservation). Constant time.
 pub fn used_by_refreservation(file_system: &FileSystem) -> u64
     ensures row { result ≡ unwritten_in file_system.now }
     ensures value { (t : Datasets) → AreFileSystems t.file_systems t.group → IsRowOf t file_system.now → result ≡ by_refreservation (world_of t) file_system.now.name file_system.now.system }
@@ -43,7 +44,7 @@ pub fn account_of(file_system: &FileSystem) -> Account
 {
     let limits = file_system.limits();
 
-    // It tells how little can be reserved.
+    // For the prover alone: a reservation is at most 2^40 blocks.
     let _reserved = match limits.get(Limit::Reservation) {
         Some(amount) => amount.get(),
         None => 0,

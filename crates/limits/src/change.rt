@@ -1,5 +1,5 @@
-//! What becomes of a ledger where the account of a single file system changes: its line changes, and of those above it the `children`, up to
-//! the first level that is charged what it was.
+//! A ledger when the account of a single file system changes: its own line changes, and `children` in the lines above it, up to the first level
+//! whose charge stays the same.
 ghost use Rattle.std.specs.Prelude.{◌≡◌, ◌<◌, ◌≤◌, ◌^◌, ℕ, Some, IsSome, IfSome, IfNone, IfOk, IfErr, length, slice_index_or};
 ghost use Rattle.std.specs.FinMap.{get, keys, len};
 ghost use Rattle.std.specs.List.{All};
@@ -27,10 +27,10 @@ use base::refusal::Refusal;
 use datasets::Table;
 
 impl Ledger {
-    /// The limit that would be broken where the file system of this name, which is there, has and keeps so much of its own (`here`) and its
-    /// live map has so much (`referenced`), where this is the ledger of its table, whose quotas and refquotas are met, and the pool has that
-    /// beside its file systems: Quota, else RefQuota, else NoSpace; or none (zfsprops(7): quota, refquota, reservation; the order is profile).
-    /// Nothing changes. It costs for each level of the name at most the logarithm of the number of file systems, and the length of the name.
+    /// The limit that would be broken if the account of the file system of this name had this `here` and `referenced`, in blocks: Quota, else
+    /// RefQuota, else NoSpace; or none (zfsprops(7): quota, refquota, reservation; the order is profile). The file system is there, this is the
+    /// ledger of its table, the quotas and refquotas of the table are met, and `space` is what the pool has beside its file systems. Nothing
+    /// changes. It costs for each level of the name at most the logarithm of the number of file systems, and the length of the name.
     pub fn over_after(
         &self,
         table: &Table,
@@ -51,10 +51,10 @@ impl Ledger {
         }
     }
 
-    /// The file system of this name, which is there, has and keeps so much of its own (`here`) from now on, and its live map has so much
-    /// (`referenced`), where this is the ledger of a world with the names of the table: it becomes that of every world that differs from that
-    /// one in this alone. Nothing but names is asked of the table, which may be the one from before the change or from after it. It costs for
-    /// each level of the name at most the logarithm of the number of file systems, and the length of the name.
+    /// Sets `here` and `referenced`, in blocks, in the account of the file system of this name, which is there, and updates the lines above it. This
+    /// is the ledger of a world with the names of the table, and becomes that of every world that differs from that one in this alone. Only names
+    /// are read from the table, so it may be the one from before the change or from after it. It costs for each level of the name at most the
+    /// logarithm of the number of file systems, and the length of the name.
     pub fn settle(&mut self, table: &Table, name: &DsName, here: u64, referenced: u64)
         requires there { IsSome (get table.now.file_systems name.now) }
         requires own { (old : World) × IsLedgerOf old (keys table.now.file_systems) self.old }
@@ -65,7 +65,7 @@ impl Ledger {
     }
 }
 
-// The line of a file system that has and keeps so much of its own and refers to so much. Constant time.
+// A copy of this line with `here` and `referenced` replaced. Constant time.
 fn amended(line: &Line, here: u64, referenced: u64) -> Line
     ensures { result ≡ amended line.now here referenced }
 {
@@ -79,7 +79,7 @@ fn amended(line: &Line, here: u64, referenced: u64) -> Line
     }
 }
 
-// The line at a place, with so much for what its children use. Constant time.
+// A copy of the line at this place with `children` replaced. Constant time.
 fn line_with(lines: &[Line], place: usize, children: u64) -> Line
     requires { place < length lines.now }
     ensures { result ≡ line_with lines.now place children }
@@ -90,9 +90,8 @@ fn line_with(lines: &[Line], place: usize, children: u64) -> Line
     }
 }
 
-// Where the file system at a place is charged so much from now on, the next line that changes: the place of its parent's, and what that one's
-// children use then; none where what is charged stays the same, or there is no parent. It costs the logarithm of the number of file systems,
-// and the length of the name.
+// The next line that changes once the line at this place is charged `after`: the place of the parent's line, and its new `children`. None where
+// the charge stays the same, or there is no parent. It costs the logarithm of the number of file systems, and the length of the name.
 fn next_change(
     table: &Table,
     lines: &[Line],
@@ -116,7 +115,7 @@ fn next_change(
     Some((parent, lines[parent].children - before + after))
 }
 
-// What the root is charged, where a line at a place becomes this one and no other changes above it. Constant time.
+// The charge of the root, once this line stands at this place and no line above it changes. Constant time.
 fn root_charge(lines: &[Line], place: usize, line: &Line) -> u64
     requires there { 0 < length lines.now }
     requires little { All (λ l. used_in l ≤ 2 ^ 54) lines.now }
@@ -131,8 +130,8 @@ fn root_charge(lines: &[Line], place: usize, line: &Line) -> u64
     }
 }
 
-// What the root is charged after a change of an account, where these are the lines of the table's ledger. Quota where a quota would be broken,
-// else RefQuota where a refquota would.
+// The charge of the root after a change of an account; these are the lines of the table's ledger. Quota where a quota would be broken, else
+// RefQuota where a refquota would be.
 fn charge_after(
     table: &Table,
     lines: &[Line],
@@ -170,7 +169,7 @@ fn charge_after(
     }
 }
 
-// The lines of the ledger of a world with the names of the table become those of the world that differs in this account.
+// Turns the lines of the ledger of a world with the names of the table into those of every world that differs in this account alone.
 fn settle_lines(
     table: &Table,
     lines: &mut [Line],
@@ -194,9 +193,9 @@ fn settle_lines(
     settle_from(table, lines, near, start, line);
 }
 
-// The line at a place becomes this one, and of those above it the `children` become what they are with it: the lines of the table's ledger but
-// for that become that ledger. It costs for each level of the name at most the logarithm of the number of file systems, and the length of the
-// name.
+// Puts this line at its place, and updates `children` in the lines above it. Lines that differ in this alone from the ledger of a world with the
+// names of the table become that ledger. It costs for each level of the name at most the logarithm of the number of file systems, and the length
+// of the name.
 pub(crate) fn settle_from(table: &Table, lines: &mut [Line], near: &Near, place: usize, line: Line)
     requires can { CanWalkUp (keys table.now.file_systems) lines.old place line }
     requires modest { All IsModest lines.old }
@@ -212,7 +211,8 @@ pub(crate) fn settle_from(table: &Table, lines: &mut [Line], near: &Near, place:
     }
 }
 
-// The same where all that changes at the place is what its children use.
+// Sets `children` in the line at this place, and updates it in the lines above. Lines that differ in this alone from the ledger of a world with
+// the names of the table become that ledger.
 fn settle_above(table: &Table, lines: &mut [Line], near: &Near, place: usize, children: u64)
     requires can { CanWalkUp (keys table.now.file_systems) lines.old place (line_with lines.old place children) }
     requires modest { All IsModest lines.old }

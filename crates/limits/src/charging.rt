@@ -1,4 +1,4 @@
-//! How the lines of a ledger get what children use.
+//! Makes the lines of a ledger, and adds up in them what children use.
 ghost use Rattle.std.specs.Prelude.{◌≡◌, ◌<◌, ◌≤◌, ◌+◌, ◌^◌, length, map};
 ghost use Rattle.std.specs.Arc.{arc_value};
 ghost use Rattle.std.specs.FinMap.{len};
@@ -15,7 +15,7 @@ use crate::place::parent_place;
 use datasets::{FileSystem, Table};
 use std::sync::Arc;
 
-/// The lines become those of these file systems, for which there is room, with no child charged. It costs their number.
+/// Replaces the lines with those of these file systems, with no child charged yet. There is room for them. It costs their number.
 pub fn refill(lines: &mut Vec<Line>, file_systems: &[Arc<FileSystem>])
     requires room { length file_systems.now ≤ lines.old.cap }
     requires few { total own_in (map arc_value file_systems.now) < 2 ^ 32 }
@@ -33,9 +33,9 @@ pub fn refill(lines: &mut Vec<Line>, file_systems: &[Arc<FileSystem>])
     }
 }
 
-/// Adds the charge of each line to what the children of its parent use, from the last line to the first: a child stands after its parent,
-/// which is looked for at `near` first. It costs the number of file systems, times its logarithm where no parent stands there, and the length
-/// of the names.
+/// Adds the charge of each line to `children` in its parent's line, from the last line to the first, since a child stands after its parent. The
+/// parent is looked for at its place in `near` first. It costs the number of file systems, times its logarithm where no parent stands there, and
+/// the length of the names.
 pub fn charge_all(table: &Table, lines: &mut [Line], near: &Near)
     requires long { length lines.old ≡ len table.now.file_systems }
     requires none { IsCharged table.now.file_systems (length lines.old) lines.old }
@@ -47,8 +47,8 @@ pub fn charge_all(table: &Table, lines: &mut [Line], near: &Near)
     }
 }
 
-// Adds the charge of the line at that place to what the children of its parent use. It costs the logarithm of the number of file systems, and
-// the length of the name.
+// Adds the charge of the line at this place to `children` in its parent's line. It costs the logarithm of the number of file systems, and the
+// length of the name.
 fn charge(table: &Table, lines: &mut [Line], place: usize, near: &Near)
     requires long { length lines.old ≡ len table.now.file_systems }
     requires within { place < length lines.old }

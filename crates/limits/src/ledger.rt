@@ -25,14 +25,14 @@ use datasets::{FILE_SYSTEM_LIMIT, Table, parent_of};
 use std::alloc::Global;
 use std::marker::Model;
 
-/// A line for each file system of a pool, in byte order of the names: its account, and what its children use. Contracts see the lines.
-/// Beside them it keeps where parents stand, and where the file system stood that was found last, which saves searches.
+/// A line for each file system of a pool, in byte order of the names: its account, and what its children use. Contracts see the lines. Beside
+/// them it keeps hints where parents stand, which save searches.
 pub struct Ledger {
     pub(crate) lines: Vec<Line>,
     pub(crate) near: Near,
 }
 
-// By hand, so that it is proved once: a derived one is laid out anew in each crate that drops the type.
+// Written by hand, so that it is proved once: a derived one is expanded anew in each crate that drops the type.
 impl Drop for Ledger {
     fn drop(self) {
         let Ledger { lines, near } = self;
@@ -56,7 +56,7 @@ impl Model for Ledger {
 }
 
 impl Ledger {
-    /// A ledger without a line, with room for those of as many file systems as a table can have. NoMemory where there is none for them.
+    /// An empty ledger, with room for as many lines as a table can have file systems. NoMemory where memory is refused.
     pub fn new(alloc: Global) -> Result<Ledger, Refusal>
         ensures ok { IfOk result (λ l. l ≡ []) }
         ensures err { IfErr result (λ e. e ≡ Refusal.NoMemory) }
@@ -66,8 +66,8 @@ impl Ledger {
         Ok(Ledger { lines, near })
     }
 
-    /// A ledger with the same lines, and with the room that `new` makes. NoMemory where there is none for them. It costs that room and the
-    /// number of lines.
+    /// A ledger with the same lines, and with the room that `new` makes. NoMemory where memory is refused. It costs that room and the number of
+    /// lines.
     pub fn copy(&self) -> Result<Ledger, Refusal>
         ensures ok { IfOk result (λ l. l ≡ self.now) }
         ensures err { IfErr result (λ e. e ≡ Refusal.NoMemory) }
@@ -78,8 +78,8 @@ impl Ledger {
         Ok(Ledger { lines, near })
     }
 
-    /// It becomes the ledger of this table. It takes no memory, and costs the number of file systems times its logarithm, and the length of
-    /// their names.
+    /// Makes this the ledger of the table. It takes no memory, and costs the number of file systems times its logarithm, and the length of their
+    /// names.
     pub fn fill(&mut self, table: &Table)
         requires few { len (union_of (world_of table.now)) < 2 ^ 32 }
         ensures { self.new ≡ ledger_of (world_of table.now) }
@@ -90,8 +90,8 @@ impl Ledger {
         charge_all(table, &mut self.lines, &self.near);
     }
 
-    /// The limit that is broken, where the pool has this beside its file systems: Quota, else RefQuota, else NoSpace where the pool has no
-    /// room for what is used, reserved, freeing and waiting; or none (zfsprops(7): quota, refquota, reservation; the order is profile). It
+    /// The first limit that is broken, where `space` is what the pool has beside its file systems: Quota, else RefQuota, else NoSpace where the pool
+    /// has no room for what is used, reserved, freeing and waiting; or none (zfsprops(7): quota, refquota, reservation; the order is profile). It
     /// costs the number of file systems.
     pub fn first_over(&self, space: Space) -> Option<Refusal>
         ensures { (s : State) → IsHierarchy s.now.file_systems → self.now ≡ ledger_of s.now → IsSpaceOf s space → result ≡ first_of (limit_row s) }
@@ -114,8 +114,8 @@ impl Ledger {
         }
     }
 
-    /// What the file system of this name, which is there, uses with all below it, where this is the ledger of its table (zfsprops(7): used). It
-    /// costs the logarithm of the number of file systems.
+    /// What the file system of this name uses with all its descendants, in blocks (zfsprops(7): used). The file system is there, and this is the
+    /// ledger of its table. It costs the logarithm of the number of file systems.
     pub fn used(&self, table: &Table, name: &DsName) -> u64
         requires there { IsSome (get table.now.file_systems name.now) }
         requires own { self.now ≡ ledger_of (world_of table.now) }
@@ -125,7 +125,8 @@ impl Ledger {
         self.line(table, name.as_bytes()).used()
     }
 
-    /// What of that its children use (zfsprops(7): usedbychildren). It costs the logarithm of the number of file systems.
+    /// What the children of the file system of this name use, in blocks (zfsprops(7): usedbychildren). The file system is there, and this is the
+    /// ledger of its table. It costs the logarithm of the number of file systems.
     pub fn used_by_children(&self, table: &Table, name: &DsName) -> u64
         requires there { IsSome (get table.now.file_systems name.now) }
         requires own { self.now ≡ ledger_of (world_of table.now) }
@@ -135,9 +136,9 @@ impl Ledger {
         self.line(table, name.as_bytes()).children
     }
 
-    /// What is available to the file system of this name, which is there, where this is the ledger of its table and the pool has that beside
-    /// its file systems (zfsprops(7): available). It costs for each level of the name the logarithm of the number of file systems, and the
-    /// length of the name.
+    /// How many blocks are available to the file system of this name (zfsprops(7): available). The file system is there, this is the ledger of its
+    /// table, and `space` is what the pool has beside its file systems. It costs for each level of the name the logarithm of the number of file
+    /// systems, and the length of the name.
     pub fn room(&self, table: &Table, name: &DsName, space: Space) -> u64
         requires there { IsSome (get table.now.file_systems name.now) }
         requires own { self.now ≡ ledger_of (world_of table.now) }
@@ -148,7 +149,7 @@ impl Ledger {
         self.room_at(table, name.as_bytes(), &space)
     }
 
-    // The same, from the root down the levels of the name.
+    // What `room` gives, computed from the root down the levels of the name.
     fn room_at(&self, table: &Table, name: &[u8], space: &Space) -> u64
         requires there { IsSome (get table.now.file_systems name.now) }
         requires own { self.now ≡ ledger_of (world_of table.now) }

@@ -1,5 +1,5 @@
-//! The limits of file systems: which one a world breaks, what each file system uses, and what is available to it, from numbers that are
-//! kept by file system (zfsprops(7): quota, refquota, reservation, refreservation, used, available).
+//! The limits of file systems: which one a world breaks, what each file system uses, and what is available to it, from counts that are kept for
+//! each file system (zfsprops(7): quota, refquota, reservation, refreservation, used, available).
 //!
 //! Nothing here visits a block.
 #![tactic(auto)]

@@ -14,7 +14,7 @@ pub struct Line {
 }
 
 impl Line {
-    /// What the file system uses with all below it (zfsprops(7): used). Constant time.
+    /// What the file system uses with all its descendants, in blocks (zfsprops(7): used). Constant time.
     pub fn used(&self) -> u64
         requires { IsSmall self.now }
         ensures { result ≡ used_in self.now }
@@ -22,7 +22,7 @@ impl Line {
         self.account.here + self.children
     }
 
-    /// What it adds to what the one above it uses: its reservation, where that is more than it uses (zfsprops(7): usedbychildren,
+    /// What it adds to `children` of its parent, in blocks: what it uses, or its reservation where that is more (zfsprops(7): usedbychildren,
     /// reservation). Constant time.
     pub fn charge(&self) -> u64
         requires { IsSmall self.now }
@@ -32,7 +32,7 @@ impl Line {
         self.used().max(self.reserved())
     }
 
-    /// What of its reservation it doesn't use (zfsprops(7): reservation). Constant time.
+    /// The unused part of its reservation, in blocks (zfsprops(7): reservation). Constant time.
     pub fn unspent(&self) -> u64
         requires { IsSmall self.now }
         ensures value { result ≡ unspent_in self.now }
@@ -41,7 +41,7 @@ impl Line {
         self.reserved().saturating_sub(self.used())
     }
 
-    /// Whether it has no quota, or uses no more (zfsprops(7): quota). Constant time.
+    /// Whether it has no quota, or uses no more than that (zfsprops(7): quota). Constant time.
     pub fn is_in_quota(&self) -> bool
         requires { IsSmall self.now }
         ensures { result ≡ is_in_quota self.now }
@@ -52,7 +52,7 @@ impl Line {
         }
     }
 
-    /// Whether it has no refquota, or its live map has no more (zfsprops(7): refquota). Constant time.
+    /// Whether it has no refquota, or its live map has no more blocks than that (zfsprops(7): refquota). Constant time.
     pub fn is_in_refquota(&self) -> bool
         ensures { result ≡ is_in_refquota self.now }
     {
@@ -62,7 +62,7 @@ impl Line {
         }
     }
 
-    /// What of a room its quota leaves (zfsprops(7): available, quota). Constant time.
+    /// The part of `room`, in blocks, that its quota allows: at most the quota less what it uses (zfsprops(7): available, quota). Constant time.
     pub fn within_quota(&self, room: u64) -> u64
         requires { IsSmall self.now }
         ensures value { result ≡ within_quota self.now.account.limits.quota (used_in self.now) room }
@@ -74,7 +74,7 @@ impl Line {
         }
     }
 
-    // What is kept for it and all below it, and 0 where nothing is. Constant time.
+    // Its reservation in blocks, and 0 where it has none. Constant time.
     fn reserved(&self) -> u64
         ensures value { result ≡ reserved_in self.now }
         ensures most { result ≤ 2 ^ 40 }

@@ -1,4 +1,4 @@
-//! Where the parents of file systems were seen last.
+//! Hints where the parents of file systems stand in a table.
 ghost use Rattle.std.specs.Prelude.{◌≡◌, IfErr};
 ghost use Rattle.base.specs.declared.refusal.Refusal.{Refusal};
 
@@ -7,14 +7,14 @@ use datasets::{FILE_SYSTEM_LIMIT, FileSystem, parent_of};
 use std::alloc::Global;
 use std::sync::Arc;
 
-/// For each place of a table where the parent of the file system there may stand, which saves searches. Nothing rests on it: whoever asks looks whether it stands there (profile).
+/// For each place of a table, where the parent of the file system there may stand, which saves searches: a hint, which callers check (profile).
 #[derive(Drop)]
 pub struct Near {
     parents: Vec<usize>,
 }
 
 impl Near {
-    /// Room for as many file systems as a table can have. NoMemory where there is none for them.
+    /// Room for as many file systems as a table can have. NoMemory where memory is refused.
     pub fn new(alloc: Global) -> Result<Near, Refusal>
         ensures err { IfErr result (λ e. e ≡ Refusal.NoMemory) }
     {
@@ -22,7 +22,7 @@ impl Near {
         Ok(Near { parents })
     }
 
-    /// The same places, with room for as many. NoMemory where there is none for them. It costs that room.
+    /// A copy, with room for as many file systems. NoMemory where memory is refused. It costs that room.
     pub fn copy(&self) -> Result<Near, Refusal>
         ensures err { IfErr result (λ e. e ≡ Refusal.NoMemory) }
     {
@@ -38,8 +38,8 @@ impl Near {
         }
     }
 
-    /// The parents of these file systems, which stand in byte order: each is the one before its child or above that one, but where a name
-    /// comes between by a byte below `/`. It costs the length of the names.
+    /// Sets the hints for these file systems, which stand in byte order. A parent is the file system before its child, or an ancestor of that one; a
+    /// hint may be wrong only where a name with a byte below `/` comes between. It costs the length of the names.
     pub fn fill(&mut self, file_systems: &[Arc<FileSystem>]) {
         for (place, file_system) in file_systems.iter().enumerate() {
             let parent = match parent_of(file_system.name().as_bytes()) {
@@ -52,8 +52,8 @@ impl Near {
         }
     }
 
-    /// One file system more stands at that place, and its parent may stand at the other: what stood there or behind it stands one place further.
-    /// It costs the number of places.
+    /// Updates the hints after a file system was inserted at `place`, whose parent may stand at `parent`: those that stood there or behind stand one
+    /// place further. It costs the number of places.
     pub fn open(&mut self, place: usize, parent: usize) {
         for near in self.parents.iter_mut() {
             if *near >= place {
@@ -66,7 +66,8 @@ impl Near {
         }
     }
 
-    /// The file system at that place is gone: what stood behind it stands one place before. It costs the number of places.
+    /// Updates the hints after the file system at this place was removed: those that stood behind it stand one place earlier. It costs the number of
+    /// places.
     pub fn close(&mut self, place: usize) {
         for near in self.parents.iter_mut() {
             if *near > place {
@@ -78,7 +79,8 @@ impl Near {
         }
     }
 
-    // Where this name stands among those before a place and above it, or else any place. It costs the levels between.
+    // The place of this name among the file system before `place` and that one's ancestors by the hints; any place where it isn't among them. It
+    // costs the levels between.
     fn up_to(&self, file_systems: &[Arc<FileSystem>], name: &[u8], place: usize) -> usize {
         let mut at = place.saturating_sub(1);
         while at > 0 && !is_named(file_systems, at, name) {

@@ -7,7 +7,8 @@ ghost use Rattle.limits.specs.Places.{IsParentAt};
 
 use datasets::{Table, parent_of};
 
-/// Where the file system of this name stands, in byte order of the names, or else where it would. It costs the logarithm of their number.
+/// The place of the file system of this name, in byte order of the names; at `Err` the place where it would be inserted. It costs the logarithm
+/// of their number.
 pub fn place_of(table: &Table, name: &[u8]) -> Result<usize, usize>
     ensures ok { IfOk result (IsAt (entries table.now.file_systems) name.now) }
     ensures gap { IfErr result (IsGapFor (entries table.now.file_systems) name.now) }
@@ -18,8 +19,8 @@ pub fn place_of(table: &Table, name: &[u8]) -> Result<usize, usize>
         .binary_search_by(|file_system| file_system.compare(name))
 }
 
-/// Where the file system of this name stands, or none where it isn't there. It looks first where the table was asked for a name last: where
-/// that is it, it costs the length of the name, and else what `place_of` does.
+/// The place of the file system of this name, or none where it isn't there. It looks first at the table's hint, the place that was looked for or
+/// changed last: a hit costs the length of the name, and a miss what `place_of` does.
 pub fn place_seen(table: &Table, name: &[u8]) -> Option<usize>
     ensures some { IfSome result (IsAt (entries table.now.file_systems) name.now) }
     ensures none { IfNone result (get table.now.file_systems name.now ≡ None) }
@@ -27,7 +28,7 @@ pub fn place_seen(table: &Table, name: &[u8]) -> Option<usize>
     place_near(table, name, table.near())
 }
 
-// The same, but it looks at this place first, whatever stands there.
+// The place of the file system of this name, or none where it isn't there. It looks at the place `near` first, which is a hint.
 fn place_near(table: &Table, name: &[u8], near: usize) -> Option<usize>
     ensures some { IfSome result (IsAt (entries table.now.file_systems) name.now) }
     ensures none { IfNone result (get table.now.file_systems name.now ≡ None) }
@@ -38,8 +39,8 @@ fn place_near(table: &Table, name: &[u8], near: usize) -> Option<usize>
     }
 }
 
-/// Where the parent of the file system at that place stands, or none where it has none; it looks at the place `near` first. It costs the
-/// length of the name, and where the parent isn't there the logarithm of the number of file systems.
+/// The place of the parent of the file system at this place, or none where it has none. It looks at the place `near` first, which is a hint. It
+/// costs the length of the name, and where the parent isn't at `near` the logarithm of the number of file systems.
 pub fn parent_place(table: &Table, place: usize, near: usize) -> Option<usize>
     requires { place < len table.now.file_systems }
     ensures some { IfSome result (IsParentAt (keys table.now.file_systems) place) }

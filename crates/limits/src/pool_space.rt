@@ -11,7 +11,7 @@ pub struct Space {
 }
 
 impl Space {
-    /// Whether the pool has room for so many blocks beside those (zfsprops(7): reservation). Constant time.
+    /// Whether the pool has room for this many blocks beside those that are freeing and waiting (zfsprops(7): reservation). Constant time.
     pub fn has_room(&self, blocks: u64) -> bool
         ensures { result ≡ nat_le (blocks + self.now.freeing + self.now.waiting) self.now.size }
     {
@@ -21,7 +21,8 @@ impl Space {
             && self.waiting <= size - blocks - self.freeing
     }
 
-    /// What the pool has left beside so many blocks and those (zfsprops(7): available). Constant time.
+    /// How many blocks the pool has left beside this many and those that are freeing and waiting, and 0 where none are left (zfsprops(7):
+    /// available). Constant time.
     pub fn left(&self, blocks: u64) -> u64
         ensures value { result ≡ self.now.size - blocks - self.now.freeing - self.now.waiting }
         ensures most { result < 2 ^ 32 }

@@ -1,5 +1,5 @@
-//! What becomes of a ledger where one file system alone has changed, is new or is gone: its line changes, and of those above it the `children`,
-//! up to the first level that is charged what it was.
+//! A ledger when a single file system has changed, is new or is gone: its own line changes, and `children` in the lines above it, up to the
+//! first level whose charge stays the same.
 ghost use Rattle.std.specs.Prelude.{◌≡◌, ◌<◌, ◌≤◌, ◌^◌, insert, vec_len, vec_capacity};
 ghost use Rattle.std.specs.FinMap.{entries, keys};
 ghost use Rattle.std.specs.FinSet as set;
@@ -22,10 +22,10 @@ use datasets::{FileSystem, Table, parent_of};
 use model::limits::Limits;
 
 impl Ledger {
-    /// The ledger of an earlier world becomes that of the table, which differs from that one at this name alone: the file system of this name has
-    /// changed, or it is new, or it is gone. It takes no memory. It costs for each level of the name at most the logarithm of the number of file
-    /// systems, up to the first level that is charged what it was, and the length of the name; and where the file system is new or gone a
-    /// move of the lines behind its own.
+    /// Updates the ledger of an earlier world to that of the table. The two differ at this name alone: the file system of this name has changed, is
+    /// new, or is gone. It takes no memory. For each level of the name, up to the first one whose charge stays the same, it costs at most the
+    /// logarithm of the number of file systems; beside that the length of the name, and where the file system is new or gone a move of the lines
+    /// behind its own.
     pub fn recount(&mut self, table: &Table, name: &DsName)
         requires own { (old : World) × IsHierarchy old.file_systems × (self.old ≡ ledger_of old) × IsRecounted old (world_of table.now) name.now }
         requires few { set.len (union_of (world_of table.now)) < 2 ^ 32 }
@@ -37,7 +37,7 @@ impl Ledger {
         }
     }
 
-    // The same where the file system stands at this place of the table.
+    // Recounts a file system that stands at this place of the table: it has changed, or it is new.
     fn read(&mut self, table: &Table, name: &DsName, place: usize)
         requires own { (old : World) × IsHierarchy old.file_systems × (self.old ≡ ledger_of old) × IsRecounted old (world_of table.now) name.now }
         requires few { set.len (union_of (world_of table.now)) < 2 ^ 32 }
@@ -54,7 +54,7 @@ impl Ledger {
         self.settle_at(table, place, line);
     }
 
-    // A line for the file system of this name, which stands at this place of the table, where there is none for it yet.
+    // Inserts a line for the file system of this name, which stands at this place of the table, unless it has one.
     fn make_line(&mut self, table: &Table, name: &DsName, place: usize)
         requires own { (old : World) × IsHierarchy old.file_systems × (self.old ≡ ledger_of old) × IsRecounted old (world_of table.now) name.now }
         requires there { IsAt (entries table.now.file_systems) name.now place }
@@ -69,7 +69,8 @@ impl Ledger {
         }
     }
 
-    // The same where the table has no such file system, which would stand at this place.
+    // Recounts a file system that the table hasn't, and that would stand at this place: removes its line, if there is one, and updates those above
+    // it.
     fn leave(&mut self, table: &Table, name: &DsName, gap: usize)
         requires own { (old : World) × IsHierarchy old.file_systems × (self.old ≡ ledger_of old) × IsRecounted old (world_of table.now) name.now }
         requires gone { IsGapFor (entries table.now.file_systems) name.now gap }
@@ -95,7 +96,7 @@ impl Ledger {
         self.settle_at(table, place, line);
     }
 
-    // The line at this place becomes this one, and those above it follow.
+    // Puts this line at its place, and updates those above it.
     fn settle_at(&mut self, table: &Table, place: usize, line: Line)
         requires can { CanWalkUp (keys table.now.file_systems) self.old place line }
         requires little { All (λ l. used_in l ≤ 2 ^ 54) self.old }
@@ -105,7 +106,7 @@ impl Ledger {
     }
 }
 
-// Puts the line of a file system that has nothing at this place among others, where there is room for it. It costs their number.
+// Inserts an empty line at this place; there is room for it. It costs the number of lines.
 fn insert_line(lines: &mut Vec<Line>, place: usize)
     requires room { vec_len lines.old < vec_capacity lines.old }
     requires within { place ≤ vec_len lines.old }

@@ -1,5 +1,4 @@
-//! What a name stands for among the datasets of a pool, and what is told of it: its tree, its name in lists, and the values of its
-//! properties (zfs-list(8), zfs-get(8), zfsprops(7)).
+//! Lookups by name among the datasets of a pool: trees, names in lists, and the values of properties (zfs-list(8), zfs-get(8), zfsprops(7)).
 #![tactic(auto)]
 
 mod names;

@@ -12,8 +12,8 @@ use datasets::FileSystem;
 use std::alloc::Global;
 use std::sync::Arc;
 
-/// Copies of the names of file systems, each with those of its snapshots and then those of its bookmarks after it. NoMemory where there is
-/// none for them. It costs the names, and for the bookmarks of each what `Bookmarks::in_order` does.
+/// Copies of the names of file systems, each with those of its snapshots and then those of its bookmarks after it. NoMemory where memory is
+/// refused. It costs the names, and for the bookmarks of each what `Bookmarks::in_order` does.
 pub fn names_of(alloc: Global, file_systems: &[Arc<FileSystem>]) -> Result<Vec<Bytes>, Refusal>
     ensures ok { IfOk result (λ names. names.items ≡ flat_map own_names (map entry_in file_systems.now)) }
     ensures err { IfErr result (λ e. e ≡ Refusal.NoMemory) }
@@ -82,7 +82,7 @@ fn text_of(alloc: Global, name: &[u8]) -> Result<Bytes, Refusal>
     Ok(Bytes::from(name.to_vec(alloc)?))
 }
 
-/// A name within a file system in print, as `p/a@s` or `p/a#b`, with this byte between (zfs(8)). NoMemory where there is none for it. It
+/// The printed name of a snapshot or a bookmark, as `p/a@s` or `p/a#b`, with this byte between (zfs(8)). NoMemory where memory is refused. It
 /// costs the name.
 pub fn member_text(
     alloc: Global,

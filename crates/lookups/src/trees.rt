@@ -13,8 +13,8 @@ use datasets::{FileSystem, Snapshot, Table};
 use model::snapshot_id::SnapshotId;
 use tree::Tree;
 
-/// The tree of the dataset that the name is of, a file system's live one or a snapshot's, or none. It costs the logarithm of the
-/// number of file systems, and for a snapshot that of the number of its file system's.
+/// The tree of the dataset of this name, a file system's live tree or a snapshot's tree; none where there is no such dataset. It costs the
+/// logarithm of the number of file systems, and for a snapshot also that of the number of its file system's snapshots.
 pub fn tree_named<'a>(table: &'a Table, target: &Target) -> Option<&'a Tree>
     ensures { option_copied result ≡ map_named table.now.file_systems target.now }
 {
@@ -26,8 +26,8 @@ pub fn tree_named<'a>(table: &'a Table, target: &Target) -> Option<&'a Tree>
 }
 
 /// The name of the file system that a change is asked of (zfs(8): a snapshot never changes). ReadOnly where the target is a snapshot that is
-/// there, and NoDataset where it is nothing that is there, or a bookmark. It costs what `tree_named` does, and for a file system's name
-/// nothing: whether there is one isn't asked.
+/// there, and NoDataset where it is a snapshot that isn't there, or a bookmark. It costs what `tree_named` does; for a file system's name it
+/// takes constant time, and whether the file system is there isn't checked.
 pub fn live_name<'a>(table: &Table, target: &'a Target) -> Result<&'a DsName, Refusal>
     ensures ok { IfOk result (λ name. target.now ≡ Target.FileSystem name.now) }
     ensures err { IfErr result (λ why. IsNoLive table.now.file_systems target.now why) }
@@ -41,8 +41,8 @@ pub fn live_name<'a>(table: &Table, target: &'a Target) -> Result<&'a DsName, Re
     }
 }
 
-/// What the bookmark of this name keeps of its snapshot, or none where there is no such bookmark. It costs the logarithms of the numbers of
-/// file systems and of bookmarks of this one.
+/// The guid and the creation group that the bookmark of this name keeps, or none where there is no such bookmark. It costs the logarithms of the
+/// numbers of file systems and of bookmarks of this one.
 pub fn bookmark_named(table: &Table, member: &Member) -> Option<SnapshotId>
     ensures { option_map bookmark_of result ≡ bookmark_named (world_of table.now) member.now }
 {

@@ -36,8 +36,8 @@ use model::request::Property;
 use model::snapshot_id::SnapshotId;
 use std::alloc::Global;
 
-// The name in print of the snapshot of this identity; empty where there is none. NoMemory where there is none for it. It costs the number
-// of file systems times the logarithm of that of the snapshots of one.
+// The name in print of the snapshot of this identity; empty where there is none. NoMemory where memory is refused. It costs the number of file
+// systems times the logarithm of that of the snapshots of one.
 fn text_of_snapshot(alloc: Global, table: &Table, id: SnapshotId) -> Result<Bytes, Refusal>
     ensures ok { IfOk result (λ text. text ≡ text_of_snap (world_of table.now) (snap_id id)) }
     ensures err { IfErr result (λ e. e ≡ Refusal.NoMemory) }
@@ -53,7 +53,7 @@ fn text_of_snapshot(alloc: Global, table: &Table, id: SnapshotId) -> Result<Byte
     }
 }
 
-// The names of these clones, joined by commas. NoMemory where there is none for them. It costs the names.
+// The names of these clones, joined by commas. NoMemory where memory is refused. It costs the names.
 fn joined_names(alloc: Global, clones: &[CloneName]) -> Result<Bytes, Refusal>
     ensures ok { IfOk result (λ text. text ≡ join_with_byte 44 (map name_of clones.now)) }
     ensures err { IfErr result (λ e. e ≡ Refusal.NoMemory) }
@@ -71,7 +71,7 @@ fn joined_names(alloc: Global, clones: &[CloneName]) -> Result<Bytes, Refusal>
 }
 
 // The names of the clones of the snapshot of this identity in byte order, joined by commas (zfsprops(7): clones); empty where it has none.
-// NoMemory where there is none for them. It costs the logarithm of the number of clones, and the names.
+// NoMemory where memory is refused. It costs the logarithm of the number of clones, and the names.
 fn clones_text(alloc: Global, table: &Table, id: SnapshotId) -> Result<Bytes, Refusal>
     ensures ok { IfOk result (λ text. text ≡ join_with_byte 44 (clones_of (world_of table.now) (snap_id id))) }
     ensures err { IfErr result (λ e. e ≡ Refusal.NoMemory) }
@@ -79,8 +79,8 @@ fn clones_text(alloc: Global, table: &Table, id: SnapshotId) -> Result<Bytes, Re
     joined_names(alloc, table.clones_of(id))
 }
 
-// The origin of a file system of the table, where it is a clone. NoMemory where there is none for its text. It costs what
-// `text_of_snapshot` does.
+// The origin of a file system of the table, where it is a clone. NoMemory where memory for its text is refused. It costs what `text_of_snapshot`
+// does.
 fn value_of_origin(alloc: Global, table: &Table, file_system: &FileSystem) -> Result<Value, Refusal>
     ensures ok { IfOk result (λ value. value ≡ origin_value table.now file_system.now.system.origin) }
     ensures err { IfErr result (λ e. e ≡ Refusal.NoMemory) }
@@ -106,7 +106,7 @@ fn used_in(table: &Table, ledger: Option<&Ledger>, name: &DsName) -> u64
     }
 }
 
-// How many of these its descendants use without it. It costs what `used_in` does.
+// How many blocks the descendants of the file system of this name use (zfsprops(7): usedbychildren). It costs what `used_in` does.
 fn used_by_children_in(table: &Table, ledger: Option<&Ledger>, name: &DsName) -> u64
     requires there { IsSome (get table.now.file_systems name.now) }
     requires accounted { IsAccounted table.now (option_copied ledger) }
@@ -120,7 +120,7 @@ fn used_by_children_in(table: &Table, ledger: Option<&Ledger>, name: &DsName) ->
     }
 }
 
-// How much a limit is; 0 where there is none.
+// A limit in bytes, and 0 where there is none.
 fn value_of_limit(limit: Option<Blocks>) -> Value
     ensures { result ≡ amount_value limit }
 {
@@ -130,7 +130,7 @@ fn value_of_limit(limit: Option<Blocks>) -> Value
     }
 }
 
-// How much of a file system's refreservation isn't written. Constant time.
+// The part of a file system's refreservation that isn't written yet, in blocks, and 0 where it has none. Constant time.
 fn unwritten(file_system: &FileSystem) -> u64
     ensures is { result ≡ unwrap_or file_system.now.system.limits.refreservation 0 - size_without (blocks file_system.now.system.live) (newest_blocks (blocks file_system.now.below) file_system.now.system.snaps) }
     ensures small { result < 2 ^ 55 }
@@ -143,9 +143,9 @@ fn unwritten(file_system: &FileSystem) -> u64
     }
 }
 
-// A property of a file system of the table, to which so many blocks are available; it has no property of a snapshot alone. NoMemory where
-// there is none for a text. Constant time, but for what is used, which costs what `used_in` does, and for the origin what
-// `value_of_origin` costs.
+// A property of a file system of the table, to which `room` blocks are available. A property that only snapshots have is NotApplicable. NoMemory
+// where memory for a text is refused. Constant time, but `used` and `usedbychildren` cost what `used_in` does, and `origin` what
+// `value_of_origin` does.
 fn value_of_live(
     alloc: Global,
     table: &Table,
@@ -190,16 +190,16 @@ fn value_of_live(
     }
 }
 
-// What the snapshot of this name within a file system has that the one before hasn't, or none where there is no such snapshot
-// (zfsprops(7): written).
+// How many bytes of blocks the snapshot of this name within a file system has that the snapshot before it, or else the origin, hasn't; none
+// where there is no such snapshot (zfsprops(7): written).
 fn written_within(file_system: &FileSystem, component: &[u8]) -> Option<Value>
     ensures { result ≡ option_map (λ n. Value.Size (512 * n)) (written_from (blocks file_system.now.below) file_system.now.system.snaps component.now) }
 {
     file_system.written_at(component).map(in_bytes)
 }
 
-// A property of the snapshot of this name within its file system of the table, which isn't what it uses; or none where there is no such
-// snapshot. NoMemory where there is none for a text.
+// A property other than `used` of the snapshot of this name within its file system of the table, or none where there is no such snapshot.
+// NoMemory where memory for a text is refused.
 fn value_within(
     alloc: Global,
     table: &Table,
@@ -239,9 +239,9 @@ fn value_within(
     Ok(Some(value))
 }
 
-// A property of the snapshot of this name, or none where there is no such snapshot. NoMemory where there is none for a text, or to find
-// what it alone has. It costs the logarithm of the number of file systems, that of the number of its file system's snapshots, for its
-// clones what `clones_text` does, and for what it uses what `used_by_snapshot` does.
+// A property of the snapshot of this name, or none where there is no such snapshot. NoMemory where memory is refused for a text, or for the
+// count of what it uses. It costs the logarithm of the number of file systems, and that of the number of its file system's snapshots. Beside
+// that `clones` costs what `clones_text` does, and `used` what `used_by_snapshot` does.
 fn value_of_snapshot(
     alloc: Global,
     table: &Table,
@@ -268,11 +268,11 @@ fn value_of_snapshot(
     )
 }
 
-/// A property of what has the name, to which so many blocks are available, or none where nothing has it. NoMemory where there is
-/// none for a text, or to find what a snapshot alone has. It costs the logarithm of the number of file systems, and for a snapshot that of
-/// the number of its file system's; an origin costs the number of file systems times the logarithm of that of the snapshots of one, clones
-/// their names, what a file system or its children use the number of file systems, and what a snapshot uses what `used_by_snapshot` does.
-/// That one alone reads dead lists.
+/// A property of the dataset or bookmark of this name, or none where there is none. `room` is how many blocks are available to it. NoMemory
+/// where memory is refused for a text, or for the count of what a snapshot uses. It costs the logarithm of the number of file systems, and for a
+/// snapshot also that of the number of its file system's snapshots. Beside that `origin` costs the number of file systems times the logarithm of
+/// that of the snapshots of one; `clones` their names; `used` and `usedbychildren` of a file system the number of file systems, or with a ledger
+/// its logarithm; and `used` of a snapshot what `used_by_snapshot` does. Only that last one reads dead lists.
 pub fn value_named(
     alloc: Global,
     table: &Table,
@@ -322,7 +322,7 @@ pub fn in_bytes(blocks: u32) -> Value
     Value::Size(512 * (blocks as u64))
 }
 
-// A number of blocks in bytes, which may be more than a pool has.
+// A number of blocks in bytes, 512 a block. The number may be more than a pool has.
 fn many_bytes(blocks: u64) -> Value
     requires { blocks < 2 ^ 55 }
     ensures { result ≡ Value.Size (512 * blocks) }

@@ -1,4 +1,4 @@
-//! A bookmark of a snapshot.
+//! Makes bookmarks of snapshots.
 ghost use Rattle.std.specs.Prelude.{◌≡◌, ◌⊎◌, Some, None, IfSome, IfOk, IfErr, OnOk, OnErr};
 ghost use Rattle.std.specs.Arc.{arc_value};
 ghost use Rattle.std.specs.Option.{option_map};
@@ -19,12 +19,12 @@ use snapshots::bookmarks::Bookmarks;
 use std::alloc::Global;
 use std::sync::Arc;
 
-/// Makes a bookmark of this name: it has the guid and the creation group of the snapshot that the target names, which is of the same file
-/// system (zfs-bookmark(8)). Refused are NotSnapshot where the target isn't the name of a snapshot, else NoDataset where there is no such
-/// snapshot, else NotAncestor where it is of another file system, else Exists where there is a bookmark of this name, else TooMany where
-/// the file system has 1,024 bookmarks; else NoMemory where there is none for it (the file system, the order and the limit are profile). At
-/// `Err` the table is as it was. It costs the logarithms of the numbers of file systems and of the snapshots of one, and the number of the
-/// file system's bookmarks, which are at most 1,024.
+/// Makes a bookmark of this name, with the guid and the creation group of the snapshot that the target names (zfs-bookmark(8)). The snapshot is
+/// of the bookmark's file system. Refused are NotSnapshot where the target isn't the name of a snapshot, else NoDataset where there is no such
+/// snapshot, else NotAncestor where it is of another file system, else Exists where there is a bookmark of this name, else TooMany where the
+/// file system has 1,024 bookmarks; else NoMemory where memory is refused (the file system, the order and the limit are profile). At `Err` the
+/// table is as it was. It costs the logarithms of the numbers of file systems and of the snapshots of one, and the number of the file system's
+/// bookmarks, which are at most 1,024.
 pub fn bookmark(
     alloc: Global,
     table: &mut Table,
@@ -42,8 +42,7 @@ pub fn bookmark(
     table.set_bookmarks(alloc, &mark.member().file_system, bookmarks)
 }
 
-// The bookmarks of the file system with this one more, of the snapshot that the target names. It is refused as `bookmark` is. It costs
-// what that does.
+// The bookmarks of the file system, and a new one of the snapshot that the target names. The refusals and the cost are those of `bookmark`.
 fn bookmarks_with(
     alloc: Global,
     table: &Table,
@@ -71,7 +70,8 @@ fn bookmarks_with(
     )
 }
 
-// Whether the target names a snapshot of the file system whose bookmark it would be, there or not. It costs the length of its name.
+// Whether the target is the name of a snapshot of the bookmark's file system, whether or not there is such a snapshot. It costs the length of
+// its name.
 fn is_beside(target: &Target, mark: &MarkName) -> bool
     ensures { result ≡ is_beside target.now mark.now }
 {
@@ -81,8 +81,8 @@ fn is_beside(target: &Target, mark: &MarkName) -> bool
     }
 }
 
-// These bookmarks and one of this name more. Refused are Exists where there is one of this name, else TooMany where there are 1,024; else
-// NoMemory where there is none for it. It costs their number.
+// A copy of these bookmarks with a new one of this name. Refused are Exists where there is one of this name, else TooMany where there are 1,024;
+// else NoMemory where memory is refused. It costs their number.
 fn one_more(
     alloc: Global,
     bookmarks: &Bookmarks,

@@ -1,4 +1,4 @@
-//! A hold of a snapshot.
+//! Holds of snapshots.
 ghost use Rattle.std.specs.Prelude.{◌≡◌, ◌⊎◌, ◌++◌, ◌∷◌, [], Some, None, IfSome, IfOk, IfErr, OnOk, OnErr};
 ghost use Rattle.std.specs.Arc.{arc_value};
 ghost use Rattle.std.specs.List.{list_any};
@@ -15,11 +15,11 @@ use snapshots::holds::{Holds, TAG_LIMIT};
 use std::alloc::Global;
 use std::sync::Arc;
 
-/// From now on the snapshot that the target names has this tag behind its others (zfs-hold(8), without -r; the order is profile). Refused
-/// are NotSnapshot where the target isn't the name of a snapshot, else NoDataset where there is no such snapshot, else Deferred where its
-/// destroy is deferred, else TagExists where it has the tag, else TooMany where it has 256 tags; else NoMemory where there is none for it
-/// (the order and the limit are profile). At `Err` the table is as it was. It costs the logarithms of the numbers of file systems and of
-/// snapshots, a walk over the chunks of the snapshots of one, and the bytes of the snapshot's tags, which are at most 256.
+/// Appends this tag to those of the snapshot that the target names (zfs-hold(8), without -r; the order is profile). Refused are NotSnapshot
+/// where the target isn't the name of a snapshot, else NoDataset where there is no such snapshot, else Deferred where its destroy is deferred,
+/// else TagExists where it has the tag, else TooMany where it has 256 tags; else NoMemory where memory is refused (the order and the limit are
+/// profile). At `Err` the table is as it was. It costs the logarithms of the numbers of file systems and of snapshots, a walk over the chunks of
+/// the snapshots of one, and the bytes of the snapshot's tags, of which there are at most 256.
 pub fn hold(alloc: Global, table: &mut Table, target: &Target, tag: &Tag) -> Result<(), Refusal>
     ensures ok { OnOk result (table.new ≡ held_in table.old tag.now target.now) }
     ensures can { OnOk result (hold_refusal table.old tag.now target.now ≡ None) }
@@ -36,8 +36,8 @@ pub fn hold(alloc: Global, table: &mut Table, target: &Target, tag: &Tag) -> Res
     table.set_tags(alloc, &name.member().file_system, id, tags)
 }
 
-// The tags of the snapshot with this one behind them. Refused as `refusal_at` says; else NoMemory where there is none for them. It costs the
-// bytes of the tags.
+// The tags of the snapshot, and this one behind them. The refusals are those of `refusal_at`; else NoMemory where memory is refused. It costs
+// the bytes of the tags.
 fn tags_with(alloc: Global, snapshot: &Snapshot, tag: &Tag) -> Result<Arc<Holds>, Refusal>
     ensures ok { IfOk result (λ tags. arc_value tags ≡ snapshot.now.tags ++ tag.now ∷ []) }
     ensures can { OnOk result (tag_refusal snapshot.now tag.now ≡ None) }
@@ -52,7 +52,8 @@ fn tags_with(alloc: Global, snapshot: &Snapshot, tag: &Tag) -> Result<Arc<Holds>
     Ok(Arc::new(alloc, tags)?)
 }
 
-// Why the snapshot doesn't get this tag, if it doesn't. It costs the number of its tags.
+// The refusal of this tag for the snapshot, if any: Deferred where its destroy is deferred, else TagExists where it has the tag, else TooMany
+// where it has 256 tags. It costs the number of its tags.
 fn refusal_at(snapshot: &Snapshot, tag: &Tag) -> Option<Refusal>
     ensures { result ≡ tag_refusal snapshot.now tag.now }
 {
@@ -82,7 +83,7 @@ fn any_is(tags: &[Vec<u8>], tag: &Tag) -> bool
     tags.iter().any(|other| is_same(tag, other))
 }
 
-// Whether both are the same. It costs their length.
+// Whether the two tags are equal. It costs their length.
 fn is_same(tag: &Tag, other: &Vec<u8>) -> bool
     ensures { result ≡ same_name tag.now other.now.items }
 {

@@ -1,8 +1,8 @@
 //! Holds of snapshots, and bookmarks of them.
 //!
-//! A hold keeps a snapshot by a tag, and a release takes the tag away (zfs-hold(8), zfs-release(8), zfs-holds(8)). A bookmark keeps the
-//! guid and the creation group of a snapshot (zfs-bookmark(8)). Each changes the table, and what it has to free, and at `Err` both are as
-//! they were.
+//! A hold keeps a snapshot by a tag, and a release takes the tag away (zfs-hold(8), zfs-release(8), zfs-holds(8)). A bookmark keeps the guid and
+//! the creation group of a snapshot (zfs-bookmark(8)). Each changes the table, a release also what it has to free, and at `Err` both are as they
+//! were.
 #![tactic(auto)]
 
 mod bookmarking;

@@ -1,4 +1,4 @@
-//! The release of a snapshot.
+//! Releases of snapshots.
 ghost use Rattle.std.specs.Prelude.{◌≡◌, ◌⊎◌, true, false, is_some, Some, None, IfSome, IfOk, IfErr, OnOk, OnErr};
 ghost use Rattle.base.specs.declared.refusal.Refusal.{Refusal};
 ghost use Rattle.snapshots.specs.Tags.{has_tag, without_tag};
@@ -25,13 +25,13 @@ use std::alloc::Global;
 use std::sync::Arc;
 use views::Views;
 
-/// Takes this tag from the snapshot that the target names (zfs-release(8), without -r), and lets that snapshot go where its destroy is
-/// deferred and no other tag, no open view and no clone needs it (zfs-destroy(8), -d): what no dataset has then is to be freed. Refused are
-/// NotSnapshot where the target isn't the name of a snapshot, else NoDataset where there is no such snapshot, else NoTag where it hasn't
-/// the tag; NoMemory, where there is none for it, may come before this last one. At `Err` the table and what it has to free are as they
-/// were. It costs the logarithms of the numbers of file systems and of snapshots, a walk over the chunks of the snapshots of one, and the
-/// bytes of the snapshot's tags, which are at most 256; where the snapshot's destroy is deferred also the number of open views; and where
-/// it goes what `WorkingCopy::of` and `WorkingCopy::remove_snapshot` do.
+/// Removes this tag from the snapshot that the target names (zfs-release(8), without -r). The snapshot is destroyed if its destroy is deferred
+/// and no other tag, no open view and no clone needs it (zfs-destroy(8), -d); the blocks that no dataset has any more are then to be freed.
+/// Refused are NotSnapshot where the target isn't the name of a snapshot, else NoDataset where there is no such snapshot, else NoTag where it
+/// hasn't the tag; NoMemory, where memory is refused, may come before this last one. At `Err` the table and what it has to free are as they
+/// were. It costs the logarithms of the numbers of file systems and of snapshots, a walk over the chunks of the snapshots of one, and the bytes
+/// of the snapshot's tags, of which there are at most 256; where the snapshot's destroy is deferred also the number of open views; and where it
+/// is destroyed what `WorkingCopy::of` and `WorkingCopy::remove_snapshot` do.
 pub fn release(
     alloc: Global,
     table: &mut Table,
@@ -67,8 +67,8 @@ pub fn release(
     table.set_tags(alloc, file_system, id, tags)
 }
 
-// The other tags of the snapshot. NoTag exactly where it hasn't this one; NoMemory, where there is none for them, may come before that. It
-// costs the bytes of the tags.
+// The other tags of the snapshot. NoTag exactly where it hasn't this one; NoMemory, where memory is refused, may come before that. It costs the
+// bytes of the tags.
 fn tags_without(alloc: Global, snapshot: &Snapshot, tag: &Tag) -> Result<Holds, Refusal>
     ensures ok { IfOk result (λ tags. tags ≡ without_tag snapshot.now.tags tag.now) }
     ensures can { OnOk result (has_tag snapshot.now.tags tag.now ≡ true) }
@@ -79,8 +79,8 @@ fn tags_without(alloc: Global, snapshot: &Snapshot, tag: &Tag) -> Result<Holds, 
     Ok(tags)
 }
 
-// Whether the snapshot of the table goes once it has these tags: there is none of them, its destroy is deferred, and neither an open view
-// nor a clone needs it. It costs the logarithm of the number of clones, and where its destroy is deferred the number of open views.
+// Whether the snapshot of the table is to be destroyed once these are its tags: there are none, its destroy is deferred, and neither an open
+// view nor a clone needs it. It costs the logarithm of the number of clones, and where its destroy is deferred the number of open views.
 fn is_due_with(table: &Table, views: &Views, snapshot: &Snapshot, tags: &Holds) -> bool
     ensures { result ≡ is_due_with table.now views.now.opened snapshot.now tags.now }
 {
@@ -88,9 +88,9 @@ fn is_due_with(table: &Table, views: &Views, snapshot: &Snapshot, tags: &Holds) 
     snapshot.is_deferred() && tags.is_empty() && !views.is_viewed(id) && !table.has_clone(id)
 }
 
-// Lets the snapshot of this identity go from this file system, which has it; it has no clone: what no dataset has then is to be freed.
-// NoMemory where there is none for it, and then the table and what it has to free are as they were. It costs what `WorkingCopy::of` and
-// `WorkingCopy::remove_snapshot` do.
+// Removes the snapshot of this identity from this file system, which has it. The snapshot has no clone. The blocks that no dataset has any more
+// are to be freed. NoMemory where memory is refused; at `Err` the table and what it has to free are as they were. It costs what
+// `WorkingCopy::of` and `WorkingCopy::remove_snapshot` do.
 fn lose(
     alloc: Global,
     table: &mut Table,

@@ -14,9 +14,9 @@ use datasets::Table;
 use std::alloc::Global;
 
 /// The tags of the snapshot that the target names, in the order in which they were made (zfs-holds(8), without -r; the order is profile).
-/// Refused are NotSnapshot where the target isn't the name of a snapshot, else NoDataset where there is no such snapshot; else NoMemory
-/// where there is none for them. It costs the bytes of the tags, which are at most 256, the logarithm of the number of file systems, and
-/// that of the number of snapshots of one.
+/// Refused are NotSnapshot where the target isn't the name of a snapshot, else NoDataset where there is no such snapshot; else NoMemory where
+/// memory is refused. It costs the bytes of the tags, of which there are at most 256, the logarithm of the number of file systems, and that of
+/// the number of snapshots of one.
 pub fn tags_of(alloc: Global, table: &Table, target: &Target) -> Result<Vec<Bytes>, Refusal>
     ensures ok { IfOk result (λ names. IfSome (placed (world_of table.now) target.now) (λ p. names.items ≡ p.1.tags)) }
     ensures can { OnOk result (holds_refusal table.now target.now ≡ None) }
@@ -27,7 +27,7 @@ pub fn tags_of(alloc: Global, table: &Table, target: &Target) -> Result<Vec<Byte
     copies(alloc, snapshot.tags())
 }
 
-// Copies of these tags. NoMemory where there is none for them. It costs their bytes.
+// Copies of these tags. NoMemory where memory is refused. It costs their bytes.
 fn copies(alloc: Global, tags: &[Vec<u8>]) -> Result<Vec<Bytes>, Refusal>
     ensures ok { IfOk result (λ names. names.items ≡ texts tags.now) }
     ensures err { IfErr result (λ e. e ≡ Refusal.NoMemory) }

@@ -21,9 +21,9 @@ use steps::{ask_change, live_name, settle};
 use tree::Update;
 
 impl Keep {
-    /// Puts this update of the live tree of a file system in force, once the limits hold with it. What it drops is released, its numbers are
-    /// taken, and its blocks written, when the effect is settled. At `Err` the world is as it was. It costs the path to the leaf, or the
-    /// object's nodes.
+    /// Applies an update to the live tree of a file system, once the limits hold with it. Settling the effect releases the blocks that the update
+    /// drops, takes the numbers of the new blocks, and writes these into the image. At `Err` the world is unchanged. It costs the path to the
+    /// leaf, or the object's nodes.
     pub(crate) fn change<'a>(
         &self,
         alloc: Global,
@@ -70,7 +70,7 @@ impl Keep {
         Ok(Effect::Blocks(done, writes))
     }
 
-    // Why nothing is changed where numbers are outside their limits, so that no update is asked for: NoDataset comes first.
+    // The refusal where an object or block number is outside its limits, so that there is no update. NoDataset takes precedence over it.
     fn outside_the_limits(&self, world: &World, name: &DsName, refusal: Refusal) -> Refusal
         requires { IsHeld self.now world.now }
         ensures { (q : Request) → Asks q (Target.FileSystem name.now) (Err refusal) → Step (state_in self.now world.now) q (Reply.Refused result) (state_in self.now world.now) }

@@ -14,7 +14,7 @@ use std::alloc::Global;
 use steps::recount;
 
 impl Keep {
-    /// Adds a file system of this name. At `Err` the world is as it was. It costs what `Table::create` does.
+    /// Creates a file system of this name. At `Err` the world is unchanged. It costs what `Table::create` does.
     pub(crate) fn create(&self, world: &mut World, name: &DsName) -> Performed<'static>
         requires { IsHeld self.now world.old }
         ensures performed { IsPerformed (state_in self.now world.old) self.now.numbers.present world.new (Request.Create name.now) result }
@@ -28,7 +28,7 @@ impl Keep {
         Ok(Effect::Nothing)
     }
 
-    /// Adds a clone of the snapshot that the target names. At `Err` the world is as it was. It costs what `snap::clones::clone_snapshot` does.
+    /// Adds a clone of the snapshot that the target names. At `Err` the world is unchanged. It costs what `snap::clones::clone_snapshot` does.
     pub(crate) fn clone_snapshot(
         &self,
         world: &mut World,
@@ -44,8 +44,8 @@ impl Keep {
         Ok(Effect::Nothing)
     }
 
-    /// Promotes the clone of this name, and asks the limits of what that leads to. At `Err` the world is as it was, but of no use where it has
-    /// a ledger. It costs what `snap::clones::promote` does.
+    /// Promotes the clone of this name, then checks the limits of the changed world. At `Err` the world is unchanged if it has no ledger; a world
+    /// with a ledger may have changed, and the caller discards it. It costs what `snap::clones::promote` does.
     pub(crate) fn promote(
         &self,
         alloc: Global,

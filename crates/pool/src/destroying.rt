@@ -24,7 +24,7 @@ use std::alloc::Global;
 use steps::{Ledger, recount, renew};
 
 impl Keep {
-    /// Destroys what the target names. At `Err` the world is as it was. It costs what `removals::destroy` does.
+    /// Destroys what the target names. At `Err` the world is unchanged. It costs what `removals::destroy` does.
     pub(crate) fn destroy(
         &self,
         alloc: Global,
@@ -54,8 +54,9 @@ impl Keep {
         Ok(Effect::Nothing)
     }
 
-    /// Takes a file system back to the snapshot that the target names, and asks the limits of what that leads to. At `Err` the world is as it
-    /// was, but of no use where it has a ledger. It costs what `removals::rollback` does.
+    /// Rolls a file system back to the snapshot that the target names, then checks the limits of the changed world. At `Err` the world is
+    /// unchanged if it has no ledger; a world with a ledger may have changed, and the caller discards it. It costs what `removals::rollback`
+    /// does.
     pub(crate) fn rollback(
         &self,
         alloc: Global,
@@ -84,8 +85,8 @@ impl Keep {
     }
 }
 
-// Whether a destroy of the target changes no other file system than the one that it names, nor any other with that: it takes no family, and
-// what it names is no clone, with which a deferred origin might go. It costs the logarithm of the number of file systems.
+// Whether a destroy of the target is certain to change no file system but the target's: the destroy isn't recursive, and the target isn't a
+// clone, since with a clone its deferred origin may be destroyed. It costs the logarithm of the number of file systems.
 fn is_alone(table: &Table, target: &Target, recursive: bool) -> bool
     ensures one { result ≡ true → recursive ≡ false }
     ensures origin { result ≡ true → (name : List ℕ) → target.now ≡ Target.FileSystem name → has_deferred_origin table.now name ≡ false }
@@ -102,8 +103,8 @@ fn is_alone(table: &Table, target: &Target, recursive: bool) -> bool
     }
 }
 
-// The ledger becomes that of these datasets, to which a destroy of that target has led, which changed one file system alone or others too. It
-// takes no memory. For one file system it costs what `recount` does, for a bookmark nothing, and else what `renew` does.
+// Updates the ledger after a destroy of this target, to that of these datasets. `alone` says that the destroy changed one file system only. It
+// allocates nothing. It costs what `recount` does for one file system, nothing for a bookmark, and otherwise what `renew` does.
 fn follow_destroy(ledger: &mut Option<Ledger>, table: &Table, target: &Target, alone: bool)
     requires system { (name : List ℕ) → target.now ≡ Target.FileSystem name → alone ≡ true → (old : Datasets) × CanRecount old table.now name ledger.old }
     requires snapshot { (m : Member) → target.now ≡ Target.Snapshot m → alone ≡ true → (old : Datasets) × CanRecount old table.now m.file_system ledger.old }

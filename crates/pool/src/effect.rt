@@ -1,4 +1,4 @@
-//! What a request leaves to be done once its world is in place.
+//! What a request leaves to be done after its world has changed.
 ghost use Rattle.std.specs.Prelude.{◌≡◌, IfOk, IfErr};
 ghost use Rattle.base.specs.declared.refusal.Refusal.{Refusal};
 ghost use Rattle.model.specs.declared.reply.Reply.{Reply};
@@ -13,31 +13,31 @@ use model::snapshot_id::SnapshotId;
 use std::alloc::Global;
 use tree::Changed;
 
-/// What a request that has changed a world leaves to be done to all that stands beside it.
+/// What a request that has changed a world leaves to be done outside the world.
 #[derive(Drop)]
 pub(crate) enum Effect<'a> {
-    /// Nothing: the same blocks are reached.
+    /// Nothing: the reachable blocks are the same.
     Nothing,
-    /// The counter of guids goes on with this number.
+    /// The guid counter becomes this number.
     Guids(u64),
     /// A live map has changed: blocks are released, numbers taken, and blocks written into the image.
     Blocks(Changed, Writes<'a>),
-    /// These blocks were taken out of what is to be freed, and are released.
+    /// These blocks were taken out of the blocks to be freed, and are released.
     Taken(Vec<Dead>),
-    /// The world is synced: this is the last synced one now, the open views show these snapshots, what waits is free, and the image keeps the
-    /// states that the numbers have then. It stands in memory of its own, so that a move of an effect doesn't copy it.
+    /// The world is synced: this world becomes the last synced one, and these are the snapshots that the open views show. Waiting numbers become
+    /// free, and the image protects the blocks that are allocated then. The world is boxed, so that a move of an effect doesn't copy it.
     Synced(Box<World>, Vec<SnapshotId>),
-    /// The world is the last synced one again: each number has the state that it had then.
+    /// The world is the last synced one again: each number has its state of the last sync.
     Abandoned,
-    /// The view of this number is closed.
+    /// The view with this number is closed.
     Closed(u64),
 }
 
-/// What a request has led to: its effect, or why it is refused.
+/// The outcome of a request: its effect, or why it is refused.
 pub(crate) type Performed<'a> = Result<Effect<'a>, Refusal>;
 
 impl Effect<'_> {
-    /// Puts the reply to the request in the place of Done. Constant time.
+    /// Replaces the reply Done by the reply to the request. Constant time.
     #[inline(always)]
     pub(crate) fn tell(&self, reply: &mut Reply)
         requires { reply.old ≡ Reply.Done }
@@ -50,7 +50,7 @@ impl Effect<'_> {
         }
     }
 
-    /// The same with a copy of the bytes that are lent to it. NoMemory where there is none for them.
+    /// The same effect; bytes that are lent are copied. NoMemory where they can't be copied.
     pub(crate) fn owned(self, alloc: Global) -> Result<Effect<'static>, Refusal>
         ensures ok { IfOk result (λ e. e ≡ self.entry) }
         ensures err { IfErr result (λ e. e ≡ Refusal.NoMemory) }

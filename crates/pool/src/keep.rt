@@ -1,4 +1,4 @@
-//! What stands beside the present world of a pool.
+//! The state of a pool other than its present world.
 ghost use Rattle.std.specs.Prelude.{◌≡◌, map};
 ghost use Rattle.base.specs.Surveys.{dead_block};
 ghost use Rattle.model.specs.Ids.{snap_id};
@@ -22,7 +22,7 @@ use zalloc::Numbers;
 pub(crate) struct Keep {
     /// The world that the last sync left.
     pub(crate) last: World,
-    /// The snapshots that views showed then: a deferred destroy of one of them may have waited for its view alone.
+    /// The snapshots that views showed at the last sync: a view may be all that a deferred destroy of one of them waits for.
     pub(crate) viewed: Vec<SnapshotId>,
     pub(crate) views: Views,
     pub(crate) next_guid: u64,
@@ -30,11 +30,11 @@ pub(crate) struct Keep {
     pub(crate) size: u32,
     pub(crate) id: u32,
     pub(crate) numbers: Numbers,
-    /// The blocks of both worlds as bytes.
+    /// The blocks of the present world and of the last synced one, as bytes.
     pub(crate) image: Image,
 }
 
-// By hand, so that it is proved once: a derived one is laid out anew in each crate that drops the type.
+// Written by hand, so that it is proved once: a derived `Drop` is expanded again in each crate that drops the type.
 impl Drop for Keep {
     fn drop(self) {
         let Keep {
@@ -55,13 +55,13 @@ impl Drop for Keep {
     }
 }
 
-/// How many nodes and segments were reached.
+/// How many nodes and segments were reached since the pool was made.
 pub(crate) struct Meters {
     pub(crate) blocks: Meter,
     pub(crate) segments: SegMeter,
 }
 
-// By hand, as `Keep`'s.
+// Written by hand, for the reason given at `Keep`'s `Drop`.
 impl Drop for Meters {
     fn drop(self) {
         let Meters { blocks, segments } = self;
@@ -71,9 +71,9 @@ impl Drop for Meters {
 }
 
 impl Keep {
-    /// Does what a request has left to be done once its world is in place; nothing else changes the states of numbers, or the image. It takes
-    /// no memory. It costs the blocks that are released and written, and the numbers that are taken; a sync costs what waits, and what only the
-    /// world before it reached; it and an abandon cost the numbers that have changed since the last sync.
+    /// Settles the effect of a request, once its world is in place. Nothing else changes the states of the numbers, or the image. It allocates
+    /// nothing. It costs the blocks that are released and written, and the numbers that are taken. A sync costs the waiting numbers, and what
+    /// only the previously synced world reached. A sync and an abandon cost the numbers that have changed since the last sync.
     pub(crate) fn settle(&mut self, effect: Effect<'_>)
         requires may { MaySettle (world_in self.old.last) self.old.size self.old.numbers.present effect }
         requires synced { self.old.numbers.synced ≡ synced_numbers self.old.size (world_in self.old.last) }
@@ -106,7 +106,7 @@ impl Keep {
     }
 }
 
-// Releases each of these blocks, to wait where it was born before the group.
+// Releases each of these blocks. The number of a block born before the group waits for the next sync; that of another is free at once.
 fn release_all(numbers: &mut Numbers, released: &[Dead], group: Group)
     requires { AllAllocated group.0 numbers.old.present (map dead_block released.now) }
     ensures present { numbers.new.present ≡ releases group.0 numbers.old.present (map dead_block released.now) }
@@ -117,7 +117,7 @@ fn release_all(numbers: &mut Numbers, released: &[Dead], group: Group)
     }
 }
 
-// Takes each of these numbers.
+// Takes each of these numbers for a block.
 fn take_all(numbers: &mut Numbers, taken: &[BlockNo])
     requires { AllFree numbers.old.present (map (λ n. n.0) taken.now) }
     ensures present { numbers.new.present ≡ takes numbers.old.present (map (λ n. n.0) taken.now) }

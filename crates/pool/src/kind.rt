@@ -1,4 +1,4 @@
-//! How requests are answered.
+//! The kinds of requests, by how they are answered.
 ghost use Rattle.std.specs.Prelude.{◌≡◌};
 ghost use Rattle.pool.specs.Kinds.{kind_of};
 
@@ -12,9 +12,9 @@ pub(crate) enum Kind {
     Question,
     /// It opens a view, which changes no world.
     View,
-    /// It changes the present world; where it is refused, that is as it was.
+    /// It changes the present world. Where it is refused, the world is unchanged.
     Change,
-    /// It changes the present world, and then asks the limits of it.
+    /// It changes the present world, and then checks the limits of the changed world.
     Asking,
 }
 
@@ -39,8 +39,8 @@ pub(crate) fn kind_of(request: &Request) -> Kind
     }
 }
 
-/// The name of the file system that a request is to change, or whose snapshot or bookmark it is to; none where it gives no such name first,
-/// or changes nothing. Constant time.
+/// The file system that a write, a punch, a freed object, a rollback, a clone, a destroy, a hold, a release, a bookmark, a promote or a new limit
+/// names first; where that is a snapshot or a bookmark, the file system that it belongs to. None for every other request. Constant time.
 pub(crate) fn changed_name(request: &Request) -> Option<&DsName> {
     match request {
         Request::Write { target, .. }

@@ -3,11 +3,11 @@
 //! A pool keeps the present world and the one that the last sync left, and the state of each block number. It has file systems
 //! with their snapshots, clones and bookmarks, and with quotas and reservations.
 //!
-//! Beside the worlds it keeps an image: each block of theirs as 512 bytes at its number. At each moment, also within a step, each dataset of
-//! the world that the last sync left can be walked in it from its root.
+//! Beside the worlds it keeps an image: each of their blocks as 512 bytes at its number. At each moment, also within a step, each dataset of the
+//! world that the last sync left can be walked in the image from its root.
 //!
-//! Each request that changes a world has one function, which changes it in place and tells an effect: what is left to be done to all that
-//! stands beside the world. `apply` lends it the present world, `prepare` a copy, and both settle the effect in the same way.
+//! Each request that changes a world has one function. It changes the world in place and returns an effect: what is left to be done outside the
+//! world. `apply` passes it the present world, `prepare` a copy, and both settle the effect in the same way.
 #![tactic(auto)]
 
 mod changing;

@@ -1,4 +1,4 @@
-//! The limits of file systems: what they say of a request.
+//! The limits of file systems, as requests are checked against them.
 ghost use Rattle.std.specs.Prelude.{◌≡◌, ◌<◌, ◌^◌, None, OnErr, count_by};
 ghost use Rattle.std.specs.FinSet as set;
 ghost use Rattle.zalloc.specs.States.{is_waiting};
@@ -29,7 +29,8 @@ use std::alloc::Global;
 use steps::{Space, answer, over, with_limit};
 
 impl Keep {
-    /// What the pool has beside what its file systems use, where so many blocks are to be freed. Constant time.
+    /// The pool's size, the given number of blocks to be freed, and the number of waiting blocks: what a limit depends on beside the file
+    /// systems. Constant time.
     pub(crate) fn space(&self, freeing: u64) -> Space
         ensures size { result.size ≡ self.now.size }
         ensures freeing { result.freeing ≡ freeing }
@@ -43,8 +44,8 @@ impl Keep {
         }
     }
 
-    /// Which limit is broken where a request has led to this world, if one is; the ledger becomes that of its datasets. Where none is kept, no
-    /// file system has a limit. It costs the number of file systems times its logarithm; without a ledger, nothing.
+    /// The limit that is broken in a world that a request has changed, if one is; the ledger is updated to the world's datasets. A world without
+    /// a ledger has no limits. It costs the number of file systems times its logarithm; without a ledger, nothing.
     pub(crate) fn over(&self, world: &mut World) -> Option<Refusal>
         requires unlimited { world.old.ledger ≡ None → IsUnlimited world.old.table.file_systems }
         requires few { set.len (union_of (world_of world.old.table)) < 2 ^ 32 }
@@ -58,7 +59,7 @@ impl Keep {
         over(&mut world.ledger, &world.table, space)
     }
 
-    /// Puts the reply to a request that only reads in the place of what stands there. It costs what `steps::answer` does.
+    /// Writes the reply to a request that only reads into `reply`. It costs what `steps::answer` does.
     pub(crate) fn asked(
         &self,
         alloc: Global,
@@ -86,7 +87,7 @@ impl Keep {
         )
     }
 
-    /// Sets a limit of a file system. At `Err` the world is as it was. It costs what `steps::with_limit` does.
+    /// Sets a limit of a file system. At `Err` the world is unchanged. It costs what `steps::with_limit` does.
     pub(crate) fn set(
         &self,
         alloc: Global,

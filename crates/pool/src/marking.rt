@@ -1,4 +1,4 @@
-//! Tags and bookmarks.
+//! Holds and bookmarks.
 ghost use Rattle.std.specs.Prelude.{◌≡◌, OnErr};
 ghost use Rattle.model.specs.declared.request.Request.{Request};
 ghost use Rattle.pool.specs.Pools.{state_in, IsHeld};
@@ -14,7 +14,7 @@ use std::alloc::Global;
 use steps::recount;
 
 impl Keep {
-    /// Gives a snapshot a tag. At `Err` the world is as it was. It costs what `marks::hold` does.
+    /// Adds a hold with this tag to a snapshot. At `Err` the world is unchanged. It costs what `marks::hold` does.
     pub(crate) fn hold(
         &self,
         alloc: Global,
@@ -30,7 +30,7 @@ impl Keep {
         Ok(Effect::Nothing)
     }
 
-    /// Takes a tag from a snapshot. At `Err` the world is as it was. It costs what `marks::release` does.
+    /// Releases the hold with this tag on a snapshot. At `Err` the world is unchanged. It costs what `marks::release` does.
     pub(crate) fn release(
         &self,
         alloc: Global,
@@ -59,7 +59,7 @@ impl Keep {
         Ok(Effect::Nothing)
     }
 
-    /// Makes a bookmark of a snapshot. At `Err` the world is as it was. It costs what `marks::bookmark` does.
+    /// Makes a bookmark of a snapshot. At `Err` the world is unchanged. It costs what `marks::bookmark` does.
     pub(crate) fn bookmark(
         &self,
         alloc: Global,

@@ -15,8 +15,9 @@ use std::alloc::Global;
 use tree::objset::{free_of, punch_of, write_of};
 
 impl Keep {
-    /// Changes this world as the request asks, which changes one, and tells what is left to be done beside it. At `Err` the world is as it was,
-    /// but of no use where the request asks limits of what it leads to, and the world has a ledger.
+    /// Changes this world by a request that changes one, and returns the effect, which is left to be settled. At `Err` the world is unchanged,
+    /// but for one case: where the request checks the limits of the changed world, and the world has a ledger, it may have changed, and the
+    /// caller discards it.
     pub(crate) fn perform<'a>(
         &self,
         alloc: Global,

@@ -39,7 +39,7 @@ pub struct Pool {
     meters: Meters,
 }
 
-// By hand, so that it is proved once: a derived one is laid out anew in each crate that drops the type.
+// Written by hand, so that it is proved once: a derived `Drop` is expanded again in each crate that drops the type.
 impl Drop for Pool {
     fn drop(self) {
         let Pool {
@@ -74,7 +74,7 @@ pub(crate) enum Plan {
     Put { to: World, effect: Effect<'static> },
 }
 
-/// A step that was prepared, with the pool as it was prepared on. One that is dropped has changed nothing.
+/// A prepared step, with the pool on which it was prepared. To drop it changes nothing.
 #[derive(Drop)]
 pub struct Ready {
     plan: Plan,
@@ -95,8 +95,9 @@ impl Model for Ready {
 }
 
 impl Pool {
-    /// A pool with this id and this many blocks, all free: the root file system alone, empty, in group 1, over an image that is all zero.
-    /// BadName for id 0, else TooMany for no block or more than `MOST_BLOCKS`, else NoMemory where there is none for the blocks' bytes and states.
+    /// A pool with this id and this many blocks, all free. It has the root file system alone, which is empty, in group 1, and an image that is
+    /// all zero. BadName for id 0, else TooMany for no block or more than `MOST_BLOCKS`, else NoMemory where the blocks' bytes and states can't
+    /// be allocated.
     pub fn create(alloc: Global, id: u32, blocks: u32) -> Result<Pool, Refusal>
         ensures ok { IfOk result (λ p. p.state ≡ fresh_state id blocks) }
         ensures meters { IfOk result (λ p. (p.nodes ≡ 0) × (p.segments ≡ 0)) }
@@ -153,10 +154,10 @@ impl Pool {
         })
     }
 
-    /// Makes all growths of a request, and its reply. The state stays as it is until `commit`. What changes file systems is made on a copy of
-    /// them, which costs a count for each file system; beside it a request costs what `apply` says, and a write a copy of its bytes. What only
-    /// reads copies nothing, and nor does the opening of a view. Nothing is written into the image; what is refused or only reads leaves nothing
-    /// to be written.
+    /// Prepares a step: it makes the reply, and allocates all that the request needs. The state is unchanged until `commit`. A request that
+    /// changes file systems changes a copy of them, which costs one reference count for each file system. In addition a request costs what
+    /// `apply` says, and a write costs a copy of its bytes. A request that only reads, and one that opens a view, copy no file systems. Nothing
+    /// is written into the image yet; a request that is refused or only reads leaves nothing to write.
     pub fn prepare(&mut self, alloc: Global, request: &Request) -> (Reply, Ready)
         ensures same { self.new.state ≡ self.old.state }
         ensures same_numbers { self.new.numbers ≡ self.old.numbers }
@@ -216,7 +217,7 @@ impl Pool {
         }
     }
 
-    // Makes the change of a request on a copy of the present world.
+    // Applies a request to a copy of the present world.
     fn drafted(&mut self, alloc: Global, request: &Request) -> (Reply, Plan)
         requires no_question { kind_of request.now ≢ Kind.Question }
         requires no_view { kind_of request.now ≢ Kind.View }
@@ -247,9 +248,9 @@ impl Pool {
         (reply, Plan::Put { to, effect })
     }
 
-    /// Does what was just prepared, and writes its blocks into the image, one after the other: at each moment of that the datasets which the last
-    /// sync left can be walked. It takes no memory. It costs the blocks that it releases, takes and writes; a sync costs what waits, and what
-    /// only the world before it reached; it and an abandon cost the numbers that have changed since the last sync.
+    /// Does the step that was just prepared, and writes its blocks into the image, one after the other. At each moment of this the datasets that
+    /// the last sync left can be walked. It allocates nothing. It costs the blocks that it releases, takes and writes. A sync costs the waiting
+    /// numbers, and what only the previously synced world reached. A sync and an abandon cost the numbers that have changed since the last sync.
     pub fn commit(&mut self, ready: Ready)
         requires { ready.from ≡ self.old }
         ensures to { self.new.state ≡ ready.to }
@@ -263,7 +264,7 @@ impl Pool {
         self.facts();
     }
 
-    // Does what was prepared.
+    // Does the step that was prepared.
     fn carry_out(&mut self, ready: Ready)
         requires { ready.from ≡ self.old }
         ensures to { self.new.state ≡ ready.to }
@@ -284,15 +285,15 @@ impl Pool {
         }
     }
 
-    /// One step: the request is done, or refused with the state as it was. The reply comes in the place of what stands there, since it has
-    /// room for a block's bytes, and whoever asks again and again spares its moves. What changes file systems changes them in place; a family
-    /// that is destroyed, several snapshots, a rollback and a receive are made on a copy, which costs a count for each file system, and so is a
-    /// snapshot and a promote where a file system has a limit. A name costs the logarithm of the number of file systems, and a snapshot's also
-    /// that of the number of its file system's snapshots. A write or a punch costs the path to its leaf, and to free an object its nodes; a
-    /// sync and an abandon cost a count for each file system; each other request costs what the function says that makes it, as `Table::create`,
-    /// `snap::clones::promote`, `removals::destroy`. What only reads costs what `steps::answer` says, and the opening of a view what
-    /// `sources::sources_of` does. The blocks that a change makes are written into the image, one after the other, and nothing else is: at each
-    /// moment of that the datasets which the last sync left can be walked.
+    /// One step: the request is done, or refused with the state unchanged. The reply is written over `reply`. Since a reply has room for a
+    /// block's bytes, a caller that uses one `reply` for many requests saves moves. Changes of file systems are made in place, with two
+    /// exceptions. A recursive destroy, several snapshots, a rollback and a receive are made on a copy, which costs one reference count for each
+    /// file system. So are a snapshot and a promote where a file system has a limit. Finding a name costs the logarithm of the number of file
+    /// systems; for a snapshot also that of the number of its file system's snapshots. A write or a punch costs the path to its leaf, and freeing
+    /// an object its nodes. A sync and an abandon cost one reference count for each file system. Each other change costs what the function says
+    /// that makes it, such as `Table::create`, `snap::clones::promote` or `removals::destroy`. A request that only reads costs what
+    /// `steps::answer` says, and the opening of a view what `sources::sources_of` does. The blocks that a change makes are written into the
+    /// image, one after the other, and nothing else is. At each moment of this the datasets that the last sync left can be walked.
     pub fn apply(&mut self, alloc: Global, request: &Request, reply: &mut Reply)
         ensures step { Step self.old.state request.now reply.new self.new.state }
         ensures applied { IsApplied self.old request.now reply.new self.new }
@@ -305,14 +306,15 @@ impl Pool {
         self.facts();
     }
 
-    // What holds of a pool between two steps: it opens the pool to its proof, and reads nothing.
+    // What holds for a pool between two steps. It makes the pool's invariant known to the proof, and reads nothing.
     fn facts(&self)
         ensures { IsBetween self.now }
     {
         let _group = self.present.table.group();
     }
 
-    // Has the table look first where the file system of a request stands, since what refuses, does and writes each ask for it by its name.
+    // Tells the table to look first at the file system of a request. Checking the request, doing it and writing its blocks each look up this
+    // name.
     fn look_at(&mut self, request: &Request)
         ensures { self.new ≡ self.old }
     {
@@ -321,7 +323,8 @@ impl Pool {
         }
     }
 
-    // The step itself: in place, but for what must not be seen half done.
+    // The step itself. It is done in place, but for two kinds of requests that are prepared and committed: the opening of a view, and, where a
+    // ledger is kept, a request that checks limits after its change.
     fn take(&mut self, alloc: Global, request: &Request, reply: &mut Reply)
         requires { reply.old ≡ Reply.Done }
         ensures step { Step self.old.state request.now reply.new self.new.state }
@@ -373,17 +376,17 @@ impl Pool {
         reply
     }
 
-    /// How many nodes of trees and how many segments of dead lists were reached since the pool was made. A count stops at the greatest u64.
-    /// A request that only reads reaches nodes where it reads a block or makes a stream, and one that changes the world where it changes what
-    /// a live map has, or frees blocks: so a snapshot, a clone and a promote reach none, and nor does any property. One that only reads reaches
-    /// no more segments than the clause of `steps::answer` says. Constant time.
+    /// How many nodes of trees and how many segments of dead lists were reached since the pool was made. A count stops at the greatest u64. A
+    /// request that only reads reaches nodes where it reads a block or makes a stream. A request that changes the world reaches nodes where it
+    /// changes the contents of a live map, or frees blocks. So a snapshot, a clone, a promote and any request for a property reach none.
+    /// A request that only reads reaches no more segments than the contract of `steps::answer` says. Constant time.
     pub fn meters(&self) -> (u64, u64)
         ensures { result ≡ (self.now.nodes, self.now.segments) }
     {
         (self.meters.blocks.count(), self.meters.segments.count())
     }
 
-    /// The blocks of the pool as bytes, each at its number: those of the present datasets, and of those that the last sync left. Constant time.
+    /// The blocks of the present datasets and of those that the last sync left, as bytes, each at its number. Constant time.
     pub fn image(&self) -> &Image
         ensures same { result.now ≡ self.now.image }
         ensures between { IsBetween self.now }
@@ -392,9 +395,9 @@ impl Pool {
         &self.keep.image
     }
 
-    /// The roots of the present datasets, or of those that the last sync left: for each file system, in byte order of the names, that of its
-    /// live tree, then those of its snapshots, the oldest first. `Image::read_tree` reads a dataset from its root. NoMemory where there is none
-    /// for them. It costs the names.
+    /// The roots of the present datasets, or, where `last` is true, of those that the last sync left. The file systems come in byte order of
+    /// their names; for each, the root of its live tree comes first, then those of its snapshots, the oldest first. `Image::read_tree` reads a
+    /// dataset from its root. NoMemory where the roots or their names can't be allocated. It costs the names.
     pub fn roots(&self, alloc: Global, last: bool) -> Result<Vec<DatasetRoot>, Refusal>
         ensures ok { IfOk result (λ roots. map shown_root roots.items ≡ roots_in (if last then self.now.state.last else self.now.state.now).file_systems) }
         ensures err { IfErr result (λ e. e ≡ Refusal.NoMemory) }
@@ -405,7 +408,8 @@ impl Pool {
         roots_of(alloc, &self.present.table)
     }
 
-    /// One step for each request, in order, and the replies. NoMemory where there is none for the list of replies: nothing was begun then.
+    /// Does one step for each request, in order, and returns the replies. NoMemory where the list of replies can't be allocated; no step is done
+    /// then.
     pub fn run(&mut self, alloc: Global, requests: &[Request]) -> Result<Vec<Reply>, Refusal>
         ensures ok { IfOk result (λ replies. Run self.old.state requests.now replies.items self.new.state) }
         ensures applied { IfOk result (λ replies. AreApplied self.old requests.now replies.items self.new) }
@@ -423,7 +427,7 @@ impl Pool {
     }
 }
 
-// The reply is Done, whatever it was.
+// Sets the reply to Done.
 fn make_done(reply: &mut Reply)
     ensures { reply.new ≡ Reply.Done }
 {
@@ -433,7 +437,8 @@ fn make_done(reply: &mut Reply)
     }
 }
 
-// The same of one that isn't. It stands apart, since a reply takes room on the stack, which is filled first.
+// Replaces another reply by Done. This is the cold path, in a function of its own: a reply takes room on the stack, and a function fills its
+// whole stack frame with zeros first.
 #[inline(never)]
 fn clear(reply: &mut Reply)
     ensures { reply.new ≡ Reply.Done }
@@ -441,7 +446,7 @@ fn clear(reply: &mut Reply)
     *reply = Reply::Done;
 }
 
-// One step on the present world itself, which no refusal leaves half done.
+// One step on the present world itself. A refusal leaves the world unchanged.
 fn in_place(
     alloc: Global,
     world: &mut World,

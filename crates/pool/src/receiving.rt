@@ -14,7 +14,7 @@ use std::alloc::Global;
 use steps::{Intake, Present, intake_of, recount};
 
 impl Keep {
-    /// Receives a stream. At `Err` the world is as it was. It costs what `steps::intake_of` does, and what `blocks_in` does for the new blocks.
+    /// Receives a stream. At `Err` the world is unchanged. It costs what `steps::intake_of` does, and what `blocks_in` does for the new blocks.
     pub(crate) fn receive(
         &self,
         alloc: Global,

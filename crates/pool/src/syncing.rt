@@ -1,4 +1,4 @@
-//! Syncs, slices, and the way back to the last synced world.
+//! Syncs, slices, and abandons, which go back to the last synced world.
 ghost use Rattle.std.specs.Prelude.{◌≡◌, OnErr};
 ghost use Rattle.model.specs.declared.request.Request.{Request};
 ghost use Rattle.pool.specs.Pools.{state_in, IsHeld};
@@ -16,8 +16,9 @@ use std::alloc::Global;
 use steps::renew;
 
 impl Keep {
-    /// Closes the open group: a copy of the world in its next group is to be the last synced one. NoMemory where there is none for it, and the
-    /// world is as it was at each `Err`. It costs what `World::copy` does, and the number of open views.
+    /// Closes the open group: a copy of the world, in the next group, becomes the last synced one when the effect is settled. TooMany where the
+    /// open group is `LAST_GROUP`, else NoMemory where the copy can't be allocated. At `Err` the world is unchanged. It costs what `World::copy`
+    /// does, and the number of open views.
     pub(crate) fn sync(&self, alloc: Global, world: &mut World) -> Performed<'static>
         requires { IsHeld self.now world.old }
         ensures performed { IsPerformed (state_in self.now world.old) self.now.numbers.present world.new Request.Sync result }
@@ -34,9 +35,9 @@ impl Keep {
         Ok(Effect::Synced(kept, viewed))
     }
 
-    /// Puts the last synced datasets in the place of those of this world, with what was to be freed then, and lets the snapshots go that only
-    /// a view had kept. Busy where a view is open. At `Err` the world is as it was. It costs what `WorkingCopy::of` does, the number of file systems
-    /// times its logarithm where one has a limit, and for each snapshot that a view showed at the last sync what `WorkingCopy::sweep` does.
+    /// Replaces the datasets of this world, and the blocks to be freed, by those of the last sync, and removes the snapshots that only a view had
+    /// kept. Busy where a view is open. At `Err` the world is unchanged. It costs what `WorkingCopy::of` does, the number of file systems times
+    /// its logarithm where one has a limit, and for each snapshot that a view showed at the last sync what `WorkingCopy::sweep` does.
     pub(crate) fn abandon(
         &self,
         alloc: Global,
@@ -59,7 +60,7 @@ impl Keep {
         Ok(Effect::Abandoned)
     }
 
-    /// Takes so many blocks out of those that are to be freed. At `Err` the world is as it was. It costs what `Freeing::slice` does.
+    /// Takes up to `count` blocks out of the blocks to be freed. At `Err` the world is unchanged. It costs what `Freeing::slice` does.
     pub(crate) fn slice(
         &self,
         world: &mut World,

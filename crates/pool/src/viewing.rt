@@ -30,9 +30,9 @@ use std::sync::Arc;
 use steps::{Ledger, recount, sources_of};
 
 impl Keep {
-    /// The snapshot that the next view shows, where it is opened of this name, and what it shows. NotSnapshot where the name isn't one of a
-    /// snapshot, else NoDataset where there is no such snapshot, else Deferred where its destroy is deferred, else TooMany where no more
-    /// views can be opened; else NoMemory where there is none for it. It costs what `sources::sources_of` does.
+    /// The snapshot that a new view of this name shows, and what the view shows of it. NotSnapshot where the name isn't that of a snapshot, else
+    /// NoDataset where there is no such snapshot, else Deferred where its destroy is deferred, else TooMany where no more views can be opened,
+    /// else NoMemory where what it shows can't be allocated. It costs what `sources::sources_of` does.
     pub(crate) fn next_view_of(
         &self,
         alloc: Global,
@@ -64,8 +64,8 @@ impl Keep {
         ))
     }
 
-    /// Closes the view of this number, and what was kept for it alone goes. NoView where no open view has the number. At `Err` the world is as
-    /// it was. It costs the number of open views and what `removals::close_view` does.
+    /// Closes the view with this number, and removes what was kept for this view alone. NoView where no open view has the number. At `Err` the
+    /// world is unchanged. It costs the number of open views and what `removals::close_view` does.
     pub(crate) fn close(
         &self,
         alloc: Global,
@@ -94,8 +94,8 @@ impl Keep {
     }
 }
 
-// The ledger becomes that of these datasets, to which the end of a view has led, with which a snapshot went from the file system of this name,
-// or none did. It takes no memory, and costs what `recount` does where one went.
+// Updates the ledger after a view was closed, to that of these datasets. `gone` names the file system that lost a snapshot by this, if one did.
+// It allocates nothing, and costs what `recount` does where a snapshot went.
 fn follow_close(ledger: &mut Option<Ledger>, table: &Table, gone: &Option<DsName>)
     requires some { (name : List ℕ) → gone.now ≡ Some name → (old : Datasets) × CanRecount old table.now name ledger.old }
     requires none { gone.now ≡ None → IsAccounted table.now ledger.old }

@@ -13,15 +13,15 @@ use destroyer::Freeing;
 use std::alloc::Global;
 use steps::Ledger;
 
-/// What a pool keeps of one world: its datasets, what is to be freed, and the ledger of its file systems, or none, where none of these has a
-/// limit.
+/// What a pool keeps of one world: its datasets, the blocks to be freed, and the ledger of its file systems. The ledger is None where no file
+/// system has a limit.
 pub(crate) struct World {
     pub(crate) table: Table,
     pub(crate) freeing: Freeing,
     pub(crate) ledger: Option<Ledger>,
 }
 
-// By hand, so that it is proved once: a derived one is laid out anew in each crate that drops the type.
+// Written by hand, so that it is proved once: a derived `Drop` is expanded again in each crate that drops the type.
 impl Drop for World {
     fn drop(self) {
         let World {
@@ -36,7 +36,7 @@ impl Drop for World {
 }
 
 impl World {
-    /// The root file system alone, empty, in group 1. NoMemory where there is none for it.
+    /// A world with the root file system alone, empty, in group 1. NoMemory where it can't be allocated.
     pub(crate) fn new(alloc: Global) -> Result<World, Refusal>
         ensures ok { IfOk result (λ w. w ≡ record { table = record { file_systems = insert finmap.empty root_name empty_file_system; group = 1 }; freeing = set.empty; ledger = None }) }
         ensures err { IfErr result (λ e. e ≡ Refusal.NoMemory) }
@@ -50,8 +50,8 @@ impl World {
         })
     }
 
-    /// An equal world, by one more owner of each file system and of each chunk of what is to be freed. NoMemory where there is none for it. It
-    /// costs the number of file systems, and those chunks.
+    /// An equal world, which shares each file system and each chunk of the blocks to be freed by one more reference. NoMemory where the copy
+    /// can't be allocated. It costs the number of file systems, and those chunks.
     pub(crate) fn copy(&self) -> Result<World, Refusal>
         ensures ok { IfOk result (λ w. w ≡ self.now) }
         ensures err { IfErr result (λ e. e ≡ Refusal.NoMemory) }
@@ -67,7 +67,7 @@ impl World {
     }
 }
 
-/// A copy of the ledger, where there is one. NoMemory where there is none for it. It costs the number of file systems.
+/// A copy of the ledger, where there is one. NoMemory where it can't be allocated. It costs the number of file systems.
 pub(crate) fn copy_of(ledger: &Option<Ledger>) -> Result<Option<Ledger>, Refusal>
     ensures ok { IfOk result (λ l. l ≡ ledger.now) }
     ensures err { IfErr result (λ e. e ≡ Refusal.NoMemory) }

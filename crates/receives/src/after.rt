@@ -1,4 +1,4 @@
-//! What a receive ends with.
+//! The end of a receive: the records are applied and kept as a snapshot.
 ghost use Rattle.std.specs.Prelude.{◌≡◌, ◌≤◌, ℕ, IfOk, IfErr, OnOk, Err};
 ghost use Rattle.base.specs.declared.number.Key.{Key};
 ghost use Rattle.base.specs.declared.refusal.Refusal.{Refusal};
@@ -19,12 +19,12 @@ use std::alloc::Global;
 use tree::{Changed, Update};
 use zalloc::Allocator;
 
-/// Puts the batch of a stream in force in the live tree of the file system that a receive began with, where the last sync left group `synced`
-/// open, and keeps the live map as the snapshot of this name with the sender's guid, which closes the open group (zfs-receive(8); that the guid
-/// is the sender's, and groups, are profile). The answer names the numbers that the new blocks have, and takes none; of the blocks that the
-/// tree drops it names those that no snapshot has. NoSpace where the Free numbers and those of the dropped young blocks are too few, else
-/// NoMemory where there is none for it, or the snapshots would have more blocks than a u64 counts; then the table is of no use. It costs the
-/// logarithm of the number of file systems, and the change; and where another table shares the snapshots of this one, a 1,024th of their number.
+/// Applies the updates of a stream to the live tree of the file system that a receive began with, and keeps the live map as the snapshot of this
+/// name with the sender's guid, which closes the open group (zfs-receive(8); that the guid is the sender's, and groups, are profile). `synced`
+/// is the group that the last sync opened. The answer names the numbers of the new blocks, which aren't taken from the allocator yet, and those
+/// of the blocks dropped by the tree that no snapshot has. NoSpace where the Free numbers and those of the dropped young blocks are too few,
+/// else NoMemory where memory is refused, or where the snapshots would have more blocks than a u64 counts. On error, discard the table. It costs
+/// the logarithm of the number of file systems, and the change; where another table shares this one's snapshots, also a 1,024th of their number.
 pub fn finish(
     alloc: Global,
     table: &mut Table,

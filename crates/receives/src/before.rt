@@ -1,4 +1,4 @@
-//! What a receive begins with.
+//! The datasets that a receive begins with.
 ghost use Rattle.std.specs.Prelude.{◌≡◌, ◌⊎◌, Some, None, IfSome, IfOk, IfErr, OnOk};
 ghost use Rattle.std.specs.Option.{option_copied};
 ghost use Rattle.base.specs.declared.refusal.Refusal.{Refusal};
@@ -21,15 +21,16 @@ use removals::{WorkingCopy, remove_newer_bookmarks};
 use std::alloc::Global;
 use stream::Stream;
 
-/// What a receive of this stream as a snapshot of this name begins with: for a full stream the datasets with a new file system, and else
-/// those that are there, with `force` the file system back at its newest snapshot, and what it loses with that to be freed; newer bookmarks
-/// go then. The table and what it has to free stay as they are. Refused are, for a full stream, Exists where the file system is there, else
-/// NoParent where its parent isn't, else TooMany where there are 1,024 file systems; and for an incremental one NoDataset where the file
-/// system isn't there, else Exists where the snapshot is, else WrongSource where the newest snapshot isn't the stream's source, else Modified
-/// where the live map isn't that snapshot's and not `force`; for both else TooMany where there are 65,536 snapshots or the open group is the
-/// last one; else NoMemory where there is none for it, or as `Table::rollback` says (zfs-receive(8), -F; the order and numbers are profile). It
-/// costs the number of file systems, the chunks of pieces that are to be freed, the logarithm of the number of the file system's snapshots,
-/// and with `force` the number of them with the segments of their dead lists, and that of its bookmarks. No block is visited.
+/// The datasets that a receive of this stream as a snapshot of this name begins with. For a full stream they have a new file system. For an
+/// incremental one they are as they stand, or with `force` have the file system rolled back to its newest snapshot: the blocks that are lost are
+/// to be freed, and newer bookmarks are destroyed. The table and what it has to free stay as they are. Refused are, for a full stream, Exists
+/// where the file system is there, else NoParent where its parent isn't, else TooMany where there are 1,024 file systems; and for an incremental
+/// one NoDataset where the file system isn't there, else Exists where the snapshot is, else WrongSource where the newest snapshot isn't the
+/// stream's source, else Modified where the live map isn't that snapshot's and `force` isn't set; else for both TooMany where there are 65,536
+/// snapshots or the open group is the last one; else NoMemory where memory is refused, or as `Table::rollback` says (zfs-receive(8), -F; the
+/// order and numbers are profile). It costs the number of file systems, the chunks of pieces that are to be freed, the logarithm of the number
+/// of the file system's snapshots, and with `force` the number of them with the segments of their dead lists, and that of its bookmarks. No
+/// block is visited.
 pub fn begin(
     alloc: Global,
     table: &Table,
@@ -54,7 +55,8 @@ pub fn begin(
     start(alloc, table, freeing, name, stream, force, segments)
 }
 
-// The same where nothing refuses it. NoMemory where there is none for it, or as `Table::rollback` says. It costs what `begin` does.
+// Does what `begin` does, after its refusals were checked. NoMemory where memory is refused, or as `Table::rollback` says. It costs what `begin`
+// does.
 fn start(
     alloc: Global,
     table: &Table,
@@ -79,8 +81,8 @@ fn start(
     WorkingCopy::of(table, freeing)
 }
 
-// The datasets with a new file system of this name, which nothing refuses. NoMemory where there is none for it. It costs the number of file
-// systems, the length of the name and the chunks of pieces that are to be freed.
+// The datasets with a new file system of this name. The refusals of its creation were checked before. NoMemory where memory is refused. It costs
+// the number of file systems, the length of the name and the chunks of pieces that are to be freed.
 fn with_new(table: &Table, freeing: &Freeing, name: &DsName) -> Result<WorkingCopy, Refusal>
     requires apart { AreDisjoint (union_of (world_of table.now)) freeing.now }
     requires can { create_refusal table.now.file_systems name.now ≡ None }
@@ -93,7 +95,7 @@ fn with_new(table: &Table, freeing: &Freeing, name: &DsName) -> Result<WorkingCo
     Ok(edit)
 }
 
-// The datasets with this file system back at its newest snapshot, and the same where it has none. NoMemory where there is none for it, or as
+// The datasets with this file system rolled back to its newest snapshot, or unchanged where it has none. NoMemory where memory is refused, or as
 // `Table::rollback` says. It costs what `begin` does.
 fn forced_back(
     alloc: Global,

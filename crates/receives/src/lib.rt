@@ -1,7 +1,7 @@
 //! The datasets before, in and after a receive.
 //!
-//! A receive begins with the file system that is there, or with a new one for a full stream; its records are one batch of changes of the
-//! live map, which is then kept as a snapshot with the sender's guid (zfs-receive(8)).
+//! A receive begins with the file system that is there, or with a new one for a full stream. Its records are one batch of changes of the live
+//! map. The live map is then kept as a snapshot with the sender's guid (zfs-receive(8)).
 #![tactic(auto)]
 
 mod after;

@@ -1,4 +1,4 @@
-//! Why a receive is refused.
+//! The refusals of a receive.
 ghost use Rattle.std.specs.Prelude.{◌≡◌, Some, None, not};
 ghost use Rattle.std.specs.FinMap.{get};
 ghost use Rattle.std.specs.List.{last_or};
@@ -14,8 +14,8 @@ use base::refusal::Refusal;
 use datasets::{FileSystem, LAST_GROUP, SNAPSHOT_LIMIT, Snapshot, Table};
 use stream::Stream;
 
-/// Why a receive of this stream as a snapshot of this name is refused, if it is, whatever the limits (zfs-receive(8)). It costs what
-/// `incremental_refusal` does.
+/// The refusal of a receive of this stream as a snapshot of this name, if any, without the limits of file systems (zfs-receive(8)). It costs
+/// what `incremental_refusal` does.
 pub(crate) fn receive_refusal(
     table: &Table,
     name: &Member,
@@ -30,9 +30,9 @@ pub(crate) fn receive_refusal(
     }
 }
 
-// Why a full stream is refused, if it is: Exists where there is a file system of this name, else NoParent where its parent isn't there,
-// else TooMany where there are 1,024 file systems, or as `has_no_room` says (zfs-receive(8); numbers are profile). It costs the logarithm of
-// the number of file systems.
+// The refusal of a full stream, if any: Exists where there is a file system of this name, else NoParent where its parent isn't there, else
+// TooMany where there are 1,024 file systems, or as `has_no_room` says (zfs-receive(8); numbers are profile). It costs the logarithm of the
+// number of file systems.
 fn full_refusal(table: &Table, name: &Member) -> Option<Refusal>
     ensures { result ≡ first_of (full_row (world_of table.now) name.now) }
 {
@@ -45,10 +45,10 @@ fn full_refusal(table: &Table, name: &Member) -> Option<Refusal>
     None
 }
 
-// Why an incremental stream from this source is refused, if it is: NoDataset where there is no file system of this name, else Exists where
-// it has a snapshot of this name, else WrongSource where its newest snapshot hasn't that guid, else Modified where its live map isn't that
-// snapshot's and not `force`, else TooMany as `has_no_room` says (zfs-receive(8), -F; the order and numbers are profile). It costs the
-// logarithms of the numbers of file systems and of the snapshots of this one; no block is visited.
+// The refusal of an incremental stream from this source, if any: NoDataset where there is no file system of this name, else Exists where it has
+// a snapshot of this name, else WrongSource where it has no snapshot or the newest one hasn't that guid, else Modified where its live map isn't
+// that snapshot's and `force` isn't set, else TooMany as `has_no_room` says (zfs-receive(8), -F; the order and numbers are profile). It costs
+// the logarithms of the numbers of file systems and of the snapshots of this one; no block is visited.
 fn incremental_refusal(table: &Table, name: &Member, source: Guid, force: bool) -> Option<Refusal>
     ensures { result ≡ first_of (incremental_row (world_of table.now) name.now source.0 force) }
 {
@@ -58,7 +58,7 @@ fn incremental_refusal(table: &Table, name: &Member, source: Guid, force: bool) 
     refusal_at(table, file_system, &name.component, source, force)
 }
 
-// The same of this file system of the table.
+// The refusal of an incremental stream into this file system of the table, if any, as `incremental_refusal` says.
 fn refusal_at(
     table: &Table,
     file_system: &FileSystem,
@@ -97,8 +97,9 @@ pub(crate) fn newest_of(file_system: &FileSystem) -> Option<&Snapshot>
     }
 }
 
-// Whether the live map of this file system of the table isn't that of its newest snapshot (zfs-receive(8)): they are the same where the one
-// has no block that the other lacks, and as many, since a number names one block. Constant time: no block is visited.
+// Whether the live map of this file system of the table differs from that of its newest snapshot (zfs-receive(8)). The two are the same where
+// the live map has no block that the snapshot lacks and both have as many blocks, since a number names one block. Constant time: no block is
+// visited.
 fn is_modified(table: &Table, file_system: &FileSystem, newest: &Snapshot) -> bool
     requires there { get table.now.file_systems file_system.now.name ≡ Some file_system.now.system }
     requires newest { last_or None file_system.now.system.snaps ≡ Some newest.now }
@@ -109,7 +110,7 @@ fn is_modified(table: &Table, file_system: &FileSystem, newest: &Snapshot) -> bo
     file_system.written() > 0 || live.node_count() != kept.node_count()
 }
 
-// Whether one snapshot more would be too many, or its group couldn't be closed (profile). Constant time.
+// Whether there is no room for one more snapshot: there would be too many, or its group couldn't be closed (profile). Constant time.
 fn has_no_room(table: &Table) -> bool
     ensures { result ≡ has_no_room (world_of table.now) }
 {

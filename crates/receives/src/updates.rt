@@ -26,7 +26,7 @@ fn update_of(record: &Record) -> Update<'_>
 }
 
 /// The records of a stream, which are in order and don't overlap, as one batch of updates of a live tree (zfs-receive(8)). A write lends the
-/// record's bytes, so each update takes a few words. NoMemory where there is none for them. It costs their number.
+/// record's bytes, so each update takes a few words. NoMemory where memory is refused. It costs their number.
 pub fn updates_of(alloc: Global, records: &[Record]) -> Result<Vec<Update<'_>>, Refusal>
     requires each { All IsRecord records.now }
     requires apart { AreApartFrom 0 records.now }

@@ -1,4 +1,4 @@
-//! Bookmarks that go.
+//! The removal of bookmarks.
 ghost use Rattle.std.specs.Prelude.{◌≡◌, ◌⊎◌, ◌↔◌, Some, None, IfOk, IfErr, OnOk, OnErr};
 ghost use Rattle.std.specs.Arc.{arc_value};
 ghost use Rattle.std.specs.Option.{option_map};
@@ -17,8 +17,8 @@ use snapshots::bookmarks::Bookmarks;
 use std::alloc::Global;
 use std::sync::Arc;
 
-// The bookmarks of its file system without the one of this name. NoDataset exactly where there is no such bookmark; else NoMemory where
-// there is none for them. It costs the logarithm of the number of file systems and the number of the file system's bookmarks.
+// The bookmarks of a file system without the one of this name. NoDataset exactly where there is no such bookmark; else NoMemory where memory is
+// refused. It costs the logarithm of the number of file systems and the number of the file system's bookmarks.
 fn others(alloc: Global, table: &Table, name: &Member) -> Result<Arc<Bookmarks>, Refusal>
     ensures ok { IfOk result (λ b. option_map (λ f. remove f.bookmarks name.now.component) (get table.now.file_systems name.now.file_system) ≡ Some (arc_value b)) }
     ensures no_dataset { (result ≡ Err Refusal.NoDataset) ↔ (bookmark_named (world_of table.now) name.now ≡ None) }
@@ -36,9 +36,9 @@ fn others(alloc: Global, table: &Table, name: &Member) -> Result<Arc<Bookmarks>,
     Ok(Arc::new(alloc, left)?)
 }
 
-/// Takes out the bookmark of this name (zfs-destroy(8)), and no block with it. NoDataset exactly where there is none; else NoMemory where
-/// there is none for it. At `Err` the table is as it was. It costs the logarithm of the number of file systems and the number of the file
-/// system's bookmarks.
+/// Removes the bookmark of this name (zfs-destroy(8)); no block is freed. NoDataset exactly where there is no such bookmark; else NoMemory where
+/// memory is refused. At `Err` the table is as it was. It costs the logarithm of the number of file systems and the number of the file system's
+/// bookmarks.
 pub(crate) fn remove_bookmark(
     alloc: Global,
     table: &mut Table,
@@ -55,9 +55,9 @@ pub(crate) fn remove_bookmark(
     table.set_bookmarks(alloc, &name.file_system, left)
 }
 
-/// Takes the bookmarks of later groups than this one from the file system of this name, where it is there (zfs-rollback(8), -r), and no
-/// block with them. NoMemory where there is none for it, and then the table is of no use. It costs the logarithm of the number of file
-/// systems and the number of the file system's bookmarks.
+/// Removes the bookmarks of groups later than this one from the file system of this name, if there is one (zfs-rollback(8), -r); no block is
+/// freed. NoMemory where memory is refused; on error, discard the table. It costs the logarithm of the number of file systems and the number of
+/// the file system's bookmarks.
 pub fn remove_newer_bookmarks(
     alloc: Global,
     table: &mut Table,

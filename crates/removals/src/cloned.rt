@@ -14,8 +14,8 @@ use datasets::{CloneName, FileSystem, Snapshot, Table};
 use snap::is_in_family;
 use std::sync::Arc;
 
-/// Whether a snapshot of this file system of a later group has a clone in the table. It costs the number of its snapshots, and for each
-/// that is later the logarithm of the number of clones.
+/// Whether one of this file system's snapshots of later groups has a clone in the table. It costs the number of its snapshots, and for each
+/// later one the logarithm of the number of clones.
 pub(crate) fn any_later_has_clone(table: &Table, file_system: &FileSystem, group: Group) -> bool
     ensures { result ≡ list_any (has_clone_and_is_later table.now group.0) file_system.now.system.snaps }
 {
@@ -27,29 +27,29 @@ pub(crate) fn any_later_has_clone(table: &Table, file_system: &FileSystem, group
     false
 }
 
-// Whether this clone isn't of the family of that name.
+// Whether this clone is outside the family of that name: neither the file system of that name nor a descendant.
 fn is_outside(clone: &CloneName, name: &DsName) -> bool
     ensures { result ≡ not (is_in_family name.now (name_of clone.now)) }
 {
     !is_in_family(name.as_bytes(), clone.name().as_bytes())
 }
 
-// Whether one of these isn't.
+// Whether one of these clones is outside the family of that name.
 fn any_outside(clones: &[CloneName], name: &DsName) -> bool
     ensures { result ≡ list_any (λ c. not (is_in_family name.now (name_of c))) clones.now }
 {
     clones.iter().any(|clone| is_outside(clone, name))
 }
 
-// Whether this snapshot has a clone that isn't of the family of that name. It costs the logarithm of the number of clones, and the number
-// of the snapshot's own.
+// Whether this snapshot has a clone outside the family of that name. It costs the logarithm of the number of all clones, and the number of the
+// snapshot's clones.
 fn is_cloned_outside(table: &Table, name: &DsName, snapshot: &Snapshot) -> bool
     ensures { result ≡ is_cloned_outside table.now name.now snapshot.now }
 {
     any_outside(table.clones_of(snapshot.id()), name)
 }
 
-// Whether that holds of a snapshot of this file system. It costs what `is_cloned_outside` does for each.
+// Whether a snapshot of this file system has a clone outside the family of that name. It costs what `is_cloned_outside` does for each.
 fn any_has_clone_outside(table: &Table, name: &DsName, file_system: &FileSystem) -> bool
     ensures { result ≡ list_any (is_cloned_outside table.now name.now) file_system.now.system.snaps }
 {
@@ -61,7 +61,7 @@ fn any_has_clone_outside(table: &Table, name: &DsName, file_system: &FileSystem)
     false
 }
 
-// Whether it is the file system of that name or a descendant, and a snapshot of it has a clone that isn't one of these.
+// Whether this file system is of the family of that name, and a snapshot of it has a clone outside the family.
 fn is_cloned_within(table: &Table, name: &DsName, file_system: &FileSystem) -> bool
     ensures { result ≡ (is_in_family name.now file_system.now.name && list_any (is_cloned_outside table.now name.now) file_system.now.system.snaps) }
 {
@@ -69,7 +69,7 @@ fn is_cloned_within(table: &Table, name: &DsName, file_system: &FileSystem) -> b
         && any_has_clone_outside(table, name, file_system)
 }
 
-// Whether that holds of one of these file systems.
+// Whether one of these file systems is of the family of that name, and a snapshot of it has a clone outside the family.
 fn any_cloned_within(file_systems: &[Arc<FileSystem>], table: &Table, name: &DsName) -> bool
     ensures { result ≡ list_any (λ a. is_in_family name.now (entry_in a).0 && list_any (is_cloned_outside table.now name.now) (entry_in a).1.snaps) file_systems.now }
 {
@@ -78,8 +78,8 @@ fn any_cloned_within(file_systems: &[Arc<FileSystem>], table: &Table, name: &DsN
         .any(|file_system| is_cloned_within(table, name, file_system))
 }
 
-/// Whether a snapshot of the file system of this name or of a descendant has a clone that isn't one of these. It costs the number of file
-/// systems, and for each snapshot of these the logarithm of the number of clones, and the number of its own.
+/// Whether a snapshot of the file system of this name or of a descendant has a clone that is neither. It costs the number of file systems, and
+/// for each snapshot of the family the logarithm of the number of all clones, and the number of the snapshot's clones.
 pub(crate) fn family_has_clone_outside(table: &Table, name: &DsName) -> bool
     ensures { result ≡ list_any (is_outside_clone table.now name.now) (entries table.now.file_systems) }
 {

@@ -1,4 +1,4 @@
-//! What the close of a view lets go.
+//! The snapshot that is destroyed when a view is closed.
 ghost use Rattle.std.specs.Prelude.{◌≡◌, IfOk, IfErr, OnOk, OnErr};
 ghost use Rattle.std.specs.FinMap.{remove};
 ghost use Rattle.std.specs.Option.{option_map};
@@ -18,9 +18,9 @@ use destroyer::Freeing;
 use std::alloc::Global;
 use views::Views;
 
-// The snapshot that goes with the view of this number, with its file system: the one that it shows, where its destroy is deferred and no
-// tag, no other view and no clone needs it. It costs the number of open views, and the number of file systems times the logarithm of that
-// of the snapshots of one.
+// The snapshot to be destroyed once the view of this number is closed, with its file system: the one that the view shows, where its destroy is
+// deferred and no tag, no other view and no clone needs it. It costs the number of open views, and the number of file systems times the
+// logarithm of that of the snapshots of one.
 fn removed_with<'a>(
     table: &'a Table,
     views: &Views,
@@ -39,11 +39,11 @@ fn removed_with<'a>(
     Some((file_system, snapshot))
 }
 
-/// Lets the snapshot go that goes with the view of this number, once that is closed: the one that it shows, if its destroy is deferred and
-/// no tag, no other view and no clone needs it (zfs-destroy(8), -d); what no dataset has then is to be freed. Where none goes, all stays.
-/// The answer names the file system that it went from, or none. NoMemory where there is none for it, and then the table and what it has to free
-/// are as they were. It costs the number of open views and the number of file systems times the logarithm of that of the snapshots of one;
-/// and where a snapshot goes, what `WorkingCopy::of` and `WorkingCopy::remove_snapshot` do.
+/// Destroys the snapshot that the view of this number shows, as the view is closed, if its destroy is deferred and no tag, no other view and no
+/// clone needs it (zfs-destroy(8), -d). The blocks that no dataset has any more are to be freed. Otherwise nothing changes. The answer is the
+/// name of the file system whose snapshot was destroyed, or none. NoMemory where memory is refused; at `Err` the table and what it has to free
+/// are as they were. It costs the number of open views and the number of file systems times the logarithm of that of the snapshots of one; and
+/// where a snapshot is destroyed, what `WorkingCopy::of` and `WorkingCopy::remove_snapshot` do.
 pub fn close_view(
     alloc: Global,
     table: &mut Table,

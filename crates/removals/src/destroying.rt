@@ -1,4 +1,4 @@
-//! What a destroy takes away.
+//! Destroys of file systems, snapshots and bookmarks.
 ghost use Rattle.std.specs.Prelude.{◌≡◌, ◌⊎◌, ◌&&◌, not, true, false, Some, None, IfSome, IfErr, OnOk, OnErr};
 ghost use Rattle.base.specs.declared.refusal.Refusal.{Refusal};
 ghost use Rattle.base.specs.declared.name.target.Target.{Target};
@@ -40,15 +40,17 @@ fn has_deferred_origin(table: &Table, name: &DsName) -> bool
     }
 }
 
-// Whether nothing goes with the file system of this name. It costs what `has_deferred_origin` does.
+// Whether the file system of this name is destroyed alone: neither with its family nor with its origin. It costs what `has_deferred_origin`
+// does.
 fn is_removed_alone(table: &Table, name: &DsName, recursive: bool) -> bool
     ensures { result ≡ (not recursive && not (has_deferred_origin table.now name.now)) }
 {
     !recursive && !has_deferred_origin(table, name)
 }
 
-// Takes out this file system, or with `recursive` its family, which nothing refuses, and then the snapshots that nothing needs any more.
-// NoMemory where there is none for it, and then the table and what it has to free are as they were. It costs what `destroy` does.
+// Removes this file system, or with `recursive` its family, and then the snapshots whose destroy is deferred and that nothing needs any more.
+// The refusals were checked before. NoMemory where memory is refused; at `Err` the table and what it has to free are as they were. It costs what
+// `destroy` does.
 fn remove_and_sweep(
     alloc: Global,
     table: &mut Table,
@@ -76,8 +78,8 @@ fn remove_and_sweep(
     Ok(())
 }
 
-// Destroys the file system of this name, or with `recursive` its family: refused as `destroy` says. At `Err` the table and what it has to
-// free are as they were. It costs what `destroy` does.
+// Destroys the file system of this name, or with `recursive` its family. The refusals are those of `destroy`. At `Err` the table and what it has
+// to free are as they were. It costs what `destroy` does.
 fn destroy_file_systems(
     alloc: Global,
     table: &mut Table,
@@ -108,21 +110,23 @@ fn destroy_file_systems(
     remove_and_sweep(alloc, table, freeing, views, name, recursive, segments)
 }
 
-/// Destroys what this name is of (zfs-destroy(8)): what no dataset has any more is to be freed. With `recursive` a file system goes with
-/// its descendants and all their snapshots, or with a snapshot those of its name of each descendant of its file system. With `defer` a
-/// snapshot that a tag or one of these views keeps or that has a clone stays, and goes once nothing needs it: so with a clone goes its
-/// origin, where that waits for it alone. A bookmark goes alone, whatever `recursive` and `defer` are. Refused are NoDataset where nothing
-/// has the name; of a file system IsRoot for the root, else NotSnapshot with `defer`, else HasChildren where it has a child or a snapshot
-/// and not `recursive`; else Busy where a tag or one of these views keeps a snapshot that would go, else HasClones where such a one has a
-/// clone that wouldn't. NoMemory, where there is none for it, may come before the refusals of a snapshot. At `Err` the table and what it
-/// has to free are as they were.
+/// Destroys the file system, snapshot or bookmark of this name (zfs-destroy(8)). The blocks that no dataset has any more are to be freed. With
+/// `recursive` a file system is destroyed with its descendants and all their snapshots, and a snapshot with the snapshots of the same name of
+/// all descendants of its file system. With `defer` a snapshot stays while a tag or one of these views keeps it or it has a clone, and is
+/// destroyed once nothing needs it. So the destroy of a clone also destroys its origin, where that one's destroy is deferred and only the clone
+/// needed it. A bookmark is destroyed alone, whatever `recursive` and `defer` are. Refused are NoDataset where nothing has the name; of a file
+/// system IsRoot for the root, else NotSnapshot with `defer`, else HasChildren where it has a child or a snapshot and `recursive` isn't set;
+/// else Busy where a tag or one of these views keeps a snapshot that would be destroyed, else HasClones where such a snapshot has a clone that
+/// wouldn't be. NoMemory, where memory is refused, may come before the refusals of a snapshot. At `Err` the table and what it has to free are as
+/// they were.
 ///
-/// A file system without `recursive` goes in place, unless its origin's destroy is deferred. That costs the number of file systems, and for
-/// a clone also that number times the logarithm of the number of snapshots of one. A bookmark goes in place too, which costs the logarithm
-/// of the number of file systems and the number of the file system's bookmarks. Everything else goes from an edit: it costs the number n of
-/// file systems times its logarithm, the chunks of pieces that are to be freed, for each snapshot that goes what `WorkingCopy::remove_snapshot` does
-/// and the number of open views, for each clone that goes n times the logarithm of the number of snapshots of one, and with `recursive` for
-/// each snapshot of the family the logarithm of the number of clones and the number of its own.
+/// A file system without `recursive` is removed in place, unless its origin's destroy is deferred. That costs the number of file systems, and
+/// for a clone also that number times the logarithm of the number of snapshots of one. A bookmark is removed in place too, which costs the
+/// logarithm of the number of file systems and the number of the file system's bookmarks. Everything else is removed from an edit. For n file
+/// systems that costs n times the logarithm of n, the chunks of pieces that are to be freed, for each snapshot that is destroyed what
+/// `WorkingCopy::remove_snapshot` does and the number of open views, and for each clone that is destroyed n times the logarithm of the number of
+/// snapshots of one; with `recursive` also for each snapshot of the family the logarithm of the number of all clones and the number of its
+/// clones.
 pub fn destroy(
     alloc: Global,
     table: &mut Table,

@@ -1,4 +1,4 @@
-//! File systems that are emptied before they go.
+//! File systems that are emptied before they are removed.
 ghost use Rattle.std.specs.Prelude.{◌≡◌, [], false, Some, IsSome, IfOk, IfErr, OnOk, map};
 ghost use Rattle.std.specs.List.{filter, list_any};
 ghost use Rattle.std.specs.List.Sorted.{IsPermutation, IsNonDecreasingBy};
@@ -23,7 +23,7 @@ use datasets::{FileSystem, Table};
 use snap::is_in_family;
 use std::alloc::Global;
 
-// The creation group of its origin, and 0 where it has none. Constant time.
+// The creation group of a file system's origin, and 0 where it has none. Constant time.
 fn origin_group(file_system: &FileSystem) -> u64
     ensures { result ≡ origin_group file_system.now.system.origin }
 {
@@ -33,7 +33,7 @@ fn origin_group(file_system: &FileSystem) -> u64
     }
 }
 
-// The file systems of this family. NoMemory where there is none for them. It costs the number of file systems.
+// The file systems of this family. NoMemory where memory is refused. It costs the number of file systems.
 fn rows_of<'a>(
     alloc: Global,
     table: &'a Table,
@@ -52,8 +52,8 @@ fn rows_of<'a>(
     Ok(rows)
 }
 
-// The same in order of the groups of their origins. NoMemory where there is none for them. It costs the number of file systems, and for
-// n of them n times its logarithm.
+// The file systems of this family in order of the groups of their origins. NoMemory where memory is refused. It costs the number of file
+// systems, and for n of them n times its logarithm.
 fn rows_in_order<'a>(
     alloc: Global,
     table: &'a Table,
@@ -68,8 +68,8 @@ fn rows_in_order<'a>(
     Ok(rows)
 }
 
-// Empties this file system, which has no snapshot: what it has itself is to be freed, and it is no clone any more. NoMemory where there
-// is none for it, and then the edit is of no use. It costs the logarithm of the number of file systems.
+// Empties this file system, which has no snapshot: the blocks that it alone has are to be freed, and it is no longer a clone. NoMemory where
+// memory is refused; on error, discard the edit. It costs the logarithm of the number of file systems.
 fn vacate(edit: &mut WorkingCopy, alloc: Global, name: &DsName) -> Result<(), Refusal>
     requires apart { AreDisjoint (union_of (world_of edit.old.to)) edit.old.freeing }
     requires there { IsSome (get edit.old.to.file_systems name.now) }
@@ -84,8 +84,8 @@ fn vacate(edit: &mut WorkingCopy, alloc: Global, name: &DsName) -> Result<(), Re
         .add_tree(&lost.tree, lost.after, u64::from(lost.count))
 }
 
-// Empties this file system, which is as the edit has it, with its snapshots, none of which has a clone. NoMemory where there is none for
-// it, and then the edit is of no use. It costs what `WorkingCopy::remove_newer` does.
+// Removes the snapshots of this file system, and empties it. It is as the edit has it, and none of its snapshots has a clone. NoMemory where
+// memory is refused; on error, discard the edit. It costs what `WorkingCopy::remove_newer` does.
 fn empty_one(
     edit: &mut WorkingCopy,
     alloc: Global,
@@ -104,10 +104,10 @@ fn empty_one(
     vacate(edit, alloc, file_system.name())
 }
 
-/// Empties the file systems of this family: what they and their snapshots have alone is to be freed. Each clone of such a snapshot is of
-/// the family, and is emptied before it: the group of its origin is later than that of the file system that has the snapshot. NoMemory
-/// where there is none for it, and then the edit is of no use. It costs the number of file systems, for n of the family n times its
-/// logarithm, and for each what `WorkingCopy::remove_newer` does.
+/// Empties the file systems of this family with their snapshots: the blocks that only they have are to be freed. Each clone of such a snapshot
+/// is of the family, and is emptied before the file system that has the snapshot, since the clone's origin is of a later group than that file
+/// system's origin. NoMemory where memory is refused; on error, discard the edit. It costs the number of file systems, for n of the family n
+/// times its logarithm, and for each what `WorkingCopy::remove_newer` does.
 pub(crate) fn empty_family(
     edit: &mut WorkingCopy,
     alloc: Global,

@@ -1,4 +1,4 @@
-//! File systems that go, alone or with their descendants.
+//! The removal of file systems, alone or with their descendants.
 ghost use Rattle.std.specs.Prelude.{◌≡◌, ◌||◌, true, false, IfErr, OnOk, OnErr, length, nat_lt};
 ghost use Rattle.base.specs.declared.refusal.Refusal.{Refusal};
 ghost use Rattle.base.specs.declared.name.target.Target.{Target};
@@ -23,8 +23,8 @@ use snap::is_in_family;
 use std::alloc::Global;
 use views::Views;
 
-/// Takes out this file system, which has no snapshot and no child and isn't the root: its blocks are to be freed. NoMemory where there
-/// is none for it, and then the table and what it has to free are as they were. It costs the number of file systems.
+/// Removes this file system, which has no snapshot and no child and isn't the root. The blocks that no other dataset has are to be freed.
+/// NoMemory where memory is refused; at `Err` the table and what it has to free are as they were. It costs the number of file systems.
 pub(crate) fn remove_file_system(
     table: &mut Table,
     freeing: &mut Freeing,
@@ -45,9 +45,9 @@ pub(crate) fn remove_file_system(
     Ok(())
 }
 
-// Takes out the file systems of the family of this name, which isn't the root's, children before their parents: they are as the table has
-// them, without a snapshot. NoMemory where there is none for it, and then the edit is of no use. It costs the number of file systems, and
-// for each of the family once more.
+// Removes the file systems of the family of this name, which isn't the root's, children before their parents. The edit has them as the table
+// does, and none has a snapshot. NoMemory where memory is refused; on error, discard the edit. It costs the number of file systems, and that
+// number again for each of the family.
 fn remove_family(edit: &mut WorkingCopy, table: &Table, name: &DsName) -> Result<(), Refusal>
     requires apart { AreDisjoint (union_of (world_of edit.old.to)) edit.old.freeing }
     requires same { edit.old.to ≡ table.now }
@@ -69,8 +69,8 @@ fn remove_family(edit: &mut WorkingCopy, table: &Table, name: &DsName) -> Result
     Ok(())
 }
 
-// Takes out the file systems of the family of this name with their snapshots, of whose clones each is of the family. NoMemory where there
-// is none for it, and then the edit is of no use. It costs what `empty_family` and `remove_family` do.
+// Removes the file systems of the family of this name with their snapshots. Each clone of these snapshots is of the family. NoMemory where
+// memory is refused; on error, discard the edit. It costs what `empty_family` and `remove_family` do.
 fn empty_and_remove(
     edit: &mut WorkingCopy,
     alloc: Global,
@@ -87,14 +87,14 @@ fn empty_and_remove(
     ensures err { IfErr result (λ e. e ≡ Refusal.NoMemory) }
 {
     empty_family(edit, alloc, table, name, segments)?;
-    // Its rows are read while file systems go from the edit.
+    // A copy, since its rows are read while file systems are removed from the edit.
     let emptied = edit.to.copy()?;
     remove_family(edit, &emptied, name)
 }
 
-/// Takes out this file system, which has no snapshot and no child, or with `recursive` its family with their snapshots, of whose clones
-/// each is of the family; it isn't the root. NoMemory where there is none for it, and then the edit is of no use. It costs the number of
-/// file systems, and with `recursive` what `empty_family` and `remove_family` do.
+/// Removes this file system, which isn't the root. Without `recursive` it has no snapshot and no child. With `recursive` its family is removed
+/// with all snapshots, and each clone of these is of the family. NoMemory where memory is refused; on error, discard the edit. It costs the
+/// number of file systems, and with `recursive` what `empty_family` and `remove_family` do.
 pub(crate) fn remove_file_systems(
     edit: &mut WorkingCopy,
     alloc: Global,
@@ -118,15 +118,15 @@ pub(crate) fn remove_file_systems(
     remove_file_system(&mut edit.to, &mut edit.freeing, name)
 }
 
-// Whether a file system of this name has a child, or this one a snapshot. It costs the number of file systems.
+// Whether the file system of this name has a child, or a snapshot. It costs the number of file systems.
 fn has_parts(table: &Table, file_system: &FileSystem, name: &DsName) -> bool
     ensures { result ≡ (nat_lt 0 (length (children_of (world_of table.now) name.now)) || nat_lt 0 (length file_system.now.system.snaps)) }
 {
     table.has_child(name) || file_system.snapshots().len() > 0
 }
 
-// Why a family isn't destroyed, if it isn't: a tag or an open view keeps a snapshot of it, or a clone of one is outside. It costs what
-// `any_of_family_held` and `family_has_clone_outside` do.
+// The refusal of the destroy of a family, if any: Busy where a tag or an open view keeps a snapshot of it, else HasClones where one has a clone
+// outside the family. It costs what `any_of_family_held` and `family_has_clone_outside` do.
 fn family_refusal(table: &Table, views: &Views, name: &DsName) -> Option<Refusal>
     ensures { result ≡ family_refusal table.now views.now.opened name.now }
 {
@@ -139,7 +139,8 @@ fn family_refusal(table: &Table, views: &Views, name: &DsName) -> Option<Refusal
     None
 }
 
-/// Why a file system isn't destroyed, if it isn't. It costs the number of file systems, and with `recursive` what `family_refusal` does.
+/// The refusal of the destroy of a file system, if any, as `destroy` says. It costs the number of file systems, and with `recursive` what
+/// `family_refusal` does.
 pub(crate) fn refusal_of(
     table: &Table,
     views: &Views,

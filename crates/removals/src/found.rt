@@ -23,7 +23,7 @@ use std::marker::Model;
 use std::slice::from_ref;
 use views::Views;
 
-/// A snapshot that was found by its name, with the name of its file system: a request or a table lends both. Contracts see the two.
+/// A snapshot that was found by its name, with the name of its file system: a request or a table lends both. Contracts see the pair.
 #[derive(Drop)]
 pub(crate) struct Found<'a> {
     pub(crate) file_system: &'a DsName,
@@ -43,8 +43,8 @@ impl<'a> Model for Found<'a> {
     ghost view = { λ f. (f.file_system.now, f.snapshot.now) };
 }
 
-// The snapshots of these names that are there. NoMemory where there is none for them. It costs for each name the logarithm of the number of
-// file systems, and that of the number of snapshots of one.
+// The snapshots of these names that are there. NoMemory where memory is refused. It costs for each name the logarithm of the number of file
+// systems, and that of the number of snapshots of one.
 fn found_of<'a>(
     alloc: Global,
     table: &'a Table,
@@ -66,10 +66,9 @@ fn found_of<'a>(
     Ok(all)
 }
 
-/// The snapshot of this name, or with `recursive` those of that name of its file system and of each descendant, as far as they are there:
-/// each is of another file system.
-/// NoMemory where there is none for them. With `recursive` it costs the number of file systems; and for each name the logarithm of that, and
-/// that of the number of snapshots of one.
+/// The snapshot of this name, or with `recursive` the snapshots of that name of its file system and of each descendant, as far as there are any.
+/// No two are of the same file system. NoMemory where memory is refused. With `recursive` it costs the number of file systems; and for each name
+/// the logarithm of that, and that of the number of snapshots of one.
 pub(crate) fn find_all<'a>(
     alloc: Global,
     table: &'a Table,
@@ -85,23 +84,23 @@ pub(crate) fn find_all<'a>(
     found_of(alloc, table, &names)
 }
 
-// Whether a tag or an open view keeps one of these. It costs for each the number of open views.
+// Whether a tag or an open view keeps one of these snapshots. It costs for each the number of open views.
 fn any_held(views: &Views, all: &[Found]) -> bool
     ensures { result ≡ list_any (λ p. is_held views.now.opened p.1) all.now }
 {
     all.iter().any(|found| is_held(views, found.snapshot))
 }
 
-// Whether one of these has a clone. It costs for each the logarithm of the number of clones.
+// Whether one of these snapshots has a clone. It costs for each the logarithm of the number of clones.
 fn any_cloned(table: &Table, all: &[Found]) -> bool
     ensures { result ≡ list_any (λ p. has_clone table.now (id_of p.1)) all.now }
 {
     all.iter().any(|found| table.has_clone(found.snapshot.id()))
 }
 
-/// Why these snapshots of the table, which are those of a name, aren't destroyed, if they aren't (zfs-destroy(8)): NoDataset where there is
-/// none; else, where not `defer`, Busy where a tag or an open view keeps one of them, else HasClones where one of them has a clone. Where not
-/// `defer` it costs for each the number of open views and the logarithm of that of clones.
+/// The refusal of the destroy of these snapshots, if any (zfs-destroy(8)). They are all the snapshots of the table that a name stands for.
+/// NoDataset where there is none; else, without `defer`, Busy where a tag or an open view keeps one of them, else HasClones where one of them
+/// has a clone. Without `defer` it costs for each the number of open views and the logarithm of the number of clones.
 pub(crate) fn refusal_of(
     table: &Table,
     views: &Views,
@@ -124,8 +123,8 @@ pub(crate) fn refusal_of(
     None
 }
 
-/// Whether the snapshot waits for a tag, an open view or a clone, where its destroy is deferred. With `defer` it costs the number of open
-/// views and the logarithm of that of clones.
+/// Whether the destroy of the snapshot is to be deferred: `defer` is set, and a tag, an open view or a clone needs the snapshot. With `defer` it
+/// costs the number of open views and the logarithm of the number of clones.
 pub(crate) fn has_to_wait(table: &Table, views: &Views, snapshot: &Snapshot, defer: bool) -> bool
     ensures { result ≡ (defer && is_needed (world_of table.now) views.now.opened snapshot.now) }
 {

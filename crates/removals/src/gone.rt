@@ -1,4 +1,4 @@
-//! Snapshots that are destroyed.
+//! Destroys of snapshots.
 ghost use Rattle.std.specs.Prelude.{◌≡◌, ◌⊎◌, Some, None, IfSome, IfErr, OnOk, OnErr};
 ghost use Rattle.base.specs.declared.refusal.Refusal.{Refusal};
 ghost use Rattle.base.specs.declared.name.target.Target.{Target};
@@ -18,13 +18,13 @@ use destroyer::Freeing;
 use std::alloc::Global;
 use views::Views;
 
-/// Destroys the snapshot of this name, or with `recursive` those of that name of its file system and of each descendant; with `defer` those
-/// that a tag or one of these views keeps or that have a clone stay, and go once nothing needs them. The blocks that no dataset has then
-/// are to be freed. Refused are NoDataset where there is none of them; else, where not `defer`, Busy where a tag or one of these views
-/// keeps one of them, else HasClones where one of them has a clone; NoMemory, where there is none for it, may come before these
-/// (zfs-destroy(8)). At `Err` the table and what it has to free are as they were. It costs the number of file systems, the chunks of pieces
-/// that are to be freed, for each name the logarithms of the numbers of file systems and of snapshots, and for each snapshot that is there
-/// what `WorkingCopy::remove_snapshot` does and the number of open views.
+/// Destroys the snapshot of this name, or with `recursive` the snapshots of that name of its file system and of each descendant. With `defer` a
+/// snapshot stays while a tag or one of these views keeps it or it has a clone, and is destroyed once nothing needs it. The blocks that no
+/// dataset has any more are to be freed. Refused are NoDataset where there is no such snapshot; else, without `defer`, Busy where a tag or one
+/// of these views keeps one of them, else HasClones where one of them has a clone; NoMemory, where memory is refused, may come before these
+/// (zfs-destroy(8)). At `Err` the table and what it has to free are as they were. It costs the number of file systems, the chunks of pieces that
+/// are to be freed, for each name the logarithms of the numbers of file systems and of snapshots, and for each snapshot that is there what
+/// `WorkingCopy::remove_snapshot` does and the number of open views.
 pub(crate) fn destroy_snapshots(
     alloc: Global,
     table: &mut Table,
@@ -51,7 +51,7 @@ pub(crate) fn destroy_snapshots(
     }
     let mut edit = WorkingCopy::of(table, freeing)?;
     edit.remove_or_defer(alloc, table, views, &all, defer, segments)?;
-    // They are lent by the table.
+    // These borrow from the table, which changes next.
     drop(all);
     edit.put(table, freeing);
     Ok(())

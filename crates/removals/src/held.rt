@@ -1,4 +1,4 @@
-//! What tags and the open views of a pool keep.
+//! Snapshots that tags and the open views of a pool keep.
 ghost use Rattle.std.specs.Prelude.{◌≡◌, ◌&&◌};
 ghost use Rattle.std.specs.List.{list_any};
 ghost use Rattle.std.specs.FinMap.{entries};
@@ -13,15 +13,15 @@ use snap::is_in_family;
 use std::sync::Arc;
 use views::Views;
 
-/// Whether a tag or an open view keeps it. It costs the number of open views.
+/// Whether a tag or an open view keeps this snapshot. It costs the number of open views.
 pub(crate) fn is_held(views: &Views, snapshot: &Snapshot) -> bool
     ensures { result ≡ is_held views.now.opened snapshot.now }
 {
     snapshot.is_held() || views.is_viewed(snapshot.id())
 }
 
-/// Whether a tag or an open view keeps a snapshot of this file system of a later group. It costs the number of its snapshots, and for each
-/// that is later that of the open views.
+/// Whether a tag or an open view keeps one of this file system's snapshots of later groups. It costs the number of its snapshots, and for each
+/// later one the number of open views.
 pub(crate) fn any_later_held(file_system: &FileSystem, group: Group, views: &Views) -> bool
     ensures { result ≡ list_any (is_held_after views.now.opened group.0) file_system.now.system.snaps }
 {
@@ -33,7 +33,7 @@ pub(crate) fn any_later_held(file_system: &FileSystem, group: Group, views: &Vie
     false
 }
 
-// Whether it is the file system of that name or a descendant, and a tag or an open view keeps a snapshot of it.
+// Whether this file system is of the family of that name, and a tag or an open view keeps a snapshot of it.
 fn is_held_within(file_system: &FileSystem, name: &DsName, views: &Views) -> bool
     ensures { result ≡ (is_in_family name.now file_system.now.name && list_any (is_held_after views.now.opened 0) file_system.now.system.snaps) }
 {
@@ -41,7 +41,7 @@ fn is_held_within(file_system: &FileSystem, name: &DsName, views: &Views) -> boo
         && any_later_held(file_system, Group(0), views)
 }
 
-// Whether that holds of one of these file systems.
+// Whether one of these file systems is of the family of that name, and a tag or an open view keeps a snapshot of it.
 fn any_held_within(file_systems: &[Arc<FileSystem>], name: &DsName, views: &Views) -> bool
     ensures { result ≡ list_any (λ a. is_in_family name.now (entry_in a).0 && list_any (is_held_after views.now.opened 0) (entry_in a).1.snaps) file_systems.now }
 {
@@ -50,8 +50,8 @@ fn any_held_within(file_systems: &[Arc<FileSystem>], name: &DsName, views: &View
         .any(|file_system| is_held_within(file_system, name, views))
 }
 
-/// Whether a tag or an open view keeps a snapshot of the file system of this name or of a descendant. It costs the number of file systems,
-/// that of the snapshots of those, and for each of these that of the open views.
+/// Whether a tag or an open view keeps a snapshot of the file system of this name or of a descendant. It costs the number of file systems, and
+/// for each snapshot of the family the number of open views.
 pub(crate) fn any_of_family_held(table: &Table, views: &Views, name: &DsName) -> bool
     ensures { result ≡ list_any (λ r. is_in_family name.now r.0 && list_any (is_held_after views.now.opened 0) r.1.snaps) (entries table.now.file_systems) }
 {

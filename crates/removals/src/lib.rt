@@ -1,9 +1,8 @@
-//! What goes from the datasets of a pool, and what is to be freed then.
+//! Removals from the datasets of a pool: destroys and rollbacks, and what is to be freed after them.
 //!
 //! Each removal changes the table and what it has to free, and at `Err` both are as they were (zfs-destroy(8), zfs-rollback(8);
-//! zpool-features(7): async_destroy). The destroy of one file system whose origin stays, and that of a bookmark, work on the table itself:
-//! what can fail comes before the first change. Every other removal works on an edit, a copy of both, which is put in their place once it
-//! is done.
+//! zpool-features(7): async_destroy). The destroy of one file system whose origin stays, and that of a bookmark, change the table in place: all
+//! that can fail comes before the first change. Every other removal works on an edit, which is a copy of both and replaces them at the end.
 #![tactic(auto)]
 
 mod bookmark;

@@ -1,4 +1,4 @@
-//! A file system back at one of its snapshots.
+//! The rollback of a file system to one of its snapshots.
 ghost use Rattle.std.specs.Prelude.{◌≡◌, ◌⊎◌, ◌||◌, false, Some, None, IfSome, IfErr, OnOk, OnErr, nat_lt};
 ghost use Rattle.std.specs.Option.{option_map};
 ghost use Rattle.std.specs.List.{find, list_any};
@@ -30,13 +30,13 @@ use destroyer::Freeing;
 use std::alloc::Global;
 use views::Views;
 
-/// Puts a file system back at a snapshot of it: its live map is the snapshot's again, and newer snapshots and bookmarks go; what is lost
-/// with that is to be freed (zfs-rollback(8)). Refused are NotSnapshot where the name isn't one of a snapshot, else NoDataset where there
-/// is no such snapshot, else NotNewest where there is a newer snapshot or bookmark and not `later`, else Busy where a tag or one of these
-/// views keeps a newer snapshot, else HasClones where a newer one has a clone; else NoMemory where there is none for it, or as
-/// `Table::rollback` says. At `Err` the table and what it has to free are as they were. It costs the number of file systems, the chunks of
-/// pieces that are to be freed, the number of the file system's snapshots with the segments of their dead lists, that of its bookmarks, and
-/// for each newer snapshot what its destroy does and the number of open views.
+/// Rolls a file system back to one of its snapshots: its live map is the snapshot's again, and newer snapshots and bookmarks are destroyed. The
+/// blocks that no dataset has any more are to be freed (zfs-rollback(8)). Refused are NotSnapshot where the name isn't one of a snapshot, else
+/// NoDataset where there is no such snapshot, else NotNewest where there is a newer snapshot or bookmark and `later` isn't set, else Busy where
+/// a tag or one of these views keeps a newer snapshot, else HasClones where a newer one has a clone; else NoMemory where memory is refused, or
+/// as `Table::rollback` says. At `Err` the table and what it has to free are as they were. It costs the number of file systems, the chunks of
+/// pieces that are to be freed, the number of the file system's snapshots with the segments of their dead lists, that of its bookmarks, and for
+/// each newer snapshot what its destroy does and the number of open views.
 pub fn rollback(
     alloc: Global,
     table: &mut Table,
@@ -73,8 +73,8 @@ pub fn rollback(
     Ok(())
 }
 
-// The snapshot of this name with its file system, or none. It costs the logarithm of the number of file systems, and that of the number
-// of snapshots of this one.
+// The snapshot of this name with its file system, or none. It costs the logarithms of the numbers of file systems and of the snapshots of this
+// one.
 fn placed<'a>(table: &'a Table, name: &Member) -> Option<(&'a FileSystem, &'a Snapshot)>
     ensures found { option_map (λ p. (p.0.now.system, p.1.now)) result ≡ placed (world_of table.now) (Target.Snapshot name.now) }
     ensures named { IfSome result (λ p. p.0.now.name ≡ name.now.file_system) }
@@ -89,8 +89,8 @@ fn has_newer(file_system: &FileSystem, group: Group) -> bool
     file_system.newest_group() > group || file_system.bookmarks().any_after(group)
 }
 
-// Why this file system of the table can't go back to its snapshot of this group, if it can't. It costs what `has_newer`, `any_later_held`
-// and `any_later_has_clone` do.
+// The refusal of the rollback of this file system of the table to its snapshot of this group, if any, as `rollback` says. It costs what
+// `has_newer`, `any_later_held` and `any_later_has_clone` do.
 fn refusal_of(
     table: &Table,
     file_system: &FileSystem,
@@ -112,8 +112,8 @@ fn refusal_of(
     None
 }
 
-// Puts this file system back at its snapshot of this name, which is of this group; no newer one has a clone. NoMemory where there is none
-// for it, and then the edit is of no use. It costs what `rollback` does.
+// Rolls this file system back to its snapshot of this name, which is of this group. No newer snapshot has a clone. NoMemory where memory is
+// refused; on error, discard the edit. It costs what `rollback` does.
 fn roll_back(
     edit: &mut WorkingCopy,
     alloc: Global,

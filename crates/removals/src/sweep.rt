@@ -1,4 +1,4 @@
-//! The deferred snapshots that go with their last clones.
+//! Destroys deferred snapshots once their last clones are gone.
 ghost use Rattle.std.specs.Prelude.{◌≡◌, IfErr, OnOk, map};
 ghost use Rattle.std.specs.Option.{option_map};
 ghost use Rattle.base.specs.declared.refusal.Refusal.{Refusal};
@@ -20,8 +20,8 @@ use std::alloc::Global;
 use std::sync::Arc;
 use views::Views;
 
-// The snapshot of this identity with its file system, where its destroy is deferred and no tag, no open view and no clone needs it. It
-// costs the number of open views, and the number of file systems times the logarithm of that of the snapshots of one.
+// The snapshot of this identity with its file system, where the snapshot's destroy is deferred and no tag, no open view and no clone needs it.
+// It costs the number of open views, and the number of file systems times the logarithm of that of the snapshots of one.
 fn unneeded<'a>(
     table: &'a Table,
     views: &Views,
@@ -40,8 +40,8 @@ fn unneeded<'a>(
     }
 }
 
-// Lets the snapshot of this identity go, where its destroy is deferred and nothing needs it. NoMemory where there is none for it, and
-// then the edit is of no use. It costs what `unneeded` does and, where it goes, what `WorkingCopy::remove_snapshot` does.
+// Destroys the snapshot of this identity, if its destroy is deferred and nothing needs it. NoMemory where memory is refused; on error, discard
+// the edit. It costs what `unneeded` does and, if the snapshot is destroyed, what `WorkingCopy::remove_snapshot` does.
 fn lose_unneeded(
     edit: &mut WorkingCopy,
     alloc: Global,
@@ -62,7 +62,8 @@ fn lose_unneeded(
     edit.remove_snapshot(alloc, &owner, id, segments)
 }
 
-// The origin of a file system that the table hasn't any more. It costs the logarithm of the number of file systems.
+// The origin of this file system, if the table no longer has the file system and it was a clone; else none. It costs the logarithm of the number
+// of file systems.
 fn removed_origin(table: &Table, file_system: &FileSystem) -> Option<SnapshotId>
     ensures { option_map snap_id result ≡ removed_origin table.now (entry_of file_system.now) }
 {
@@ -72,8 +73,8 @@ fn removed_origin(table: &Table, file_system: &FileSystem) -> Option<SnapshotId>
     file_system.origin()
 }
 
-// Lets the origin of this file system go, where the file system is gone, the origin's destroy is deferred and nothing needs it. NoMemory
-// where there is none for it, and then the edit is of no use. It costs what `lose_unneeded` does.
+// Destroys the origin of this file system, if the file system is gone, the origin's destroy is deferred and nothing needs the origin. NoMemory
+// where memory is refused; on error, discard the edit. It costs what `lose_unneeded` does.
 fn remove_unneeded_origin(
     edit: &mut WorkingCopy,
     alloc: Global,
@@ -93,9 +94,9 @@ fn remove_unneeded_origin(
 }
 
 impl WorkingCopy {
-    /// Lets those of these snapshots go whose destroy is deferred and that no tag, no open view and no clone needs, where no other snapshot
-    /// waits for that (zfs-destroy(8), -d). NoMemory where there is none for it, and then the edit is of no use. It costs for each of them
-    /// what `unneeded` does and, where it goes, what `WorkingCopy::remove_snapshot` does.
+    /// Destroys those of these snapshots whose destroy is deferred and that no tag, no open view and no clone needs (zfs-destroy(8), -d). No other
+    /// snapshot of the table is in that state. NoMemory where memory is refused; on error, discard the edit. It costs for each of them what
+    /// `unneeded` does and, if it is destroyed, what `WorkingCopy::remove_snapshot` does.
     pub fn sweep(
         &mut self,
         alloc: Global,
@@ -117,9 +118,9 @@ impl WorkingCopy {
     }
 }
 
-/// Lets the snapshots go whose destroy is deferred and that nothing needs any more, once file systems of this table are gone
-/// (zfs-destroy(8), -d). NoMemory where there is none for it, and then the edit is of no use. It costs the number of file systems times
-/// its logarithm, for each clone that is gone what `unneeded` does, and for each snapshot that goes what `WorkingCopy::remove_snapshot` does.
+/// Destroys the snapshots whose destroy is deferred and that nothing needs any more, after file systems of this table were removed from the edit
+/// (zfs-destroy(8), -d). NoMemory where memory is refused; on error, discard the edit. It costs the number of file systems times its logarithm,
+/// for each clone that was removed what `unneeded` does, and for each snapshot that is destroyed what `WorkingCopy::remove_snapshot` does.
 pub(crate) fn sweep(
     edit: &mut WorkingCopy,
     alloc: Global,

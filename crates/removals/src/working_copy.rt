@@ -1,4 +1,4 @@
-//! A table from which datasets go.
+//! A copy of a table, from which datasets are removed.
 ghost use Rattle.std.specs.Prelude.{◌≡◌, ◌⊎◌, ◌↔◌, ◌&&◌, true, false, not, map, Some, is_some, IfOk, IfErr, OnOk, length};
 ghost use Rattle.std.specs.List.{list_any};
 ghost use Rattle.std.specs.FinMap.{get};
@@ -28,7 +28,7 @@ use std::alloc::Global;
 use std::sync::Arc;
 use views::Views;
 
-/// A copy of a table and of what is to be freed, from which datasets go before it is put in their place.
+/// A copy of a table and of what is to be freed. Datasets are removed from the copy before it replaces both.
 #[derive(Drop)]
 pub struct WorkingCopy {
     pub to: Table,
@@ -36,8 +36,7 @@ pub struct WorkingCopy {
 }
 
 impl WorkingCopy {
-    /// A copy of a table and of what is to be freed. NoMemory where there is none for it. It costs the number of file systems and the
-    /// chunks of pieces.
+    /// A copy of a table and of what is to be freed. NoMemory where memory is refused. It costs the number of file systems and the chunks of pieces.
     pub fn of(table: &Table, freeing: &Freeing) -> Result<WorkingCopy, Refusal>
         ensures ok { IfOk result (λ e. (e.to ≡ table.now) × (e.freeing ≡ freeing.now)) }
         ensures err { IfErr result (λ e. e ≡ Refusal.NoMemory) }
@@ -47,8 +46,8 @@ impl WorkingCopy {
         Ok(WorkingCopy { to, freeing })
     }
 
-    /// Puts the copy in the place of the table and of what is to be freed. It costs letting go of those: the number of file systems and the
-    /// chunks of pieces.
+    /// Replaces the table and what is to be freed with the copy. It costs dropping the old ones: the number of file systems and the chunks of
+    /// pieces.
     pub fn put(self, table: &mut Table, freeing: &mut Freeing)
         ensures to { table.new ≡ self.to }
         ensures freeing { freeing.new ≡ self.freeing }
@@ -58,9 +57,9 @@ impl WorkingCopy {
         *freeing = left;
     }
 
-    /// Lets the snapshot of this identity go from this file system, which has it; it has no clone (zfs-destroy(8)). The blocks that no
-    /// dataset has any more are to be freed. NoMemory where there is none for it, and then the edit is of no use. It costs what
-    /// `Table::remove_snapshot` does.
+    /// Removes the snapshot of this identity from this file system, which has it (zfs-destroy(8)). The snapshot has no clone. The blocks that no
+    /// dataset has any more are to be freed. NoMemory where memory is refused; on error, discard the edit. It costs what `Table::remove_snapshot`
+    /// does.
     pub fn remove_snapshot(
         &mut self,
         alloc: Global,
@@ -81,9 +80,9 @@ impl WorkingCopy {
         self.freeing.add_dead(lost)
     }
 
-    /// Makes the map of its newest snapshot the live map of this file system (zfs-rollback(8)): what it had beside is to be freed.
-    /// NoDataset exactly where there is no file system of this name or it has no snapshot; else NoMemory as `Table::rollback` says, and
-    /// then the edit is of no use. It costs what that does.
+    /// Makes the map of the newest snapshot of this file system its live map (zfs-rollback(8)). The blocks that the live map had beside are to be
+    /// freed. NoDataset exactly where there is no file system of this name or it has no snapshot; else NoMemory as `Table::rollback` says; on that
+    /// error, discard the edit. It costs what that does.
     pub fn lose_live(
         &mut self,
         alloc: Global,
@@ -102,8 +101,8 @@ impl WorkingCopy {
             .add_tree(&lost.tree, lost.after, u64::from(lost.count))
     }
 
-    // From now on the destroy of the snapshot of this identity of this file system, which has it, is deferred. NoMemory where there is none
-    // for it, and then the edit is of no use. It costs what `Table::defer` does.
+    // Marks the destroy of the snapshot of this identity as deferred. This file system has the snapshot. NoMemory where memory is refused; on error,
+    // discard the edit. It costs what `Table::defer` does.
     fn defer(&mut self, alloc: Global, file_system: &DsName, id: SnapshotId) -> Result<(), Refusal>
         requires there { is_some (snap_in_system self.old.to file_system.now (snap_id id)) ≡ true }
         ensures ok { OnOk result (self.new.to ≡ deferred_snap self.old.to (snap_id id)) }
@@ -113,9 +112,9 @@ impl WorkingCopy {
         self.to.defer(alloc, file_system, id)
     }
 
-    // Lets these snapshots go, which are the table's, each of another file system; with `defer` those stay that a tag, one of these views or
-    // a clone needs, and their destroy is deferred. Where not `defer`, none of them has a clone. NoMemory where there is none for it, and then
-    // the edit is of no use. It costs for each what `remove_snapshot` or `Table::defer` does, and with `defer` the number of open views.
+    // Removes these snapshots. They are the table's, and no two are of the same file system. With `defer` those stay that a tag, one of these views
+    // or a clone needs, and their destroy is deferred. Without `defer`, none of them has a clone. NoMemory where memory is refused; on error,
+    // discard the edit. It costs for each what `remove_snapshot` or `Table::defer` does, and with `defer` the number of open views.
     pub(crate) fn remove_or_defer(
         &mut self,
         alloc: Global,
@@ -146,9 +145,9 @@ impl WorkingCopy {
         Ok(())
     }
 
-    // Lets the snapshots go that this file system has of a later group than this one; it is as the edit has it, and none of them has a clone.
-    // NoMemory where there is none for it, and then the edit is of no use. It costs what `remove_snapshot` does for each, and the number of
-    // the file system's snapshots.
+    // Removes the snapshots of this file system that are of later groups than this one. The file system is as the edit has it, and none of these
+    // snapshots has a clone. NoMemory where memory is refused; on error, discard the edit. It costs what `remove_snapshot` does for each, and the
+    // number of the file system's snapshots.
     pub(crate) fn remove_newer(
         &mut self,
         alloc: Global,

@@ -6,23 +6,23 @@ ghost use Rattle.runner.specs.Args.{args_of, beside_of, operands_of, within, is_
 use script::parse::number;
 use zalloc::MOST_BLOCKS;
 
-/// A command line that was read.
+/// The options and operands of a command line.
 #[derive(Drop)]
 pub struct Args {
     /// Whether to stop at the first refused line.
     pub stop: bool,
-    /// Whether to run beside workers.
+    /// Whether to run the script beside workers.
     pub workers: bool,
     /// How many blocks the pool has, 1 to `MOST_BLOCKS`.
     pub blocks: u32,
-    /// The pool's id, from 1 on.
+    /// The pool's id, 1 or more.
     pub id: u32,
-    /// The place of the script's word; None for standard input.
+    /// The index of the word that names the script; None for standard input.
     pub script: Option<usize>,
 }
 
-/// Reads the words `[-e] [-w] BLOCKS POOLID [SCRIPT]` (profile), the program's own name left out. None for a bad command line. The
-/// options stand in this order, and a word after POOLID is SCRIPT, whatever it looks like.
+/// Reads the words `[-e] [-w] BLOCKS POOLID [SCRIPT]` (profile), without the program's own name. None for a bad command line. The options come in
+/// this order, and a word after POOLID is SCRIPT, whatever it looks like.
 pub fn read_args(words: &[String]) -> Option<Args>
     ensures { result ≡ args_of (map string_bytes words.now) }
 {
@@ -33,7 +33,7 @@ pub fn read_args(words: &[String]) -> Option<Args>
     }
 }
 
-/// The command line from the option `-w` on, whose place is `first`.
+/// Reads the command line from the option `-w` on, whose index is `first`.
 fn beside(words: &[String], stop: bool, first: usize) -> Option<Args>
     requires { first < 2 }
     ensures { result ≡ beside_of stop first (map string_bytes words.now) }
@@ -45,7 +45,7 @@ fn beside(words: &[String], stop: bool, first: usize) -> Option<Args>
     }
 }
 
-/// The command line from BLOCKS on, whose place is `first`.
+/// Reads the command line from BLOCKS on, whose index is `first`.
 fn operands(words: &[String], stop: bool, workers: bool, first: usize) -> Option<Args>
     requires { first < 3 }
     ensures { result ≡ operands_of stop workers first (map string_bytes words.now) }
@@ -76,7 +76,7 @@ fn is_option(words: &[String], option: &str) -> bool
     }
 }
 
-/// The number that a word says, from 1 on.
+/// The number that a word spells, from 1 to `most`.
 fn number_within(word: &String, most: u32) -> Option<u32>
     ensures { result ≡ within most (string_bytes word.now) }
 {

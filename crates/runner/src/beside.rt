@@ -17,7 +17,7 @@ use std::mem;
 use std::sync::Wait;
 use std::thread::{Threads, join_mut};
 
-/// How many blocks the destroyer takes at a time (profile).
+/// How many blocks the destroyer frees at a time (profile).
 const SLICE: u64 = 64;
 
 /// The workers' seats.
@@ -27,8 +27,9 @@ struct Workers<K: Opening> {
     destroyer: Seat<K>,
 }
 
-/// Runs a script on a session of a pool, beside a syncer and a destroyer that may each take one turn a line, and gives the exit status
-/// as `run_args` does. All threads have ended. Neither the pool nor the history is freed, for the program ends after its run.
+/// Runs a script on a session of a pool, beside a syncer and a destroyer, and returns the exit status as `run_args` does. Each worker may make
+/// one request for each line. At the return all threads have ended. Neither the pool nor the history is freed, since the program ends after its
+/// run.
 pub(crate) fn run_beside<K, T, R, W, E>(
     rt: &T,
     alloc: Global,
@@ -75,7 +76,7 @@ where
     close(alloc, session.end(), script, workers, status, errors)
 }
 
-/// A session of a pool, the script's seat, without receipts, and the workers' seats. None where there is no memory.
+/// A session of a pool, the script's seat, which has no receipts yet, and the workers' seats. None where there is no memory.
 fn opened<K: Opening, T: Wait>(
     rt: &T,
     alloc: Global,
@@ -99,7 +100,8 @@ fn opened<K: Opening, T: Wait>(
     Some((session, script, Workers { syncer, destroyer }))
 }
 
-/// Runs the script by its seat, beside the workers, and gives the exit status and the seat. The views that are left open are forgotten.
+/// Runs the script on its seat, beside the workers, and returns the exit status and the seat. Views that are still open are dropped without being
+/// closed.
 fn run_seated<K, T, R, W, E>(
     rt: &T,
     alloc: Global,
@@ -152,7 +154,7 @@ where
     (status, seat)
 }
 
-/// Runs the script in this thread and the workers in others, and gives the exit status once all have ended.
+/// Runs the script in this thread and the workers in others, and returns the exit status once all have ended.
 fn run_threads<'a, C, K, T, R, W, E>(
     rt: &'a T,
     alloc: Global,
@@ -197,7 +199,7 @@ where
     status
 }
 
-/// Runs the script, and then lets the workers end.
+/// Runs the script, and then lets the workers end. Returns the exit status.
 fn run_lines<C: Caller, T: Wait, R: BufRead + Failing, W: Write + Failing, E: Write>(
     rt: &T,
     alloc: Global,
@@ -215,7 +217,7 @@ fn run_lines<C: Caller, T: Wait, R: BufRead + Failing, W: Write + Failing, E: Wr
     status
 }
 
-/// Runs both workers until the script has ended. One that finds no room or no memory ends before.
+/// Runs both workers until the script has ended. A worker that finds no room or no memory ends earlier.
 fn run_workers<K: Opening + Send + Sync, T: Threads + Wait + Sync>(
     rt: &T,
     alloc: Global,
@@ -236,7 +238,7 @@ fn run_workers<K: Opening + Send + Sync, T: Threads + Wait + Sync>(
     );
 }
 
-/// Asks for syncs alone, one a turn.
+/// Requests only syncs, one for each turn.
 fn run_syncer<K: Opening, T: Wait>(rt: &T, alloc: Global, shared: &Shared<K>, seat: &mut Seat<K>)
     ensures { AsksOnly ToSync seat.old → AsksOnly ToSync seat.new }
 {
@@ -244,7 +246,7 @@ fn run_syncer<K: Opening, T: Wait>(rt: &T, alloc: Global, shared: &Shared<K>, se
     let _ = shared.session.run_syncer(alloc, rt, seat, &mut turns);
 }
 
-/// Asks for slices of so many blocks alone, one a turn.
+/// Requests only slices of `SLICE` blocks, one for each turn.
 fn run_destroyer<K: Opening, T: Wait>(rt: &T, alloc: Global, shared: &Shared<K>, seat: &mut Seat<K>)
     ensures { AsksOnly (ToSlice 64) seat.old → AsksOnly (ToSlice 64) seat.new }
 {
@@ -254,8 +256,8 @@ fn run_destroyer<K: Opening, T: Wait>(rt: &T, alloc: Global, shared: &Shared<K>,
         .run_destroyer(alloc, rt, seat, SLICE, &mut turns);
 }
 
-/// The exit status, once all seats' receipts are the history. Else 3, after a fault's line: there is no memory for the list of seats, or
-/// the receipts aren't the history.
+/// The exit status, if the receipts of all seats match the history. Else 3, after a fault's line: the receipts don't match, or there is no memory
+/// for the list of seats.
 fn close<K: Opening, E: Write>(
     alloc: Global,
     book: Book<K>,
@@ -286,7 +288,7 @@ fn close<K: Opening, E: Write>(
     }
 }
 
-/// Prints that the receipts of a session's seats aren't its history, and gives the exit status.
+/// Prints that the seats' receipts don't match the history, and returns the exit status 3.
 fn print_unclosed<E: Write>(errors: &mut E) -> u8
     ensures { result ≡ 3 }
 {

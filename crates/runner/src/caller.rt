@@ -1,4 +1,4 @@
-//! The pool as a caller.
+//! A pool as a caller.
 ghost use Rattle.std.specs.Prelude.{◌≡◌, ℕ, List, Option};
 ghost use Rattle.model.specs.State.{State};
 ghost use Rattle.runner.specs.Serving.{Serves};
@@ -14,13 +14,13 @@ use session::Pool;
 use std::alloc::Global;
 use std::marker::Model;
 
-/// A pool that answers a script, with the allocator that its requests take memory from. It owns the pool for that time: put yours in, lend
-/// this to `script::run::run_script`, and take the pool out again, as it is after the last request. Contracts see the pool's state; each
-/// request has a reply, which is that of a step of the pool, NoMemory where memory was wanting. Both fields are a caller's own, and
-/// making it or taking it apart costs nothing.
+/// A pool that answers a script, with the allocator for its requests. It owns the pool meanwhile: move your pool in, lend this to
+/// `script::run::run_script`, and then move the pool out again, in its state after the last request. Contracts see the pool's state. Each request
+/// has a reply, which is that of a step of the pool, NoMemory where memory was refused. Both fields are public, and to make it or to take it
+/// apart costs nothing.
 #[derive(Drop)]
 pub struct PoolCaller {
-    /// Where the requests take memory from.
+    /// The allocator that the requests use.
     pub alloc: Global,
     /// The pool that answers.
     pub pool: Pool,
@@ -47,8 +47,8 @@ impl Caller for PoolCaller {
     }
 }
 
-/// A line that `script::run::answer_line` ends with a fault leaves the pool as it was. There was no memory for the line, or for what it asks; or it
-/// asked for names, a text or a stream, and there was none for the answer's line.
+/// A line for which `script::run::answer_line` returns a fault leaves the pool unchanged. Either there was no memory for the line or for its
+/// request; or the line asked for names, a text or a stream, and there was no memory for the line of the reply.
 #[tactic(auto, using(crate::proofs::Unserved::unserved_same))]
 pub fn unserved_laws()
     ensures same { (m : Meaning) (held held' : Option (List ℕ)) (s t : State) (fault : LineFault) → IsUnserved Serves m has_any_length held held' s t fault → t ≡ s }

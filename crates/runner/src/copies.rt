@@ -17,7 +17,7 @@ pub(crate) fn reply_of(alloc: Global, receipt: Receipt) -> Option<Reply>
     }
 }
 
-/// A copy of a reply. None where there is no memory for its names or bytes, or for one more owner of a tree.
+/// A copy of a reply. None where there is no memory for its names or bytes, or where one more reference to a tree is refused.
 fn copy_of(alloc: Global, reply: &Reply) -> Option<Reply>
     ensures { IfSome result (λ r. r ≡ reply.now) }
 {

@@ -1,4 +1,4 @@
-//! The program's command line, and runs of a script on a fresh pool with their exit status; and any pool as what answers a script.
+//! The program's command line, runs of a script on a fresh pool with their exit status, and a pool as a caller that answers a script.
 #![tactic(auto)]
 
 mod args;

@@ -21,15 +21,15 @@ use std::mem;
 use std::sync::Wait;
 use std::thread::Threads;
 
-/// Runs a script on a fresh pool, and gives the exit status: 0; 1 where a line was refused and the command line asks to stop
-/// there; 2 for a bad command line, after the usage line on `errors`; 3 after a fault's line on `errors`, where a read or a
-/// write failed or there was no memory (profile). Replies go to `writer`. That a line could be written to `errors` isn't
-/// promised. The pool isn't freed, for the program ends after its run.
+/// Runs a script on a fresh pool, and returns the exit status (profile). It is 0 where the script ran to its end; 1 where a line was refused and
+/// the command line asks to stop there; 2 for a bad command line, after the usage line on `errors`; and 3, after a fault's line on `errors`, where
+/// a read or a write failed or there was no memory. Replies go to `writer`. A failed write to `errors` is ignored. The pool isn't freed, since
+/// the program ends after its run.
 ///
-/// Where the command line asks for workers, the script has a seat of a session of `CALL_LIMIT` calls, and a syncer and a destroyer, with
-/// slices of 64 blocks, have the others; each may take one turn a line, in a thread of its own. A line whose request finds no room in
-/// the session, or no memory, is answered so. All threads have ended, and the receipts of all seats were compared with the history: the
-/// status is 3, after a fault's line, should they not be it.
+/// Where the command line asks for workers, the script has one seat of a session of `CALL_LIMIT` calls. A syncer and a destroyer, with slices of
+/// 64 blocks, have the other seats; each may make one request for each line, in a thread of its own. A line whose request finds no room in the
+/// session, or no memory, gets that refusal as its reply. At the return all threads have ended, and the receipts of all seats have been compared
+/// with the history; where they don't match, the status is 3, after a fault's line.
 pub fn run_args<T, R, W, E>(
     rt: &T,
     alloc: Global,
@@ -60,7 +60,7 @@ where
     }
 }
 
-/// Runs a script on a pool, beside workers where the command line asks for them, and gives the exit status.
+/// Runs a script on a pool, beside workers where the command line asks for them, and returns the exit status.
 fn run_pool<T, R, W, E>(
     rt: &T,
     alloc: Global,
@@ -86,7 +86,7 @@ where
     }
 }
 
-/// Runs a script on a pool, and gives the exit status.
+/// Runs a script on a pool without workers, and returns the exit status.
 fn run_alone<R: BufRead + Failing, W: Write + Failing, E: Write>(
     alloc: Global,
     pool: Pool,
@@ -104,7 +104,7 @@ fn run_alone<R: BufRead + Failing, W: Write + Failing, E: Write>(
     status
 }
 
-/// Runs a script on a caller, and gives the exit status.
+/// Runs a script on a caller, and returns the exit status.
 pub(crate) fn run_on<C: Caller, R: BufRead + Failing, W: Write + Failing, E: Write>(
     alloc: Global,
     caller: &mut C,
@@ -128,7 +128,7 @@ pub(crate) fn run_on<C: Caller, R: BufRead + Failing, W: Write + Failing, E: Wri
     }
 }
 
-/// Prints the usage line, and gives the exit status.
+/// Prints the usage line, and returns the exit status 2.
 pub fn print_usage<E: Write>(errors: &mut E) -> u8
     ensures { result ≡ 2 }
 {
@@ -136,7 +136,7 @@ pub fn print_usage<E: Write>(errors: &mut E) -> u8
     2
 }
 
-/// Prints why a run ended, and gives the exit status.
+/// Prints why a run ended, and returns the exit status 3.
 pub fn print_fault<E: Write>(errors: &mut E, fault: ScriptFault) -> u8
     ensures { result ≡ 3 }
 {

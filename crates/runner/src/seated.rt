@@ -1,4 +1,4 @@
-//! A seat of a session as a caller, with the views that it opened.
+//! A seat of a session that answers a script, with the views that it opened.
 ghost use Rattle.std.specs.Prelude.{◌≡◌, ◌==◌, ◌<◌, false, length, IfSome};
 ghost use Rattle.std.specs.List.{position};
 ghost use Rattle.model.specs.declared.request.Request.{Request};
@@ -17,15 +17,14 @@ use std::alloc::Global;
 use std::marker::Model;
 use std::sync::Wait;
 
-/// What a script and its workers share: the session, and how far the script has come.
+/// The state that a script and its workers share: the session, and how far the script has come.
 #[derive(Drop)]
 pub(crate) struct Shared<K: Opening> {
     pub(crate) session: Session<K>,
     pub(crate) lines: Lines,
 }
 
-/// A seat of a session with the views that it opened and didn't close, and with what its calls need. Contracts see the seat and the
-/// numbers of the views.
+/// A seat of a session, the views that it opened and hasn't closed, and what its calls need. Contracts see the seat and the numbers of the views.
 pub(crate) struct Seated<'t, 's, K: Opening, T: Wait> {
     pub(crate) alloc: Global,
     pub(crate) rt: &'t T,
@@ -61,7 +60,7 @@ impl<K: Opening, T: Wait> Caller for Seated<'_, '_, K, T> {
 }
 
 impl<K: Opening, T: Wait> Seated<'_, '_, K, T> {
-    // Asks for anything, and gives its reply; None only where there is no memory for a copy of it.
+    // Makes any request, and returns its reply. None only where there is no memory for a copy of it.
     fn asked(&mut self, request: Request) -> Option<Reply>
         ensures { Gains self.old request result self.new }
     {
@@ -73,7 +72,7 @@ impl<K: Opening, T: Wait> Seated<'_, '_, K, T> {
         }
     }
 
-    // Asks for what neither opens nor closes a view.
+    // Makes a request that neither opens nor closes a view.
     fn call(&mut self, request: Request) -> Option<Reply>
         requires { is_of_views request ≡ false }
         ensures { Gains self.old request result self.new }
@@ -85,7 +84,7 @@ impl<K: Opening, T: Wait> Seated<'_, '_, K, T> {
         }
     }
 
-    // Opens a view, and holds it.
+    // Opens a view, and keeps it.
     fn open(&mut self, target: Target) -> Option<Reply>
         ensures { Gains self.old (Request.OpenView target) result self.new }
     {
@@ -104,7 +103,7 @@ impl<K: Opening, T: Wait> Seated<'_, '_, K, T> {
         }
     }
 
-    // Closes a view that it holds.
+    // Closes a view that it keeps.
     fn close(&mut self, number: u64) -> Option<Reply>
         ensures { Gains self.old (Request.CloseView number) result self.new }
     {
@@ -127,7 +126,7 @@ impl<K: Opening, T: Wait> Seated<'_, '_, K, T> {
     }
 }
 
-// The place of a view of this number, or none.
+// The index of the first view with this number, if there is one.
 fn place_of<K: Opening>(views: &[View<K>], number: u64) -> Option<usize>
     ensures first { result ≡ position (λ v. v.number == number) views.now }
     ensures within { IfSome result (λ place. place < length views.now) }

@@ -1,10 +1,10 @@
-//! One turn a line for each worker.
+//! Gives each worker one turn for each line that makes a request.
 ghost use Rattle.std.specs.Prelude.{◌≡◌, true, false};
 
 use session::Gate;
 use std::sync::{Condvar, Mutex, Wait};
 
-/// How many lines have asked, and whether there will be no more.
+/// How many lines have made a request, and whether the script has ended.
 #[derive(Drop)]
 struct Progress {
     asked: u64,
@@ -29,7 +29,7 @@ impl Lines {
         }
     }
 
-    /// A line asks: each worker has one turn more.
+    /// Records that a line makes a request: each worker has one more turn.
     pub(crate) fn ask<T: Wait>(&self, rt: &T) {
         let mut progress = self.progress.lock(rt);
         progress.asked = progress.asked.saturating_add(1);
@@ -37,7 +37,7 @@ impl Lines {
         self.moved.notify_all();
     }
 
-    /// The script has ended: no worker has a turn any more.
+    /// Records that the script has ended: no worker has a turn any more.
     pub(crate) fn end<T: Wait>(&self, rt: &T) {
         let mut progress = self.progress.lock(rt);
         progress.ended = true;
@@ -45,7 +45,8 @@ impl Lines {
         self.moved.notify_all();
     }
 
-    /// Waits until more than `taken` lines have asked or the script has ended, and tells whether there is a turn.
+    /// Waits until more than `taken` lines have made a request, or the script has ended. Returns whether there is a turn: the script hasn't
+    /// ended.
     fn has_turn<T: Wait>(&self, rt: &T, taken: u64) -> bool {
         let progress = self
             .moved
@@ -56,7 +57,7 @@ impl Lines {
     }
 }
 
-/// A worker's gate: as many turns as lines have asked, until the script has ended.
+/// A worker's gate. It gives as many turns as lines have made requests, until the script has ended.
 #[derive(Drop)]
 pub(crate) struct WorkerTurns<'t, 'l, T: Wait> {
     rt: &'t T,
@@ -77,7 +78,7 @@ impl<'t, 'l, T: Wait> WorkerTurns<'t, 'l, T> {
         }
     }
 
-    /// Whether there is another turn, once one more line has asked or the script has ended.
+    /// Waits until one more line has made a request or the script has ended, and returns whether there is another turn.
     fn has_turn(&self) -> bool
         ensures { self.now.stopped ≡ true → result ≡ false }
     {

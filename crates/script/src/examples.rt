@@ -1,13 +1,13 @@
-//! What some lines ask for, and how some replies are written.
+//! Examples of the requests of lines, and of the lines of replies.
 ghost use Rattle.script.specs.Examples.{WorkedLines, HasOneSpelling};
 
-/// Worked lines, as a law.
+/// Law: the requests of some example lines, and the lines of some example replies.
 #[tactic(auto, using(crate::proofs::WorkedProofs::worked_lines))]
 pub fn worked_lines()
     ensures { WorkedLines }
 {}
 
-/// A number has one spelling, as a law.
+/// Law: a number has one spelling.
 #[tactic(auto, using(crate::proofs::NumberProofs::one_spelling))]
 pub fn one_spelling()
     ensures { HasOneSpelling }

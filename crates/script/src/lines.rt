@@ -6,7 +6,7 @@ ghost use Rattle.script.specs.Lines.{kept_of, line_limit, Looks, GivesLine, Give
 use memchr::memchr;
 use std::io::{BufRead, ErrorKind, Write};
 
-/// A line has at most this many bytes, its line feed aside (profile).
+/// A line has at most this many bytes, not counting its line feed (profile).
 pub const LINE_LIMIT: usize = 4_194_304;
 
 /// Why a line could not be read.
@@ -14,7 +14,7 @@ pub const LINE_LIMIT: usize = 4_194_304;
 pub(crate) enum ReadFault {
     NoMemory,
     Failed,
-    /// What had been written before could not be written out.
+    /// The replies written so far could not be flushed.
     Unflushed,
 }
 
@@ -26,10 +26,11 @@ pub(crate) enum Step {
     End,
 }
 
-/// Reads the next line. Of a line that is too long no more is kept than shows it. False where there is none.
+/// Reads the next line into `kept`, without its line feed. Of a line that is too long, only one byte more than the limit is kept. False where
+/// there is no further line.
 ///
-/// A read may wait, at a terminal or a pipe, until whoever writes there has seen the replies. So once the reader's buffer is drained, what
-/// the writer holds is written out before the next read: of a script from a file that is once for each filled buffer.
+/// A read from a terminal or a pipe may wait until the program at the other end has seen the replies. So once the reader's buffer is drained, the
+/// writer is flushed before the next read. For a script from a file that is one flush for each filled buffer.
 pub(crate) fn next_line<R: BufRead, W: Write>(
     reader: &mut R,
     writer: &mut W,
@@ -54,7 +55,7 @@ pub(crate) fn next_line<R: BufRead, W: Write>(
     Err(ReadFault::Failed)
 }
 
-/// Writes out what the writer holds before a read, which comes where the reader's buffer is drained.
+/// Flushes the writer if the reader's buffer is drained, since a read follows then.
 fn flush_before<W: Write>(writer: &mut W, is_drained: bool) -> Result<(), ReadFault>
     ensures written { Keeps (W.contents writer.old) (W.contents writer.new) }
     ensures err { OnErr result (result ≡ Err ReadFault.Unflushed) }
@@ -65,7 +66,7 @@ fn flush_before<W: Write>(writer: &mut W, is_drained: bool) -> Result<(), ReadFa
     Ok(())
 }
 
-/// Takes what the reader's buffer has of the line, and tells whether the buffer has nothing more.
+/// Takes from the reader's buffer what it has of the line, and records whether the buffer is drained by this.
 fn look<R: BufRead>(
     reader: &mut R,
     kept: &mut Vec<u8>,
@@ -106,7 +107,7 @@ fn look<R: BufRead>(
     }
 }
 
-/// Keeps more of a line, up to one byte past its limit.
+/// Appends to the kept part of a line, up to one byte more than the limit.
 #[tactic(auto, unfolding(crate::specs::Lines::line_limit))]
 fn keep(kept: &mut Vec<u8>, bytes: &[u8]) -> Result<(), ReadFault>
     requires { vec_len kept.old ≤ line_limit + 1 }

@@ -1,4 +1,4 @@
-//! What a line asks for.
+//! Reads the request of a line.
 ghost use Rattle.std.specs.Prelude.{◌≡◌, ◌≤◌, ◌^◌, ℕ, List, ◌*◌, false, Some, None, IfSome, codes, length, replicate};
 ghost use Rattle.std.specs.Str.{bytes_eq};
 ghost use Rattle.std.specs.Bool.{OnTrue, OnFalse};
@@ -23,7 +23,7 @@ use model::request::{PoolProperty, Request};
 use model::snap_names::SnapNames;
 use std::alloc::Global;
 
-/// Reads the request of a line, or its fault; NoMemory where there is no memory for its name or its bytes.
+/// The request of a line, or the refusal of a faulty line. NoMemory where its names or its bytes can't be allocated.
 #[tactic(auto, unfolding(crate::specs::Meaning::request_of, crate::specs::Meaning::words_meaning, crate::specs::Meaning::command_of, crate::specs::Lines::line_limit))]
 pub(crate) fn request_at(alloc: Global, line: &[u8]) -> Result<Request, Refusal>
     ensures { Means result (request_of line.now) }
@@ -53,8 +53,8 @@ pub(crate) fn request_at(alloc: Global, line: &[u8]) -> Result<Request, Refusal>
     other_command_at(alloc, command, operands)
 }
 
-// The same of another command than those. They stand apart, since each call takes room on the stack, which is filled first. Each returns at
-// once: the value of an `else if` is copied out of each one that it stands in.
+// Reads the other commands. It and the readers that it calls are functions of their own: each call takes room on the stack, and a function fills
+// its whole stack frame with zeros first. Each branch returns at once: the value of an `else if` is copied out of each one that encloses it.
 #[inline(never)]
 #[tactic(auto, unfolding(crate::specs::Meaning::command_of))]
 fn other_command_at(
@@ -113,14 +113,12 @@ fn other_command_at(
     Err(Refusal::BadLine)
 }
 
-// The name that is the one operand of a request.
+// The name of a request whose only operand is a name.
 #[tactic(auto, unfolding(crate::specs::Meaning::name_request_of))]
 fn lone_name(alloc: Global, operands: Option<&[u8]>) -> Result<DsName, Refusal>
     ensures { (request : List ℕ → Request) → MeansName result (words_left (option_copied operands.entry)) request }
 {
-    let Some(name) = one(operands) else {
-        return Err(Refusal::BadLine);
-    };
+    let name = one(operands).ok_or(Refusal::BadLine)?;
     DsName::read(alloc, name)
 }
 
@@ -145,22 +143,18 @@ fn promote(alloc: Global, operands: Option<&[u8]>) -> Result<Request, Refusal>
 fn clone(alloc: Global, operands: Option<&[u8]>) -> Result<Request, Refusal>
     ensures { Means result (clone_of (words_left (option_copied operands.entry))) }
 {
-    let Some((target, name)) = two(operands) else {
-        return Err(Refusal::BadLine);
-    };
+    let (target, name) = two(operands).ok_or(Refusal::BadLine)?;
     let target = Target::read(alloc, target)?;
     let name = DsName::read(alloc, name)?;
     Ok(Request::Clone { target, name })
 }
 
-// The tag and target of a request of a tag.
+// The tag and the target of a request that has these two operands.
 #[tactic(auto, unfolding(crate::specs::Meaning::tag_request_of))]
 fn tagged(alloc: Global, operands: Option<&[u8]>) -> Result<(Tag, Target), Refusal>
     ensures { (request : List ℕ → Target → Request) → MeansTagged result (words_left (option_copied operands.entry)) request }
 {
-    let Some((tag, target)) = two(operands) else {
-        return Err(Refusal::BadLine);
-    };
+    let (tag, target) = two(operands).ok_or(Refusal::BadLine)?;
     let tag = Tag::read(alloc, tag)?;
     let target = Target::read(alloc, target)?;
     Ok((tag, target))
@@ -187,9 +181,7 @@ fn release(alloc: Global, operands: Option<&[u8]>) -> Result<Request, Refusal>
 fn bookmark(alloc: Global, operands: Option<&[u8]>) -> Result<Request, Refusal>
     ensures { Means result (bookmark_of (words_left (option_copied operands.entry))) }
 {
-    let Some((target, mark)) = two(operands) else {
-        return Err(Refusal::BadLine);
-    };
+    let (target, mark) = two(operands).ok_or(Refusal::BadLine)?;
     let target = Target::read(alloc, target)?;
     let mark = MarkName::read(alloc, mark)?;
     Ok(Request::Bookmark { target, mark })
@@ -205,7 +197,7 @@ fn write(alloc: Global, operands: Option<&[u8]>) -> Result<Request, Refusal>
     write_at(alloc, target, object, block, digits)
 }
 
-// A write to a place. A space is no digit, so where another word stands after the digits, they are none either.
+// A write to a block. Where another word follows the digits, `digits` has a space, which is no digit, so the line is refused.
 #[tactic(auto, unfolding(crate::specs::Meaning::written_of))]
 fn write_at(
     alloc: Global,
@@ -216,12 +208,8 @@ fn write_at(
 ) -> Result<Request, Refusal>
     ensures { Means result (written_of target.now object.now block.now digits.now) }
 {
-    let Some(object) = number(object) else {
-        return Err(Refusal::BadLine);
-    };
-    let Some(block) = number(block) else {
-        return Err(Refusal::BadLine);
-    };
+    let object = number(object).ok_or(Refusal::BadLine)?;
+    let block = number(block).ok_or(Refusal::BadLine)?;
     let mut bytes = [0u8; 512];
     if !fill_block(digits, &mut bytes) {
         return Err(Refusal::BadLine);
@@ -236,20 +224,14 @@ fn write_at(
     })
 }
 
-// The target, object and block of a request at a block.
+// The target, object and block of a request for one block.
 #[tactic(auto, unfolding(crate::specs::Meaning::block_request_of))]
 fn block_place(alloc: Global, operands: Option<&[u8]>) -> Result<(Target, u32, u32), Refusal>
     ensures { (request : Target → ℕ → ℕ → Request) → MeansBlock result (words_left (option_copied operands.entry)) request }
 {
-    let Some((target, object, block)) = three(operands) else {
-        return Err(Refusal::BadLine);
-    };
-    let Some(object) = number(object) else {
-        return Err(Refusal::BadLine);
-    };
-    let Some(block) = number(block) else {
-        return Err(Refusal::BadLine);
-    };
+    let (target, object, block) = three(operands).ok_or(Refusal::BadLine)?;
+    let object = number(object).ok_or(Refusal::BadLine)?;
+    let block = number(block).ok_or(Refusal::BadLine)?;
     let target = Target::read(alloc, target)?;
     Ok((target, object, block))
 }
@@ -281,12 +263,8 @@ fn punch(alloc: Global, operands: Option<&[u8]>) -> Result<Request, Refusal>
 fn free_object(alloc: Global, operands: Option<&[u8]>) -> Result<Request, Refusal>
     ensures { Means result (free_object_of (words_left (option_copied operands.entry))) }
 {
-    let Some((target, object)) = two(operands) else {
-        return Err(Refusal::BadLine);
-    };
-    let Some(object) = number(object) else {
-        return Err(Refusal::BadLine);
-    };
+    let (target, object) = two(operands).ok_or(Refusal::BadLine)?;
+    let object = number(object).ok_or(Refusal::BadLine)?;
     let target = Target::read(alloc, target)?;
     Ok(Request::FreeObject { target, object })
 }
@@ -327,14 +305,12 @@ fn snap_names(alloc: Global, words: &[u8]) -> Result<SnapNames, Refusal>
     Ok(SnapNames::from(names))
 }
 
-/// The target of a request that has no other operand.
+/// The target of a request whose only operand is a target.
 #[tactic(auto, unfolding(crate::specs::Meaning::target_request_of))]
 pub(crate) fn lone_target(alloc: Global, operands: Option<&[u8]>) -> Result<Target, Refusal>
     ensures { (request : Target → Request) → MeansTarget result (words_left (option_copied operands.entry)) request }
 {
-    let Some(target) = one(operands) else {
-        return Err(Refusal::BadLine);
-    };
+    let target = one(operands).ok_or(Refusal::BadLine)?;
     Target::read(alloc, target)
 }
 
@@ -371,17 +347,13 @@ fn destroyed(alloc: Global, operands: Option<&[u8]>, recursive: bool) -> Result<
     })
 }
 
-// The number that is the one operand of a request.
+// The number of a request whose only operand is a number.
 #[tactic(auto, unfolding(crate::specs::Meaning::number_request_of))]
 fn lone_number(operands: Option<&[u8]>) -> Result<u64, Refusal>
     ensures { (request : ℕ → Request) → MeansNumber result (words_left (option_copied operands.entry)) request }
 {
-    let Some(word) = one(operands) else {
-        return Err(Refusal::BadLine);
-    };
-    let Some(number) = number(word) else {
-        return Err(Refusal::BadLine);
-    };
+    let word = one(operands).ok_or(Refusal::BadLine)?;
+    let number = number(word).ok_or(Refusal::BadLine)?;
     Ok(u64::from(number))
 }
 
@@ -422,16 +394,12 @@ fn close_view(operands: Option<&[u8]>) -> Result<Request, Refusal>
 fn pool_get(operands: Option<&[u8]>) -> Result<Request, Refusal>
     ensures { Means result (pool_get_of (words_left (option_copied operands.entry))) }
 {
-    let Some(property) = one(operands) else {
-        return Err(Refusal::BadLine);
-    };
-    let Some(property) = pool_property_named(property) else {
-        return Err(Refusal::BadLine);
-    };
+    let property = one(operands).ok_or(Refusal::BadLine)?;
+    let property = pool_property_named(property).ok_or(Refusal::BadLine)?;
     Ok(Request::PoolGet { property })
 }
 
-// That a request has no operand.
+// Checks that a request has no operand.
 fn no_operand(operands: Option<&[u8]>) -> Result<(), Refusal>
     ensures { (request : Request) → MeansBare result (words_left (option_copied operands.entry)) request }
 {
@@ -487,7 +455,7 @@ fn pool_property_named(word: &[u8]) -> Option<PoolProperty>
     }
 }
 
-/// The number that a word says: decimal digits without a leading zero, at most 2^32 - 1 (profile).
+/// The number that a word spells: decimal digits without a leading zero, at most 2^32 - 1 (profile).
 #[tactic(auto, unfolding(crate::specs::Words::number_of_word))]
 pub fn number(word: &[u8]) -> Option<u32>
     ensures { result ≡ number_of_word word.now }
@@ -498,7 +466,7 @@ pub fn number(word: &[u8]) -> Option<u32>
     }
 }
 
-/// The number that a word says: decimal digits without a leading zero, at most this number (profile).
+/// The number that a word spells: decimal digits without a leading zero, at most `most` (profile).
 #[tactic(auto, unfolding(crate::specs::Words::number_up_to))]
 pub(crate) fn number_up_to(word: &[u8], most: u64) -> Option<u64>
     requires { most ≤ 2 ^ 60 }
@@ -542,7 +510,7 @@ fn digits(word: &[u8], most: u64) -> Option<u64>
     Some(value)
 }
 
-/// Writes the bytes of a word of hexadecimal digits to the front of a block of zeros. False where it is no such word.
+/// Decodes a word of hexadecimal digits into the front of a block of zeros. False where the word isn't 2 to 1,024 digits, an even number of them.
 #[tactic(auto, unfolding(crate::specs::Words::block_of_word))]
 fn fill_block(word: &[u8], block: &mut [u8; 512]) -> bool
     requires { block.old ≡ replicate 512 0 }
@@ -562,7 +530,7 @@ fn fill_block(word: &[u8], block: &mut [u8; 512]) -> bool
     decode_into(word, &mut block[..len / 2])
 }
 
-/// Decodes hexadecimal digits. False where there is another byte.
+/// Decodes hexadecimal digits. False where the word has another byte.
 fn decode_into(word: &[u8], out: &mut [u8]) -> bool
     requires { length word.now ≡ 2 * length out.old }
     ensures len { length word.now ≡ 2 * length out.new }

@@ -24,17 +24,17 @@ use std::io::{BufRead, Write};
 use std::mem;
 use thiserror::Error;
 
-/// What answers requests. Its relation says what a request does to it and what it replies.
+/// Answers requests. Its relation says how a request changes it, and what it replies.
 pub trait Caller {
     ghost asks: { Self → Request → Option Reply → Self → Type 0 };
 
-    /// Puts the reply to a request in the place of Done. False only where there is no memory for a copy of the reply.
+    /// Replaces the reply Done by the reply to a request. False only where there is no memory for a copy of the reply.
     fn ask(&mut self, request: Request, reply: &mut Reply) -> bool
         requires { reply.old ≡ Reply.Done }
         ensures { asks self.old request (if result then Some reply.new else None) self.new };
 }
 
-/// Why a run of a script ended before the script did.
+/// The reason why a run of a script ended before the script did.
 #[derive(Clone, Copy, PartialEq, Eq, Debug, Error)]
 pub enum ScriptFault {
     /// Memory was refused to a line, to a name or to a reply, or a read or write failed and no count of failures rose.
@@ -46,7 +46,8 @@ pub enum ScriptFault {
 }
 
 impl ScriptFault {
-    /// What a failed read or write is, by its counts of failures before and after: a device's fault exactly where they rose.
+    /// The fault of a failed read or write, from its counts of failures before and after: Device exactly where the count rose, or is the greatest
+    /// u64, at which a count stops.
     pub fn of_counts(before: u64, after: u64) -> ScriptFault
         ensures { IsFaultOf (HasRisen before after) result }
     {
@@ -58,7 +59,7 @@ impl ScriptFault {
     }
 }
 
-/// What kept a line's reply from being written.
+/// The reason why a line's reply was not written.
 #[derive(Clone, Copy, PartialEq, Eq, Debug, Error)]
 pub enum LineFault {
     /// Memory was refused to the line, or to its reply.
@@ -69,17 +70,17 @@ pub enum LineFault {
     Unwritten,
 }
 
-/// Room for a reply's line that is no list of names, no text and no stream: a block's digits, and the line feed.
+/// Room for the line of any reply but a list of names, a text or a stream: a block's digits and the line feed.
 const REPLY_ROOM: usize = 1_025;
 
-/// Asks a line of a caller, as a script of this line alone would: without its line feed, which makes it a bad line. The reply's line stands
-/// in `reply` then, with its line feed, in the place of what stood there; it is empty for a comment and for an empty line, which ask nothing.
-/// Tells the refusal of a line that was refused. The cost is linear in the line and its reply, beside the caller's; a `reply` that is used again is
-/// not allocated again.
+/// Answers one line, as a script of this line alone would be answered. `line` comes without its line feed; a line feed in it makes it a bad line.
+/// The reply's line, with its line feed, replaces the contents of `reply`; it is empty for a comment and for an empty line, which make no
+/// request. Returns the refusal of a line that was refused. The cost is linear in the line and its reply, in addition to the caller's. The memory
+/// of a `reply` that is passed again is reused.
 ///
-/// NoMemory where memory was refused to the line or to what it asks: `reply` is empty then, and the caller is as it was, or had no
-/// reply. Room for all but names, texts and streams is made before anything is asked. So Unwritten comes only where there is no memory for
-/// the text of one of these, which the caller has answered.
+/// NoMemory where memory was refused to the line or to its request: `reply` is empty then, and the caller is unchanged, or was asked and had no
+/// reply. Room for every reply but names, texts and streams is reserved before the caller is asked. So Unwritten comes only where the caller has
+/// answered with one of these, and there is no memory for its line.
 pub fn answer_line<C: Caller>(
     alloc: Global,
     caller: &mut C,
@@ -101,13 +102,13 @@ pub fn answer_line<C: Caller>(
     told
 }
 
-/// Asks the requests of a script's lines of a caller, in order, and writes their reply lines. Says whether a line was refused;
-/// with `stop` it ends at the first such line. The cost is linear in the script, beside the caller's; the memory is that of one
-/// line, of which a little more than 4 MiB are kept at most (profile). Whoever writes a line and waits for its reply gets it: what the
-/// writer holds is written out before each read that may wait.
+/// Makes the requests of a script's lines to a caller, in order, and writes their reply lines. Returns whether a line was refused; with `stop` it
+/// ends at the first such line. The cost is linear in the script, in addition to the caller's. The memory is that of one line, of which at most a
+/// little more than 4 MiB are kept (profile). A program that writes a line and waits for its reply gets the reply, since the writer is flushed
+/// before each read that may wait.
 ///
-/// After a fault all that was asked is answered and written, but for one line: its reply may be missing for want of memory, or
-/// be written in part where the writer failed.
+/// After a fault every request that was made is answered and its reply written, except for one line: its reply may be missing for want of memory,
+/// or be written in part where the writer failed.
 pub fn run_script<C: Caller, R: BufRead + Failing, W: Write + Failing>(
     alloc: Global,
     caller: &mut C,
@@ -158,7 +159,7 @@ pub fn run_script<C: Caller, R: BufRead + Failing, W: Write + Failing>(
     Err(ScriptFault::of_counts(reads, reader.failures()))
 }
 
-/// Answers a line, writes its reply if it has one, and tells by which refusal it was refused, if it was.
+/// Answers a line, and writes its reply if it has one. Returns the refusal of a line that was refused.
 #[tactic(auto, unfolding(crate::specs::Meaning::meaning))]
 fn serve_line<C: Caller, W: Sink>(
     alloc: Global,
@@ -176,7 +177,7 @@ fn serve_line<C: Caller, W: Sink>(
     }
 }
 
-/// Answers a line that asks a request or is at fault.
+/// Answers a line that makes a request or is faulty.
 fn serve_request<C: Caller, W: Sink>(
     alloc: Global,
     caller: &mut C,
@@ -192,7 +193,8 @@ fn serve_request<C: Caller, W: Sink>(
     }
 }
 
-/// Writes that a line is refused, unless it is for want of memory. It stands apart, since a reply takes room on the stack, which is filled first.
+/// Writes that a line is refused, unless it is for want of memory. It is a function of its own: a reply takes room on the stack, and a function
+/// fills its whole stack frame with zeros first.
 #[inline(never)]
 fn refuse<W: Sink>(writer: &mut W, refusal: Refusal) -> Result<Option<Refusal>, LineFault>
     ensures ok { IfOk result (λ told. (told ≡ Some refusal) × Appends (W.contents writer.old) (W.contents writer.new) (line_of (Reply.Refused refusal))) }
@@ -207,7 +209,7 @@ fn refuse<W: Sink>(writer: &mut W, refusal: Refusal) -> Result<Option<Refusal>, 
     report(writer, &reply)
 }
 
-/// Asks a request, and writes its reply.
+/// Makes a request to the caller, and writes its reply.
 fn serve<C: Caller, W: Sink>(
     caller: &mut C,
     request: Request,
@@ -224,7 +226,7 @@ fn serve<C: Caller, W: Sink>(
     }
 }
 
-/// Writes a reply's line, and tells the refusal that it is, if it is one.
+/// Writes a reply's line. Returns the refusal where the reply is one.
 fn report<W: Sink>(writer: &mut W, reply: &Reply) -> Result<Option<Refusal>, LineFault>
     ensures fits { 1025 ≤ W.room writer.old → has_any_length reply.now ≡ false → IsOk result }
     ensures line { OnOk result (Appends (W.contents writer.old) (W.contents writer.new) (line_of reply.now)) }

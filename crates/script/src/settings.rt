@@ -1,5 +1,5 @@
 //! Lines that set a limit of a file system.
-ghost use Rattle.std.specs.Prelude.{◌≡◌, ◌≤◌, ◌<◌, ◌^◌, ◌==◌, IfSome, length};
+ghost use Rattle.std.specs.Prelude.{◌≡◌, ◌<◌, ◌==◌, IfSome, length};
 ghost use Rattle.std.specs.List.{position};
 ghost use Rattle.std.specs.Option.{option_map, option_copied};
 ghost use Rattle.script.specs.Words.{at_equals, limit_of_word, amount_of_bytes, amount_of_word};
@@ -16,29 +16,21 @@ use model::limits::Limit;
 use model::request::Request;
 use std::alloc::Global;
 
-/// A limit has at most this many bytes, those of 2^40 blocks (profile).
+/// A limit is at most this many bytes, which are 2^40 blocks (profile).
 const SIZE_LIMIT: u64 = 562_949_953_421_312;
 
-/// Reads `set PROP=SIZE NAME` (zfs-set(8)). PROP is `quota`, `refquota`, `reservation` or `refreservation`; SIZE is `none` or `0`, which
-/// are no limit, or a number of bytes that is a multiple of 512, at most 2^49. BadLine where there aren't two operands or the first has
-/// no such shape, BadName where NAME is no file system's name, NoMemory where there is no memory for it.
+/// Reads `set PROP=SIZE NAME` (zfs-set(8)). PROP is `quota`, `refquota`, `reservation` or `refreservation`. SIZE is `none` or `0`, which both
+/// mean no limit, or a number of bytes that is a multiple of 512, at most 2^49. BadLine where there aren't two operands or the first doesn't have
+/// this shape, BadName where NAME isn't valid as a file system's name, NoMemory where it can't be allocated.
 #[inline(never)]
 #[tactic(auto, unfolding(crate::specs::Meaning::set_of))]
 pub(crate) fn set(alloc: Global, operands: Option<&[u8]>) -> Result<Request, Refusal>
     ensures { Means result (set_of (words_left (option_copied operands.entry))) }
 {
-    let Some((setting, name)) = two(operands) else {
-        return Err(Refusal::BadLine);
-    };
-    let Some((limit, size)) = split_at_equals(setting) else {
-        return Err(Refusal::BadLine);
-    };
-    let Some(limit) = limit_named(limit) else {
-        return Err(Refusal::BadLine);
-    };
-    let Some(amount) = amount(size) else {
-        return Err(Refusal::BadLine);
-    };
+    let (setting, name) = two(operands).ok_or(Refusal::BadLine)?;
+    let (limit, size) = split_at_equals(setting).ok_or(Refusal::BadLine)?;
+    let limit = limit_named(limit).ok_or(Refusal::BadLine)?;
+    let amount = amount(size).ok_or(Refusal::BadLine)?;
     let name = DsName::read(alloc, name)?;
     Ok(Request::Set {
         name,
@@ -47,7 +39,7 @@ pub(crate) fn set(alloc: Global, operands: Option<&[u8]>) -> Result<Request, Ref
     })
 }
 
-// What stands before and after the first `=`.
+// The parts before and after the first `=`.
 #[tactic(auto, using(crate::proofs::WordsLemmas::range_from))]
 fn split_at_equals(word: &[u8]) -> Option<(&[u8], &[u8])>
     ensures { option_map (λ w. (w.0.now, w.1.now)) result ≡ at_equals word.now }
@@ -83,7 +75,7 @@ fn limit_named(word: &[u8]) -> Option<Limit>
     }
 }
 
-// The amount that a size says, or no limit.
+// The amount that a size spells, or no limit. None where it is neither.
 #[tactic(auto, unfolding(crate::specs::Words::amount_of_word))]
 fn amount(size: &[u8]) -> Option<Option<Blocks>>
     ensures { result ≡ amount_of_word size.now }
@@ -94,12 +86,14 @@ fn amount(size: &[u8]) -> Option<Option<Blocks>>
     amount_of(number_up_to(size, SIZE_LIMIT)?)
 }
 
-// The amount that a number of bytes is, or no limit.
+/// The amount of a number of bytes: no limit for 0. None where it isn't a multiple of 512, or is more than 2^49 (profile).
 #[tactic(auto, unfolding(crate::specs::Words::amount_of_bytes))]
-fn amount_of(bytes: u64) -> Option<Option<Blocks>>
-    requires { bytes ≤ 2 ^ 49 }
+pub fn amount_of(bytes: u64) -> Option<Option<Blocks>>
     ensures { result ≡ amount_of_bytes bytes }
 {
+    if bytes > SIZE_LIMIT {
+        return None;
+    }
     if bytes == 0 {
         return Some(None);
     }

@@ -1,19 +1,19 @@
-//! Where the lines of replies go.
+//! Destinations of reply lines.
 ghost use Rattle.std.specs.Prelude.{◌+◌, ◌-◌, ◌<◌, ◌≤◌, ℕ, List, Option, Some, length, OnOk, IsOk, vec_len, vec_capacity};
 ghost use Rattle.std.specs.Io.KnownBytes.{Appends};
 
 use std::io;
 use std::io::Write;
 
-/// Where the lines of replies go: any writer, or a vector of which it is known how much room it has.
+/// A destination of reply lines: any writer, or a vector whose free capacity is known.
 pub(crate) trait Sink {
-    // The bytes that it holds, where they are known.
+    // The bytes written so far, where they are known.
     ghost contents: { Self → Option (List ℕ) };
 
-    // So many bytes more it takes without fail; 0 where that isn't known.
+    // How many more bytes it takes without failing; 0 where that isn't known.
     ghost room: { Self → ℕ };
 
-    /// Puts bytes behind those that it holds.
+    /// Appends bytes.
     fn put(&mut self, bytes: &[u8]) -> io::Result<()>
         ensures bytes { OnOk result (Appends (contents self.old) (contents self.new) bytes.now) }
         ensures fits { 0 < room self.old → length bytes.now ≤ room self.old → IsOk result }
@@ -30,7 +30,7 @@ impl<W: Write> Sink for W {
     }
 }
 
-/// A vector as a sink, with the room that it has.
+/// A vector as a sink. Its room is its free capacity.
 pub(crate) struct Roomy(pub(crate) Vec<u8>);
 
 impl Sink for Roomy {

@@ -1,4 +1,4 @@
-//! Lines that ask for a property, and for what snapshots take.
+//! Lines that ask for a property, and for the space that snapshots use.
 ghost use Rattle.std.specs.Prelude.{◌≡◌, ◌++◌, ◌∷◌};
 ghost use Rattle.std.specs.Option.{option_copied};
 ghost use Rattle.base.specs.Reading.{Reads, snap_of};
@@ -13,9 +13,9 @@ use base::text::same_bytes;
 use model::request::{Property, Request};
 use std::alloc::Global;
 
-/// Reads `get PROP TARGET` (zfs-get(8)). PROP may be `written@` with a snapshot's whole name after it, or with one component, which names
-/// a snapshot of the target's file system (zfsprops(7)). BadLine where there aren't two operands or PROP is no property, BadName where
-/// a name is none or its whole name has more than 255 bytes, NoMemory where there is no memory for a name.
+/// Reads `get PROP TARGET` (zfs-get(8)). PROP may be `written@` followed by a snapshot's whole name, or by one component, which names a snapshot
+/// of the target's file system (zfsprops(7)). BadLine where there aren't two operands or PROP isn't a property, BadName where a name is invalid
+/// or the snapshot's whole name has more than 255 bytes, NoMemory where a name can't be allocated.
 #[tactic(auto, unfolding(crate::specs::Meaning::get_of))]
 pub(crate) fn get(alloc: Global, operands: Option<&[u8]>) -> Result<Request, Refusal>
     ensures { Means result (get_of (words_left (option_copied operands.entry))) }
@@ -29,7 +29,7 @@ pub(crate) fn get(alloc: Global, operands: Option<&[u8]>) -> Result<Request, Ref
     }
 }
 
-// A property that has a name.
+// A request for a property with a fixed name.
 #[inline(never)]
 #[tactic(auto, unfolding(crate::specs::Meaning::get_property_of))]
 fn get_property(alloc: Global, property: &[u8], target: &[u8]) -> Result<Request, Refusal>
@@ -42,7 +42,7 @@ fn get_property(alloc: Global, property: &[u8], target: &[u8]) -> Result<Request
     Ok(Request::Get { target, property })
 }
 
-// What was written since a snapshot, whose whole name has an `@`.
+// A request for what was written since a snapshot. The snapshot is given by its whole name, if the word has an `@`, or else by its component.
 #[tactic(auto, unfolding(crate::specs::Meaning::written_since_of))]
 fn get_written(alloc: Global, since: &[u8], target: &[u8]) -> Result<Request, Refusal>
     ensures { Means result (written_since_of since.now target.now) }
@@ -54,7 +54,7 @@ fn get_written(alloc: Global, since: &[u8], target: &[u8]) -> Result<Request, Re
     }
 }
 
-// Since a snapshot by its whole name.
+// A request for what was written since a snapshot that is given by its whole name.
 #[inline(never)]
 #[tactic(auto, unfolding(crate::specs::Meaning::since_snap_of))]
 fn since_snap(alloc: Global, since: &[u8], target: &[u8]) -> Result<Request, Refusal>
@@ -65,7 +65,7 @@ fn since_snap(alloc: Global, since: &[u8], target: &[u8]) -> Result<Request, Ref
     Ok(Request::WrittenSince { target, since })
 }
 
-// Since a snapshot of the target's file system, by its component.
+// A request for what was written since a snapshot of the target's file system, which is given by its component.
 #[inline(never)]
 fn since_word(alloc: Global, since: &[u8], target: &[u8]) -> Result<Request, Refusal>
     ensures { Means result (since_word_of since.now target.now) }
@@ -75,7 +75,7 @@ fn since_word(alloc: Global, since: &[u8], target: &[u8]) -> Result<Request, Ref
     Ok(Request::WrittenSince { target, since })
 }
 
-// The file system whose name a target's begins with.
+// The file system that a target is or belongs to.
 fn file_system_of(target: &Target) -> &DsName
     ensures { result.now ≡ file_system_of target.now }
 {
@@ -86,7 +86,7 @@ fn file_system_of(target: &Target) -> &DsName
     }
 }
 
-// The snapshot of a file system's name, an `@` and a word.
+// The snapshot whose name is a file system's name, an `@` and a word.
 fn whole_name(alloc: Global, file_system: &[u8], word: &[u8]) -> Result<SnapName, Refusal>
     ensures { Reads result (snap_of (file_system.now ++ 64 ∷ word.now)) }
 {
@@ -97,9 +97,9 @@ fn whole_name(alloc: Global, file_system: &[u8], word: &[u8]) -> Result<SnapName
     SnapName::read(alloc, whole.as_slice())
 }
 
-/// Reads `wouldfree NAME WORD WORD`, the first and the last of some snapshots of a file system (zfs-destroy(8), -nv). BadLine where there
-/// aren't three operands, BadName where a name is none or a snapshot's whole name would have more than 255 bytes, NoMemory where there is
-/// no memory for a name.
+/// Reads `wouldfree NAME WORD WORD`; the words name the first and the last of a range of snapshots of a file system (zfs-destroy(8), -nv).
+/// BadLine where there aren't three operands, BadName where a name is invalid or a snapshot's whole name would have more than 255 bytes, NoMemory
+/// where a name can't be allocated.
 #[inline(never)]
 #[tactic(auto, unfolding(crate::specs::Meaning::would_free_of))]
 pub(crate) fn would_free(alloc: Global, operands: Option<&[u8]>) -> Result<Request, Refusal>
@@ -114,7 +114,7 @@ pub(crate) fn would_free(alloc: Global, operands: Option<&[u8]>) -> Result<Reque
     Ok(Request::WouldFree { name, first, last })
 }
 
-// A component by which a snapshot of a file system is named: BadName too where the whole name would have more than 255 bytes.
+// The component that names a snapshot of a file system. BadName also where the snapshot's whole name would have more than 255 bytes.
 #[tactic(auto, unfolding(crate::specs::Words::word_within))]
 fn word_within(alloc: Global, file_system: &DsName, word: &[u8]) -> Result<Component, Refusal>
     ensures { Reads result (word_within file_system.now word.now) }

@@ -13,8 +13,8 @@ use hex::FromHexError;
 use model::request::Request;
 use std::alloc::Global;
 
-/// Reads `send [-i TARGET] TARGET` (zfs-send(8)); what stands after `-i` is the source. BadLine where another number of operands
-/// stands there, BadName where one is no name, the source first, NoMemory where there is no memory for a name.
+/// Reads `send [-i TARGET] TARGET` (zfs-send(8)); the target after `-i` is the source. BadLine for any other number of operands, BadName where an
+/// operand isn't a name, the source first, NoMemory where a name can't be allocated.
 #[inline(never)]
 #[tactic(auto, unfolding(crate::specs::Meaning::send_of))]
 pub(crate) fn send(alloc: Global, operands: Option<&[u8]>) -> Result<Request, Refusal>
@@ -28,7 +28,7 @@ pub(crate) fn send(alloc: Global, operands: Option<&[u8]>) -> Result<Request, Re
     }
 }
 
-// A send from a source.
+// An incremental send, from a source.
 #[tactic(auto, unfolding(crate::specs::Meaning::send_from_of))]
 fn send_from(alloc: Global, operands: Option<&[u8]>) -> Result<Request, Refusal>
     ensures { Means result (send_from_of (words_left (option_copied operands.entry))) }
@@ -53,9 +53,9 @@ fn send_whole(alloc: Global, operands: Option<&[u8]>) -> Result<Request, Refusal
     Ok(Request::Send { target, from: None })
 }
 
-/// Reads `receive [-F] SNAP HEX` (zfs-receive(8)); HEX has the bytes of the stream, two digits each. BadLine where there aren't two
-/// operands or the second is no such word, BadName where the first is no snapshot's name, NoMemory where there is no memory for the
-/// name or the bytes. The bytes are in memory beside the line.
+/// Reads `receive [-F] SNAP HEX` (zfs-receive(8)); HEX is the bytes of the stream, two digits each. BadLine where there aren't two operands or
+/// the second isn't such a word, BadName where the first isn't valid as a snapshot's name, NoMemory where the name or the bytes can't be
+/// allocated. The bytes are in memory in addition to the line.
 #[inline(never)]
 #[tactic(auto, unfolding(crate::specs::Meaning::receive_of))]
 pub(crate) fn receive(alloc: Global, operands: Option<&[u8]>) -> Result<Request, Refusal>
@@ -65,7 +65,7 @@ pub(crate) fn receive(alloc: Global, operands: Option<&[u8]>) -> Result<Request,
     received(alloc, rest, force)
 }
 
-// A receive of a stream as a snapshot, by force or not.
+// A receive of a stream as a snapshot, with `-F` or without.
 #[tactic(auto, unfolding(crate::specs::Meaning::received_of))]
 fn received(alloc: Global, operands: Option<&[u8]>, force: bool) -> Result<Request, Refusal>
     ensures { Means result (received_of force (words_left (option_copied operands.entry))) }
@@ -82,7 +82,7 @@ fn received(alloc: Global, operands: Option<&[u8]>, force: bool) -> Result<Reque
     })
 }
 
-// The bytes that a word of hexadecimal digits says.
+// The bytes that a word of hexadecimal digits spells.
 #[tactic(auto, unfolding(crate::specs::Words::bytes_of_word))]
 fn bytes_said(alloc: Global, word: &[u8]) -> Result<Bytes, Refusal>
     ensures { Says result (bytes_of_word word.now) }

@@ -1,4 +1,4 @@
-//! Replies as lines.
+//! Writes replies as lines.
 ghost use Rattle.std.specs.Prelude.{◌≡◌, ◌==◌, ◌-◌, ◌*◌, ◌++◌, ◌+◌, ◌∷◌, ◌<◌, ◌≤◌, [], Some, false, OnOk, IsOk, length, drop, replicate};
 ghost use Rattle.std.specs.List.{list_all};
 ghost use Rattle.std.specs.Fmt.{decimal};
@@ -13,7 +13,7 @@ use base::text::Bytes;
 use model::reply::{Reply, Value};
 use std::io;
 
-/// Writes a reply's line. Where there is room for 1,025 bytes, it fails only at names, a text or a stream.
+/// Writes a reply's line. With room for 1,025 bytes it can fail only for names, a text or a stream.
 pub(crate) fn write_reply<W: Sink>(writer: &mut W, reply: &Reply) -> io::Result<()>
     ensures fits { 1025 ≤ W.room writer.old → has_any_length reply.now ≡ false → IsOk result }
     ensures line { OnOk result (Appends (W.contents writer.old) (W.contents writer.new) (line_of reply.now)) }
@@ -39,7 +39,8 @@ pub(crate) fn write_reply<W: Sink>(writer: &mut W, reply: &Reply) -> io::Result<
 /// Room for the digits of a number.
 const NUMBER_ROOM: usize = 20;
 
-// A number, and the byte behind it. It stands apart, since its digits take room on the stack, which is filled first.
+// Writes a number, and the byte after it. It is a function of its own: the digits take room on the stack, and a function fills its whole stack
+// frame with zeros first.
 #[inline(never)]
 fn write_number<W: Sink>(writer: &mut W, number: u64, end: u8) -> io::Result<()>
     ensures fits { 21 ≤ W.room writer.old → IsOk result }
@@ -51,7 +52,7 @@ fn write_number<W: Sink>(writer: &mut W, number: u64, end: u8) -> io::Result<()>
     writer.put(&line[start..])
 }
 
-// A refusal's line.
+// Writes the line of a refusal.
 #[tactic(auto, using(crate::proofs::RefusalNames::length_name))]
 fn write_refusal<W: Sink>(writer: &mut W, refusal: Refusal) -> io::Result<()>
     ensures fits { 1025 ≤ W.room writer.old → IsOk result }
@@ -63,7 +64,7 @@ fn write_refusal<W: Sink>(writer: &mut W, refusal: Refusal) -> io::Result<()>
     writer.put(b"\n")
 }
 
-// Whether these are zeros alone. It looks at each of them, wherever the first other byte stands, which lets a compiler look at many at a time.
+// Whether all these bytes are zero. It reads every byte, also after one that isn't zero, so that the compiler can check many at a time.
 fn are_zeros(bytes: &[u8]) -> bool
     ensures { result ≡ list_all (λ b. b == 0) bytes.now }
 {
@@ -74,7 +75,7 @@ fn are_zeros(bytes: &[u8]) -> bool
     are
 }
 
-// Behind which byte there are zeros alone, as there are behind this one: it looks back from there, so many bytes at a time.
+// A place from which on the block has only zeros. It has only zeros from `from` on; this looks back from there, `step` bytes at a time.
 fn end_by(bytes: &[u8; 512], from: usize, step: usize) -> usize
     requires within { from ≤ 512 }
     requires steps { 0 < step }
@@ -89,7 +90,7 @@ fn end_by(bytes: &[u8; 512], from: usize, step: usize) -> usize
     end
 }
 
-// Behind which byte of a block there are zeros alone: a multiple of 8.
+// The length of a block without its trailing zeros, rounded up to a multiple of 8.
 fn end_of(bytes: &[u8; 512]) -> usize
     ensures within { result ≤ 512 }
     ensures zeros { drop result bytes.now ≡ replicate (512 - result) 0 }
@@ -101,7 +102,8 @@ fn end_of(bytes: &[u8; 512]) -> usize
 /// Digits of a block.
 const BLOCK_DIGITS: usize = 1024;
 
-// A block's line. A block often ends in zeros, whose digits are there before. It stands apart, since its digits take room on the stack.
+// Writes a block's line. A block often ends in zeros, so the line is filled with the digit 0 first, and only the bytes before these zeros are
+// encoded. It is a function of its own: the digits take room on the stack, and a function fills its whole stack frame with zeros first.
 #[inline(never)]
 fn write_block<W: Sink>(writer: &mut W, bytes: &[u8; 512]) -> io::Result<()>
     ensures fits { 1025 ≤ W.room writer.old → IsOk result }
@@ -157,7 +159,7 @@ fn write_names<W: Sink>(writer: &mut W, names: &[Bytes]) -> io::Result<()>
     writer.put(b"\n")
 }
 
-/// Bytes of a stream that are turned to digits at once.
+/// How many bytes of a stream are encoded as digits at once.
 const PART: usize = 512;
 
 fn write_digits<W: Sink>(writer: &mut W, bytes: &[u8]) -> io::Result<()>

@@ -10,7 +10,7 @@ ghost use Rattle.script.specs.Reading.{words_left};
 use base::text::same_bytes;
 use memchr::memchr;
 
-/// Whether each byte is one that a line may have, 0x20 to 0x7e, and single spaces join the words (profile).
+/// Whether the line is words of bytes 0x20 to 0x7e, separated by single spaces (profile).
 pub(crate) fn has_only_words(line: &[u8]) -> bool
     ensures { result ≡ (list_all is_printable line.now && list_all is_word (words_of line.now)) }
 {
@@ -23,7 +23,7 @@ pub(crate) fn has_only_words(line: &[u8]) -> bool
     goes_on(&line[seen..], line[seen - 1] == b' ') & (line[len - 1] != b' ')
 }
 
-// How far a line goes on well behind the bytes before a place: it looks at so many at a time.
+// The place up to which the line is well formed. It is well formed up to `from`; this checks it from there, `step` bytes at a time.
 fn goes_on_by(line: &[u8], from: usize, step: usize) -> usize
     requires behind { 0 < from }
     requires within { from ≤ length line.now }
@@ -39,8 +39,8 @@ fn goes_on_by(line: &[u8], from: usize, step: usize) -> usize
     seen
 }
 
-// Whether bytes go on well behind a space or another byte. It looks at each of them once, wherever the first fault stands, which lets a
-// compiler look at many at a time.
+// Whether these bytes continue a well-formed line, after a space or after another byte. It reads every byte, also after a fault, so that the
+// compiler can check many at a time.
 fn goes_on(bytes: &[u8], after_space: bool) -> bool
     ensures { result ≡ joins after_space bytes.now }
 {
@@ -54,7 +54,7 @@ fn goes_on(bytes: &[u8], after_space: bool) -> bool
     is_well
 }
 
-/// The first word, and what stands after its space.
+/// The first word, and the rest of the line after its space.
 pub(crate) fn next_word(line: &[u8]) -> (&[u8], Option<&[u8]>)
     ensures { words_of line.now ≡ result.0.now ∷ words_left (option_copied result.1) }
 {
@@ -64,7 +64,7 @@ pub(crate) fn next_word(line: &[u8]) -> (&[u8], Option<&[u8]>)
     }
 }
 
-/// Most words are short: so many bytes are looked at in place, before a search that takes longer to begin.
+/// Most words are short, so this many bytes are checked in a loop, before a search that takes longer to begin.
 const NEAR: usize = 16;
 
 // The place of the first space.
@@ -86,7 +86,7 @@ fn space_place(line: &[u8]) -> Option<usize>
     }
 }
 
-/// The operand of a request that has one.
+/// The operand of a request that has exactly one.
 pub(crate) fn one(rest: Option<&[u8]>) -> Option<&[u8]>
     ensures { option_copied result ≡ one_of (words_left (option_copied rest.entry)) }
 {
@@ -98,7 +98,7 @@ pub(crate) fn one(rest: Option<&[u8]>) -> Option<&[u8]>
     Some(a)
 }
 
-/// The operands of a request that has two.
+/// The operands of a request that has exactly two.
 pub(crate) fn two(rest: Option<&[u8]>) -> Option<(&[u8], &[u8])>
     ensures { option_map (λ w. (w.0.now, w.1.now)) result ≡ two_of (words_left (option_copied rest.entry)) }
 {
@@ -111,7 +111,7 @@ pub(crate) fn two(rest: Option<&[u8]>) -> Option<(&[u8], &[u8])>
     Some((a, b))
 }
 
-/// The operands of a request that has three.
+/// The operands of a request that has exactly three.
 pub(crate) fn three(rest: Option<&[u8]>) -> Option<(&[u8], &[u8], &[u8])>
     ensures { option_map (λ w. (w.0.now, w.1.now, w.2.now)) result ≡ three_of (words_left (option_copied rest.entry)) }
 {
@@ -125,7 +125,7 @@ pub(crate) fn three(rest: Option<&[u8]>) -> Option<(&[u8], &[u8], &[u8])>
     Some((a, b, c))
 }
 
-/// The first three operands of a request that has four, and what stands after their spaces: the fourth, or more words.
+/// The first three operands of a request that has four or more, and the rest of the line: the fourth operand, or more words.
 pub(crate) fn three_and_more(rest: Option<&[u8]>) -> Option<(&[u8], &[u8], &[u8], &[u8])>
     ensures { MatchOption result (four_of (words_left (option_copied rest.entry)) ≡ None)
         (λ w. words_left (option_copied rest.entry) ≡ w.0.now ∷ w.1.now ∷ w.2.now ∷ words_of w.3.now) }
@@ -136,7 +136,7 @@ pub(crate) fn three_and_more(rest: Option<&[u8]>) -> Option<(&[u8], &[u8], &[u8]
     Some((a, b, c, rest?))
 }
 
-/// Whether an option stands before the operands, and what stands after it, or all of them.
+/// Whether the operands begin with this option, and the operands after it; where it isn't there, all operands.
 pub(crate) fn leading_option<'a>(rest: Option<&'a [u8]>, word: &[u8]) -> (bool, Option<&'a [u8]>)
     ensures there { result.0 ≡ has_option word.now (words_left (option_copied rest.entry)) }
     ensures left { words_left (option_copied result.1) ≡ after_option word.now (words_left (option_copied rest.entry)) }

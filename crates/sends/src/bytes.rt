@@ -14,9 +14,9 @@ use std::alloc::Global;
 use stream::{Stream, write_stream};
 use tree::Tree;
 
-/// The stream of a send of a tree from a group on (zfs-send(8)): that of the guids of its two snapshots, the source's none for a full
-/// send, and of [`records`]. NoMemory where there is none. It costs what `records` does, and the bytes; the records and the bytes
-/// are in memory at once.
+/// The stream of a send of the blocks of a tree that were born after the group `since` (zfs-send(8)). It has the guids of its two snapshots,
+/// that of the source being none for a full send, and what [`records`] gives. NoMemory where memory is refused. It costs what `records` does,
+/// and the bytes; the records and the bytes are in memory at once.
 pub fn stream_bytes(
     alloc: Global,
     tree: &Tree,

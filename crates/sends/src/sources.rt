@@ -1,6 +1,6 @@
 //! Where a send of a snapshot may start: at an older snapshot of its lineage, or at a bookmark of its file system (zfs-send(8), -i).
 //!
-//! Nothing here visits a block: names are looked up, and file systems are passed from a snapshot down its lineage.
+//! Nothing here visits a block: names are looked up, and the lineage of a snapshot is followed from file system to file system.
 
 mod lineage;
 mod list;

@@ -14,10 +14,10 @@ use std::alloc::Global;
 use stream::Record;
 use tree::{Subtree, Tree};
 
-/// The records of a send of a tree from a group on (zfs-send(8), -i; group 0 for a full send): a write for each leaf born after it, and
-/// a free for each absent place directly below a block born after it, in the order of their first leaves. Those of an empty tree
-/// are one free of everything. NoMemory where there is none. It costs the nodes born after the group, each with its sixteen
-/// places, and memory by the records.
+/// The records of a send of the blocks of a tree that were born after the group `since`, 0 for a full send (zfs-send(8), -i): a write for each
+/// leaf born after it, and a free for each absent place directly below a block born after it, in the order of their first leaves. The records of
+/// an empty tree are one free of everything. NoMemory where memory is refused. It costs the nodes born after the group, each with its sixteen
+/// places, and the memory of the records.
 pub fn records(
     alloc: Global,
     tree: &Tree,
@@ -41,7 +41,7 @@ fn is_young(top: &Subtree, since: Group, meter: &mut Meter) -> bool
     since.0 < top.block(meter).birth.0
 }
 
-/// Adds the write of a leaf: all that a send from a group before its birth has of it.
+/// Adds the write of a leaf: the only record of it in a send since a group before its birth.
 fn add_leaf(
     alloc: Global,
     top: &Subtree,
@@ -61,7 +61,7 @@ fn add_leaf(
     Ok(())
 }
 
-/// Adds the records of what stands at a key: its free, where nothing does.
+/// Adds the records of the block at a key and of all below it, or the free of the key where there is no block.
 fn add_sent(
     alloc: Global,
     part: Option<Subtree>,

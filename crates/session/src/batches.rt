@@ -1,4 +1,4 @@
-//! Several requests in one hold of the lock.
+//! Several requests under one hold of the lock.
 ghost use Rattle.std.specs.Prelude.{◌≡◌, ◌+◌, ◌≤◌, ◌∷◌, ◌⊎◌, All, true, Err, length, map, IfOk, IfErr, IsOkAnd, OnErr, vec_len, vec_capacity, []};
 ghost use Rattle.base.specs.declared.refusal.Refusal.{Refusal};
 ghost use Rattle.std.specs.List.{list_any};
@@ -21,12 +21,12 @@ use std::sync::Wait;
 use std::vec::IntoIter;
 
 impl<K: Opening> Session<K> {
-    /// Applies requests one right after another, in one hold of the lock, and gives their receipts, whose entries are one run of the pool:
-    /// no other call came between two. Between two the gate is asked. The batch stops early where the gate says no, or where there is no
-    /// memory for the next reply or its receipt; the receipts then are those of the first requests. Of the second of these the contract
-    /// says that the gate had said yes and that there was room: that memory was refused is no fact of a contract, since no value has it. At `Err` nothing ran: NoView where one of them opens or closes a view, SessionFull where not all would
-    /// have room, NoMemory where there is none for the entries, for the receipts or for the first reply. The entries' memory is taken
-    /// before the lock. A batch of no requests always ends well, with no receipts.
+    /// Applies requests one after another under one hold of the lock, and returns their receipts. Their entries are one run of the pool, without
+    /// another call in between. The gate is asked between two requests. The batch stops early where the gate says no, or where the next reply or
+    /// its receipt can't be allocated; the receipts are then those of the first requests. For the second case the contract says only that the
+    /// gate said yes and that there was room: no value tells that memory was refused. At `Err` nothing ran: NoView where one of them opens or
+    /// closes a view; SessionFull where there isn't room for all; NoMemory where the entries, the receipts or the first reply can't be allocated.
+    /// The entries are allocated before the lock is taken. A batch of no requests always succeeds, with no receipts.
     pub fn batch<R: Wait, G: Gate>(
         &self,
         alloc: Global,
@@ -68,14 +68,14 @@ impl<K: Opening> Session<K> {
     }
 }
 
-// Whether one of these opens or closes a view.
+// Whether one of these requests opens or closes a view.
 fn any_of_views(requests: &[Request]) -> bool
     ensures { result ≡ list_any is_of_views requests.now }
 {
     requests.iter().any(|request| is_of_views(request))
 }
 
-// A seat's calls for these requests, each with the memory of its entry. NoMemory where there is none for them. It costs their number.
+// A seat's calls for these requests, each with its entry allocated. NoMemory where they can't be allocated. It costs their number.
 fn calls_of<K: Opening>(
     alloc: Global,
     seat: &Seat<K>,
@@ -92,7 +92,7 @@ fn calls_of<K: Opening>(
     Ok(calls)
 }
 
-// Enters the calls after the first, which was the last to be entered, and asks the gate before each.
+// Enters the calls after the first, and asks the gate before each. `first` is the receipt of the first call, which was entered last.
 fn enter_rest<K: Opening, G: Gate>(
     alloc: Global,
     book: &mut Book<K>,

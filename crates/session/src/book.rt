@@ -1,5 +1,5 @@
-//! What lies under a session's lock: a pool with the history that led to its state. A caller's seat keeps a receipt for each of its
-//! calls. `enter_call` is the one function that adds to the history, and `Book::close` compares all receipts with it.
+//! The contents of a session's lock: a pool with the history that led to its state. A caller's seat keeps a receipt for each of its calls.
+//! `enter_call` is the one function that adds to the history, and `Book::close` compares all receipts with it.
 
 mod book;
 mod call;

@@ -1,8 +1,8 @@
-//! When a batch ends.
+//! Gates, which say when a batch or a worker ends.
 ghost use Rattle.std.specs.Prelude.{◌≡◌, ◌+◌, ◌<◌, ◌^◌, MatchBool, true, false};
 
-/// Says whether to go on. A true answer uses up one of finitely many turns, and nothing else does. A false answer stands: no later
-/// call of `turn` takes it back.
+/// Says whether to go on. Each true answer uses up one of finitely many turns, and nothing else does. A false answer is final: every later call
+/// of `turn` answers false too.
 pub trait Gate {
     ghost use Rattle.std.specs.Prelude.{ℕ, Bool};
 
@@ -19,8 +19,8 @@ pub trait Gate {
         ensures few { left self.old < 2 ^ 64 };
 }
 
-/// A gate of so many turns: it says yes so often, and from then on no (profile). A batch of `n` requests that is not to stop early asks for
-/// `n - 1`, and a worker asks for one before each of its requests.
+/// A gate with a number of turns: it answers true that many times, and false from then on (profile). A batch of `n` requests that is not to stop
+/// early needs `n - 1` turns; a worker needs one before each of its requests.
 #[derive(Drop)]
 pub struct Turns {
     turns: u64,
@@ -28,7 +28,7 @@ pub struct Turns {
 }
 
 impl Turns {
-    /// A gate with so many turns. Constant time, as each of them is.
+    /// A gate with this many turns. Constant time, as each turn is.
     pub fn new(turns: u64) -> Turns
         ensures { result ≡ record { turns = turns; is_stopped = false } }
     {

@@ -1,13 +1,13 @@
-//! What is true of every history that comes out of a book, as the contract of a function without a body.
+//! What holds for every history of a book, stated as the contract of a function without a body.
 ghost use Rattle.session.specs.Places.{EntriesHavePlaces};
 
-/// In a history that is a run, as `Book::close` and `Book::give_up` say of theirs, there is a state at the place of each entry: the
-/// entries before it lead from the opening to this state, its request is answered there with its reply, and the entries behind it lead on
-/// to the end. Where the entry opened a view, whatever that view was read or sent as is what the pool answers a Read or a Send of the view's
-/// name in this very state (`View::read`, `View::send`), however much later it was read.
+/// A history that is a run has a state at the place of each entry; the contracts of `Book::close` and `Book::give_up` say that theirs is a run.
+/// The entries before an entry lead from the opening state to its state, the pool answers its request there with its reply, and the entries after
+/// it lead on to the end. Where the entry opened a view, whatever the view reads or sends is what the pool answers in this very state to a Read
+/// or a Send of the view's name (`View::read`, `View::send`), however much later the view is used.
 ///
-/// It asks that each number of the opening state names one block, as in every pool's state: of a new pool's `laws::lineage_laws` says it,
-/// and of any other the last `Pool::apply` or `Pool::prepare`.
+/// The law requires that each number of the opening state names one block, which is so in every pool's state: `laws::lineage_laws` says it of a
+/// new pool, and the contract of the last `Pool::apply` or `Pool::prepare` of any other.
 pub fn history_laws()
     ensures places { EntriesHavePlaces }
 {}

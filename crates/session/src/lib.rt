@@ -1,6 +1,6 @@
-//! A pool that callers in threads of their own share under one lock. Each request that runs is an entry of the book that lies under
-//! the lock, and the caller's seat keeps its receipt. A view of a snapshot is read without the lock. Workers make one request again and again. Once the threads have ended, the
-//! book comes out of the lock and is closed.
+//! A pool that several threads share under one lock. Each request that runs becomes an entry of the book under the lock, and the caller's seat
+//! keeps its receipt. A view of a snapshot is read without the lock. Workers make one request repeatedly. Once the threads have ended, the book
+//! is taken out of the lock and closed.
 #![tactic(auto)]
 
 mod batches;

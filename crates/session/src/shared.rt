@@ -1,4 +1,4 @@
-//! A session, which callers in threads of their own share.
+//! A session, which several threads share.
 ghost use Rattle.std.specs.Prelude.{◌≡◌, ◌<◌, ◌≤◌, ◌⊎◌, true, [], Err, IfOk, IfErr, IfSome, OnErr, is_some};
 ghost use Rattle.session.specs.Entering.{Ran, IsFullOrNoMemory, IsNoLimit, IsUnopened};
 ghost use Rattle.session.specs.Entered.{is_opened};
@@ -12,12 +12,12 @@ use model::request::Request;
 use std::alloc::Global;
 use std::sync::{Mutex, Wait};
 
-/// A pool that threads share. Each of its calls is one hold of the one lock.
+/// A pool that threads share. Each call of it takes the one lock once.
 pub struct Session<K: Opening> {
     pub(crate) book: Mutex<Book<K>>,
 }
 
-// By hand, so that it is proved once: a derived one is laid out anew in each crate that drops the type.
+// Written by hand, so that it is proved once: a derived `Drop` is expanded again in each crate that drops the type.
 impl<K: Opening> Drop for Session<K> {
     fn drop(self) {
         let Session { book } = self;
@@ -26,8 +26,8 @@ impl<K: Opening> Drop for Session<K> {
 }
 
 impl<K: Opening> Session<K> {
-    /// A session of a pool, with room for `limit` calls, 1 to `CALL_LIMIT`. TooMany for another `limit`, NoMemory where there is none
-    /// for the history, which is reserved here once; the pool comes back with either.
+    /// A session of a pool, with room for `limit` calls, 1 to `CALL_LIMIT`. TooMany for another `limit`, NoMemory where the history can't be
+    /// allocated, which is reserved here once. The pool is handed back with either.
     pub fn open(alloc: Global, pool: Pool, limit: u64) -> Result<Session<K>, (Refusal, Pool)>
         requires opening { pool.state ≡ K.opening }
         requires limit { limit ≡ K.limit }
@@ -43,8 +43,8 @@ impl<K: Opening> Session<K> {
         }
     }
 
-    /// A seat without receipts. Seats are numbered from 1 as they are given. TooManySeats once `SEAT_LIMIT` were given. It takes no
-    /// memory.
+    /// A new seat without receipts. Seats are numbered from 1 in the order in which they are given. TooManySeats once `SEAT_LIMIT` were given. It
+    /// allocates nothing.
     pub fn seat<R: Wait>(&self, alloc: Global, rt: &R) -> Result<Seat<K>, Refusal>
         ensures new { IfOk result (λ s. (s.receipts ≡ []) × (0 < s.number) × (s.number ≤ SEAT_LIMIT)) }
         ensures refusal { IfErr result (λ r. r ≡ Refusal.TooManySeats) }
@@ -52,10 +52,11 @@ impl<K: Opening> Session<K> {
         self.book.lock(rt).give_seat(alloc)
     }
 
-    /// Applies a request, and gives its place in the history. Its reply is that of a step of the pool from a state that a history leads to
-    /// which has as many entries as its number says. A request that the pool refuses has run, and its entry has the refusal as its reply. At `Err` nothing ran: NoView for a request that opens or closes a view, which `open_view` and `close_view` do;
-    /// SessionFull once the session has taken all its calls, NoMemory where there is no memory for the entry or its receipts. The
-    /// entry's memory is taken before the lock.
+    /// Applies a request, and returns its place in the history. Its reply is that of a step of the pool, from the state that the entries before
+    /// it lead to; the receipt's number says how many these are. A request that the pool refuses has run, and its entry has the refusal as its
+    /// reply. At `Err` nothing ran: NoView for a request that opens or closes a view, which is for `open_view` and `close_view`; SessionFull once
+    /// the session has taken all its calls; NoMemory where the entry or its receipts can't be allocated. The entry is allocated before the lock
+    /// is taken.
     pub fn call<R: Wait>(
         &self,
         alloc: Global,
@@ -79,7 +80,7 @@ impl<K: Opening> Session<K> {
         Ok(receipt)
     }
 
-    // Applies a request of any kind as `call` does, and gives beside its receipt one more owner of its entry where that opened a view.
+    // Applies a request of any kind as `call` does. Where the request opened a view, it also returns one more reference to the entry.
     pub(crate) fn ask<R: Wait>(
         &self,
         alloc: Global,
@@ -100,7 +101,7 @@ impl<K: Opening> Session<K> {
         enter_call(alloc, &mut book, seat, call)
     }
 
-    /// Gives up the lock, once no thread has the session any more.
+    /// Returns the book out of the lock, once no thread has the session any more.
     pub fn end(self) -> Book<K> {
         let Session { book } = self;
         book.into_inner()

@@ -26,16 +26,16 @@ use std::marker::{Model, PhantomData};
 use std::sync::Arc;
 use toll::Toll;
 
-/// A view of a snapshot: what it was when the view was opened. It is read without the session, by any thread that has it, while others
-/// go on. As long as it is open, a destroy or a rollback that would remove the snapshot answers Busy, and one that is deferred waits for
-/// it (zfs-destroy(8), -d). Contracts see the name that it was opened of, its number and what it shows.
+/// A view of a snapshot, which shows the snapshot as it was when the view was opened. It is read without the session, by any thread that has it,
+/// while others go on. As long as it is open, a destroy or a rollback that would remove the snapshot answers Busy, and a deferred destroy waits
+/// for it (zfs-destroy(8), -d). Contracts see the name of which it was opened, its number and what it shows.
 pub struct View<K: Opening> {
     number: u64,
     entry: Arc<Entry>,
     of: PhantomData<K>,
 }
 
-// By hand, so that it is proved once: a derived one is laid out anew in each crate that drops the type.
+// Written by hand, so that it is proved once: a derived `Drop` is expanded again in each crate that drops the type.
 impl<K: Opening> Drop for View<K> {
     fn drop(self) {
         let View {
@@ -62,7 +62,7 @@ impl<K: Opening> Model for View<K> {
     ghost invariant = { λ v. (arc_value v.entry).reply ≡ TheOpened v.number (seen_in (arc_value v.entry).reply) };
 }
 
-/// What `Session::open_view` gives.
+/// The outcome of `Session::open_view`.
 #[derive(Drop)]
 pub enum OpenedView<K: Opening> {
     /// The view, with the receipt of the request that opened it.
@@ -71,14 +71,14 @@ pub enum OpenedView<K: Opening> {
     Refused(Receipt),
 }
 
-/// What `Session::close_view` gives.
+/// The outcome of `Session::close_view`.
 #[derive(Drop)]
 pub enum ClosedView<K: Opening> {
     /// The receipt of the request that closed the view.
     Closed(Receipt),
-    /// The receipt of a request that the pool refused, and the view, which is open still.
+    /// The receipt of a request that the pool refused, and the view, which is still open.
     Refused(Receipt, View<K>),
-    /// Why nothing ran, and the view, which is open still.
+    /// The reason why nothing ran, and the view, which is still open.
     NotRun(Refusal, View<K>),
 }
 
@@ -107,9 +107,9 @@ impl<K: Opening> View<K> {
         self.number
     }
 
-    /// The 512 bytes of a block of an object of the snapshot, or none where it is a hole: what Read would have answered in the place of
-    /// the request that opened the view, whatever others have asked since. BadKey exactly where the object is above 255 or the block
-    /// above 4095. It takes no lock and no memory, and costs the nodes from the root to the block: at most six.
+    /// The 512 bytes of a block of an object of the snapshot, or None where it is a hole. This is what Read would have answered in the place of
+    /// the request that opened the view, whatever was requested since. BadKey exactly where the object is above 255 or the block above 4095. It
+    /// takes no lock and allocates nothing, and costs the nodes from the root to the block: at most six.
     pub fn read(&self, object: u32, block: u32) -> Result<Option<[u8; 512]>, Refusal>
         ensures ok { IfOk result (λ bytes. bytes ≡ get (contents self.now.sight.map) (leaf_index object block)) }
         ensures bad_key { (result ≡ Err Refusal.BadKey) ↔ (is_block object block ≡ false) }
@@ -122,11 +122,11 @@ impl<K: Opening> View<K> {
         Ok(bytes.copied())
     }
 
-    /// The stream of the snapshot, whole or from a source (zfs-send(8), -i): what Send of it would have answered in the place of the
-    /// request that opened the view, whatever others have asked since; a source may be gone by then. NotAncestor exactly where the source
-    /// was neither an older snapshot of its lineage nor a bookmark of its file system of a lower group; else perhaps NoMemory. It takes
-    /// no lock. It costs the sources, the nodes younger than the source's group, each with its sixteen places, and the bytes, which are
-    /// in memory with the records.
+    /// The stream of the snapshot, full or incremental from a source (zfs-send(8), -i). This is what Send of the snapshot would have answered in
+    /// the place of the request that opened the view, whatever was requested since; the source may be destroyed by then. NotAncestor exactly
+    /// where the source was neither an older snapshot of its lineage nor a bookmark of its file system of a lower group; else NoMemory where
+    /// memory is refused. It takes no lock. It costs the sources, the nodes younger than the source's group, each with its sixteen places, and
+    /// the bytes, which are in memory together with the records.
     pub fn send(&self, alloc: Global, from: Option<&Target>) -> Result<Bytes, Refusal>
         ensures ok { IfOk result (λ bytes. option_map (stream_of self.now.sight) (start_of self.now.sight.sources (option_copied from.entry)) ≡ Some bytes) }
         ensures not_ancestor { (result ≡ Err Refusal.NotAncestor) ↔ (start_of self.now.sight.sources (option_copied from.entry) ≡ None) }
@@ -149,7 +149,7 @@ impl<K: Opening> View<K> {
         )
     }
 
-    // What it shows.
+    // What the view shows.
     fn sight(&self) -> &Sight
         ensures { result.now ≡ self.now.sight }
     {
@@ -159,7 +159,8 @@ impl<K: Opening> View<K> {
         sight
     }
 
-    /// Gives the view up, and tells its number. The snapshot stays in use until CloseView is asked of the pool itself. Constant time.
+    /// Drops the view without closing it, and returns its number. The snapshot stays in use until the pool itself is asked for CloseView.
+    /// Constant time.
     pub fn forget(self) -> u64
         ensures { result ≡ self.number }
     {

@@ -1,4 +1,4 @@
-//! Views opened and closed.
+//! Opening and closing of views.
 ghost use Rattle.std.specs.Prelude.{◌≡◌, IfOk, IfErr, IfSome, OnErr, is_some};
 ghost use Rattle.session.specs.Entering.{IsFullOrNoMemory};
 ghost use Rattle.session.specs.Entered.{is_opened};
@@ -17,10 +17,10 @@ use std::alloc::Global;
 use std::sync::{Arc, Wait};
 
 impl<K: Opening> Session<K> {
-    /// Opens a view of a snapshot. The receipt is that of a step of the pool, as `call` says of its own. A request that the pool refuses
-    /// has run: NotSnapshot, NoDataset, Deferred or TooMany. At `Err` nothing ran:
-    /// SessionFull once the session has taken all its calls, NoMemory where there is no memory for the entry or its receipts. The view
-    /// holds the snapshot's tree by one more owner, so that it costs what the name does.
+    /// Opens a view of a snapshot. Its receipt is that of a step of the pool, as for `call`. A request that the pool refuses has run:
+    /// NotSnapshot, NoDataset, Deferred or TooMany. At `Err` nothing ran: SessionFull once the session has taken all its calls, NoMemory where
+    /// the entry or its receipts can't be allocated. The view shares the snapshot's tree by one more reference, so that it costs what finding the
+    /// name does.
     pub fn open_view<R: Wait>(
         &self,
         alloc: Global,
@@ -37,9 +37,9 @@ impl<K: Opening> Session<K> {
         Ok(opened(receipt, viewed))
     }
 
-    /// Closes a view, which is spent then, by a step of the pool, as `call` says of its own; or hands it back with the receipt of a request that the pool refused, NoView or NoMemory, or
-    /// with the refusal where nothing ran, SessionFull or NoMemory. What a destroy left for this view alone is to be freed then
-    /// (zfs-destroy(8), -d). It costs what the pool's step does.
+    /// Closes a view by a step of the pool, as `call` does, and consumes it. On failure the view is handed back: with the receipt where the pool
+    /// refused the request, by NoView or NoMemory; or with the refusal where nothing ran, which is SessionFull or NoMemory. The blocks that a
+    /// deferred destroy had left for this view alone are to be freed then (zfs-destroy(8), -d). It costs what the pool's step does.
     pub fn close_view<R: Wait>(
         &self,
         alloc: Global,
@@ -61,7 +61,7 @@ impl<K: Opening> Session<K> {
     }
 }
 
-// What a request for a view came to, from its receipt and the owner that the view has of its entry.
+// The outcome of a request that opens a view, from its receipt and the view's reference to its entry.
 fn opened<K: Opening>(receipt: Receipt, viewed: Option<Arc<Entry>>) -> OpenedView<K>
     requires viewed { IfSome viewed (λ v. v.value ≡ receipt.entry) }
     requires opened { is_some viewed ≡ is_opened receipt.entry.reply }
@@ -76,7 +76,7 @@ fn opened<K: Opening>(receipt: Receipt, viewed: Option<Arc<Entry>>) -> OpenedVie
     }
 }
 
-// What a request to close this view came to, from its receipt.
+// The outcome of a request to close this view, from its receipt.
 fn closed<K: Opening>(receipt: Receipt, view: View<K>) -> ClosedView<K>
     ensures { IsClosedBy receipt view result }
 {

@@ -1,4 +1,4 @@
-//! Workers, which make one request again and again.
+//! Workers, which make one request repeatedly.
 ghost use Rattle.std.specs.Prelude.{◌≡◌, ◌↔◌, IsTrue};
 ghost use Rattle.base.specs.declared.refusal.Refusal.TheVariants.{NoMemory};
 ghost use Rattle.model.specs.declared.reply.Reply.TheVariants.{Refused};
@@ -14,7 +14,7 @@ use model::request::Request;
 use std::alloc::Global;
 use std::sync::Wait;
 
-// What a worker asks for.
+// The request that a worker makes.
 #[derive(Clone, Copy)]
 enum Work {
     Syncs,
@@ -22,7 +22,7 @@ enum Work {
 }
 
 impl Work {
-    // Its next request.
+    // The worker's next request.
     fn request(self) -> Request
         ensures { result ≡ work_request self }
     {
@@ -34,11 +34,11 @@ impl Work {
 }
 
 impl<K: Opening> Session<K> {
-    /// Asks for `Sync` again and again, and tells how many of these requests have run. Before each the gate is asked, and each is a
-    /// hold of the lock by itself, so that other callers come between them. It ends without a refusal where the gate says no; with
-    /// SessionFull once the session has taken all its calls; with NoMemory where there is no memory for the next entry or its receipt,
-    /// which then has not run, or where the request that ran last was refused for want of memory, which is counted. A request that is
-    /// refused otherwise has run, and the next one follows. Each costs what the pool's step does, and the seat a receipt (profile).
+    /// Requests `Sync` repeatedly, and returns how many of these requests have run. The gate is asked before each. Each takes the lock anew, so
+    /// that other callers come between them. It ends without a refusal where the gate says no; with SessionFull once the session has taken all
+    /// its calls; and with NoMemory in two cases. Either the next entry or its receipt can't be allocated, and that request has not run; or the
+    /// last request ran and was itself refused with NoMemory, and is counted. A request that is refused otherwise has run, and the next one
+    /// follows. Each costs what the pool's step does, and a receipt of the seat (profile).
     pub fn run_syncer<R: Wait, G: Gate>(
         &self,
         alloc: Global,
@@ -51,8 +51,8 @@ impl<K: Opening> Session<K> {
         run_work(self, alloc, rt, seat, gate, Work::Syncs)
     }
 
-    /// Asks for `Slice` of `count` blocks again and again, and tells how many of these requests have run. It asks the gate, holds the
-    /// lock and ends as `run_syncer` does. That nothing is left to be freed doesn't end it (profile).
+    /// Requests `Slice` of `count` blocks repeatedly, and returns how many of these requests have run. It asks the gate, takes the lock and ends
+    /// as `run_syncer` does. It does not end when nothing is left to be freed (profile).
     pub fn run_destroyer<R: Wait, G: Gate>(
         &self,
         alloc: Global,
@@ -67,7 +67,7 @@ impl<K: Opening> Session<K> {
     }
 }
 
-// Makes the request as long as the gate says so, the session has room and there is memory.
+// Makes the request while the gate says yes, the session has room and memory is granted.
 fn run_work<K: Opening, R: Wait, G: Gate>(
     session: &Session<K>,
     alloc: Global,
@@ -95,7 +95,7 @@ fn run_work<K: Opening, R: Wait, G: Gate>(
     (ran, None)
 }
 
-// Whether the request was refused for want of memory.
+// Whether the request was refused with NoMemory.
 fn lacked_memory(receipt: Receipt) -> bool
     ensures { IsTrue result ↔ (receipt.entry.reply ≡ Refused NoMemory) }
 {

@@ -59,8 +59,8 @@ fn any_taken(table: &Table, all: &[Named]) -> bool
     all.iter().any(|name| is_taken(table, name))
 }
 
-// Whether a file system stands twice. NoMemory where there is none for a set of the names, which fewer than two don't need. It costs
-// their number times its logarithm.
+// Whether a file system occurs twice. NoMemory where there is none for a set of the names; fewer than two names need no set. It costs the number
+// of names times its logarithm.
 fn has_twice(alloc: Global, all: &[Named]) -> Result<bool, Refusal>
     ensures ok { IfOk result (λ twice. twice ≡ has_twice all.now) }
     ensures err { IfErr result (λ e. e ≡ Refusal.NoMemory) }
@@ -77,8 +77,8 @@ fn has_twice(alloc: Global, all: &[Named]) -> Result<bool, Refusal>
     Ok(false)
 }
 
-// Whether so many snapshots more would be too many, their group is the last one, or the counter has no guids left for them. Constant
-// time.
+// Whether there is no room for `count` more snapshots: the pool would have too many, the open group is the last one, or the counter has no guids
+// left for them. Constant time.
 fn has_no_room(table: &Table, next: u64, count: usize) -> bool
     requires { 0 < count }
     ensures { result ≡ has_no_room_for (world_of table.now) next count }
@@ -92,10 +92,10 @@ fn has_no_room(table: &Table, next: u64, count: usize) -> bool
     next > LAST_GUID || count as u64 - 1 > LAST_GUID - next
 }
 
-/// Refuses snapshots of all these names, whose file systems are there: BadName where a whole name is over 255 bytes, else Exists
-/// where there is a snapshot of such a name or a file system stands twice, else TooMany where there is no room for them. NoMemory
-/// may come before TooMany, and before Exists where a file system stands twice (zfs-snapshot(8); numbers are profile). It costs the
-/// number n of names times its logarithm, that of the number of file systems and that of the number of a file system's snapshots.
+/// Refuses snapshots of all these names, whose file systems are there: BadName where a whole name is over 255 bytes, else Exists where there is
+/// a snapshot of such a name or a file system occurs twice, else TooMany where there is no room for them. NoMemory may come before TooMany, and
+/// before Exists where a file system occurs twice (zfs-snapshot(8); numbers are profile). It costs the number n of names times its logarithm,
+/// that of the number of file systems and that of the number of a file system's snapshots.
 pub fn check(alloc: Global, table: &Table, all: &[Named], next: u64) -> Result<(), Refusal>
     ensures can { OnOk result (first_of (naming_row (world_of table.now) next all.now) ≡ None) }
     ensures only { IfErr result (λ e. (first_of (naming_row (world_of table.now) next all.now) ≡ Some e) ⊎ (e ≡ Refusal.NoMemory)) }

@@ -1,7 +1,7 @@
 //! Clones of snapshots, and their promotes.
 //!
-//! A clone is a file system whose first map is that of a snapshot, its origin (zfs-clone(8)). A promote turns the dependency round: the
-//! clone gets its origin and what is older, and the file system that had these is its clone then (zfs-promote(8)).
+//! A clone is a file system whose first map is that of a snapshot, its origin (zfs-clone(8)). A promote reverses the dependency: the clone gets
+//! its origin and the older snapshots, and the file system that had them becomes its clone (zfs-promote(8)).
 
 mod clone;
 mod promotion;

@@ -1,7 +1,7 @@
 //! The snapshots of one request.
 //!
-//! A request names snapshots, and with -r each name stands for one of every descendant of its file system too. They are taken together,
-//! of the group that was open, which is then closed (zfs-snapshot(8)).
+//! A request names snapshots. With -r each name stands for a snapshot of every descendant of its file system too. All are taken together in the
+//! open group, which is then closed (zfs-snapshot(8)).
 #![tactic(auto)]
 
 ghost use Rattle.std.specs.Prelude.{◌≡◌, ◌↔◌, ◌⊎◌, Some, None, IfSome, IfOk, IfErr, OnOk, OnErr, length};
@@ -22,24 +22,24 @@ use base::refusal::Refusal;
 use datasets::Table;
 use std::alloc::Global;
 
-/// What the guids of new snapshots are made of: the pool's id, and the counter's number for the next one, 0 to 4294967295, or
-/// 4294967296 where none is left (profile).
+/// What the guids of new snapshots are made of: the pool's id, and the counter's number for the next guid, 0 to 4294967295, or 4294967296 where
+/// none is left (profile).
 #[derive(Clone, Copy, PartialEq, Eq, Debug)]
 pub struct Guids {
     pub pool: u32,
     pub next: u64,
 }
 
-/// Takes in this table a snapshot of each of these names, and with `recursive` of each descendant of their file systems too, of the group
-/// that was open, which is closed; and answers how many they are. Without a name nothing changes. At `Err` the table is as it was.
-/// Refused are NoDataset where a file system isn't there, else BadName where a whole name is over 255 bytes, else Exists where there is
-/// a snapshot of such a name or a file system stands twice, else TooMany where the pool would have over 65,536 snapshots, the group is
-/// the last one or the counter has no guids left. NoMemory, where there is none for the names or the snapshots, may come before all of
-/// these but NoDataset (zfs-snapshot(8); numbers are profile). A single snapshot is taken in place: it costs the logarithm of the number
-/// of file systems and that of the number of its file system's snapshots, with `recursive` the number of file systems; and where another
-/// table shares these snapshots, a 1,024th of their number. Others are taken on a copy: n of them cost the number of file systems, with
-/// `recursive` once for each name, n times its logarithm and those of the numbers of file systems and of a file system's snapshots, and
-/// for each a 1,024th of the number of these.
+/// Takes a snapshot of each of these names in this table, and with `recursive` one of each descendant of their file systems too. They are taken
+/// in the open group, which is then closed. The answer is their number. Without a name nothing changes. After an error the table is as it was.
+/// The errors are NoDataset where a file system isn't there, else BadName where a whole name is over 255 bytes, else Exists where there is a
+/// snapshot of such a name or a file system occurs twice, else TooMany where the pool would have over 65,536 snapshots, the group is the last
+/// one or the counter has no guids left. NoMemory, where there is none for the names or the snapshots, may come before all of these but
+/// NoDataset (zfs-snapshot(8); numbers are profile). A single snapshot is taken in place. It costs the logarithm of the number of file systems
+/// and that of the number of its file system's snapshots, with `recursive` the number of file systems; and where another table shares these
+/// snapshots, a 1,024th of their number. Several snapshots are taken in a copy of the table. n of them cost the number of file systems, with
+/// `recursive` once for each name; n times the logarithms of n, of the number of file systems and of the number of a file system's snapshots;
+/// and for each a 1,024th of the number of its file system's snapshots.
 pub fn snapshot(
     alloc: Global,
     table: &mut Table,

@@ -14,7 +14,7 @@ use std::alloc::Global;
 use std::marker::Model;
 use std::sync::Arc;
 
-/// The name of a snapshot, lent by a request or a table. Contracts see the name.
+/// The name of a snapshot, borrowed from a request or a table. Contracts see the name.
 #[derive(Drop)]
 pub struct Named<'a> {
     pub file_system: &'a DsName,
@@ -51,8 +51,8 @@ pub fn is_in_family(ancestor: &[u8], name: &[u8]) -> bool
     }
 }
 
-// Adds the name's component under each of these file systems that is of its family. NoMemory where there is none for that. It costs
-// their number.
+// Adds the name's component under each of these file systems that is the name's own or a descendant of it. NoMemory where there is none for
+// that. It costs their number.
 fn add_family<'a>(
     all: &mut Vec<Named<'a>>,
     file_systems: &'a [Arc<FileSystem>],
@@ -72,8 +72,8 @@ fn add_family<'a>(
     Ok(())
 }
 
-/// What these names stand for: with `recursive` a name stands for one under each file system of its family. NoMemory where there is
-/// none for them. It costs the names, and with `recursive` each times the number of file systems.
+/// The snapshots that these names stand for. With `recursive` a name stands for a snapshot of its file system and of each descendant of it.
+/// NoMemory where there is none for them. It costs the names, and with `recursive` each times the number of file systems.
 pub fn expand<'a>(
     alloc: Global,
     table: &'a Table,

@@ -1,4 +1,4 @@
-//! The taking of snapshots that nothing refuses.
+//! Takes snapshots that no check refuses.
 ghost use Rattle.std.specs.Prelude.{◌≡◌, ◌+◌, ◌<◌, ◌≤◌, [], ◌∷◌, false, IfOk, IfErr, OnOk, OnErr, length};
 ghost use Rattle.base.specs.declared.refusal.Refusal.{Refusal};
 ghost use Rattle.model.specs.Targets.{guid_limit};
@@ -23,9 +23,9 @@ fn guid_at(guids: Guids, place: usize) -> Guid
     Guid(u64::from(guids.pool) * 4294967296 + guids.next + place as u64)
 }
 
-/// A table with a snapshot of each of these names, of which there is one or more, of the group that was open, which is closed. This
-/// table stays as it is. NoMemory where there is none for it. It costs the number of file systems, and for each name the logarithm of
-/// that and a 1,024th of the snapshots that its file system had.
+/// A copy of the table with a snapshot of each of these names, of which there must be one or more. The snapshots are of the open group, which is
+/// closed in the copy. `table` is unchanged. NoMemory where there is none for it. It costs the number of file systems, and for each name the
+/// logarithm of that and a 1,024th of the snapshots that its file system had.
 pub fn take_all(alloc: Global, table: &Table, all: &[Named], guids: Guids) -> Result<Table, Refusal>
     requires takable { AreTakable table.now.file_systems all.now }
     requires some { 0 < length all.now }
@@ -44,9 +44,9 @@ pub fn take_all(alloc: Global, table: &Table, all: &[Named], guids: Guids) -> Re
     Ok(to)
 }
 
-/// Takes a snapshot of this name alone in this table, of the group that was open, which is closed. NoMemory where there is none for
-/// it, and then the table is as it was. It costs the logarithm of the number of file systems; and where another table shares the
-/// snapshots of this one, a 1,024th of their number.
+/// Takes one snapshot, of this name, in this table in the open group, which is then closed. NoMemory where there is none for it, and then the
+/// table is as it was. It costs the logarithm of the number of file systems; and where another table shares the snapshots of this one, a 1,024th
+/// of their number.
 pub fn take_one(
     alloc: Global,
     table: &mut Table,

@@ -19,8 +19,9 @@ use std::alloc::Global;
 use std::marker::Model;
 use std::sync::Arc;
 
-/// Kept snapshots of one file system by name; copies share them. Contracts see the list of them, whose names strictly rise in byte
-/// order, so that each stands once. They stand in chunks of 1 to 64, and these in groups of 1 to 64 (profile), which copies share.
+/// An index of the kept snapshots of one file system by name. Contracts see the list of them in strictly rising byte order of their names, so
+/// that each name occurs once. The snapshots are stored in chunks of 1 to 64, and the chunks in groups of 1 to 64 (profile). Copies share the
+/// groups.
 #[derive(Drop)]
 pub struct ByName {
     chunks: Spine<Chunk<Kept>>,
@@ -44,7 +45,7 @@ impl Model for ByName {
 }
 
 impl ByName {
-    /// None. It takes no memory, and keeps the allocator.
+    /// An empty index. It takes no memory, and keeps the allocator.
     pub fn new(alloc: Global) -> ByName
         ensures { result ≡ [] }
     {
@@ -53,7 +54,7 @@ impl ByName {
         }
     }
 
-    /// The same snapshots, by one more owner of each group: it costs a 4,096th of their number, or a 1,024th where they were put in among
+    /// An equal index, which shares each group. It costs a 4,096th of the number of snapshots, or a 1,024th where they were inserted between
     /// others. NoMemory where memory is refused.
     pub fn copy(&self) -> Result<ByName, Refusal>
         ensures ok { IfOk result (λ b. b ≡ self.now) }
@@ -74,9 +75,9 @@ impl ByName {
         None
     }
 
-    /// Puts in a snapshot, by the owner that is given; where one of its name is there, that stays. It costs the logarithm of their number,
-    /// a few walks over the groups, and at most two chunks and their groups; a chunk is changed in place where it and its group have no
-    /// other owner and it isn't full. NoMemory where memory is refused; then all is as it was.
+    /// Inserts a snapshot. Where the index has one of this name, that one stays. It costs the logarithm of the number of snapshots, a few walks
+    /// over the groups, and at most two chunks and their groups; a chunk is changed in place where it and its group have no other owner and it
+    /// isn't full. NoMemory where memory is refused; then all is as it was.
     pub fn insert(&mut self, kept: Arc<Kept>) -> Result<(), Refusal>
         ensures ok { OnOk result ((name : List ℕ) → find (λ k. same_name k.snapshot.name name) self.new ≡ option_or (find (λ k. same_name k.snapshot.name name) self.old) (if same_name kept.value.snapshot.name name then Some kept.value else None)) }
         ensures err { OnErr result (self.new ≡ self.old) }
@@ -94,9 +95,8 @@ impl ByName {
         Ok(())
     }
 
-    /// Puts a snapshot in the place of the one of its name, which is there, by the owner that is given. It costs what finding does, and is
-    /// done in place where the chunk and its group have no other owner; else these are made anew. NoMemory where memory is refused; then
-    /// all is as it was.
+    /// Replaces the snapshot of the same name, which must be there. It costs what `get` does. The chunk and its group are changed in place where
+    /// they have no other owner; else new ones take their place. NoMemory where memory is refused; then all is as it was.
     pub fn set(&mut self, kept: Arc<Kept>) -> Result<(), Refusal>
         requires { IsSome (find (λ k. same_name k.snapshot.name kept.value.snapshot.name) self.old) }
         ensures ok { OnOk result ((name : List ℕ) → find (λ k. same_name k.snapshot.name name) self.new ≡ (if same_name kept.value.snapshot.name name then Some kept.value else find (λ k. same_name k.snapshot.name name) self.old)) }
@@ -110,8 +110,8 @@ impl ByName {
         Ok(())
     }
 
-    /// Takes out the snapshot of that name, which is there. It costs what finding does, and at most three chunks and their groups.
-    /// NoMemory where memory is refused; then all is as it was.
+    /// Removes the snapshot of that name, which must be there. It costs what `get` does, and at most three chunks and their groups. NoMemory
+    /// where memory is refused; then all is as it was.
     pub fn remove(&mut self, name: &[u8]) -> Result<(), Refusal>
         requires { IsSome (find (λ k. same_name k.snapshot.name name.now) self.old) }
         ensures ok { OnOk result ((other : List ℕ) → find (λ k. same_name k.snapshot.name other) self.new ≡ (if same_name name.now other then None else find (λ k. same_name k.snapshot.name other) self.old)) }
@@ -126,7 +126,7 @@ impl ByName {
     }
 }
 
-// Whether its name is below that one, which has this head.
+// Whether the snapshot's name is below `name` in byte order. `head` is the head of `name`.
 fn is_below_name(kept: &Kept, name: &[u8], head: u64) -> bool
     requires { head ≡ name_head name.now }
     ensures { result ≡ is_below name.now kept.now }
@@ -147,14 +147,14 @@ fn has_name(kept: &Kept, name: &[u8]) -> bool
     )
 }
 
-// The bytes of its name.
+// The bytes of the snapshot's name.
 fn name_of(kept: &Arc<Kept>) -> &[u8]
     ensures { result.now ≡ kept.now.value.snapshot.name }
 {
     kept.snapshot.name().as_bytes()
 }
 
-/// The first snapshot whose name isn't below that one, or None where all are.
+/// The first snapshot whose name isn't below `name`, or None where every name is below it.
 fn nearest<'a>(chunks: &'a Spine<Chunk<Kept>>, name: &[u8]) -> Option<&'a Kept>
     requires { IsTrue (names_rise (flattened chunks.now)) }
     ensures { find (is_named name.now) (flattened chunks.now) ≡ if_named name.now (option_copied result) }
@@ -163,7 +163,7 @@ fn nearest<'a>(chunks: &'a Spine<Chunk<Kept>>, name: &[u8]) -> Option<&'a Kept>
     first(chunks, |kept: &Kept| is_below_name(kept, name, head))
 }
 
-/// Where that snapshot stands.
+/// The place of the first snapshot whose name isn't below `name`, or None where every name is below it.
 fn place_of(chunks: &Spine<Chunk<Kept>>, name: &[u8]) -> Option<Place>
     requires { IsTrue (names_rise (flattened chunks.now)) }
     ensures item { IfSome result (λ p. IsItem (λ v. v) chunks.now p.k p.at) }

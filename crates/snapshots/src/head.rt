@@ -6,18 +6,18 @@ ghost use Rattle.snapshots.specs.Heads.{name_head};
 
 use base::text::{compare_bytes, same_bytes};
 
-// How many bytes of a name its head has.
+// The head of a name is its first bytes, at most this many.
 const HEAD: usize = 8;
 
-// The byte at that place, or 0 behind the last one.
+// The byte at that place, or 0 after the end of the name.
 fn byte_at(name: &[u8], place: usize) -> u8
     ensures { result ≡ slice_index name.now place }
 {
     if place < name.len() { name[place] } else { 0 }
 }
 
-/// The first eight bytes of a name as a number, the first one highest, with zeros behind a shorter name. Names are in the order of their
-/// heads where these differ. Constant time.
+/// The first eight bytes of a name as a big-endian number. A shorter name is padded with zeros at the end. Where two heads differ, the names are
+/// in the order of the heads. Constant time.
 pub fn head_of(name: &[u8]) -> u64
     ensures { result ≡ name_head name.now }
 {
@@ -33,8 +33,9 @@ pub fn head_of(name: &[u8]) -> u64
     ])
 }
 
-/// Whether a name is below another in byte order; each comes with its head. The bytes, which stand apart from their snapshot, are looked at
-/// only where the heads are the same and one of the names is longer. It costs the shorter name there, and constant time elsewhere.
+/// Whether a name is below another in byte order; each comes with its head. The bytes of the names, which are stored apart from their snapshots,
+/// are compared only where the heads are the same and one of the names is longer than a head. Then it costs the length of the shorter name, and
+/// else constant time.
 pub fn is_lower(one: &[u8], one_head: u64, other: &[u8], other_head: u64) -> bool
     requires one { one_head ≡ name_head one.now }
     requires other { other_head ≡ name_head other.now }
@@ -49,8 +50,8 @@ pub fn is_lower(one: &[u8], one_head: u64, other: &[u8], other_head: u64) -> boo
     compare_bytes(one, other).is_lt()
 }
 
-/// Whether two names are the same; each comes with its head. The bytes are looked at only where the heads are the same and the names are
-/// longer. It costs what is the same at their ends there, and constant time elsewhere.
+/// Whether two names are the same; each comes with its head. The bytes of the names are compared only where the heads are the same and the names
+/// are longer than a head. Then it costs the length of their common suffix, and else constant time.
 pub fn is_same(one: &[u8], one_head: u64, other: &[u8], other_head: u64) -> bool
     requires one { one_head ≡ name_head one.now }
     requires other { other_head ≡ name_head other.now }

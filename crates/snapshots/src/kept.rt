@@ -1,11 +1,11 @@
-//! A snapshot with what its file system keeps beside it.
+//! A snapshot with its dead list and its count of written blocks.
 use crate::snapshot::Snapshot;
 use deadlist::deadlist::Deadlist;
 use std::sync::Arc;
 
-/// A snapshot as its file system keeps it: with its dead list, the blocks that what stands before it has and it hasn't (On-Disk
-/// Specification, chapter 4: ds_deadlist_obj), and with how many blocks it has that what stands before it hasn't (zfsprops(7):
-/// written).
+/// A snapshot as its file system keeps it. `dead` is its dead list: the blocks of the previous snapshot, or else of the origin, that this
+/// snapshot doesn't have (On-Disk Specification, chapter 4: ds_deadlist_obj). `written` is the number of blocks of this snapshot that the
+/// previous one, or else the origin, doesn't have (zfsprops(7): written).
 #[derive(Drop)]
 pub struct Kept {
     pub snapshot: Snapshot,

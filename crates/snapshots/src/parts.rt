@@ -1,4 +1,4 @@
-//! Snapshots that change from one file system to another.
+//! Splitting and joining of snapshot lists, for a promote.
 ghost use Rattle.std.specs.Prelude.{◌≡◌, ◌≤◌, ◌++◌, length, take, drop, IfOk, IfErr};
 ghost use Rattle.base.specs.declared.refusal.Refusal.{Refusal};
 ghost use Rattle.snapshots.specs.Index.{IsIndex, AreNamesOnce};
@@ -11,8 +11,8 @@ use shared_list::SharedList;
 use std::alloc::Global;
 
 impl SnapshotList {
-    /// The first `count` of them, and the others, where each name is one snapshot's. It costs the number of chunks, which is a 32nd of that
-    /// of the snapshots or less, and for each snapshot of the smaller part the logarithm of their number and at most three chunks of an
+    /// A list of the first `count` snapshots, and a list of the others. Names must be unique. It costs the number of chunks, which is at most a
+    /// 32nd of the number of snapshots, and for each snapshot of the smaller part the logarithm of their number and at most three chunks of an
     /// index. NoMemory where there is none for it.
     pub fn split_at(
         &self,
@@ -40,9 +40,9 @@ impl SnapshotList {
         Ok((first, rest))
     }
 
-    /// These and the others after them, where each name is one snapshot's. It costs the number of chunks, which is a 32nd of that of the
-    /// snapshots or less, and for each snapshot of the smaller part the logarithm of the number of all and at most a chunk of an index.
-    /// NoMemory where there is none for it.
+    /// A list of these snapshots followed by the others. Names must be unique among all of them. It costs the number of chunks, which is at most
+    /// a 32nd of the number of snapshots, and for each snapshot of the smaller part the logarithm of the number of all and at most a chunk of an
+    /// index. NoMemory where there is none for it.
     pub fn joined(&self, others: &SnapshotList) -> Result<SnapshotList, Refusal>
         requires once { AreNamesOnce (self.now ++ others.now) }
         ensures ok { IfOk result (λ all. all ≡ self.now ++ others.now) }
@@ -56,8 +56,9 @@ impl SnapshotList {
     }
 }
 
-// The indexes of two parts, from that of both: of the greater one what the smaller one leaves of it, and of the smaller one a new one.
-// Where memory for an index is refused there is none; NoMemory where there is none to take the smaller part one after another.
+// The name indexes of two parts of a list, from the index of the whole list. The longer part gets that index without the snapshots of the
+// shorter part; the shorter part gets a new index. Where memory for an index is refused, that part has no index (None). NoMemory where there is
+// none to copy the shorter part and take its snapshots one after another.
 fn parted(
     alloc: Global,
     by_name: Option<ByName>,
@@ -78,7 +79,7 @@ fn parted(
     Ok((without(by_name, rest, first), of_rest))
 }
 
-// An index of these, as `with` makes it.
+// A new index of these snapshots, made by `with`, with its errors.
 fn alone(alloc: Global, kept: &SharedList<Kept>) -> Result<Option<ByName>, Refusal>
     requires { AreNamesOnce kept.now }
     ensures ok { IfOk result (λ b. IsIndex b kept.now) }
@@ -88,7 +89,7 @@ fn alone(alloc: Global, kept: &SharedList<Kept>) -> Result<Option<ByName>, Refus
     with(Some(ByName::new(alloc)), kept, &none)
 }
 
-// The index of these and the others after them, from that of the greater part.
+// The index of both lists, made from the index of the longer list by adding the snapshots of the shorter one.
 fn index_of_both(line: &SnapshotList, others: &SnapshotList) -> Result<Option<ByName>, Refusal>
     requires { AreNamesOnce (line.now ++ others.now) }
     ensures ok { IfOk result (λ b. IsIndex b (line.now ++ others.now)) }
@@ -100,8 +101,8 @@ fn index_of_both(line: &SnapshotList, others: &SnapshotList) -> Result<Option<By
     with(copy_of_index(&line.by_name)?, &others.kept, &line.kept)
 }
 
-// The index of the others, with these before them, whose names none of them has. Where memory for it is refused there is none; NoMemory
-// where there is none to take these one after another.
+// Adds the snapshots of `kept` to an index of `others`. Names must be unique among all of them. Where memory for the index is refused, the
+// answer is no index (None). NoMemory where there is none to copy `kept` and take its snapshots one after another.
 fn with(
     mut by_name: Option<ByName>,
     kept: &SharedList<Kept>,
@@ -119,7 +120,8 @@ fn with(
     Ok(by_name)
 }
 
-// The index of the others, from one of these and them.
+// Removes the snapshots of `kept` from an index of `kept` and `others`, so that it is one of `others`. Where memory is refused, the answer is no
+// index (None).
 fn without(
     mut by_name: Option<ByName>,
     kept: &SharedList<Kept>,

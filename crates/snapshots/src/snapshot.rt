@@ -32,7 +32,7 @@ pub struct Snapshot {
     tags: Option<Arc<Holds>>,
 }
 
-// By hand, so that it is proved once: a derived one is laid out anew in each crate that drops the type.
+// Written by hand, so that it is proved once: a derived `Drop` is expanded anew in each crate that drops the type.
 impl Drop for Snapshot {
     fn drop(self) {
         let Snapshot {
@@ -88,8 +88,8 @@ impl Snapshot {
         }
     }
 
-    /// An equal snapshot, by a name of its own and one more owner of its tree and of its tags. NoMemory where there is none for that. It
-    /// costs the length of the name.
+    /// An equal snapshot with a copy of the name. It shares the tree and the tags. NoMemory where there is none for that. It costs the length of
+    /// the name.
     pub fn copy(&self) -> Result<Snapshot, Refusal>
         ensures ok { IfOk result (λ s. s ≡ self.now) }
         ensures err { IfErr result (λ e. e ≡ Refusal.NoMemory) }
@@ -105,7 +105,7 @@ impl Snapshot {
         })
     }
 
-    /// From now on its destroy is deferred (zfs-destroy(8), -d). Constant time.
+    /// Marks its destroy as deferred (zfs-destroy(8), -d). Constant time.
     pub fn defer(&mut self)
         ensures { self.new ≡ record self.old { deferred = true } }
     {
@@ -146,7 +146,7 @@ impl Snapshot {
         }
     }
 
-    /// Its tags as a value of their own (zfs-holds(8)). NoMemory where there is none for it. It costs the bytes of the tags.
+    /// A copy of its tags (zfs-holds(8)). NoMemory where there is none for it. It costs the bytes of the tags.
     pub fn holds(&self, alloc: Global) -> Result<Holds, Refusal>
         ensures ok { IfOk result (λ h. h ≡ self.now.tags) }
         ensures err { IfErr result (λ e. e ≡ Refusal.NoMemory) }
@@ -157,14 +157,14 @@ impl Snapshot {
         }
     }
 
-    /// From now on it has these tags (zfs-hold(8), zfs-release(8)). Constant time.
+    /// Replaces its tags (zfs-hold(8), zfs-release(8)). Constant time.
     pub fn set_tags(&mut self, tags: Arc<Holds>)
         ensures { self.new ≡ record self.old { tags = arc_value tags } }
     {
         self.tags = Some(tags);
     }
 
-    /// What names it wherever it stands. Constant time.
+    /// Its identity: its creation group and its guid. It stays the same when a promote moves the snapshot to another file system. Constant time.
     pub fn id(&self) -> SnapshotId
         ensures { snap_id result ≡ id_of self.now }
     {
@@ -210,7 +210,7 @@ impl Snapshot {
     }
 }
 
-// One more owner of tags, or none where there are none. NoMemory where there is none for an owner. Constant time.
+// Another `Arc` of the tags, or None where there are none. NoMemory where there is none for it. Constant time.
 fn copy_of_tags(tags: &Option<Arc<Holds>>) -> Result<Option<Arc<Holds>>, Refusal>
     ensures ok { IfOk result (λ t. option_map arc_value t ≡ option_map arc_value tags.now) }
     ensures err { IfErr result (λ e. e ≡ Refusal.NoMemory) }

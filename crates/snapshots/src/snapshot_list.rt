@@ -18,17 +18,17 @@ use std::alloc::Global;
 use std::marker::Model;
 use std::sync::Arc;
 
-/// The snapshots of one file system in order of their creation groups, found by name too. Contracts see the list of them. Copies share
-/// them.
+/// The snapshots of one file system in order of their creation groups, with an index by name. Contracts see the list of them. Copies share the
+/// snapshots.
 ///
-/// They are found by name in an index over them. Where memory for the index is refused, a snapshot is put in all the same, and from then
-/// on there is no index: they are then found by a walk.
+/// Where memory for the index is refused, a snapshot is added nevertheless, and the list has no index from then on. A name is then found by a
+/// walk over the list.
 pub struct SnapshotList {
     pub(crate) kept: SharedList<Kept>,
     pub(crate) by_name: Option<ByName>,
 }
 
-// By hand, so that it is proved once: a derived one is laid out anew in each crate that drops the type.
+// Written by hand, so that it is proved once: a derived `Drop` is expanded anew in each crate that drops the type.
 impl Drop for SnapshotList {
     fn drop(self) {
         let SnapshotList { kept, by_name } = self;
@@ -54,7 +54,7 @@ impl Model for SnapshotList {
 }
 
 impl SnapshotList {
-    /// None. It takes no memory, and keeps the allocator.
+    /// An empty list. It takes no memory, and keeps the allocator.
     pub fn new(alloc: Global) -> SnapshotList
         ensures { result ≡ [] }
     {
@@ -64,8 +64,8 @@ impl SnapshotList {
         }
     }
 
-    /// The same snapshots, by one more owner of each group of chunks: it costs a 1,024th of their number, or less. NoMemory where there is
-    /// none for that.
+    /// An equal list, which shares each group of chunks. It costs at most a 1,024th of the number of snapshots. NoMemory where there is none for
+    /// that.
     pub fn copy(&self) -> Result<SnapshotList, Refusal>
         ensures ok { IfOk result (λ l. l ≡ self.now) }
         ensures err { IfErr result (λ e. e ≡ Refusal.NoMemory) }
@@ -75,22 +75,22 @@ impl SnapshotList {
         Ok(SnapshotList { kept, by_name })
     }
 
-    /// All of them, in order. Constant time.
+    /// All snapshots, in order of their creation groups. Constant time.
     pub fn list(&self) -> &SharedList<Kept>
         ensures { result.now ≡ self.now }
     {
         &self.kept
     }
 
-    /// The newest, or None where there is none. Constant time.
+    /// The newest snapshot, or None where there is none. Constant time.
     pub fn last(&self) -> Option<&Kept>
         ensures { option_copied result ≡ slice_get self.now (length self.now - 1) }
     {
         self.kept.last()
     }
 
-    /// The first of that name, or None where there is none. It costs the logarithm of their number, or, where there is no index, their
-    /// number.
+    /// The first snapshot of that name, or None where there is none. It costs the logarithm of the number of snapshots, or, where there is no
+    /// index, their number.
     pub fn get(&self, name: &[u8]) -> Option<&Kept>
         ensures { option_copied result ≡ find (λ k. same_name k.snapshot.name name.now) self.now }
     {
@@ -100,8 +100,8 @@ impl SnapshotList {
         }
     }
 
-    /// Puts one behind the others. It costs the logarithm of their number, and at most a chunk of the list and one of the index, which
-    /// are changed in place where no copy shares them. NoMemory where there is none for it; then all are as they were.
+    /// Adds a snapshot at the end. It costs the logarithm of the number of snapshots, and at most a chunk of the list and one of the index,
+    /// which are changed in place where no copy shares them. NoMemory where there is none for it; then all are as they were.
     pub fn push(&mut self, alloc: Global, kept: Kept) -> Result<(), Refusal>
         ensures ok { OnOk result (self.new ≡ self.old ++ kept ∷ []) }
         ensures err { OnErr result (self.new ≡ self.old) }
@@ -113,9 +113,9 @@ impl SnapshotList {
         Ok(())
     }
 
-    /// Takes out the snapshot at that place, counted from 0, where each name is one snapshot's. It costs the number of chunks, which is
-    /// a 32nd of that of the snapshots or less, the length of its name, and at most three chunks of the list and of the index. NoMemory
-    /// where there is none for it; then all are as they were.
+    /// Removes the snapshot at that place, counted from 0. Names must be unique. It costs the number of chunks, which is at most a 32nd of the
+    /// number of snapshots, the length of its name, and at most three chunks of the list and of the index. NoMemory where there is none for it;
+    /// then all are as they were.
     pub fn remove(&mut self, place: usize) -> Result<(), Refusal>
         requires there { place < length self.old }
         requires once { AreNamesOnce self.old }
@@ -129,8 +129,8 @@ impl SnapshotList {
         Ok(())
     }
 
-    /// Puts this one in place of the one at that place, counted from 0, which has its name, where each name is one snapshot's. It costs the
-    /// logarithm of their number, a walk over the chunks, and at most a chunk of the list and one of the index, which are changed in place
+    /// Replaces the snapshot at that place, counted from 0, with this one, which has the same name. Names must be unique. It costs the logarithm
+    /// of the number of snapshots, a walk over the chunks, and at most a chunk of the list and one of the index, which are changed in place
     /// where no copy shares them. NoMemory where there is none for it; then all are as they were.
     pub fn set(&mut self, alloc: Global, place: usize, kept: Kept) -> Result<(), Refusal>
         requires same { option_map (λ k. k.snapshot.name) (slice_get self.old place) ≡ Some kept.snapshot.name }
@@ -145,9 +145,9 @@ impl SnapshotList {
         Ok(())
     }
 
-    /// Takes out the snapshot at that place, counted from 0, where each name is one snapshot's, and puts this one in place of the one
-    /// after it, which has its name. It costs the number of chunks, which is a 32nd of that of the snapshots or less, and at most three
-    /// chunks of the list and of the index. NoMemory where there is none for it; then all are as they were.
+    /// Removes the snapshot at that place, counted from 0, and replaces the one after it with `next`, which has the same name as that one. Names
+    /// must be unique. It costs the number of chunks, which is at most a 32nd of the number of snapshots, and at most three chunks of the list
+    /// and of the index. NoMemory where there is none for it; then all are as they were.
     pub fn splice(&mut self, alloc: Global, place: usize, next: Kept) -> Result<(), Refusal>
         requires next { option_map (λ k. k.snapshot.name) (slice_get self.old (place + 1)) ≡ Some next.snapshot.name }
         requires once { AreNamesOnce self.old }
@@ -167,7 +167,7 @@ impl SnapshotList {
     }
 }
 
-// The name of the snapshot at that place, which is there. It costs a walk over the chunks before it, and the length of the name.
+// A copy of the name of the snapshot at that place, which must be there. It costs a walk over the chunks before it, and the length of the name.
 fn name_at(kept: &SharedList<Kept>, place: usize) -> Result<Component, Refusal>
     requires { place < length kept.now }
     ensures ok { IfOk result (λ n. option_map (λ k. k.snapshot.name) (slice_get kept.now place) ≡ Some n) }
@@ -179,7 +179,7 @@ fn name_at(kept: &SharedList<Kept>, place: usize) -> Result<Component, Refusal>
     Ok(kept.snapshot.name().clone()?)
 }
 
-// An equal index, by one more owner of each of its chunks.
+// An equal index, which shares the chunks.
 pub(crate) fn copy_of_index(by_name: &Option<ByName>) -> Result<Option<ByName>, Refusal>
     ensures ok { IfOk result (λ b. b ≡ by_name.now) }
     ensures err { IfErr result (λ e. e ≡ Refusal.NoMemory) }
@@ -190,7 +190,7 @@ pub(crate) fn copy_of_index(by_name: &Option<ByName>) -> Result<Option<ByName>, 
     }
 }
 
-// The first of these that has this name. It costs their number.
+// The first of these snapshots that has this name. It costs their number.
 fn walk<'a>(kept: &'a SharedList<Kept>, name: &[u8]) -> Option<&'a Kept>
     ensures { option_copied result ≡ find (λ k. same_name k.snapshot.name name.now) kept.now }
 {
@@ -198,8 +198,8 @@ fn walk<'a>(kept: &'a SharedList<Kept>, name: &[u8]) -> Option<&'a Kept>
         .find(|kept| same_bytes(kept.snapshot.name().as_bytes(), name))
 }
 
-// Puts a snapshot into the index of others, where it comes behind them, or before them and none of them has its name. Where one of its name
-// is there that stays; where memory is refused there is no index any more.
+// Adds a snapshot to an index of other snapshots. It comes after them in the list, or it comes before them and none of them has its name. Where
+// the index has a snapshot of this name, that one stays. Where memory is refused, the index is dropped (None).
 pub(crate) fn index(by_name: &mut Option<ByName>, kept: Arc<Kept>)
     ensures behind { (ks : List Kept) → IsIndex by_name.old ks → IsIndex by_name.new (ks ++ arc_value kept ∷ []) }
     ensures before { (ks : List Kept) → find (λ k. same_name k.snapshot.name (arc_value kept).snapshot.name) ks ≡ None → IsIndex by_name.old ks → IsIndex by_name.new (arc_value kept ∷ ks) }
@@ -212,7 +212,7 @@ pub(crate) fn index(by_name: &mut Option<ByName>, kept: Arc<Kept>)
     }
 }
 
-// Takes the snapshot of this name, which is there, out of the index. Where memory is refused there is no index any more.
+// Removes the snapshot of this name, which must be there, from the index. Where memory is refused, the index is dropped (None).
 pub(crate) fn forget(by_name: &mut Option<ByName>, name: &[u8])
     requires { IfSome by_name.old (λ index. IsSome (find (λ k. same_name k.snapshot.name name.now) index)) }
     ensures { (ks : List Kept) (place : ℕ) → option_map (λ k. k.snapshot.name) (slice_get ks place) ≡ Some name.now → AreNamesOnce ks → IsIndex by_name.old ks → IsIndex by_name.new (remove ks place) }
@@ -225,7 +225,7 @@ pub(crate) fn forget(by_name: &mut Option<ByName>, name: &[u8])
     }
 }
 
-// Puts a snapshot into the index in place of the one of its name, which is there. Where memory is refused there is no index any more.
+// Replaces the snapshot of the same name, which must be there, in the index. Where memory is refused, the index is dropped (None).
 fn replace(by_name: &mut Option<ByName>, kept: Arc<Kept>)
     requires { IfSome by_name.old (λ index. IsSome (find (λ k. same_name k.snapshot.name (arc_value kept).snapshot.name) index)) }
     ensures { (ks : List Kept) (place : ℕ) → option_map (λ k. k.snapshot.name) (slice_get ks place) ≡ Some (arc_value kept).snapshot.name → AreNamesOnce ks → IsIndex by_name.old ks → IsIndex by_name.new (slice_set ks place (arc_value kept)) }

@@ -22,13 +22,14 @@ use model::request::Request;
 use std::alloc::Global;
 use zalloc::Counts;
 
-/// Puts the reply to a request that only reads in the place of what stands there, where a pool has these datasets, this beside them, and so
-/// many blocks in each state: that of the definition. The refusals are those of the request, or NoMemory where it takes memory and there is
-/// none. A read costs the path, and takes no memory. A list and the tags of a snapshot cost the names. A property is known once its name is
-/// found, but: an origin costs what a promote finds it by, a snapshot's clones their names, what a file system or its children use the number
-/// of file systems, and what a snapshot uses what `lookups::space::used_by_snapshot` says. What was written since a snapshot costs what
-/// `lookups::space::written_since` says, and what a range of snapshots would free what `lookups::space::would_free` does: they visit no block,
-/// and take no memory. A send costs what `sends::sources::start_of` and `sends::stream_bytes` do.
+/// Replaces `reply` with the reply to a request that only reads, as the definition of its step says. The pool has these datasets, `space` beside
+/// them, and `counts` blocks in each state. The refusals are those of the request, or NoMemory where it takes memory and that is refused. A read
+/// costs the path, and takes no memory. A list and the tags of a snapshot cost the names. A property costs the lookup of the name, and some cost
+/// more: `origin` the number of file systems times the logarithm of that of the snapshots of one; `clones` their names; `used` and
+/// `usedbychildren` of a file system the number of file systems; and `used` of a snapshot what `lookups::space::used_by_snapshot` does. What was
+/// written since a snapshot costs what `lookups::space::written_since` does, and what a range of snapshots would free what
+/// `lookups::space::would_free` does; these two visit no block and take no memory. A send costs what `sends::sources::start_of` and
+/// `sends::stream_bytes` do.
 pub fn answer(
     alloc: Global,
     ledger: &Option<Ledger>,

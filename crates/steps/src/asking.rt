@@ -1,4 +1,4 @@
-//! What the limits of a pool's file systems say of a request before anything is changed.
+//! The check of a request against the limits of a pool's file systems, before anything is changed.
 ghost use Rattle.std.specs.Prelude.{◌≡◌, ◌<◌, ◌^◌, [], ◌∷◌, ℕ, List, None, IsSome, IfOk, IfErr, OnOk};
 ghost use Rattle.std.specs.FinMap.{get};
 ghost use Rattle.base.specs.declared.refusal.Refusal.{Refusal};
@@ -34,11 +34,12 @@ use std::alloc::Global;
 use std::slice::from_ref;
 use tree::Update;
 
-/// Asks the limits of the state that this update of the live tree of a file system leads to, before anything is changed: what the file
-/// system comes to with it, where limits are kept. The pool has these datasets and this beside them, and its last sync opened the group
-/// `synced`. The first limit that the update would break (zfsprops(7): quota, refquota, reservation; the order is profile); NoDataset where
-/// there is no such file system; else NoMemory where there is none to look ahead. It costs the nodes on the way to the changes, and for each
-/// level of the name the logarithm of the number of file systems; where no file system has a limit, nothing.
+/// Checks the limits in the state that this update of the live tree of a file system would lead to, before anything is changed. The answer has
+/// the counts after the update, or none where no ledger is kept. The pool has these datasets and `space` beside them, and its last sync opened
+/// the group `synced`. The error is the first limit that the update would break (zfsprops(7): quota, refquota, reservation; the order is
+/// profile); NoDataset where there is no such file system; else NoMemory where memory for the forecast is refused. It costs the nodes on the way
+/// to the changes, and for each level of the name the logarithm of the number of file systems. Without a ledger no file system has a limit: then
+/// nothing is checked, in constant time.
 pub fn ask_change(
     ledger: &Option<Ledger>,
     alloc: Global,
@@ -76,9 +77,9 @@ pub fn ask_change(
     }
 }
 
-// What is available to the file system of this name, where that is asked for, in blocks; else 0. The pool has these datasets and this
-// beside them, and so many blocks free (zfsprops(7): available). It costs for each level of the name the logarithm of the number of file
-// systems, and the length of the name; where no file system has a limit, constant time.
+// How many blocks are available to the file system of this name, where that is the property asked for; else 0 (zfsprops(7): available). The pool
+// has these datasets, `space` beside them, and `free` free blocks. It costs for each level of the name the logarithm of the number of file
+// systems, and the length of the name; without a ledger, constant time.
 pub(crate) fn room_asked(
     ledger: &Option<Ledger>,
     table: &Table,
@@ -103,9 +104,10 @@ pub(crate) fn room_asked(
     ledger.room(table, name, space)
 }
 
-/// The datasets with a limit of a file system set, and what is kept of limits then, where a pool has these datasets and this beside them
-/// (zfs-set(8)). NoDataset where there is no such file system, then, where an amount is given, the first limit that would be broken; else
-/// NoMemory where there is none for them. It costs a count for each file system, and their number times its logarithm.
+/// The datasets with this limit of a file system set to `amount`, or removed where that is none, and their ledger (zfs-set(8)). The pool has
+/// these datasets and `space` beside them. NoDataset where there is no such file system; then, where an amount is given, the first limit that
+/// would be broken; else NoMemory where memory is refused. It costs a reference count for each file system, and their number times its
+/// logarithm.
 pub fn with_limit(
     alloc: Global,
     table: &Table,

@@ -26,7 +26,7 @@ use model::request::{PoolProperty, Property};
 use std::alloc::Global;
 use zalloc::Counts;
 
-// A property of a dataset or a bookmark.
+// Replies with a property of a dataset or a bookmark.
 pub(crate) fn get(
     alloc: Global,
     ledger: &Option<Ledger>,
@@ -60,7 +60,7 @@ pub(crate) fn get(
     }
 }
 
-// How many bytes of blocks a dataset has that an older snapshot of its lineage hasn't.
+// Replies with how many bytes of blocks a dataset has that an older snapshot of its lineage hasn't.
 pub(crate) fn written_since(
     table: &Table,
     target: &Target,
@@ -78,7 +78,7 @@ pub(crate) fn written_since(
     }
 }
 
-// How many bytes of blocks would be freed with a file system's snapshots from one to another.
+// Replies with how many bytes of blocks would be freed with a file system's snapshots from `first` to `last`.
 pub(crate) fn would_free(
     table: &Table,
     name: &DsName,
@@ -98,7 +98,7 @@ pub(crate) fn would_free(
     }
 }
 
-// A property of the pool.
+// Replies with a property of the pool.
 pub(crate) fn pool_get(
     table: &Table,
     space: Space,
@@ -118,7 +118,7 @@ pub(crate) fn pool_get(
     }
 }
 
-// How many blocks are to be freed, which are no more than all blocks. Constant time.
+// How many blocks are to be freed: at most as many as the pool has. Constant time.
 fn freeing_in(space: Space) -> u32
     ensures { space.freeing ≤ space.size → result ≡ space.freeing }
 {

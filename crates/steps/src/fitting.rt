@@ -1,4 +1,4 @@
-//! What limits say of a receive.
+//! The check of a receive against the limits.
 ghost use Rattle.std.specs.Prelude.{◌≡◌, ◌⊎◌, Bool, true, None, IfErr, OnOk};
 ghost use Rattle.base.specs.declared.refusal.Refusal.{Refusal};
 ghost use Rattle.model.specs.Rule.{first_of};
@@ -18,10 +18,10 @@ use removals::WorkingCopy;
 use std::alloc::Global;
 use tree::Update;
 
-/// Asks the limits of the state that a receive which has begun leads to, before a record is in force, where a file system may have one
-/// (zfsprops(7): quota, refquota, reservation; when they are asked is profile). The first limit that would be broken: Quota, else RefQuota, else
-/// NoSpace; or NoMemory where there is none to look ahead. It costs the nodes on the way to the changes, and the number of file systems times
-/// its logarithm; where no file system has a limit, nothing.
+/// Checks the limits in the state that a receive which has begun would lead to, before a record is applied, if a file system may have a limit
+/// (zfsprops(7): quota, refquota, reservation; when they are checked is profile). The error is the first limit that would be broken: Quota, else
+/// RefQuota, else NoSpace; or NoMemory where memory for the forecast is refused. It costs the nodes on the way to the changes, and the number of
+/// file systems times its logarithm; where no file system may have a limit, constant time.
 pub(crate) fn ask_limits(
     alloc: Global,
     present: Present,

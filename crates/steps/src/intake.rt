@@ -1,4 +1,4 @@
-//! What a receive makes of a pool, before anything of the pool is changed (zfs-receive(8)): all that can fail comes here.
+//! What a receive makes of a pool, before anything of the pool is changed (zfs-receive(8)): all that can fail is done here.
 ghost use Rattle.std.specs.Prelude.{IfOk, IfErr};
 ghost use Rattle.stream.specs.Spelling.{IsStream};
 ghost use Rattle.model.specs.declared.request.Request.{Request};
@@ -22,7 +22,7 @@ use stream::{Stream, StreamFault, read_stream};
 use tree::Changed;
 use zalloc::Allocator;
 
-/// What a pool keeps, as a receive looks at it.
+/// The parts of a pool that a receive reads.
 #[derive(Clone, Copy)]
 pub struct Present<'a> {
     pub table: &'a Table,
@@ -36,8 +36,8 @@ pub struct Present<'a> {
     pub is_limited: bool,
 }
 
-/// What a pool keeps once a receive is done: the datasets and what is to be freed, and the blocks to be released and the numbers to be taken
-/// before.
+/// What a pool keeps once a receive is done: the datasets and what is to be freed. Before these are put in place, the blocks that `done` names
+/// are to be released, and its numbers to be taken.
 #[derive(Drop)]
 pub struct Intake {
     pub to: Table,
@@ -45,12 +45,12 @@ pub struct Intake {
     pub done: Changed,
 }
 
-/// What a receive of these bytes as a snapshot of this name makes of a pool: for every state in which the pool keeps that, the step that is Done
-/// once it is put in place (zfs-receive(8)). The pool stays as it is. BadStream where the bytes are no stream; else what `receives::begin`
-/// refuses; else the first limit that would be broken with all records in force: Quota, else RefQuota, else NoSpace (zfsprops(7): quota,
-/// refquota, reservation; the order is profile); or NoMemory where there is none for it. It costs the bytes, the number of file systems, the
-/// chunks of pieces that are to be freed, the change, and what `receives::begin` and `receives::finish` do; where a file system may have a limit
-/// the change is looked at twice, and the limits cost the number of file systems times its logarithm.
+/// What a receive of these bytes as a snapshot of this name makes of a pool (zfs-receive(8)). The pool stays as it is; once the result is put in
+/// place, it has made the receive's step with the reply Done. BadStream where the bytes are no stream; else what `receives::begin` refuses; else
+/// the first limit that would be broken with all records applied: Quota, else RefQuota, else NoSpace (zfsprops(7): quota, refquota, reservation;
+/// the order is profile); or NoMemory where memory is refused. It costs the bytes, the number of file systems, the chunks of pieces that are to
+/// be freed, the change, and what `receives::begin` and `receives::finish` do; where a file system may have a limit, the change is looked at
+/// twice, and the check costs the number of file systems times its logarithm.
 pub fn intake_of(
     alloc: Global,
     present: Present,
@@ -91,8 +91,8 @@ pub fn intake_of(
     Ok(Intake { to, freeing, done })
 }
 
-// The stream that these bytes are. BadStream where they are none; else NoMemory where there is none for its records (zfs-receive(8); the bytes are
-// profile). It costs their number.
+// The stream that these bytes spell. BadStream where they spell none; else NoMemory where memory for its records is refused (zfs-receive(8); the
+// bytes are profile). It costs their number.
 fn stream_in(alloc: Global, bytes: &[u8]) -> Result<Stream, Refusal>
     ensures ok { IfOk result (IsStream bytes.now) }
     ensures err { IfErr result (IsUnread bytes.now) }

@@ -1,7 +1,7 @@
-//! What the steps of a pool are made of, told of datasets and numbers and not of a pool: what is kept of limits and what they say of a request
-//! before anything is changed (zfsprops(7): quota, refquota, reservation, refreservation, available), the replies to requests that only read, and
-//! what a receive makes of a pool; it hands on what a pool asks of limits, names and sources beside. Its `proofs/` has the lemmas on each
-//! request's step, which the pool's own proofs cite.
+//! The parts of a pool's steps, as functions of datasets and numbers rather than of a pool: the ledger, the check of a request against the
+//! limits before anything is changed (zfsprops(7): quota, refquota, reservation, refreservation, available), the replies to requests that only
+//! read, and what a receive makes of a pool. The crate also re-exports what a pool uses of limits, names and sources. Its `proofs/` has the
+//! lemmas on each request's step, which the pool's own proofs cite.
 #![tactic(auto)]
 
 mod answering;

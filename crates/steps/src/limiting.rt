@@ -1,4 +1,4 @@
-//! The ledger of a pool's file systems where it is kept, and what it says of other datasets.
+//! Updates of a pool's ledger, where one is kept, and the check of other datasets against the limits.
 ghost use Rattle.std.specs.Prelude.{◌≡◌, ◌<◌, ◌^◌, None, Some};
 ghost use Rattle.std.specs.FinSet as set;
 ghost use Rattle.base.specs.declared.refusal.Refusal.{Refusal};
@@ -18,8 +18,8 @@ use datasets::Table;
 use limits::outlook::Outlook;
 use limits::{Ledger, Space};
 
-// The ledger becomes that of these datasets; and which limit is broken where a pool has them and so many other blocks, if one is. It costs
-// the number of file systems times its logarithm.
+// Makes this the ledger of these datasets, and gives the first limit that is broken, if any, in a pool that has them and `space` beside them. It
+// costs the number of file systems times its logarithm.
 pub(crate) fn refilled(ledger: &mut Ledger, to: &Table, space: Space) -> Option<Refusal>
     requires few { set.len (union_of (world_of to.now)) < 2 ^ 32 }
     ensures ledger { ledger.new ≡ ledger_of (world_of to.now) }
@@ -30,7 +30,7 @@ pub(crate) fn refilled(ledger: &mut Ledger, to: &Table, space: Space) -> Option<
     ledger.first_over(space)
 }
 
-/// The ledger becomes that of these datasets, where one is kept. It takes no memory, and costs the number of file systems times its logarithm.
+/// Makes the ledger, where one is kept, that of these datasets. It takes no memory, and costs the number of file systems times its logarithm.
 pub fn renew(ledger: &mut Option<Ledger>, table: &Table)
     requires unlimited { ledger.old ≡ None → IsUnlimited table.now.file_systems }
     requires few { set.len (union_of (world_of table.now)) < 2 ^ 32 }
@@ -41,9 +41,9 @@ pub fn renew(ledger: &mut Option<Ledger>, table: &Table)
     }
 }
 
-/// The ledger becomes that of these datasets, where one is kept, after a change of the live map of the file system of this name: by what the
-/// change was to come to, where that was looked at, and else as `renew` does it. It takes no memory. By that it costs for each level of the
-/// name at most the logarithm of the number of file systems, up to the first level that is charged what it was.
+/// Makes the ledger, where one is kept, that of these datasets, after a change of the live map of the file system of this name. With an outlook
+/// of the change it updates the lines that change; without one it does what `renew` does. It takes no memory. With an outlook it costs at most
+/// the logarithm of the number of file systems for each level of the name, up to the first level whose charge stays the same.
 pub fn settle(ledger: &mut Option<Ledger>, table: &Table, name: &DsName, outlook: Option<Outlook>)
     requires before { (old : Datasets) × CanSettle old table.now name.now ledger.old outlook }
     requires unlimited { ledger.old ≡ None → IsUnlimited table.now.file_systems }
@@ -55,7 +55,7 @@ pub fn settle(ledger: &mut Option<Ledger>, table: &Table, name: &DsName, outlook
     }
 }
 
-// The same of a ledger that is kept.
+// Does what `settle` does with a ledger that is kept.
 fn settle_kept(ledger: &mut Ledger, table: &Table, name: &DsName, outlook: Option<Outlook>)
     requires before { (old : Datasets) × CanSettle old table.now name.now (Some ledger.old) outlook }
     requires few { set.len (union_of (world_of table.now)) < 2 ^ 32 }
@@ -67,8 +67,8 @@ fn settle_kept(ledger: &mut Ledger, table: &Table, name: &DsName, outlook: Optio
     }
 }
 
-/// The ledger becomes that of these datasets, where one is kept, which differ from those before at this name alone: the file system of this name
-/// has changed, or it is new, or it is gone. It takes no memory. It costs what `Ledger::recount` does.
+/// Makes the ledger, where one is kept, that of these datasets. They differ from those before at this name alone: the file system of this name
+/// has changed, is new, or is gone. It takes no memory. It costs what `Ledger::recount` does.
 pub fn recount(ledger: &mut Option<Ledger>, table: &Table, name: &DsName)
     requires before { (old : Datasets) × CanRecount old table.now name.now ledger.old }
     requires unlimited { ledger.old ≡ None → IsUnlimited table.now.file_systems }
@@ -80,10 +80,10 @@ pub fn recount(ledger: &mut Option<Ledger>, table: &Table, name: &DsName)
     }
 }
 
-/// The ledger becomes that of these datasets, where one is kept, and answers which limit is broken where a pool has them, and beside its file
-/// systems so many blocks in all, to be freed and waiting, if one is: Quota, else RefQuota, else NoSpace (zfsprops(7): quota, refquota,
-/// reservation; the order is profile). Where no ledger is kept, no file system has a limit, and none is said. It takes no memory, and costs the
-/// number of file systems times its logarithm.
+/// Makes the ledger, where one is kept, that of these datasets, and gives the first limit that is broken, if any, in a pool that has them.
+/// `space` says how many blocks the pool has, how many of them are to be freed, and how many are waiting. The limit is Quota, else RefQuota,
+/// else NoSpace (zfsprops(7): quota, refquota, reservation; the order is profile). Where no ledger is kept, no file system has a limit, and the
+/// answer is none. It takes no memory, and costs the number of file systems times its logarithm.
 pub fn over(ledger: &mut Option<Ledger>, to: &Table, space: Space) -> Option<Refusal>
     requires unlimited { ledger.old ≡ None → IsUnlimited to.now.file_systems }
     requires few { set.len (union_of (world_of to.now)) < 2 ^ 32 }

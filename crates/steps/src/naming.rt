@@ -16,7 +16,7 @@ use model::names::Names;
 use model::reply::Reply;
 use std::alloc::Global;
 
-// Puts what a block of a dataset holds in the place of what stands there: so its bytes are not moved from function to function.
+// Writes what a block of a dataset holds into `reply`, so its bytes aren't moved from function to function.
 pub(crate) fn read(
     table: &Table,
     target: &Target,
@@ -37,7 +37,7 @@ pub(crate) fn read(
     }
 }
 
-// The names of all file systems, snapshots and bookmarks.
+// Replies with the names of all file systems, snapshots and bookmarks.
 pub(crate) fn list(alloc: Global, table: &Table, reply: &mut Reply)
     ensures { (s : State) → IsSteady s → datasets_of s ≡ table.now → Step s Request.List reply.new s }
 {
@@ -47,7 +47,7 @@ pub(crate) fn list(alloc: Global, table: &Table, reply: &mut Reply)
     }
 }
 
-// The tags of a snapshot.
+// Replies with the tags of a snapshot.
 pub(crate) fn holds(alloc: Global, table: &Table, target: &Target, reply: &mut Reply)
     ensures { (s : State) → IsSteady s → datasets_of s ≡ table.now → Step s (Request.Holds target.now) reply.new s }
 {

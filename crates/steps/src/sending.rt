@@ -16,8 +16,8 @@ use sends::sources::start_of;
 use sends::stream_bytes;
 use std::alloc::Global;
 
-// The stream of a send of the snapshot of this name from this source, or from nothing. It costs what `sends::sources::start_of` and
-// `sends::stream_bytes` do.
+// Replies with the stream of a send of the snapshot of this name from this source, or of a full send where there is none; or with the refusal.
+// It costs what `sends::sources::start_of` and `sends::stream_bytes` do.
 pub(crate) fn send(
     alloc: Global,
     table: &Table,

@@ -290,7 +290,7 @@ impl Subtree {
     /// place first, so that the first place is the next to be popped. None where the top is no younger, and then nothing below it
     /// is, and the others are as they were. Each of those below gets one more owner before the top goes. NoMemory where one was
     /// refused, or there is none for the others to grow: then some of those below may have come onto the others, so that these are
-    /// of no use. It costs one node, with its sixteen places.
+    /// to be discarded. It costs one node, with its sixteen places.
     pub fn peel(
         self,
         cut: Group,

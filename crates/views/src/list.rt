@@ -17,7 +17,7 @@ use model::snapshot_id::SnapshotId;
 use std::alloc::Global;
 use std::marker::Model;
 
-/// At most so many views are open (profile).
+/// At most this many views are open at a time (profile).
 pub const VIEW_LIMIT: usize = 1024;
 
 // The last number of a view (profile).
@@ -26,14 +26,14 @@ const LAST_NUMBER: u64 = 9223372036854775807;
 /// The open views of a pool, each with the identity of the snapshot that it shows (profile). A view counts as a hold of its snapshot
 /// (zfs-hold(8)). Contracts see the map from the numbers of the views to these identities, and the number of the next view.
 ///
-/// The numbers of views that are opened rise from 1 to 2^63 - 1, and none comes again. The room for `VIEW_LIMIT` of them is taken once,
-/// so that to open and to close one takes no memory.
+/// Views are numbered in the order in which they are opened, from 1 to 2^63 - 1, and no number is used twice. The room for `VIEW_LIMIT` views is
+/// taken once, so that opening and closing a view takes no memory.
 pub struct Views {
     open: Vec<Open>,
     next: u64,
 }
 
-// By hand, so that it is proved once: a derived one is laid out anew in each crate that drops the type.
+// Written by hand, so that it is proved once: a derived `Drop` is expanded anew in each crate that drops the type.
 impl Drop for Views {
     fn drop(self) {
         let Views { open, next: _ } = self;
@@ -59,7 +59,7 @@ impl Model for Views {
 }
 
 impl Views {
-    /// No open view, and 1 for the number of the first. NoMemory where there is none for the room of `VIEW_LIMIT` views. Constant time.
+    /// No open view. The first one will have number 1. NoMemory where there is none for `VIEW_LIMIT` views. Constant time.
     pub fn new(alloc: Global) -> Result<Views, Refusal>
         ensures ok { IfOk result (λ v. v ≡ record { opened = finmap.empty; next = 1 }) }
         ensures err { IfErr result (λ e. e ≡ Refusal.NoMemory) }
@@ -78,14 +78,14 @@ impl Views {
         self.open.len()
     }
 
-    /// The number that the next view has, from 1 on. The last one is 2^63 - 1 (profile). Constant time.
+    /// The number of the next view. Numbers begin at 1, and the last one is 2^63 - 1 (profile). Constant time.
     pub fn next(&self) -> u64
         ensures { result ≡ self.now.next }
     {
         self.next
     }
 
-    /// Whether no view can be opened: `VIEW_LIMIT` of them are open, or the last number was given. Constant time.
+    /// Whether no view can be opened: `VIEW_LIMIT` of them are open, or the last number has been used. Constant time.
     pub fn is_full(&self) -> bool
         ensures { result ≡ is_full self.now }
     {
@@ -106,7 +106,8 @@ impl Views {
         any_shows(&self.open, id)
     }
 
-    /// The snapshots that the open views show, as many as are open. NoMemory where there is none for the list. It costs their number.
+    /// The identities of the snapshots that the open views show, one for each view. NoMemory where there is none for the list. It costs their
+    /// number.
     pub fn viewed(&self, alloc: Global) -> Result<Vec<SnapshotId>, Refusal>
         ensures ok { IfOk result (λ ids. (id : SnapId) → list_any (same_id id) (map snap_id ids.items) ≡ is_viewed self.now.opened id) }
         ensures err { IfErr result (λ e. e ≡ Refusal.NoMemory) }
@@ -121,7 +122,7 @@ impl Views {
         any_other_shows(&self.open, number, id)
     }
 
-    /// Opens a view of this snapshot, under the next number, where it isn't full. It takes no memory. Constant time.
+    /// Opens a view of this snapshot under the next number. `is_full` must be false. It takes no memory. Constant time.
     pub fn open(&mut self, id: SnapshotId)
         requires { is_full self.old ≡ false }
         ensures { self.new ≡ record { opened = insert self.old.opened self.old.next (snap_id id); next = self.old.next + 1 } }

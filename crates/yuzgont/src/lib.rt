@@ -1,6 +1,6 @@
-//! Yuzgont for hosts: all that a container runtime, a backup tool or a file server asks of it, in one crate.
+//! Yuzgont for hosts: all that a container runtime, a backup tool or a file server needs of it, in one crate.
 //!
-//! A [`Pool`] answers one [`Request`] after another with a [`Reply`], by `apply`. What it refuses has changed nothing.
+//! A [`Pool`] answers one [`Request`] after another with a [`Reply`], by `apply`. A refused request changes nothing.
 //!
 //! ```text
 //! let mut pool = Pool::create(alloc, 1, 1000)?;
@@ -19,14 +19,14 @@
 //! }
 //! ```
 //!
-//! A pool that threads share is a [`Session`]; each thread has a [`Seat`], and a [`View`] of a snapshot is read without the lock. A send's
-//! bytes are those that a [`Request::Receive`] of another pool takes; [`read_stream`] says what is in them. A pool under a [`PoolCaller`]
-//! answers lines, one by [`answer_line`], or a script by [`run_script`]; docs/COMMANDS.md has the lines.
+//! A pool that threads share is a [`Session`]. Each thread has a [`Seat`], and a [`View`] of a snapshot is read without the lock. Another pool
+//! takes the bytes of a send by a [`Request::Receive`]; [`read_stream`] says what is in them. A pool in a [`PoolCaller`] answers lines: one by
+//! [`answer_line`], or a script by [`run_script`]. docs/COMMANDS.md has the lines.
 //!
-//! The program `host_example` is a host, a file of it for each of these, and the gate runs it: `requests` writes a block and reads it back,
-//! `backup` sends a snapshot from one pool to another, `way_back` returns to the last sync, `scripts` answers lines, and `threads` shares a
-//! session among three writers and a reader of a view. `asking` has the requests that they make. docs/EMBEDDING.md says what a host has to
-//! know.
+//! The program `host_example` is an example of a host, which the gate runs. It has a file for each of these uses: `requests` writes a block and
+//! reads it back, `backup` sends a snapshot from one pool to another, `way_back` returns to the last sync, `scripts` answers lines, and `threads`
+//! shares a session among three writers and a reader of a view. `asking` has the requests that they make. docs/EMBEDDING.md says what a host has
+//! to know.
 #![tactic(auto)]
 
 pub use base::data::Data;

@@ -1,35 +1,35 @@
-//! What a call tells C.
+//! The results of calls, as C gets them.
 ghost use Rattle.std.specs.Prelude.{◌≡◌};
 ghost use Rattle.yuzgont_c.specs.Answers.{code_of, answer_of, got_answer};
 
 use base::refusal::Refusal;
 use model::reply::{Reply, Value};
 
-/// What a call tells C, by a number. Nothing has changed but where it is Done.
+/// The result of a call, which C gets as a number. Unless it is Done, the pool is unchanged.
 #[derive(Clone, Copy, PartialEq, Eq, Debug)]
 pub enum Answer {
-    /// It was done: 0.
+    /// The call was done: 0.
     Done,
-    /// It was refused: the refusal's number, 1 to 30.
+    /// The call was refused: the refusal's number, 1 to 30.
     Refused(Refusal),
-    /// The handle has no pool: -2. (-1, for a null pointer, is the header's.)
+    /// The handle has no pool: -2. (-1 is the header's own, for a null pointer.)
     NoPool,
-    /// The handle has a pool already: -3.
+    /// The handle already has a pool: -3.
     HasPool,
     /// A block isn't 512 bytes: -4.
     BadLength,
-    /// No property has this number: -5.
+    /// No property or limit has this number: -5.
     NoProperty,
-    /// What was asked about has no such property: -6.
+    /// This kind of dataset has no such property: -6.
     NotApplicable,
-    /// A limit's amount is no multiple of 512 bytes, or more than 2^49: -7.
+    /// A limit's amount isn't a multiple of 512 bytes, or is more than 2^49: -7.
     BadAmount,
-    /// The last list has no name at this place: -8.
+    /// The last list has no name at this index: -8.
     NoEntry,
 }
 
 impl Answer {
-    /// Its number. Constant time.
+    /// The number of the answer. Constant time.
     pub fn code(self) -> i32
         ensures { result ≡ code_of self }
     {
@@ -46,7 +46,7 @@ impl Answer {
         }
     }
 
-    // What a reply tells whose value goes another way.
+    // The answer for a reply whose value is returned in another way.
     pub(crate) fn of(reply: &Reply) -> Answer
         ensures { result ≡ answer_of reply.now }
     {
@@ -56,7 +56,7 @@ impl Answer {
         }
     }
 
-    // What a reply to the question for a number tells.
+    // The answer for the reply to a request for a number.
     pub(crate) fn of_number(reply: &Reply) -> Answer
         ensures { result ≡ got_answer reply.now }
     {

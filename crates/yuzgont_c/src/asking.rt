@@ -1,10 +1,11 @@
-//! The requests of calls without text. Each reads its names: BadName where the bytes are none, NoMemory where there is no memory for them.
+//! The requests of the calls that take no script line. Each reads its names: BadName where the bytes aren't such a name, NoMemory where the
+//! request can't be allocated.
 ghost use Rattle.std.specs.Prelude.{◌≡◌};
 ghost use Rattle.base.specs.Reading.{Reads};
 ghost use Rattle.yuzgont_c.specs.Asking.{asked_write, asked_punch, asked_read, asked_snapshot, asked_get, asked_send_from, asked_receive, property_at};
 ghost use Rattle.yuzgont_c.specs.Asking.{asked_create, asked_free_object, asked_rollback, asked_destroy, asked_clone, asked_promote, asked_open_view};
 ghost use Rattle.yuzgont_c.specs.Asking.{asked_hold, asked_release, asked_holds, asked_bookmark, asked_written_since, asked_would_free, asked_set};
-ghost use Rattle.yuzgont_c.specs.Asking.{pool_property_at, limit_at, amount_at};
+ghost use Rattle.yuzgont_c.specs.Asking.{pool_property_at, limit_at};
 
 use base::data::Data;
 use base::limit::Blocks;
@@ -16,8 +17,8 @@ use model::request::{PoolProperty, Property, Request};
 use model::snap_names::SnapNames;
 use std::alloc::Global;
 
-// The properties that C asks for, each at its number. `enum yuz_property` of the header names the numbers, and the hosts compare what is told
-// at each with a line that names it.
+// The properties that C can ask for, each at its number. `enum yuz_property` of the header names the numbers. The programs in hosts/ compare the
+// value at each number with the reply to a line that names the property.
 const PROPERTIES: [Property; 15] = [
     Property::Used,
     Property::Available,
@@ -54,10 +55,7 @@ const LIMITS: [Limit; 4] = [
     Limit::RefReservation,
 ];
 
-// The most bytes of a limit: those of 2^40 blocks.
-const MOST_AMOUNT: u64 = 562_949_953_421_312;
-
-// A new file system.
+// Creates a file system.
 pub(crate) fn ask_create(alloc: Global, name: &[u8]) -> Result<Request, Refusal>
     ensures { Reads result (asked_create name.now) }
 {
@@ -65,7 +63,7 @@ pub(crate) fn ask_create(alloc: Global, name: &[u8]) -> Result<Request, Refusal>
     Ok(Request::Create { name })
 }
 
-// All blocks of an object become holes.
+// Frees an object: all its blocks become holes.
 pub(crate) fn ask_free_object(alloc: Global, name: &[u8], object: u32) -> Result<Request, Refusal>
     ensures { Reads result (asked_free_object name.now object) }
 {
@@ -73,7 +71,7 @@ pub(crate) fn ask_free_object(alloc: Global, name: &[u8], object: u32) -> Result
     Ok(Request::FreeObject { target, object })
 }
 
-// A rollback to a snapshot, with `later` past newer ones.
+// Rolls back to a snapshot; with `later` also past newer ones.
 pub(crate) fn ask_rollback(alloc: Global, name: &[u8], later: bool) -> Result<Request, Refusal>
     ensures { Reads result (asked_rollback name.now later) }
 {
@@ -81,7 +79,7 @@ pub(crate) fn ask_rollback(alloc: Global, name: &[u8], later: bool) -> Result<Re
     Ok(Request::Rollback { target, later })
 }
 
-// A destroy.
+// Destroys a dataset or a bookmark.
 pub(crate) fn ask_destroy(
     alloc: Global,
     name: &[u8],
@@ -98,7 +96,7 @@ pub(crate) fn ask_destroy(
     })
 }
 
-// A clone of a snapshot.
+// Makes a clone of a snapshot.
 pub(crate) fn ask_clone(alloc: Global, snapshot: &[u8], name: &[u8]) -> Result<Request, Refusal>
     ensures { Reads result (asked_clone snapshot.now name.now) }
 {
@@ -107,7 +105,7 @@ pub(crate) fn ask_clone(alloc: Global, snapshot: &[u8], name: &[u8]) -> Result<R
     Ok(Request::Clone { target, name })
 }
 
-// A promote of a clone.
+// Promotes a clone.
 pub(crate) fn ask_promote(alloc: Global, name: &[u8]) -> Result<Request, Refusal>
     ensures { Reads result (asked_promote name.now) }
 {
@@ -115,7 +113,7 @@ pub(crate) fn ask_promote(alloc: Global, name: &[u8]) -> Result<Request, Refusal
     Ok(Request::Promote { name })
 }
 
-// A tag that a snapshot gets.
+// Adds a hold with a tag to a snapshot.
 pub(crate) fn ask_hold(alloc: Global, tag: &[u8], name: &[u8]) -> Result<Request, Refusal>
     ensures { Reads result (asked_hold tag.now name.now) }
 {
@@ -124,7 +122,7 @@ pub(crate) fn ask_hold(alloc: Global, tag: &[u8], name: &[u8]) -> Result<Request
     Ok(Request::Hold { tag, target })
 }
 
-// A tag that a snapshot loses.
+// Releases the hold with a tag on a snapshot.
 pub(crate) fn ask_release(alloc: Global, tag: &[u8], name: &[u8]) -> Result<Request, Refusal>
     ensures { Reads result (asked_release tag.now name.now) }
 {
@@ -133,7 +131,7 @@ pub(crate) fn ask_release(alloc: Global, tag: &[u8], name: &[u8]) -> Result<Requ
     Ok(Request::Release { tag, target })
 }
 
-// The tags of a snapshot.
+// Lists the tags of a snapshot's holds.
 pub(crate) fn ask_holds(alloc: Global, name: &[u8]) -> Result<Request, Refusal>
     ensures { Reads result (asked_holds name.now) }
 {
@@ -141,7 +139,7 @@ pub(crate) fn ask_holds(alloc: Global, name: &[u8]) -> Result<Request, Refusal>
     Ok(Request::Holds { target })
 }
 
-// A bookmark of a snapshot.
+// Makes a bookmark of a snapshot.
 pub(crate) fn ask_bookmark(alloc: Global, snapshot: &[u8], mark: &[u8]) -> Result<Request, Refusal>
     ensures { Reads result (asked_bookmark snapshot.now mark.now) }
 {
@@ -150,7 +148,7 @@ pub(crate) fn ask_bookmark(alloc: Global, snapshot: &[u8], mark: &[u8]) -> Resul
     Ok(Request::Bookmark { target, mark })
 }
 
-// What was written since a snapshot.
+// Asks for the space written since a snapshot.
 pub(crate) fn ask_written_since(
     alloc: Global,
     name: &[u8],
@@ -163,7 +161,7 @@ pub(crate) fn ask_written_since(
     Ok(Request::WrittenSince { target, since })
 }
 
-// What would be freed with the snapshots from one to another.
+// Asks for the space that would be freed by destroying a range of snapshots.
 pub(crate) fn ask_would_free(
     alloc: Global,
     name: &[u8],
@@ -178,7 +176,7 @@ pub(crate) fn ask_would_free(
     Ok(Request::WouldFree { name, first, last })
 }
 
-// A limit that is set to an amount, or let go.
+// Sets a limit to an amount, or removes it.
 pub(crate) fn ask_set(
     alloc: Global,
     name: &[u8],
@@ -195,7 +193,7 @@ pub(crate) fn ask_set(
     })
 }
 
-// A view of a snapshot.
+// Opens a view of a snapshot.
 pub(crate) fn ask_open_view(alloc: Global, name: &[u8]) -> Result<Request, Refusal>
     ensures { Reads result (asked_open_view name.now) }
 {
@@ -203,7 +201,7 @@ pub(crate) fn ask_open_view(alloc: Global, name: &[u8]) -> Result<Request, Refus
     Ok(Request::OpenView { target })
 }
 
-// A write of a block.
+// Writes a block.
 pub(crate) fn ask_write(
     alloc: Global,
     name: &[u8],
@@ -223,7 +221,7 @@ pub(crate) fn ask_write(
     })
 }
 
-// A punch of a block.
+// Punches a block.
 pub(crate) fn ask_punch(
     alloc: Global,
     name: &[u8],
@@ -240,7 +238,7 @@ pub(crate) fn ask_punch(
     })
 }
 
-// A read of a block.
+// Reads a block.
 pub(crate) fn ask_read(
     alloc: Global,
     name: &[u8],
@@ -257,7 +255,7 @@ pub(crate) fn ask_read(
     })
 }
 
-// One snapshot, and with `recursive` those of the same component of all file systems below.
+// Takes one snapshot; with `recursive` also those of the same component of all descendant file systems.
 pub(crate) fn ask_snapshot(alloc: Global, name: &[u8], recursive: bool) -> Result<Request, Refusal>
     ensures { Reads result (asked_snapshot name.now recursive) }
 {
@@ -270,7 +268,7 @@ pub(crate) fn ask_snapshot(alloc: Global, name: &[u8], recursive: bool) -> Resul
     })
 }
 
-// A property of a dataset.
+// Asks for a property of a dataset.
 pub(crate) fn ask_get(alloc: Global, name: &[u8], property: Property) -> Result<Request, Refusal>
     ensures { Reads result (asked_get name.now property) }
 {
@@ -278,7 +276,7 @@ pub(crate) fn ask_get(alloc: Global, name: &[u8], property: Property) -> Result<
     Ok(Request::Get { target, property })
 }
 
-// A send, from a source unless its name is empty.
+// Sends a snapshot: in full where `from` is empty, else from the source that it names.
 pub(crate) fn ask_send(alloc: Global, name: &[u8], from: &[u8]) -> Result<Request, Refusal>
     ensures { Reads result (asked_send_from name.now from.now) }
 {
@@ -290,7 +288,7 @@ pub(crate) fn ask_send(alloc: Global, name: &[u8], from: &[u8]) -> Result<Reques
     Ok(Request::Send { target, from })
 }
 
-// A receive of a stream.
+// Receives a stream.
 pub(crate) fn ask_receive(
     alloc: Global,
     name: &[u8],
@@ -308,43 +306,23 @@ pub(crate) fn ask_receive(
     })
 }
 
-// The property of this number in C.
+// The property with this number in C.
 pub(crate) fn property_of(number: u32) -> Option<Property>
     ensures { result ≡ property_at number }
 {
     PROPERTIES.get(number as usize).copied()
 }
 
-// The property of a pool of this number in C.
+// The pool property with this number in C.
 pub(crate) fn pool_property_of(number: u32) -> Option<PoolProperty>
     ensures { result ≡ pool_property_at number }
 {
     OF_POOL.get(number as usize).copied()
 }
 
-// The limit of this number in C.
+// The limit with this number in C.
 pub(crate) fn limit_of(number: u32) -> Option<Limit>
     ensures { result ≡ limit_at number }
 {
     LIMITS.get(number as usize).copied()
-}
-
-// The amount of a limit that so many bytes are, or no limit.
-#[tactic(auto, unfolding(script::specs::Words::amount_of_bytes))]
-pub(crate) fn amount_of(bytes: u64) -> Option<Option<Blocks>>
-    ensures { result ≡ amount_at bytes }
-{
-    if bytes > MOST_AMOUNT {
-        return None;
-    }
-    if bytes == 0 {
-        return Some(None);
-    }
-    if bytes % 512 != 0 {
-        return None;
-    }
-    match Blocks::new(bytes / 512) {
-        Ok(blocks) => Some(Some(blocks)),
-        Err(_) => None,
-    }
 }

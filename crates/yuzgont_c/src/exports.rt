@@ -1,8 +1,9 @@
-//! The calls that C makes. Each takes the pool out of the handle, makes the one call of [`Host`] that it is named for, and puts it back.
+//! The calls that C makes. Each takes the pool out of the handle, makes the call of [`Host`] that it is named after, and puts the pool back.
 ghost use Rattle.std.specs.Prelude.{◌≡◌, Some, None, IfOk, IfErr};
 ghost use Rattle.yuzgont_c.specs.Answers.{Codes};
 ghost use Rattle.yuzgont_c.specs.Asking.{asked_create, asked_clone, asked_destroy, asked_promote, asked_rollback, asked_snapshot, asked_bookmark, asked_hold, asked_release, asked_holds};
-ghost use Rattle.yuzgont_c.specs.Asking.{asked_punch, asked_free_object, asked_written_since, asked_would_free, asked_receive, property_at, pool_property_at, limit_at, amount_at};
+ghost use Rattle.yuzgont_c.specs.Asking.{asked_punch, asked_free_object, asked_written_since, asked_would_free, asked_receive, property_at, pool_property_at, limit_at};
+ghost use Rattle.script.specs.Words.{amount_of_bytes};
 ghost use Rattle.yuzgont_c.specs.Calls.{Calls, Creates, IsFresh, CanBe, CreateRefused, Does, Writes, ReadsBlock, TellsNumber, GetsOf, PoolGetsOf, SetsOf, Syncs, Slices, OpensView, Lists, NamesPiece, Sends, Answers, RepliesPiece, StreamsPiece, Forgotten};
 ghost use Rattle.model.specs.declared.request.Request.TheVariants.{Abandon, CloseView, List};
 
@@ -13,7 +14,8 @@ use base::refusal::Refusal;
 use pool::MOST_BLOCKS;
 use std::alloc::Global;
 
-// Takes the pool out of a handle, makes a call of it and puts it back: the number of what it answers, or of NoPool where the handle has none.
+// Takes the pool out of a handle, makes a call of it and puts it back. The result is the number of the call's answer, or of NoPool where the
+// handle has no pool.
 macro_rules! on_host {
     ($alloc:ident, $pool:ident, |$host:ident| $call:expr) => {{
         let Some(mut $host) = $pool.take($alloc) else {
@@ -25,7 +27,7 @@ macro_rules! on_host {
     }};
 }
 
-/// Makes a pool in a handle that has none: `Host::create`, and HasPool where the handle has one.
+/// Makes a pool in a handle that has none, as `Host::create`. HasPool where the handle has one.
 #[unsafe(no_mangle)]
 pub extern "C" fn yuzgont_create(alloc: Global, pool: &mut YuzPool, id: u32, blocks: u32) -> i32
     ensures { Codes result (λ answer. Creates MOST_BLOCKS id blocks pool.old.slot.host answer pool.new.slot.host) }
@@ -43,7 +45,7 @@ pub extern "C" fn yuzgont_create(alloc: Global, pool: &mut YuzPool, id: u32, blo
     }
 }
 
-// A host in memory of its own.
+// A new host, boxed.
 fn created(alloc: Global, id: u32, blocks: u32) -> Result<Box<Host>, Refusal>
     ensures can { IfOk result (λ _. CanBe MOST_BLOCKS id blocks) }
     ensures fresh { IfOk result (λ host. IsFresh id blocks host.value) }
@@ -53,7 +55,7 @@ fn created(alloc: Global, id: u32, blocks: u32) -> Result<Box<Host>, Refusal>
     Ok(Box::new(alloc, host)?)
 }
 
-/// Lets a pool go, with all its memory. A handle that has none stays so.
+/// Frees a pool with all its memory. A handle that has none is unchanged.
 #[unsafe(no_mangle)]
 pub extern "C" fn yuzgont_free(alloc: Global, pool: &mut YuzPool)
     ensures { pool.new.slot.host ≡ None }
@@ -63,7 +65,7 @@ pub extern "C" fn yuzgont_free(alloc: Global, pool: &mut YuzPool)
     }
 }
 
-/// `Host::line`.
+/// Answers a script line, as `Host::line`.
 #[unsafe(no_mangle)]
 pub extern "C" fn yuzgont_line(
     alloc: Global,
@@ -77,7 +79,7 @@ pub extern "C" fn yuzgont_line(
     on_host!(alloc, pool, |host| host.line(line, refusal, size))
 }
 
-/// `Host::reply_piece`, whose result goes to `count`.
+/// Copies bytes of the last reply, as `Host::reply_piece`, and writes their number to `count`.
 #[unsafe(no_mangle)]
 pub extern "C" fn yuzgont_reply(
     alloc: Global,
@@ -94,7 +96,7 @@ pub extern "C" fn yuzgont_reply(
     })
 }
 
-/// `Host::write`.
+/// Writes a block, as `Host::write`.
 #[unsafe(no_mangle)]
 pub extern "C" fn yuzgont_write(
     alloc: Global,
@@ -109,7 +111,7 @@ pub extern "C" fn yuzgont_write(
     on_host!(alloc, pool, |host| host.write(name, object, block, bytes))
 }
 
-/// `Host::read`.
+/// Reads a block, as `Host::read`.
 #[unsafe(no_mangle)]
 pub extern "C" fn yuzgont_read(
     alloc: Global,
@@ -129,7 +131,7 @@ pub extern "C" fn yuzgont_read(
     )
 }
 
-/// `Host::punch`.
+/// Punches a block, as `Host::punch`.
 #[unsafe(no_mangle)]
 pub extern "C" fn yuzgont_punch(
     alloc: Global,
@@ -143,7 +145,7 @@ pub extern "C" fn yuzgont_punch(
     on_host!(alloc, pool, |host| host.punch(name, object, block))
 }
 
-/// `Host::snapshot`.
+/// Takes a snapshot, as `Host::snapshot`.
 #[unsafe(no_mangle)]
 pub extern "C" fn yuzgont_snapshot(
     alloc: Global,
@@ -156,7 +158,7 @@ pub extern "C" fn yuzgont_snapshot(
     on_host!(alloc, pool, |host| host.snapshot(name, recursive))
 }
 
-/// `Host::get`.
+/// Gets a property of a dataset, as `Host::get`.
 #[unsafe(no_mangle)]
 pub extern "C" fn yuzgont_get(
     alloc: Global,
@@ -170,7 +172,7 @@ pub extern "C" fn yuzgont_get(
     on_host!(alloc, pool, |host| host.get(name, property, value))
 }
 
-/// `Host::sync`.
+/// Syncs the pool, as `Host::sync`.
 #[unsafe(no_mangle)]
 pub extern "C" fn yuzgont_sync(alloc: Global, pool: &mut YuzPool, group: &mut u64) -> i32
     ensures { Codes result (λ answer. Calls (Syncs group.old group.new) pool.old.slot.host answer pool.new.slot.host) }
@@ -178,7 +180,7 @@ pub extern "C" fn yuzgont_sync(alloc: Global, pool: &mut YuzPool, group: &mut u6
     on_host!(alloc, pool, |host| host.sync(group))
 }
 
-/// `Host::slice`.
+/// Frees blocks of what was destroyed, as `Host::slice`.
 #[unsafe(no_mangle)]
 pub extern "C" fn yuzgont_slice(
     alloc: Global,
@@ -191,7 +193,7 @@ pub extern "C" fn yuzgont_slice(
     on_host!(alloc, pool, |host| host.slice(count, taken))
 }
 
-/// `Host::abandon`.
+/// Goes back to the last sync, as `Host::abandon`.
 #[unsafe(no_mangle)]
 pub extern "C" fn yuzgont_abandon(alloc: Global, pool: &mut YuzPool) -> i32
     ensures { Codes result (λ answer. Calls (Does (Some Abandon)) pool.old.slot.host answer pool.new.slot.host) }
@@ -199,7 +201,7 @@ pub extern "C" fn yuzgont_abandon(alloc: Global, pool: &mut YuzPool) -> i32
     on_host!(alloc, pool, |host| host.abandon())
 }
 
-/// `Host::send`.
+/// Makes the stream of a snapshot, as `Host::send`.
 #[unsafe(no_mangle)]
 pub extern "C" fn yuzgont_send(
     alloc: Global,
@@ -213,7 +215,7 @@ pub extern "C" fn yuzgont_send(
     on_host!(alloc, pool, |host| host.send(name, from, size))
 }
 
-/// `Host::stream_piece`, whose result goes to `count`.
+/// Copies bytes of the last stream, as `Host::stream_piece`, and writes their number to `count`.
 #[unsafe(no_mangle)]
 pub extern "C" fn yuzgont_stream(
     alloc: Global,
@@ -230,7 +232,7 @@ pub extern "C" fn yuzgont_stream(
     })
 }
 
-/// `Host::receive`.
+/// Receives a stream as a snapshot, as `Host::receive`.
 #[unsafe(no_mangle)]
 pub extern "C" fn yuzgont_receive(
     alloc: Global,
@@ -244,7 +246,7 @@ pub extern "C" fn yuzgont_receive(
     on_host!(alloc, pool, |host| host.receive(name, bytes, force))
 }
 
-/// `Host::forget`.
+/// Frees the last reply, stream and list, as `Host::forget`.
 #[unsafe(no_mangle)]
 pub extern "C" fn yuzgont_forget(alloc: Global, pool: &mut YuzPool) -> i32
     ensures { Codes result (λ answer. Calls Forgotten pool.old.slot.host answer pool.new.slot.host) }
@@ -252,7 +254,7 @@ pub extern "C" fn yuzgont_forget(alloc: Global, pool: &mut YuzPool) -> i32
     on_host!(alloc, pool, |host| host.forget())
 }
 
-/// `Host::create_file_system`.
+/// Creates a file system, as `Host::create_file_system`.
 #[unsafe(no_mangle)]
 pub extern "C" fn yuzgont_create_file_system(alloc: Global, pool: &mut YuzPool, name: &[u8]) -> i32
     ensures { Codes result (λ answer. Calls (Does (asked_create name.now)) pool.old.slot.host answer pool.new.slot.host) }
@@ -260,7 +262,7 @@ pub extern "C" fn yuzgont_create_file_system(alloc: Global, pool: &mut YuzPool, 
     on_host!(alloc, pool, |host| host.create_file_system(name))
 }
 
-/// `Host::clone_snapshot`.
+/// Makes a clone of a snapshot, as `Host::clone_snapshot`.
 #[unsafe(no_mangle)]
 pub extern "C" fn yuzgont_clone(
     alloc: Global,
@@ -273,7 +275,7 @@ pub extern "C" fn yuzgont_clone(
     on_host!(alloc, pool, |host| host.clone_snapshot(snapshot, name))
 }
 
-/// `Host::destroy`.
+/// Destroys a dataset or a bookmark, as `Host::destroy`.
 #[unsafe(no_mangle)]
 pub extern "C" fn yuzgont_destroy(
     alloc: Global,
@@ -287,7 +289,7 @@ pub extern "C" fn yuzgont_destroy(
     on_host!(alloc, pool, |host| host.destroy(name, recursive, defer))
 }
 
-/// `Host::promote`.
+/// Promotes a clone, as `Host::promote`.
 #[unsafe(no_mangle)]
 pub extern "C" fn yuzgont_promote(alloc: Global, pool: &mut YuzPool, name: &[u8]) -> i32
     ensures { Codes result (λ answer. Calls (Does (asked_promote name.now)) pool.old.slot.host answer pool.new.slot.host) }
@@ -295,7 +297,7 @@ pub extern "C" fn yuzgont_promote(alloc: Global, pool: &mut YuzPool, name: &[u8]
     on_host!(alloc, pool, |host| host.promote(name))
 }
 
-/// `Host::rollback`.
+/// Rolls back to a snapshot, as `Host::rollback`.
 #[unsafe(no_mangle)]
 pub extern "C" fn yuzgont_rollback(
     alloc: Global,
@@ -308,7 +310,7 @@ pub extern "C" fn yuzgont_rollback(
     on_host!(alloc, pool, |host| host.rollback(snapshot, later))
 }
 
-/// `Host::bookmark`.
+/// Makes a bookmark of a snapshot, as `Host::bookmark`.
 #[unsafe(no_mangle)]
 pub extern "C" fn yuzgont_bookmark(
     alloc: Global,
@@ -321,7 +323,7 @@ pub extern "C" fn yuzgont_bookmark(
     on_host!(alloc, pool, |host| host.bookmark(snapshot, mark))
 }
 
-/// `Host::hold`.
+/// Adds a hold to a snapshot, as `Host::hold`.
 #[unsafe(no_mangle)]
 pub extern "C" fn yuzgont_hold(
     alloc: Global,
@@ -334,7 +336,7 @@ pub extern "C" fn yuzgont_hold(
     on_host!(alloc, pool, |host| host.hold(tag, snapshot))
 }
 
-/// `Host::release`.
+/// Releases a hold on a snapshot, as `Host::release`.
 #[unsafe(no_mangle)]
 pub extern "C" fn yuzgont_release(
     alloc: Global,
@@ -347,7 +349,7 @@ pub extern "C" fn yuzgont_release(
     on_host!(alloc, pool, |host| host.release(tag, snapshot))
 }
 
-/// `Host::set`.
+/// Sets or removes a limit of a file system, as `Host::set`.
 #[unsafe(no_mangle)]
 pub extern "C" fn yuzgont_set(
     alloc: Global,
@@ -356,12 +358,12 @@ pub extern "C" fn yuzgont_set(
     limit: u32,
     amount: u64,
 ) -> i32
-    ensures { Codes result (λ answer. Calls (SetsOf name.now (limit_at limit) (amount_at amount)) pool.old.slot.host answer pool.new.slot.host) }
+    ensures { Codes result (λ answer. Calls (SetsOf name.now (limit_at limit) (amount_of_bytes amount)) pool.old.slot.host answer pool.new.slot.host) }
 {
     on_host!(alloc, pool, |host| host.set(name, limit, amount))
 }
 
-/// `Host::free_object`.
+/// Frees an object, as `Host::free_object`.
 #[unsafe(no_mangle)]
 pub extern "C" fn yuzgont_free_object(
     alloc: Global,
@@ -374,7 +376,7 @@ pub extern "C" fn yuzgont_free_object(
     on_host!(alloc, pool, |host| host.free_object(name, object))
 }
 
-/// `Host::open_view`.
+/// Opens a view of a snapshot, as `Host::open_view`.
 #[unsafe(no_mangle)]
 pub extern "C" fn yuzgont_open_view(
     alloc: Global,
@@ -387,7 +389,7 @@ pub extern "C" fn yuzgont_open_view(
     on_host!(alloc, pool, |host| host.open_view(snapshot, view))
 }
 
-/// `Host::close_view`.
+/// Closes a view, as `Host::close_view`.
 #[unsafe(no_mangle)]
 pub extern "C" fn yuzgont_close_view(alloc: Global, pool: &mut YuzPool, view: u64) -> i32
     ensures { Codes result (λ answer. Calls (Does (Some (CloseView view))) pool.old.slot.host answer pool.new.slot.host) }
@@ -395,7 +397,7 @@ pub extern "C" fn yuzgont_close_view(alloc: Global, pool: &mut YuzPool, view: u6
     on_host!(alloc, pool, |host| host.close_view(view))
 }
 
-/// `Host::written_since`.
+/// Tells how many bytes were written since a snapshot, as `Host::written_since`.
 #[unsafe(no_mangle)]
 pub extern "C" fn yuzgont_written_since(
     alloc: Global,
@@ -409,7 +411,7 @@ pub extern "C" fn yuzgont_written_since(
     on_host!(alloc, pool, |host| host.written_since(name, since, value))
 }
 
-/// `Host::would_free`.
+/// Tells how many bytes destroying a range of snapshots would free, as `Host::would_free`.
 #[unsafe(no_mangle)]
 pub extern "C" fn yuzgont_would_free(
     alloc: Global,
@@ -428,7 +430,7 @@ pub extern "C" fn yuzgont_would_free(
     )
 }
 
-/// `Host::pool_get`.
+/// Gets a property of the pool, as `Host::pool_get`.
 #[unsafe(no_mangle)]
 pub extern "C" fn yuzgont_pool_get(
     alloc: Global,
@@ -441,7 +443,7 @@ pub extern "C" fn yuzgont_pool_get(
     on_host!(alloc, pool, |host| host.pool_get(property, value))
 }
 
-/// `Host::list`.
+/// Lists all datasets and bookmarks, as `Host::list`.
 #[unsafe(no_mangle)]
 pub extern "C" fn yuzgont_list(alloc: Global, pool: &mut YuzPool, size: &mut usize) -> i32
     ensures { Codes result (λ answer. Calls (Lists (Some List) size.new) pool.old.slot.host answer pool.new.slot.host) }
@@ -449,7 +451,7 @@ pub extern "C" fn yuzgont_list(alloc: Global, pool: &mut YuzPool, size: &mut usi
     on_host!(alloc, pool, |host| host.list(size))
 }
 
-/// `Host::holds`.
+/// Lists the tags of a snapshot's holds, as `Host::holds`.
 #[unsafe(no_mangle)]
 pub extern "C" fn yuzgont_holds(
     alloc: Global,
@@ -462,7 +464,7 @@ pub extern "C" fn yuzgont_holds(
     on_host!(alloc, pool, |host| host.holds(snapshot, size))
 }
 
-/// `Host::name_piece`.
+/// Copies a name of the last list, as `Host::name_piece`.
 #[unsafe(no_mangle)]
 pub extern "C" fn yuzgont_name(
     alloc: Global,

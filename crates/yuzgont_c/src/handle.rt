@@ -7,7 +7,7 @@ use crate::slot::Slot;
 use std::alloc::Global;
 use std::mem;
 
-/// What C keeps of a pool: `yuz_pool` of the header. It is zero at first, and only these calls write it.
+/// A pool's handle, as C stores it: `yuz_pool` of the header. It is zero at first, and only the calls of this crate write it.
 #[repr(C)]
 #[derive(Drop)]
 pub struct YuzPool {
@@ -17,7 +17,7 @@ pub struct YuzPool {
 }
 
 impl YuzPool {
-    /// A handle without a pool, as C's is at first.
+    /// A handle without a pool, as a zeroed handle in C is.
     pub fn closed() -> YuzPool
         ensures { result.slot.host ≡ None }
     {
@@ -27,7 +27,7 @@ impl YuzPool {
         }
     }
 
-    // The host of the handle, which is left without one.
+    // Takes the host out of the handle, which has none afterwards. None where it had none.
     pub(crate) fn take(&mut self, alloc: Global) -> Option<Box<Host>>
         ensures taken { option_map (λ b. b.value) result ≡ self.old.slot.host }
         ensures left { self.new.slot.host ≡ None }
@@ -40,7 +40,7 @@ impl YuzPool {
         }
     }
 
-    // Gives a handle that has none this host.
+    // Puts this host into a handle that has none.
     pub(crate) fn put(&mut self, host: Box<Host>)
         requires { self.old.slot.host ≡ None }
         ensures { self.new.slot.host ≡ Some host.value }

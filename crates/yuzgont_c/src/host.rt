@@ -1,9 +1,10 @@
-//! A pool with the bytes that it hands out by pieces.
+//! A pool with the last reply, stream and list, which C fetches in parts.
 ghost use Rattle.std.specs.Prelude.{◌≡◌, Option, Some, IfOk, IfErr, length};
 ghost use Rattle.model.specs.Step.{Step};
 ghost use Rattle.yuzgont_c.specs.Answers.{answer_of, number_in, view_in, names_in, stream_in};
 ghost use Rattle.yuzgont_c.specs.Asking.{asked_create, asked_clone, asked_destroy, asked_promote, asked_rollback, asked_snapshot, asked_bookmark, asked_hold, asked_release, asked_holds};
-ghost use Rattle.yuzgont_c.specs.Asking.{asked_punch, asked_free_object, asked_written_since, asked_would_free, asked_receive, property_at, pool_property_at, limit_at, amount_at};
+ghost use Rattle.yuzgont_c.specs.Asking.{asked_punch, asked_free_object, asked_written_since, asked_would_free, asked_receive, property_at, pool_property_at, limit_at};
+ghost use Rattle.script.specs.Words.{amount_of_bytes};
 ghost use Rattle.yuzgont_c.specs.Calls.{Does, Asks, KeepsResults, Writes, ReadsBlock, ReadInto, TellsNumber, GetsOf, PoolGetsOf, SetsOf, Syncs, Slices, OpensView, Lists, NamesPiece, Sends, Answers, number_told, Forgotten, IsFresh, CanBe, CreateRefused};
 ghost use Rattle.yuzgont_c.specs.Pieces.{IsPiece};
 ghost use Rattle.base.specs.Reading.{Reads};
@@ -12,8 +13,8 @@ ghost use Rattle.model.specs.declared.request.Request.TheVariants.{Abandon, Clos
 
 use crate::answer::Answer;
 use crate::asking::{
-    amount_of, ask_bookmark, ask_clone, ask_create, ask_destroy, ask_free_object, ask_get,
-    ask_hold, ask_holds, ask_open_view, ask_promote, ask_punch, ask_read, ask_receive, ask_release,
+    ask_bookmark, ask_clone, ask_create, ask_destroy, ask_free_object, ask_get, ask_hold,
+    ask_holds, ask_open_view, ask_promote, ask_punch, ask_read, ask_receive, ask_release,
     ask_rollback, ask_send, ask_set, ask_snapshot, ask_would_free, ask_write, ask_written_since,
     limit_of, pool_property_of, property_of,
 };
@@ -26,9 +27,10 @@ use model::request::Request;
 use pool::{MOST_BLOCKS, Pool};
 use runner::PoolCaller;
 use script::run::answer_line;
+use script::settings::amount_of;
 use std::alloc::Global;
 
-/// A pool, the reply of its last line, the stream of its last send and the names of its last list. Each call is one step of the pool, or none.
+/// A pool, the reply of its last line, the stream of its last send and the names of its last list. Each call makes one step of the pool, or none.
 #[derive(Drop)]
 pub struct Host {
     pub caller: PoolCaller,
@@ -38,7 +40,7 @@ pub struct Host {
 }
 
 impl Host {
-    /// A host of a new pool. BadName for id 0, else TooMany for no block or more than `MOST_BLOCKS`, else NoMemory, as `Pool::create`.
+    /// A host of a new pool. BadName for id 0, else TooMany for no block or more than `MOST_BLOCKS`, else NoMemory, as for `Pool::create`.
     pub fn create(alloc: Global, id: u32, blocks: u32) -> Result<Host, Refusal>
         ensures can { IfOk result (λ _. CanBe MOST_BLOCKS id blocks) }
         ensures fresh { IfOk result (λ host. IsFresh id blocks host) }
@@ -53,7 +55,7 @@ impl Host {
         })
     }
 
-    // Asks a request of the pool.
+    // Makes a request to the pool.
     fn ask(&mut self, request: Request) -> Reply
         ensures step { Step self.old.caller request result self.new.caller }
         ensures results { KeepsResults self.old self.new }
@@ -65,7 +67,7 @@ impl Host {
         reply
     }
 
-    // Asks a request whose names were read.
+    // Makes a request to the pool if its names could be read; the reply is the refusal if not.
     fn ask_read_one(&mut self, request: Result<Request, Refusal>) -> Reply
         ensures asked { (read : Option Request) → Reads request read → Asks self.old.caller read self.new.caller (λ reply. reply ≡ result) }
         ensures results { KeepsResults self.old self.new }
@@ -76,14 +78,14 @@ impl Host {
         }
     }
 
-    // Asks a request whose names were read, and says how it went.
+    // Makes a request whose names were read, and returns the answer.
     fn tell(&mut self, request: Result<Request, Refusal>) -> Answer
         ensures { (read : Option Request) → Reads request read → Does read self.old result self.new }
     {
         Answer::of(&self.ask_read_one(request))
     }
 
-    // Asks a request for a number whose names were read, and tells the number.
+    // Makes a request for a number, whose names were read, and writes the number to `value`.
     fn tell_number_of(&mut self, request: Result<Request, Refusal>, value: &mut u64) -> Answer
         ensures { (read : Option Request) → Reads request read → TellsNumber read value.old value.new self.old result self.new }
     {
@@ -92,7 +94,7 @@ impl Host {
         Answer::of_number(&reply)
     }
 
-    /// Makes an empty file system, as `Request::Create`.
+    /// Creates an empty file system, as `Request::Create`.
     pub fn create_file_system(&mut self, name: &[u8]) -> Answer
         ensures { Does (asked_create name.now) self.old result self.new }
     {
@@ -108,7 +110,7 @@ impl Host {
         self.tell(request)
     }
 
-    /// Lets a file system, a snapshot or a bookmark go, as `Request::Destroy`.
+    /// Destroys a file system, a snapshot or a bookmark, as `Request::Destroy`.
     pub fn destroy(&mut self, name: &[u8], recursive: bool, defer: bool) -> Answer
         ensures { Does (asked_destroy name.now recursive defer) self.old result self.new }
     {
@@ -116,7 +118,7 @@ impl Host {
         self.tell(request)
     }
 
-    /// Makes a clone the owner of its origin, as `Request::Promote`.
+    /// Promotes a clone, which takes over its origin, as `Request::Promote`.
     pub fn promote(&mut self, name: &[u8]) -> Answer
         ensures { Does (asked_promote name.now) self.old result self.new }
     {
@@ -124,7 +126,7 @@ impl Host {
         self.tell(request)
     }
 
-    /// Goes back to a snapshot, as `Request::Rollback`.
+    /// Rolls back to a snapshot, as `Request::Rollback`.
     pub fn rollback(&mut self, snapshot: &[u8], later: bool) -> Answer
         ensures { Does (asked_rollback snapshot.now later) self.old result self.new }
     {
@@ -140,7 +142,7 @@ impl Host {
         self.tell(request)
     }
 
-    /// Gives a snapshot a tag, as `Request::Hold`.
+    /// Adds a hold with a tag to a snapshot, as `Request::Hold`.
     pub fn hold(&mut self, tag: &[u8], snapshot: &[u8]) -> Answer
         ensures { Does (asked_hold tag.now snapshot.now) self.old result self.new }
     {
@@ -148,7 +150,7 @@ impl Host {
         self.tell(request)
     }
 
-    /// Takes a tag from a snapshot, as `Request::Release`.
+    /// Releases the hold with a tag on a snapshot, as `Request::Release`.
     pub fn release(&mut self, tag: &[u8], snapshot: &[u8]) -> Answer
         ensures { Does (asked_release tag.now snapshot.now) self.old result self.new }
     {
@@ -156,10 +158,10 @@ impl Host {
         self.tell(request)
     }
 
-    /// Sets a limit of a file system to an amount in bytes, or lets it go where that is 0, as `Request::Set`. NoProperty where no limit has
-    /// this number, BadAmount where the amount is no multiple of 512 or more than 2^49.
+    /// Sets a limit of a file system to an amount in bytes, or removes it where the amount is 0, as `Request::Set`. NoProperty where no limit has
+    /// this number, BadAmount where the amount isn't a multiple of 512 or is more than 2^49.
     pub fn set(&mut self, name: &[u8], limit: u32, amount: u64) -> Answer
-        ensures { SetsOf name.now (limit_at limit) (amount_at amount) self.old result self.new }
+        ensures { SetsOf name.now (limit_at limit) (amount_of_bytes amount) self.old result self.new }
     {
         let Some(limit) = limit_of(limit) else {
             return Answer::NoProperty;
@@ -179,7 +181,7 @@ impl Host {
         self.tell(request)
     }
 
-    /// Opens a view of a snapshot, as `Request::OpenView`, and tells its number.
+    /// Opens a view of a snapshot, as `Request::OpenView`, and writes its number to `view`.
     pub fn open_view(&mut self, snapshot: &[u8], view: &mut u64) -> Answer
         ensures { OpensView snapshot.now view.old view.new self.old result self.new }
     {
@@ -196,7 +198,7 @@ impl Host {
         Answer::of(&self.ask(Request::CloseView { view }))
     }
 
-    /// How many bytes a dataset has that an older snapshot hasn't, as `Request::WrittenSince`.
+    /// Writes to `value` how many bytes were written to a dataset since an older snapshot, as `Request::WrittenSince`.
     pub fn written_since(&mut self, name: &[u8], since: &[u8], value: &mut u64) -> Answer
         ensures { TellsNumber (asked_written_since name.now since.now) value.old value.new self.old result self.new }
     {
@@ -204,7 +206,7 @@ impl Host {
         self.tell_number_of(request, value)
     }
 
-    /// How many bytes would be freed with a file system's snapshots from one to another, as `Request::WouldFree`.
+    /// Writes to `value` how many bytes destroying a range of a file system's snapshots would free, as `Request::WouldFree`.
     pub fn would_free(&mut self, name: &[u8], first: &[u8], last: &[u8], value: &mut u64) -> Answer
         ensures { TellsNumber (asked_would_free name.now first.now last.now) value.old value.new self.old result self.new }
     {
@@ -212,7 +214,7 @@ impl Host {
         self.tell_number_of(request, value)
     }
 
-    /// A property of the pool, as `Request::PoolGet`. NoProperty where none has this number.
+    /// Writes a property of the pool to `value`, as `Request::PoolGet`. NoProperty where none has this number.
     pub fn pool_get(&mut self, property: u32, value: &mut u64) -> Answer
         ensures { PoolGetsOf (pool_property_at property) value.old value.new self.old result self.new }
     {
@@ -222,15 +224,15 @@ impl Host {
         self.tell_number_of(Ok(Request::PoolGet { property }), value)
     }
 
-    /// Lists all datasets and bookmarks, as `Request::List`. The names are kept in the place of earlier ones, and `size` is their number; a
-    /// refused list leaves the earlier ones.
+    /// Lists all datasets and bookmarks, as `Request::List`. The names replace those of the last list; a refused list leaves the last one in
+    /// place. In both cases `size` is the number of names that are kept.
     pub fn list(&mut self, size: &mut usize) -> Answer
         ensures { Lists (Some List) size.new self.old result self.new }
     {
         self.keep_names(Ok(Request::List), size)
     }
 
-    /// Lists the tags of a snapshot, as `Request::Holds`, and keeps them as `list` does.
+    /// Lists the tags of a snapshot's holds, as `Request::Holds`, and keeps them as `list` does.
     pub fn holds(&mut self, snapshot: &[u8], size: &mut usize) -> Answer
         ensures { Lists (asked_holds snapshot.now) size.new self.old result self.new }
     {
@@ -238,7 +240,7 @@ impl Host {
         self.keep_names(request, size)
     }
 
-    // Asks a request for names whose own were read, and keeps them.
+    // Makes a request for a list, whose names were read, and keeps the list.
     fn keep_names(&mut self, request: Result<Request, Refusal>, size: &mut usize) -> Answer
         ensures { (read : Option Request) → Reads request read → Lists read size.new self.old result self.new }
     {
@@ -248,7 +250,7 @@ impl Host {
         answer
     }
 
-    // Keeps the names of a reply.
+    // Keeps the names of a reply, if it has names.
     fn keep_listed(&mut self, reply: Reply) -> Answer
         ensures answer { result ≡ answer_of reply }
         ensures names { self.new.names ≡ names_in reply self.old.names }
@@ -269,8 +271,8 @@ impl Host {
         }
     }
 
-    /// Copies a name of the last list, by its place in it, into the front of a buffer, as much as fits, and tells its length. NoEntry past
-    /// the last one.
+    /// Copies the name at an index of the last list into the front of a buffer, as much of it as fits, and writes its whole length to `size`.
+    /// NoEntry where the index is past the last name.
     pub fn name_piece(&self, index: usize, buffer: &mut [u8], size: &mut usize) -> Answer
         ensures { NamesPiece index buffer.old buffer.new size.old size.new self.now result self.now }
     {
@@ -295,8 +297,8 @@ impl Host {
         self.tell(request)
     }
 
-    /// Reads a block into a buffer, and says whether it is a hole, as `Request::Read`; a hole is 512 zeros. BadLength where the buffer
-    /// hasn't 512 bytes.
+    /// Reads a block into a buffer, as `Request::Read`, and writes to `is_hole` whether it is a hole; a hole reads as 512 zeros. BadLength where
+    /// the buffer isn't 512 bytes.
     pub fn read(
         &mut self,
         name: &[u8],
@@ -315,7 +317,7 @@ impl Host {
         fill(reply, buffer, is_hole)
     }
 
-    /// Makes a block a hole, as `Request::Punch`.
+    /// Punches a block, which makes it a hole, as `Request::Punch`.
     pub fn punch(&mut self, name: &[u8], object: u32, block: u32) -> Answer
         ensures { Does (asked_punch name.now object block) self.old result self.new }
     {
@@ -323,7 +325,7 @@ impl Host {
         self.tell(request)
     }
 
-    /// Makes a snapshot, as `Request::Snapshot`.
+    /// Takes a snapshot, as `Request::Snapshot`.
     pub fn snapshot(&mut self, name: &[u8], recursive: bool) -> Answer
         ensures { Does (asked_snapshot name.now recursive) self.old result self.new }
     {
@@ -331,8 +333,8 @@ impl Host {
         self.tell(request)
     }
 
-    /// The value of a property that is a size or a number, as `Request::Get`. NoProperty where none has this number, and NotApplicable
-    /// where the dataset hasn't it.
+    /// Writes to `value` a property that is a size or a number, as `Request::Get`. NoProperty where none has this number, NotApplicable where the
+    /// dataset doesn't have the property.
     pub fn get(&mut self, name: &[u8], property: u32, value: &mut u64) -> Answer
         ensures { GetsOf name.now (property_at property) value.old value.new self.old result self.new }
     {
@@ -343,7 +345,7 @@ impl Host {
         self.tell_number_of(request, value)
     }
 
-    /// Syncs, as `Request::Sync`, and tells the open group.
+    /// Syncs, as `Request::Sync`, and writes to `group` the group that is open then.
     pub fn sync(&mut self, group: &mut u64) -> Answer
         ensures { Syncs group.old group.new self.old result self.new }
     {
@@ -354,7 +356,7 @@ impl Host {
         Answer::of(&reply)
     }
 
-    /// Frees so many blocks of what was destroyed, as `Request::Slice`, and tells how many it were.
+    /// Frees up to `count` blocks of what was destroyed, as `Request::Slice`, and writes to `taken` how many it freed.
     pub fn slice(&mut self, count: u64, taken: &mut u64) -> Answer
         ensures { Slices count taken.old taken.new self.old result self.new }
     {
@@ -372,8 +374,9 @@ impl Host {
         Answer::of(&self.ask(Request::Abandon))
     }
 
-    /// Makes the stream of a snapshot, as `Request::Send`, from a source unless its name is empty. The stream is kept in the place of an
-    /// earlier one, and `size` is its length in bytes; a refused send leaves the earlier one.
+    /// Makes the stream of a snapshot, as `Request::Send`: in full where `from` is empty, else from the source that it names. The stream replaces
+    /// that of the last send; a refused send leaves the last one in place. In both cases `size` is the length in bytes of the stream that is
+    /// kept.
     pub fn send(&mut self, name: &[u8], from: &[u8], size: &mut usize) -> Answer
         ensures { Sends name.now from.now size.new self.old result self.new }
     {
@@ -384,7 +387,7 @@ impl Host {
         answer
     }
 
-    // Keeps the stream of a reply.
+    // Keeps the stream of a reply, if it has one.
     fn keep(&mut self, reply: Reply) -> Answer
         ensures answer { result ≡ answer_of reply }
         ensures stream { self.new.stream ≡ stream_in reply self.old.stream }
@@ -413,8 +416,8 @@ impl Host {
         self.tell(request)
     }
 
-    /// Answers a line, as `answer_line`, and tells the number of the refusal by which it was refused, or 0. Its reply is kept in the place
-    /// of an earlier one, and `size` is its length in bytes. NoMemory where memory was refused: then the pool is as it was.
+    /// Answers a line, as `answer_line`, and writes to `refusal` the number of the refusal where the line was refused, or 0. The reply replaces
+    /// that of the last line, and `size` is its length in bytes. NoMemory where memory was refused; the pool is unchanged then.
     pub fn line(&mut self, line: &[u8], refusal: &mut u32, size: &mut usize) -> Answer
         ensures { Answers line.now refusal.old refusal.new size.new self.old result self.new }
     {
@@ -430,21 +433,21 @@ impl Host {
         }
     }
 
-    /// Copies bytes of the last reply, from a place on, into the front of a buffer.
+    /// Copies bytes of the last reply, from index `from` on, into the front of a buffer, as many as fit, and returns their number.
     pub fn reply_piece(&self, from: usize, buffer: &mut [u8]) -> usize
         ensures { IsPiece self.now.reply.items from buffer.old buffer.new result }
     {
         copy_piece(&self.reply, from, buffer)
     }
 
-    /// Copies bytes of the last stream, from a place on, into the front of a buffer.
+    /// Copies bytes of the last stream, from index `from` on, into the front of a buffer, as many as fit, and returns their number.
     pub fn stream_piece(&self, from: usize, buffer: &mut [u8]) -> usize
         ensures { IsPiece self.now.stream from buffer.old buffer.new result }
     {
         copy_piece(self.stream.as_slice(), from, buffer)
     }
 
-    /// Lets go of the last reply, the last stream and the last list, with their memory.
+    /// Frees the memory of the last reply, the last stream and the last list.
     pub fn forget(&mut self) -> Answer
         ensures { Forgotten self.old result self.new }
     {
@@ -456,7 +459,7 @@ impl Host {
     }
 }
 
-// Puts the block of a reply into a buffer, and says whether it is a hole.
+// Copies the block of a reply into a buffer, and writes whether it is a hole.
 fn fill(reply: Reply, buffer: &mut [u8], is_hole: &mut bool) -> Answer
     requires { length buffer.old ≡ 512 }
     ensures answer { result ≡ answer_of reply }
@@ -476,7 +479,7 @@ fn fill(reply: Reply, buffer: &mut [u8], is_hole: &mut bool) -> Answer
     Answer::of(&reply)
 }
 
-// The number of a refusal, 0 where there is none.
+// The number of a refusal; 0 where there is none.
 fn number_of(refusal: Option<Refusal>) -> u32
     ensures { result ≡ number_told refusal }
 {
@@ -486,7 +489,7 @@ fn number_of(refusal: Option<Refusal>) -> u32
     }
 }
 
-// Tells the number of the view that a reply has opened.
+// Writes the number of the view that a reply has opened, if it has opened one.
 fn tell_view(reply: &Reply, view: &mut u64)
     ensures { view.new ≡ view_in reply.now view.old }
 {
@@ -495,7 +498,7 @@ fn tell_view(reply: &Reply, view: &mut u64)
     }
 }
 
-// Tells the number of a reply.
+// Writes the number of a reply, if it has one.
 fn tell_number(reply: &Reply, value: &mut u64)
     ensures { value.new ≡ number_in reply.now value.old }
 {

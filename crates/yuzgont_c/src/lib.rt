@@ -1,10 +1,11 @@
-//! Pools for C, behind handles: `include/yuzgont.h` declares each call as C makes it, and docs/EMBEDDING.md says what a host has to know.
+//! Pools for C, behind handles. `include/yuzgont.h` declares the calls as C makes them, and docs/EMBEDDING.md says what a host has to know.
 //!
-//! Each export takes the pool out of its handle, makes one call of a [`host::Host`] and puts it back. Its clauses are that call's: the step
-//! that the pool made, or that it is as it was. A handle without a pool answers so, and stays without one.
+//! Each export takes the pool out of its handle, makes one call of a [`host::Host`] and puts the pool back. Its contract is that of the call: the
+//! pool has made a step, or is unchanged. On a handle without a pool a call answers NoPool, and the handle stays without one; only
+//! `yuzgont_create` makes a pool there, and `yuzgont_free` does nothing.
 //!
-//! What C owes, and the header's own functions test as far as C can: that no pointer is null, that a handle is zero at first and then only
-//! written by these calls, that it is never copied, and that calls on one handle come one after another. Nothing here waits or takes a lock.
+//! C has to keep these rules: no pointer is null, a handle is zero at first and is then written by these calls only, it is never copied, and
+//! calls on one handle come one after another. The header's own functions check them as far as C can. Nothing here waits or takes a lock.
 #![tactic(auto)]
 
 mod answer;

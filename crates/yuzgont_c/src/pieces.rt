@@ -1,7 +1,7 @@
-//! Bytes that are handed out by pieces.
+//! Copies of parts of a byte string.
 ghost use Rattle.yuzgont_c.specs.Pieces.{IsPiece};
 
-// Copies the bytes from a place on into the front of the buffer, as many as fit and are there, and says how many.
+// Copies bytes from index `from` on into the front of the buffer, as many as fit and are there, and returns their number.
 pub(crate) fn copy_piece(bytes: &[u8], from: usize, buffer: &mut [u8]) -> usize
     ensures { IsPiece bytes.now from buffer.old buffer.new result }
 {

@@ -1,4 +1,4 @@
-//! A host as a pointer that C keeps.
+//! A host behind a pointer that C stores.
 ghost use Rattle.std.specs.Prelude.{◌≡◌, Option, Some, None, IsSome};
 ghost use Rattle.std.specs.Coded.{coded_option};
 ghost use Rattle.yuzgont_c.specs.declared.host.Host.{Host};
@@ -9,7 +9,7 @@ use std::alloc::Global;
 use std::marker::Model;
 use std::ptr;
 
-/// The pointer to a host, or to nothing. Contracts see the host. C keeps it and never follows it.
+/// A pointer to a host, or a null pointer. Contracts see the host. C stores the pointer and never dereferences it.
 #[repr(C)]
 #[derive(Drop)]
 pub struct Slot {

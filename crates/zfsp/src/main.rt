@@ -15,7 +15,7 @@ use std::{env, fs, io};
 
 const BUFFER_SIZE: usize = 65536;
 
-/// Reads the command line, opens the script, and runs it. An error is of memory or of the opening.
+/// Reads the command line, opens the script, and runs it. An error means that memory was refused, or that the script could not be opened.
 fn serve<T: Threads + Wait + Sync>(rt: &HostRuntime, threads: &T) -> io::Result<u8>
     ensures { IfOk result (λ status. status ≤ 3) }
 {
@@ -36,7 +36,7 @@ fn serve<T: Threads + Wait + Sync>(rt: &HostRuntime, threads: &T) -> io::Result<
     }
 }
 
-/// Runs the script that a source gives, and writes to the standard output.
+/// Runs the script that is read from `source`, and writes the replies to the standard output.
 fn run_source<T: Threads + Wait + Sync, R: Read + Drop>(
     rt: &HostRuntime,
     threads: &T,
@@ -53,7 +53,7 @@ fn run_source<T: Threads + Wait + Sync, R: Read + Drop>(
     Ok(run_args(threads, alloc, args, &mut reader, &mut writer, &mut errors))
 }
 
-/// The word that names the script file, where there is one.
+/// The word that names the script file, if there is one.
 fn script_of<'a>(words: &'a [String], args: Option<&Args>) -> Option<&'a String>
     ensures { option_copied result ≡ option_and_then (λ a. option_and_then (slice_get words.now) a.script) (option_copied args.entry) }
 {

@@ -210,8 +210,9 @@ class Streams(Case):
 
     def test_what_does_not_fit(self):
         full, younger = self.pool.send("p@monday"), self.pool.send("p@tuesday", "p@monday")
-        with self.assertRaises(yuzgont.BadStream):
-            self.backup.receive("p/copy@monday", full[:-1])
+        for size in (0, len(full) - 1):
+            with self.assertRaises(yuzgont.BadStream):
+                self.backup.receive("p/copy@monday", full[:size])
         damaged = bytearray(full)
         damaged[len(full) // 2] ^= 1
         with self.assertRaises(yuzgont.BadStream):

@@ -13,14 +13,14 @@ use datasets::FileSystem;
 use model::limits::Limit;
 use tree::Forecast;
 
-/// What a file system and its pool come to with a change of the live map, in blocks.
+/// The counts of a file system and of its pool after a change of the live map, in blocks.
 #[derive(Clone, Copy, PartialEq, Eq, Debug)]
 pub struct Outlook {
-    /// What of the file system's `used` isn't its children's (zfsprops(7): usedbydataset, usedbysnapshots, usedbyrefreservation).
+    /// The part of the file system's `used` that isn't its children's (zfsprops(7): usedbydataset, usedbysnapshots, usedbyrefreservation).
     pub here: u64,
-    /// What the live map has (zfsprops(7): referenced).
+    /// The number of blocks of the live map (zfsprops(7): referenced).
     pub referenced: u64,
-    /// How many blocks more wait for the next sync.
+    /// How many more blocks wait for the next sync.
     pub waiting: u64,
 }
 
@@ -31,7 +31,7 @@ fn count_after(dropped: &[Dead], group: Group) -> usize
     dropped.iter().filter(|dead| dead.birth.0 > group.0).count()
 }
 
-// How many were born after one group and before another.
+// How many of the blocks were born after the group `low` and before the group `high`.
 fn count_before(dropped: &[Dead], low: Group, high: Group) -> usize
     ensures { result ≡ count_by (λ d. nat_lt low.0 d.birth.0 && nat_lt d.birth.0 high.0) dropped.now }
 {
@@ -41,14 +41,14 @@ fn count_before(dropped: &[Dead], low: Group, high: Group) -> usize
         .count()
 }
 
-// What the counts come to is told of, in blocks.
+// The counts that an outlook is made of, in blocks.
 #[derive(Drop)]
 struct Tally {
-    // What the file system has of its own: its live map, and its snapshots beside it.
+    // What the live map and the snapshots use (zfsprops(7): usedbydataset, usedbysnapshots).
     held: u64,
-    // What it keeps for its live map (zfsprops(7): refreservation).
+    // The refreservation, and 0 where there is none (zfsprops(7): refreservation).
     kept: u64,
-    // What of that the live map's own blocks take up (zfsprops(7): written).
+    // The blocks of the live map that were born after the newest snapshot or the origin (zfsprops(7): written).
     written: u64,
     referenced: u64,
     waiting: u64,
@@ -85,8 +85,8 @@ fn tally_of(file_system: &FileSystem, forecast: &Forecast, synced: Group) -> Res
     })
 }
 
-/// What the counts of a file system and of its pool come to with the change of a forecast, where the last sync opened the group `synced`: for
-/// every state and change of which it is the forecast, those of the world that limits are asked of (zfsprops(7): quota, refquota,
+/// The counts of a file system and of its pool after the change of this forecast, where the last sync opened the group `synced`. For every state
+/// and change of which it is the forecast, they are those of the world that limits are checked against (zfsprops(7): quota, refquota,
 /// reservation). NoMemory where the change makes more blocks than a u32 counts. It costs the blocks that the change drops.
 pub fn outlook_of(
     file_system: &FileSystem,
@@ -106,8 +106,9 @@ pub fn outlook_of(
     })
 }
 
-/// The same where the live map is kept as a snapshot once it is changed, as a receive does: then nothing of the file system's refreservation
-/// is written (zfsprops(7): usedbyrefreservation; zfs-receive(8)). NoMemory and the cost are those of `outlook_of`.
+/// The counts of a file system and of its pool after the change of this forecast, where the changed live map is then kept as a snapshot, as a
+/// receive does. After that nothing of the file system's refreservation is written (zfsprops(7): usedbyrefreservation; zfs-receive(8)).
+/// `synced`, NoMemory and the cost are as in `outlook_of`.
 pub fn kept_outlook_of(
     file_system: &FileSystem,
     forecast: &Forecast,

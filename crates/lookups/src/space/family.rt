@@ -15,7 +15,7 @@ use datasets::{FileSystem, Table};
 use snap::is_in_family;
 use std::sync::Arc;
 
-// How many blocks a file system has that its origin hasn't. Constant time.
+// How many blocks a file system and its snapshots have that its origin hasn't. Constant time.
 fn own(file_system: &FileSystem) -> u64
     requires { own_in file_system.now < 2 ^ 32 }
     ensures { result ≡ own_in file_system.now }
@@ -23,7 +23,7 @@ fn own(file_system: &FileSystem) -> u64
     u64::from(file_system.used_by_dataset()) + file_system.used_by_snapshots()
 }
 
-// The sum of these over those of the file systems that are the one of this name or a descendant. It costs their number.
+// The sum of `own` over those of these file systems that are the one of this name or a descendant. It costs the number of file systems.
 fn own_together(file_systems: &[Arc<FileSystem>], name: &DsName) -> u64
     requires { total own_in (map arc_value file_systems.now) < 2 ^ 32 }
     ensures { result ≡ total (own_within name.now) (map arc_value file_systems.now) }
@@ -49,7 +49,8 @@ pub fn used(table: &Table, name: &DsName) -> u32
     own_together(table.file_systems(), name) as u32
 }
 
-/// How many of these blocks its descendants use without it (zfsprops(7): usedbychildren). It costs the number of file systems.
+/// How many blocks the descendants of the file system of this name, which is there, use, where no file system has a limit (zfsprops(7):
+/// usedbychildren). It costs the number of file systems.
 pub fn used_by_children(table: &Table, name: &DsName) -> u32
     requires there { IsSome (get table.now.file_systems name.now) }
     requires unlimited { IsUnlimited table.now.file_systems }

@@ -1,4 +1,4 @@
-//! Where the datasets of names stand.
+//! Datasets by their names.
 ghost use Rattle.std.specs.Prelude.{◌≡◌};
 ghost use Rattle.std.specs.Option.{option_map, option_copied};
 ghost use Rattle.lookups.specs.Places.{place_named};
@@ -6,7 +6,7 @@ ghost use Rattle.lookups.specs.Places.{place_named};
 use base::name::Target;
 use datasets::{FileSystem, Snapshot, Table};
 
-/// The file system of the dataset of this name, and the snapshot where it is one; or none where it isn't there. It costs what
+/// The file system of the dataset of this name, with the snapshot where the name is of one; none where there is no such dataset. It costs what
 /// `Table::snapshot_named` does.
 pub fn dataset_named<'a>(
     table: &'a Table,

@@ -1,4 +1,4 @@
-//! What a range of snapshots alone has.
+//! The blocks that only the snapshots of a range have.
 ghost use Rattle.std.specs.Prelude.{◌≡◌, ◌<◌, ◌≤◌, ◌+◌, ◌^◌, length, OnErr, if◌then◌else◌, Some, None, IfSome, IfOk, IfErr, OnOk, nat_lt};
 ghost use Rattle.std.specs.List.{find, list_any};
 ghost use Rattle.std.specs.Option.{option_map};
@@ -18,12 +18,12 @@ use base::number::Group;
 use base::refusal::Refusal;
 use datasets::{FileSystem, Snapshot, Table};
 
-/// How many blocks all datasets together would lose with these snapshots of a file system, the first, the last and those between, of which
-/// nothing is changed (zfs-destroy(8), -nv). NoDataset exactly where one of the two isn't there, else NotAncestor exactly where the first is
-/// newer than the last, else HasClones exactly where one of the range has a clone (the order is profile). It costs the logarithm of the
-/// number of file systems, the number of this one's snapshots, for each of the range the logarithm of the number of clones, and for each
-/// dead list of the range but its first and of what comes after it, which has one segment and is read once, about the square of the
-/// logarithm of its entries: what went with the first was there before the range.
+/// How many blocks the destroy of a range of a file system's snapshots would free, from `first` to `last`, both included (zfs-destroy(8), -nv).
+/// Nothing is changed. NoDataset exactly where one of the two isn't there, else NotAncestor exactly where the first is newer than the last, else
+/// HasClones exactly where one of the range has a clone (the order is profile). It costs the logarithm of the number of file systems, the number
+/// of this one's snapshots, for each of the range the logarithm of the number of clones, and for each dead list that is read about the square of
+/// the logarithm of its entries. Those are the dead lists of the snapshots of the range except the first, and that of the dataset after the
+/// range; each has one segment and is read once. The first one's isn't read, since its blocks were there before the range.
 pub fn would_free(
     table: &Table,
     name: &DsName,
@@ -44,8 +44,8 @@ pub fn would_free(
     Ok(file_system.gone_after(Some(oldest), around.next, around.before, segments))
 }
 
-// What stands around a range of the snapshots of a file system: the group of the newest that is older, or else of the origin, and 0 where
-// there is neither; that of the first that is newer; and whether one of the range has a clone.
+// What is around a range of a file system's snapshots. `before` is the group of the newest older snapshot, or else of the origin, and 0 where
+// there is neither; `next` is the group of the oldest newer snapshot; `is_cloned` tells whether a snapshot of the range has a clone.
 #[derive(Clone, Copy)]
 struct Around {
     before: Group,
@@ -53,8 +53,8 @@ struct Around {
     is_cloned: bool,
 }
 
-// The file system of this name, the groups of the first and the last snapshot of the range, and what stands around it; refused as
-// `would_free` says. It costs what that does, but for the dead lists.
+// The file system of this name, the groups of the first and the last snapshot of the range, and what is around it. The refusals are those of
+// `would_free`. The cost is that of `would_free` without the dead lists.
 fn range_of<'a>(
     table: &'a Table,
     name: &DsName,
@@ -94,15 +94,16 @@ fn group_of(file_system: &FileSystem, component: &Component) -> Option<Group>
     Some(snapshot.group())
 }
 
-// Whether the snapshot's group is from one to another, and it has a clone. It costs the logarithm of the number of clones.
+// Whether the snapshot is of the range from the group `first` to the group `last`, and has a clone. It costs the logarithm of the number of
+// clones.
 fn has_clone_between(table: &Table, snapshot: &Snapshot, first: Group, last: Group) -> bool
     ensures { result ≡ has_clone_between table.now first.0 last.0 snapshot.now }
 {
     first.0 <= snapshot.group().0 && snapshot.group().0 <= last.0 && table.has_clone(snapshot.id())
 }
 
-// What stands around the range from one group to another. It costs the number of the file system's snapshots up to the end of the range, and
-// for each of the range the logarithm of the number of clones.
+// What is around the range from the group `first` to the group `last`. It costs the number of the file system's snapshots up to the end of the
+// range, and for each of the range the logarithm of the number of clones.
 fn look_around(table: &Table, file_system: &FileSystem, first: Group, last: Group) -> Around
     requires rising { AreRising (origin_group file_system.now.system.origin) file_system.now.system.snaps }
     requires order { first.0 ≤ last.0 }
@@ -133,14 +134,14 @@ fn look_around(table: &Table, file_system: &FileSystem, first: Group, last: Grou
     around
 }
 
-// The group that comes next, where it is older than the first of a range, and else the one before. Constant time.
+// `group` where it is before the first group of a range, and else `before`. Constant time.
 fn older(before: Group, group: Group, first: Group) -> Group
     ensures { result.0 ≡ (if nat_lt group.0 first.0 then group.0 else before.0) }
 {
     if group.0 < first.0 { group } else { before }
 }
 
-// The creation group of its origin, and 0 where it has none. Constant time.
+// The creation group of a file system's origin, and 0 where it has none. Constant time.
 fn base_of(file_system: &FileSystem) -> Group
     ensures { result.0 ≡ origin_group file_system.now.system.origin }
 {

@@ -18,9 +18,9 @@ use model::snapshot_id::SnapshotId;
 
 /// How many blocks a dataset has that an older snapshot of its lineage hasn't (zfsprops(7): written@snapshot). NoDataset exactly where the
 /// target isn't a dataset that is there or there is no such snapshot; else NotAncestor exactly where the snapshot isn't an older one of the
-/// dataset's lineage (the order is profile). It costs the logarithms of the numbers of file systems and of the snapshots of one; and for
-/// each file system that the lineage passes down to the snapshot's that of looking its origin up, the number of its snapshots, and for
-/// each dead list of those of the lineage, which has one segment and is read once, about the square of the logarithm of its entries.
+/// dataset's lineage (the order is profile). It costs the logarithms of the numbers of file systems and of the snapshots of one. For each file
+/// system of the lineage down to the snapshot's it also costs the lookup of its origin, the number of its snapshots, and for each dead list of
+/// these that is of the lineage about the square of the logarithm of its entries; a dead list has one segment and is read once.
 pub fn written_since(
     table: &Table,
     target: &Target,
@@ -51,7 +51,7 @@ pub fn written_since(
     Ok((u64::from(count) + gone - u64::from(since)) as u32)
 }
 
-// How many blocks the snapshot has, or else the live map. Constant time.
+// How many blocks the snapshot has, or the live map where there is none. Constant time.
 fn count_of(file_system: &FileSystem, dataset: Option<&Snapshot>) -> u32
     ensures { result ≡ len (blocks (map_at file_system.now (option_copied dataset.entry))) }
 {
@@ -61,14 +61,14 @@ fn count_of(file_system: &FileSystem, dataset: Option<&Snapshot>) -> u32
     }
 }
 
-// Whether they are one snapshot's.
+// Whether both identities are of one snapshot.
 fn is_same(id: SnapshotId, other: SnapshotId) -> bool
     ensures { result ≡ same_id (snap_id id) (snap_id other) }
 {
     id == other
 }
 
-// Whether a snapshot of this group, or the live map where there is none, comes after that group. Constant time.
+// Whether a dataset comes after `group`: a snapshot of the group `until`, or the live map where that is none. Constant time.
 fn is_after(until: Option<Group>, group: Group) -> bool
     ensures { result ≡ option_map_or (nat_lt group.0) (option_map (λ g. g.0) until) true }
 {
@@ -78,7 +78,7 @@ fn is_after(until: Option<Group>, group: Group) -> bool
     }
 }
 
-// The snapshot's group. Constant time.
+// The snapshot's group, and none for the live map. Constant time.
 fn group_at(dataset: Option<&Snapshot>) -> Option<Group>
     ensures { option_map (λ g. g.0) result ≡ option_map (λ u. u.group) (option_copied dataset.entry) }
 {
@@ -88,9 +88,9 @@ fn group_at(dataset: Option<&Snapshot>) -> Option<Group>
     }
 }
 
-// How many entries born by the group of a snapshot of that owner the dead lists have of the datasets after it up to this one, where it is of
-// the dataset's lineage, and no more than the greatest u64; else none. It goes down from the dataset's file system to that of its origin and
-// so on, and costs what `written_since` does.
+// Counts the entries born by the group of the snapshot `since` in the dead lists of the datasets after it up to this one, at most the greatest
+// u64. None where `since`, a snapshot of `owner`, isn't an older one of the dataset's lineage. The walk goes down from the dataset's file system
+// to that of its origin and so on, and costs what `written_since` does.
 fn gone_since(
     table: &Table,
     file_system: &FileSystem,

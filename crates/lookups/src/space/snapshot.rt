@@ -1,4 +1,4 @@
-//! What a snapshot alone has.
+//! The blocks that only one snapshot has.
 ghost use Rattle.std.specs.Prelude.{◌≡◌, ℕ, List, Some, IfOk, IfErr, OnOk, map};
 ghost use Rattle.std.specs.Option.{option_map};
 ghost use Rattle.base.specs.declared.refusal.Refusal.{Refusal};
@@ -16,10 +16,11 @@ use base::refusal::Refusal;
 use datasets::{Alone, CloneName, FileSystem, Snapshot, Table};
 use std::alloc::Global;
 
-/// How many blocks the snapshot of this name alone has among all datasets, its clones too (zfsprops(7): used); None where there is no such
-/// snapshot. NoMemory where there is none for it: a snapshot without clones needs none. It costs the logarithms of the numbers of file
-/// systems and of the snapshots of one, and the segments of the dead list of what comes next; with clones also its entries that were born
-/// after what stands before the snapshot, and for each clone the segments and the entries of the dead list of its oldest dataset.
+/// How many blocks only the snapshot of this name has, and no other dataset, not even a clone of it (zfsprops(7): used); None where there is no
+/// such snapshot. NoMemory where memory is refused; a snapshot without clones needs no memory. It costs the logarithms of the numbers of file
+/// systems and of the snapshots of one, and the segments of the dead list of the dataset that follows the snapshot. Where the snapshot has
+/// clones, it also costs the entries of that dead list that were born after the dataset before the snapshot, and for each clone the segments and
+/// the entries of the dead list of its oldest dataset.
 pub fn used_by_snapshot(
     alloc: Global,
     table: &Table,
@@ -34,13 +35,13 @@ pub fn used_by_snapshot(
     else {
         return Ok(None);
     };
-    // It tells that the snapshot's blocks are fewer than 2^32.
+    // For the prover alone: the snapshot has fewer than 2^32 blocks.
     let _most = snapshot.tree().node_count();
     let count = count_alone(alloc, table, file_system, snapshot, segments)?;
     Ok(Some(count as u32))
 }
 
-// How many blocks this snapshot of this file system alone has, as `used_by_snapshot` says, at the same cost.
+// How many blocks only this snapshot of this file system has, as `used_by_snapshot` says, at the same cost.
 fn count_alone(
     alloc: Global,
     table: &Table,
@@ -63,8 +64,8 @@ fn count_alone(
     Ok(alone.len())
 }
 
-// Strikes out what these clones still have. NoMemory where there is none for it. It costs the logarithm of the number of file systems for
-// each, and what `FileSystem::strike` does.
+// Removes from `alone` the blocks that these clones still have. NoMemory where memory is refused. It costs the logarithm of the number of file
+// systems for each, and what `FileSystem::strike` does.
 fn remove_all_of_clones(
     table: &Table,
     clones: &[CloneName],

@@ -9,9 +9,9 @@ use base::name::DsName;
 use datasets::{FileSystem, Snapshot, Table};
 use model::snapshot_id::SnapshotId;
 
-/// Whether the snapshot of this identity, which the file system of that name has, is an older one of the lineage of this snapshot of this
-/// file system. It goes down from this file system to that of its origin and so on. It costs for each that it passes that of looking its
-/// origin up.
+/// Whether the snapshot `older`, which the file system of the name `owner` has, is an older snapshot of the lineage of this snapshot of this
+/// file system. The walk goes down from this file system to that of its origin and so on. For each file system that it leaves it costs the
+/// lookup of the origin.
 pub fn is_older(
     table: &Table,
     file_system: &FileSystem,
@@ -41,7 +41,7 @@ pub fn is_older(
     older.group.0 < until.0
 }
 
-// Whether they are one snapshot's.
+// Whether both identities are of one snapshot.
 fn is_same(id: SnapshotId, other: SnapshotId) -> bool
     ensures { result ≡ same_id (snap_id id) (snap_id other) }
 {

@@ -1,4 +1,4 @@
-//! All that a send of a snapshot may start from.
+//! The list of the sources of a send.
 ghost use Rattle.std.specs.Prelude.{◌≡◌, ◌++◌, Some, IsSome, IfSome, IfOk, IfErr, OnOk};
 ghost use Rattle.base.specs.declared.refusal.Refusal.{Refusal};
 ghost use Rattle.model.specs.World.{id_of, snap_named};
@@ -15,10 +15,10 @@ use datasets::{FileSystem, Snapshot, Table};
 use model::source::Source;
 use std::alloc::Global;
 
-/// What a send of the snapshot of this name, which is there, may start from (zfs-send(8), -i): the older snapshots of its lineage, the newest
-/// first, and then the bookmarks of its own file system of groups below its own, by group and then by name (the order is profile). NoMemory
-/// where there is none for them. It costs the logarithms of the numbers of file systems and of the snapshots of one; for each file system
-/// that the lineage passes the number of its snapshots and that of looking its origin up; the names; and what `Bookmarks::in_order` does.
+/// The sources that a send of the snapshot of this name, which is there, may start from (zfs-send(8), -i): the older snapshots of its lineage,
+/// the newest first, and then the bookmarks of its file system with lower groups, by group and then by name (the order is profile). NoMemory
+/// where memory is refused. It costs the logarithms of the numbers of file systems and of the snapshots of one; for each file system of the
+/// lineage the number of its snapshots and the lookup of its origin; the names; and what `Bookmarks::in_order` does.
 pub fn sources_of(alloc: Global, table: &Table, snapshot: &SnapName) -> Result<Vec<Source>, Refusal>
     requires { IsSome (snap_named (world_of table.now) snapshot.now) }
     ensures ok { IfSome (snap_named (world_of table.now) snapshot.now) (λ u. IfOk result (λ sources. sources.items ≡ sources_of (world_of table.now) (id_of u))) }
@@ -35,8 +35,8 @@ pub fn sources_of(alloc: Global, table: &Table, snapshot: &SnapName) -> Result<V
     Ok(sources)
 }
 
-// Adds the older snapshots of the lineage of this snapshot of this file system, the newest first. It goes down from this file system to that
-// of its origin and so on. NoMemory where there is none for them.
+// Adds the older snapshots of the lineage of this snapshot of this file system, the newest first. The walk goes down from this file system to
+// that of its origin and so on. NoMemory where memory is refused.
 fn push_lineage(
     alloc: Global,
     sources: &mut Vec<Source>,
@@ -64,8 +64,8 @@ fn push_lineage(
     }
 }
 
-// Adds the snapshots of this file system that are older than this group, the newest first. NoMemory where there is none for them. It costs
-// the number of its snapshots, and the names.
+// Adds the snapshots of this file system that are older than this group, the newest first. NoMemory where memory is refused. It costs the number
+// of its snapshots, and the names.
 fn push_older(
     alloc: Global,
     sources: &mut Vec<Source>,
@@ -86,8 +86,8 @@ fn push_older(
     Ok(())
 }
 
-// Adds the bookmarks of this file system of groups below this one, by group and then by name. NoMemory where there is none for them. It
-// costs what `Bookmarks::in_order` does, and the names.
+// Adds the bookmarks of this file system with groups below this one, by group and then by name. NoMemory where memory is refused. It costs what
+// `Bookmarks::in_order` does, and the names.
 fn push_bookmarks(
     sources: &mut Vec<Source>,
     file_system: &FileSystem,

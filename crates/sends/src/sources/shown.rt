@@ -1,4 +1,4 @@
-//! Where a send starts that has a list of its sources.
+//! The start of a send, found in a list of its sources.
 ghost use Rattle.std.specs.Prelude.{◌≡◌};
 ghost use Rattle.std.specs.List.{find};
 ghost use Rattle.std.specs.Option.{option_copied};
@@ -8,8 +8,8 @@ use crate::sources::start::{Start, full_start};
 use base::name::Target;
 use model::source::{Source, SourceName};
 
-/// Where a send starts that may start from these sources and names this one, or none and then it is a full one; none where that is no source
-/// of them (zfs-send(8), -i). It takes no memory. It costs the sources.
+/// The start of a send from the source of these that has the name `from`, or of a full send where `from` is none; none where no source has that
+/// name (zfs-send(8), -i). It takes no memory. It costs the sources.
 #[tactic(auto, unfolding(model::specs::requests::Send::start_of))]
 pub fn start_in(sources: &[Source], from: Option<&Target>) -> Option<Start>
     ensures { result ≡ start_of sources.now (option_copied from.entry) }
@@ -31,7 +31,7 @@ fn source_named<'a>(sources: &'a [Source], name: &Target) -> Option<&'a Source>
     sources.iter().find(|source| is_of_name(source, name))
 }
 
-// Whether that is the source's name.
+// Whether the source has this name.
 fn is_of_name(source: &Source, name: &Target) -> bool
     ensures { result ≡ is_called source.now.name name.now }
 {

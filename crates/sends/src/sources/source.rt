@@ -10,7 +10,7 @@ use datasets::{FileSystem, Snapshot};
 use model::source::{Source, SourceName};
 use snapshots::bookmarks::Mark;
 
-/// This snapshot of this file system as a source. NoMemory where there is none for its name. It costs the name.
+/// This snapshot of this file system as a source. NoMemory where memory for its name is refused. It costs the name.
 pub fn snapshot_source(file_system: &FileSystem, snapshot: &Snapshot) -> Result<Source, Refusal>
     ensures ok { IfOk result (λ s. s ≡ snapshot_in file_system.now.name snapshot.now) }
     ensures err { IfErr result (λ e. e ≡ Refusal.NoMemory) }
@@ -26,7 +26,7 @@ pub fn snapshot_source(file_system: &FileSystem, snapshot: &Snapshot) -> Result<
     })
 }
 
-/// This bookmark of this file system as a source. NoMemory where there is none for its name. It costs the name.
+/// This bookmark of this file system as a source. NoMemory where memory for its name is refused. It costs the name.
 pub fn bookmark_source(file_system: &FileSystem, mark: &Mark) -> Result<Source, Refusal>
     ensures ok { IfOk result (λ s. s ≡ bookmark_in file_system.now.name (entry_of mark.now)) }
     ensures err { IfErr result (λ e. e ≡ Refusal.NoMemory) }

@@ -1,4 +1,4 @@
-//! Where a send starts that names a source, or none.
+//! The start of a send, found by the name of its source.
 ghost use Rattle.std.specs.Prelude.{◌≡◌, Some, None, IfSome, IfOk, IfErr, OnOk};
 ghost use Rattle.std.specs.Option.{option_copied};
 ghost use Rattle.base.specs.declared.name.target.Target.{Target};
@@ -19,7 +19,7 @@ use datasets::{FileSystem, Snapshot, Table};
 use model::snapshot_id::SnapshotId;
 use std::marker::Model;
 
-/// Where a send starts: the guid and the creation group of its source, and 0 for both where it is a full one (zfs-send(8), -i).
+/// The start of a send: the guid and the creation group of its source, and 0 for both in a full send (zfs-send(8), -i).
 #[derive(Clone, Copy)]
 pub struct Start {
     pub guid: Guid,
@@ -48,11 +48,11 @@ impl Start {
     }
 }
 
-/// Where a send of the snapshot of this name starts that names this source, or none and then it is a full one (zfs-send(8), -i). NotSnapshot
-/// exactly where the target is no name of a snapshot; else NoDataset exactly where there is no such snapshot; else NotAncestor exactly where
-/// the source is neither an older snapshot of its lineage nor a bookmark of its own file system whose group is below its own. It takes no
-/// memory. It costs the logarithms of the numbers of file systems and of the snapshots and bookmarks of one; and for each file system that
-/// the lineage passes down to a source that is a snapshot that of looking its origin up.
+/// The start of a send of the snapshot of this name from the source `from`, or of a full send where that is none (zfs-send(8), -i). NotSnapshot
+/// exactly where the target isn't the name of a snapshot; else NoDataset exactly where there is no such snapshot; else NotAncestor exactly where
+/// the source is neither an older snapshot of the snapshot's lineage nor a bookmark of its file system with a lower group. It takes no memory.
+/// It costs the logarithms of the numbers of file systems and of the snapshots and bookmarks of one. Where the source is a snapshot, it also
+/// costs the lookup of an origin for each file system of the lineage down to the source's.
 pub fn start_of(table: &Table, target: &Target, from: Option<&Target>) -> Result<Start, Refusal>
     ensures ok { IfOk result (λ start. start_named (world_of table.now) target.now (option_copied from.entry) ≡ Some start) }
     ensures can { OnOk result (first_of (send_row (world_of table.now) target.now (option_copied from.entry)) ≡ None) }
@@ -73,8 +73,8 @@ pub fn start_of(table: &Table, target: &Target, from: Option<&Target>) -> Result
     }
 }
 
-// Where a send of this snapshot of this file system starts that names this source, or none; none where it is no source. It costs what
-// `start_of` does.
+// The start of a send of this snapshot of this file system from the source `from`, or of a full send; none where `from` isn't a source of it. It
+// costs what `start_of` does.
 fn start_from(
     table: &Table,
     file_system: &FileSystem,
@@ -90,7 +90,7 @@ fn start_from(
     }
 }
 
-// The same where it names this source.
+// The start of a send of this snapshot of this file system from this source; none where it isn't a source of it.
 fn start_from_source(
     table: &Table,
     file_system: &FileSystem,
@@ -112,7 +112,7 @@ fn start_from_source(
     }
 }
 
-// The same where it is the snapshot of this name.
+// The start of a send of this snapshot of this file system from the snapshot of this name; none where that isn't an older one of its lineage.
 fn start_from_snapshot(
     table: &Table,
     file_system: &FileSystem,
@@ -131,7 +131,8 @@ fn start_from_snapshot(
     Some(start_at(id))
 }
 
-// The same where it is the bookmark of this name.
+// The start of a send of this snapshot of this file system from the bookmark of this name; none where that isn't one of the file system with a
+// lower group.
 fn start_from_bookmark(
     table: &Table,
     file_system: &FileSystem,

@@ -1,4 +1,4 @@
-//! What lies under the lock, and the one function that adds to its history.
+//! The contents of the lock, and the one function that adds to the history.
 ghost use Rattle.std.specs.Prelude.{◌≡◌, ◌+◌, ◌≤◌, ◌↔◌, [], ◌∷◌, ◌++◌, length, Err, IfOk, IfErr, IfSome, IsErr, IsTrue, OnErr, OnOk, is_some};
 ghost use Rattle.model.specs.Step.{Step};
 ghost use Rattle.session.specs.Entering.{IsFullOrNoMemory, IsNoLimit, IsUnopened, Ran};
@@ -23,9 +23,9 @@ pub const CALL_LIMIT: u64 = 1_000_000;
 /// A session gives at most this many seats (profile).
 pub const SEAT_LIMIT: u32 = 64;
 
-/// What lies under the lock: the pool, and the history that led to its state. Contracts see the history, the pool's state, and how many
-/// seats were given. Whoever has a book knows that the history is a run of the pool from the state that `K` names to the present one,
-/// and that it takes as many calls as `K` says.
+/// The contents of the lock: the pool, and the history that led to its state. Contracts see the history, the pool's state, and how many seats
+/// were given. The invariant says that the history is a run of the pool from the state that `K` names to the present one, and that the book takes
+/// as many calls as `K` says.
 #[derive(Drop)]
 pub struct Book<K: Opening> {
     pub(crate) pool: Pool,
@@ -50,8 +50,8 @@ impl<K: Opening> Model for Book<K> {
 }
 
 impl<K: Opening> Book<K> {
-    /// A book of a pool, with room for `limit` calls, 1 to `CALL_LIMIT`. TooMany for another `limit`, NoMemory where there is none for
-    /// the history, which is reserved here once; the pool comes back with either.
+    /// A book of a pool, with room for `limit` calls, 1 to `CALL_LIMIT`. TooMany for another `limit`, NoMemory where the history can't be
+    /// allocated, which is reserved here once. The pool is handed back with either.
     pub fn open(alloc: Global, pool: Pool, limit: u64) -> Result<Book<K>, (Refusal, Pool)>
         requires opening { pool.state ≡ K.opening }
         requires limit { limit ≡ K.limit }
@@ -76,7 +76,7 @@ impl<K: Opening> Book<K> {
         })
     }
 
-    /// How many more calls it takes. The history is a run of the pool from its opening to the present state, whoever asks.
+    /// How many more calls the book takes. The contract also says that the history is a run of the pool from its opening to the present state.
     pub fn room(&self) -> usize
         ensures left { result + length self.now.history ≡ K.limit }
         ensures legal { IsLegal K.opening self.now.history self.now.pool }
@@ -84,7 +84,7 @@ impl<K: Opening> Book<K> {
         self.limit - self.history.len()
     }
 
-    // Whether it takes no more calls.
+    // Whether the book takes no more calls.
     fn is_full(&self) -> bool
         ensures full { IsTrue result ↔ (K.limit ≤ length self.now.history) }
         ensures legal { IsLegal K.opening self.now.history self.now.pool }
@@ -92,8 +92,8 @@ impl<K: Opening> Book<K> {
         self.history.len() >= self.limit
     }
 
-    /// A seat without receipts. Seats are numbered from 1 as they are given. TooManySeats once `SEAT_LIMIT` were given. It takes no
-    /// memory.
+    /// A new seat without receipts. Seats are numbered from 1 in the order in which they are given. TooManySeats once `SEAT_LIMIT` were given. It
+    /// allocates nothing.
     pub fn give_seat(&mut self, alloc: Global) -> Result<Seat<K>, Refusal>
         ensures seat { IfOk result (λ s. s ≡ record { number = self.old.seats + 1; receipts = [] }) }
         ensures book { OnOk result (self.new ≡ record self.old { seats = self.old.seats + 1 }) }
@@ -113,17 +113,17 @@ impl<K: Opening> Book<K> {
     }
 }
 
-/// A call that has run: its receipt, and where it opened a view one more owner of its entry.
+/// A call that has run: its receipt, and, where it opened a view, one more reference to its entry.
 #[derive(Drop)]
 pub struct Entered {
     pub receipt: Receipt,
     pub viewed: Option<Arc<Entry>>,
 }
 
-/// Applies a call of a seat, and appends its entry, which the seat's receipt and the one handed back share. A request that the pool
-/// refuses has run, and its entry has the refusal as its reply. At `Err` nothing ran: SessionFull where the history has its full
-/// length, NoMemory where there is no memory for the reply or the seat's receipt. All that it allocates, it allocates before the
-/// pool changes. It costs what `Pool::apply` does.
+/// Applies a call of a seat, and appends its entry to the history. The seat's receipt and the one returned share the entry. A request that the
+/// pool refuses has run, and its entry has the refusal as its reply. At `Err` nothing ran: SessionFull where the history has its full length,
+/// NoMemory where the reply or the seat's receipt can't be allocated. All allocations are made before the pool changes. It costs what
+/// `Pool::apply` does.
 pub fn enter_call<K: Opening>(
     alloc: Global,
     book: &mut Book<K>,

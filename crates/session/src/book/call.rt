@@ -1,4 +1,4 @@
-//! Calls that have their memory.
+//! Calls with their memory allocated.
 ghost use Rattle.std.specs.Prelude.{◌≡◌, IfOk, OnErr, Err};
 ghost use Rattle.base.specs.declared.refusal.Refusal.{Refusal};
 
@@ -11,7 +11,7 @@ use std::alloc::Global;
 use std::marker::Model;
 use std::sync::Arc;
 
-/// A request of a seat with the memory of its entry, so that none is taken for it under the lock. Contracts see the seat's number
+/// A request of a seat, with the memory of its entry allocated, so that none is allocated for it under the lock. Contracts see the seat's number
 /// and the request.
 #[derive(Drop)]
 pub struct Call {
@@ -34,7 +34,7 @@ impl Model for Call {
 }
 
 impl Call {
-    /// A seat's call for a request. NoMemory where there is none for its entry. Constant time.
+    /// A seat's call for a request. NoMemory where its entry can't be allocated. Constant time.
     pub fn new<K: Opening>(alloc: Global, seat: &Seat<K>, request: Request) -> Result<Call, Refusal>
         ensures ok { IfOk result (λ c. c ≡ record { seat = seat.now.number; request = request }) }
         ensures err { OnErr result (result ≡ Err Refusal.NoMemory) }

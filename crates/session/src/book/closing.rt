@@ -1,4 +1,4 @@
-//! The end of a session: all seats' receipts against the history.
+//! The end of a session: all seats' receipts are compared with the history.
 ghost use Rattle.std.specs.Prelude.{◌≡◌, ◌+◌, ◌<◌, ◌≤◌, ◌==◌, ◌↔◌, ◌∷◌, List, ℕ, map, IsTrue, IsOk, IfOk, IfErr, All, count_by, MatchOption};
 ghost use Rattle.std.specs.Arc.{arc_value};
 ghost use Rattle.session.specs.History.{IsLegal};
@@ -14,8 +14,8 @@ use pool::Pool;
 use std::marker::PhantomData;
 use std::sync::Arc;
 
-/// What a session leaves: the pool, and the whole history. The entry with number k stands at index k. At each entry's place there is a state,
-/// as `history_laws` says.
+/// What a session leaves: the pool, and the whole history. The entry with number k is at index k. There is a state at the place of each entry, as
+/// `history_laws` says.
 #[derive(Drop)]
 pub struct Closed {
     pub pool: Pool,
@@ -23,10 +23,10 @@ pub struct Closed {
 }
 
 impl<K: Opening> Book<K> {
-    /// Compares all seats' receipts with the history, and gives up the pool. Busy, with all handed back, where a seat is missing or
-    /// there twice, or where the receipts aren't those of the history, each entry once, at its number and in its seat's order. Entries
-    /// are compared by what is in them, and the seats may stand in any order. It takes no memory, and time in proportion to
-    /// the seats times the history.
+    /// Compares all seats' receipts with the history, and returns the pool and the history. Busy, with the book and the seats handed back, where
+    /// a seat is missing or given twice, or where the receipts don't match the history: each entry once, at its number and in its seat's order.
+    /// Entries are compared by value, and the seats may come in any order. It allocates nothing, and takes time in proportion to the seats times
+    /// the history.
     pub fn close(self, seats: Vec<Seat<K>>) -> Result<Closed, (Refusal, Book<K>, Vec<Seat<K>>)>
         ensures exact { IsOk result ↔ IsWhole self.seats self.history seats.items }
         ensures run { IfOk result (λ c. IsLegal K.opening (map arc_value c.history.items) c.pool.state) }
@@ -40,9 +40,9 @@ impl<K: Opening> Book<K> {
         Ok(self.give_up())
     }
 
-    /// Gives up the pool with its history, and compares no receipt with it: for a session whose seats are not all there any more, which
-    /// `close` would answer Busy for ever. The history is a run to the pool's state all the same, and has the calls of the seats that are
-    /// gone. What a seat that is left keeps can be looked for in it. Constant time.
+    /// Returns the pool and the history without comparing any receipt: for a session that has lost a seat, which `close` would always answer
+    /// Busy. The history is a run to the pool's state in this case too, and has the calls of the lost seats. The receipts of a seat that is left
+    /// can be looked up in it. Constant time.
     pub fn give_up(self) -> Closed
         ensures run { IsLegal K.opening (map arc_value result.history.items) result.pool.state }
         ensures kept { (map arc_value result.history.items ≡ self.history) × (result.pool.state ≡ self.pool) }
@@ -58,7 +58,7 @@ impl<K: Opening> Book<K> {
     }
 }
 
-// Whether the seats together have the receipts of the whole history.
+// Whether the seats together have exactly the receipts of the whole history.
 fn is_whole<K: Opening>(given: u32, history: &[Arc<Entry>], seats: &[Seat<K>]) -> bool
     ensures { IsTrue result ↔ IsWhole given (map arc_value history.now) seats.now }
 {
@@ -71,7 +71,7 @@ fn is_whole<K: Opening>(given: u32, history: &[Arc<Entry>], seats: &[Seat<K>]) -
     all_own(history, seats)
 }
 
-// Whether each seat up to this number is there once.
+// Whether each seat from 1 to this number is there exactly once.
 fn all_there<K: Opening>(given: u32, seats: &[Seat<K>]) -> bool
     ensures { IsTrue result ↔ ((i : ℕ) → i < given → count_by (λ s. s.number == i + 1) seats.now ≡ 1) }
 {
@@ -83,14 +83,14 @@ fn all_there<K: Opening>(given: u32, seats: &[Seat<K>]) -> bool
     true
 }
 
-// How many seats have the number.
+// How many of the seats have this number.
 fn count_of<K: Opening>(number: u32, seats: &[Seat<K>]) -> usize
     ensures { result ≡ count_by (λ s. s.number == number) seats.now }
 {
     seats.iter().filter(|s| s.number == number).count()
 }
 
-// Whether each entry is of a seat that was given.
+// Whether each entry belongs to a seat that was given.
 fn all_named(given: u32, history: &[Arc<Entry>]) -> bool
     ensures { IsTrue result ↔ All (λ e. (0 < e.seat) × (e.seat ≤ given)) (map arc_value history.now) }
 {
@@ -102,7 +102,7 @@ fn all_named(given: u32, history: &[Arc<Entry>]) -> bool
     true
 }
 
-// Whether each seat's receipts are its entries.
+// Whether each seat's receipts are those of its entries.
 fn all_own<K: Opening>(history: &[Arc<Entry>], seats: &[Seat<K>]) -> bool
     ensures { IsTrue result ↔ All (λ s. s.receipts ≡ of_seat s.number 0 (map arc_value history.now)) seats.now }
 {
@@ -114,7 +114,7 @@ fn all_own<K: Opening>(history: &[Arc<Entry>], seats: &[Seat<K>]) -> bool
     true
 }
 
-// Whether these are the receipts for the entries of a seat.
+// Whether these are exactly the receipts for the entries of this seat, in order.
 fn has_own(history: &[Arc<Entry>], number: u32, receipts: &[Receipt]) -> bool
     ensures { IsTrue result ↔ (receipts.now ≡ of_seat number 0 (map arc_value history.now)) }
 {
@@ -130,7 +130,7 @@ fn has_own(history: &[Arc<Entry>], number: u32, receipts: &[Receipt]) -> bool
     rest.is_empty()
 }
 
-// What follows a receipt for this entry with this number, if the receipts begin with it.
+// The receipts after the first, where the first is for this entry with this number; else None.
 fn after_one<'a>(receipts: &'a [Receipt], number: u64, entry: &Entry) -> Option<&'a [Receipt]>
     ensures { MatchOption result ((rs : List Placed) → receipts.now ≡ record { number = number; entry = entry.now } ∷ rs → ⊥) (λ more. receipts.now ≡ record { number = number; entry = entry.now } ∷ more.now) }
 {

@@ -1,4 +1,4 @@
-//! A call applied: its reply is put into the entry that it brought.
+//! Applies a call and stores its reply in the entry that the call brought.
 ghost use Rattle.std.specs.Prelude.{◌≡◌, ◌↔◌, IsTrue, IfSome, IfNone, IfOk, is_some};
 ghost use Rattle.model.specs.requests.{AnswersDone};
 ghost use Rattle.model.specs.declared.reply.Reply.TheVariants.{Done};
@@ -15,7 +15,7 @@ use pool::Pool;
 use std::alloc::Global;
 use std::sync::Arc;
 
-/// The owners of one entry: the history's, the seat's, the caller's, and a view's where the entry opened one.
+/// The references to one entry: that of the history, of the seat and of the caller, and, where the entry opened a view, that of the view.
 #[derive(Drop)]
 pub(crate) struct Owners {
     pub(crate) kept: Arc<Entry>,
@@ -24,7 +24,7 @@ pub(crate) struct Owners {
     pub(crate) viewed: Option<Arc<Entry>>,
 }
 
-/// Applies a call, and gives its entry. None, with the pool's state as it was, where there is no memory for the reply.
+/// Applies a call, and returns its entry. None, with the pool's state unchanged, where the reply can't be allocated.
 pub(crate) fn entry_of(alloc: Global, pool: &mut Pool, call: Call) -> Option<Owners>
     ensures some { IfSome result (λ r. IsEntered pool.old.state call.seat call.request r.kept.value r.ours.value r.theirs.value (option_map arc_value r.viewed) pool.new.state) }
     ensures none { IfNone result (pool.new.state ≡ pool.old.state) }
@@ -56,7 +56,7 @@ fn answers_done(request: &Request) -> bool
     )
 }
 
-/// The pool is changed where it is. Only a refusal is put into the entry, since it has the reply Done already.
+/// Changes the pool in place. The entry has the reply Done already, so only a refusal is stored in it.
 fn changed(alloc: Global, pool: &mut Pool, call: Call) -> Option<Owners>
     requires { AnswersDone call.request }
     ensures some { IfSome result (λ r. IsEntered pool.old.state call.seat call.request r.kept.value r.ours.value r.theirs.value (option_map arc_value r.viewed) pool.new.state) }
@@ -77,7 +77,7 @@ fn changed(alloc: Global, pool: &mut Pool, call: Call) -> Option<Owners>
     answered(alloc, call, reply)
 }
 
-/// The step is prepared, then its reply is put into the entry, and then the step is taken.
+/// Prepares the step, stores its reply in the entry, and then commits the step.
 fn prepared(alloc: Global, pool: &mut Pool, call: Call) -> Option<Owners>
     ensures some { IfSome result (λ r. IsEntered pool.old.state call.seat call.request r.kept.value r.ours.value r.theirs.value (option_map arc_value r.viewed) pool.new.state) }
     ensures none { IfNone result (pool.new.state ≡ pool.old.state) }
@@ -88,7 +88,7 @@ fn prepared(alloc: Global, pool: &mut Pool, call: Call) -> Option<Owners>
     Some(owners)
 }
 
-/// The entry of a call with this reply. None where memory is refused.
+/// The entry of a call with this reply. None where it can't be allocated.
 fn answered(alloc: Global, call: Call, reply: Reply) -> Option<Owners>
     ensures { IfSome result (λ r. (r.kept.value ≡ record { seat = call.seat; request = call.request; reply = reply }) × AreOwners r.kept.value r.ours.value r.theirs.value (option_map arc_value r.viewed)) }
 {
@@ -111,7 +111,7 @@ fn answered(alloc: Global, call: Call, reply: Reply) -> Option<Owners>
     owners_of(kept, opens).ok()
 }
 
-/// The other owners of an entry, beside this one. NoMemory where one is refused.
+/// This entry with the other references to it. NoMemory where one of them is refused.
 fn owners_of(kept: Arc<Entry>, opens: bool) -> Result<Owners, Refusal>
     requires { opens ≡ is_opened kept.value.reply }
     ensures kept { IfOk result (λ r. r.kept.value ≡ kept.value) }
@@ -128,7 +128,7 @@ fn owners_of(kept: Arc<Entry>, opens: bool) -> Result<Owners, Refusal>
     })
 }
 
-/// One more owner of an entry, where it opened a view. NoMemory where that is refused.
+/// One more reference to an entry, where it opened a view. NoMemory where it is refused.
 fn owner_of_view(entry: &Arc<Entry>, opens: bool) -> Result<Option<Arc<Entry>>, Refusal>
     ensures ok { IfOk result (λ v. is_some v ≡ opens) }
     ensures same { IfOk result (λ v. IfSome v (λ a. a.value ≡ entry.now.value)) }

@@ -1,9 +1,9 @@
-//! What a session begins from.
+//! The opening state of a session.
 use std::marker::Brand;
 
-/// Names in contracts the state that the pool has when a session opens, and how many calls the session takes. Code that uses
-/// a session is generic in it, and is called with std's `Brand`, for which each call may choose both. A seat of a session of another
-/// `Opening` doesn't compile.
+/// Gives contracts names for the pool's state when a session opens, and for the number of calls that the session takes. Code that uses a session
+/// is generic in it. It is called with std's `Brand`, for which each call may choose both. A seat of a session with another `Opening` is a type
+/// error.
 pub trait Opening {
     ghost use Rattle.std.specs.Prelude.{ℕ};
     ghost use Rattle.model.specs.State.{State};

@@ -10,7 +10,7 @@ pub struct Receipt {
     pub entry: Arc<Entry>,
 }
 
-// By hand, so that it is proved once: a derived one is laid out anew in each crate that drops the type.
+// Written by hand, so that it is proved once: a derived `Drop` is expanded again in each crate that drops the type.
 impl Drop for Receipt {
     fn drop(self) {
         let Receipt { number: _, entry } = self;
@@ -29,7 +29,7 @@ impl Model for Receipt {
     ghost view = { λ r. record { number = r.number; entry = arc_value r.entry } };
 }
 
-/// The right to call, which one caller at a time has. It keeps a receipt for each of its calls, in their order. Contracts see its
+/// The right to make calls, which belongs to one caller at a time. It keeps a receipt for each of its calls, in their order. Contracts see its
 /// number, 1 to 64, and the receipts.
 pub struct Seat<K: Opening> {
     pub(crate) number: u32,
@@ -37,7 +37,7 @@ pub struct Seat<K: Opening> {
     pub(crate) of: PhantomData<K>,
 }
 
-// By hand, so that it is proved once: a derived one is laid out anew in each crate that drops the type.
+// Written by hand, so that it is proved once: a derived `Drop` is expanded again in each crate that drops the type.
 impl<K: Opening> Drop for Seat<K> {
     fn drop(self) {
         let Seat {

@@ -7,13 +7,12 @@ use base::name::{DsName, Target};
 use base::refusal::Refusal;
 use datasets::Table;
 
-/// Adds a file system in this table, under this name: a clone of the snapshot that the target names, whose map it has (zfs-clone(8),
-/// without -p). At `Err` the table is as it was. Refused are NotSnapshot where the target isn't the name of a snapshot, else NoDataset
-/// where there is no such snapshot, else Deferred where its destroy is deferred, else what `Table::create_refusal` says of the new name:
-/// Exists where a file system has it, else NoParent where its parent isn't there, else TooMany where there are 1,024 file systems; else
-/// NoMemory where there is none for the clone (the order and the limit are profile). No other file system is visited: it costs the
-/// logarithms of the numbers of file systems, of clones and of the snapshots of the snapshot's own file system, the length of the new
-/// name, and a move of what stands behind it.
+/// Adds a clone of the snapshot that the target names to this table, under this name. It has the snapshot's map (zfs-clone(8), without -p).
+/// After an error the table is as it was. The errors are NotSnapshot where the target isn't the name of a snapshot, else NoDataset where there
+/// is no such snapshot, else Deferred where its destroy is deferred, else what `Table::create_refusal` says of the new name: Exists where a file
+/// system has it, else NoParent where its parent isn't there, else TooMany where there are 1,024 file systems; else NoMemory where there is none
+/// for the clone (the order and the limit are profile). No other file system is visited. It costs the logarithms of the numbers of file systems,
+/// of clones and of the snapshots of the snapshot's own file system, the length of the new name, and a move of what is listed after it.
 pub fn clone_snapshot(table: &mut Table, target: &Target, name: &DsName) -> Result<(), Refusal>
     ensures ok { OnOk result (table.new ≡ cloned table.old target.now name.now) }
     ensures can { OnOk result (clone_refusal table.old target.now name.now ≡ None) }
@@ -30,7 +29,8 @@ pub fn clone_snapshot(table: &mut Table, target: &Target, name: &DsName) -> Resu
     table.add_clone(name, snapshot.member())
 }
 
-// Why the clone is refused, if it is. It costs the logarithm of the number of file systems, and that of the number of snapshots of one.
+// The error with which the clone is refused, or None. It costs the logarithm of the number of file systems, and that of the number of snapshots
+// of one.
 fn refusal_of(table: &Table, target: &Target, name: &DsName) -> Option<Refusal>
     ensures { result ≡ clone_refusal table.now target.now name.now }
 {

@@ -22,14 +22,14 @@ use datasets::{FileSystem, Table};
 use model::snapshot_id::SnapshotId;
 use std::alloc::Global;
 
-/// Promotes the clone of this name in this table (zfs-promote(8)): it has its origin and the older snapshots of the file system of that
-/// then, and the other's origin; the other keeps its newer snapshots, and the clone's origin is its own. At `Err` the table is as it was.
-/// Refused are NoDataset where no file system has the name, else NotClone where it has no origin, else BadName where the whole name of a
-/// snapshot that the clone would get would be over 255 bytes under the clone's name, else NameClash where the clone has a snapshot of the
-/// name of one of these; else NoMemory where there is none for it, or as `Table::promote` says (the order and the limit are profile).
-/// What stood before each dataset stands before it (On-Disk Specification, chapter 4: ds_prev_snap_obj), and no block is visited. It costs
-/// for each file system the logarithm of the number of its snapshots, the number of the snapshots of both with the segments of their dead
-/// lists, and for each snapshot that changes its file system the logarithms of the numbers of both.
+/// Promotes the clone of this name in this table (zfs-promote(8)): the clone gets its origin and the older snapshots from their file system, and
+/// the origin of that file system. That file system keeps its newer snapshots, and the clone's former origin becomes its own. After an error the
+/// table is as it was. The errors are NoDataset where no file system has the name, else NotClone where it has no origin, else BadName where the
+/// whole name of a snapshot that the clone would get would be over 255 bytes under the clone's name, else NameClash where the clone has a
+/// snapshot of the name of one of these; else NoMemory where there is none for it, or as `Table::promote` says (the order and the limit are
+/// profile). Each dataset still has the same dataset before it (On-Disk Specification, chapter 4: ds_prev_snap_obj), and no block is visited. It
+/// costs for each file system the logarithm of the number of its snapshots, the number of the snapshots of both with the segments of their dead
+/// lists, and for each snapshot that changes its file system the logarithms of the numbers of snapshots of both.
 pub fn promote(
     alloc: Global,
     table: &mut Table,
@@ -50,8 +50,8 @@ pub fn promote(
     table.promote(alloc, name, segments)
 }
 
-// Why the promote is refused, if it is. It costs for each file system the logarithm of the number of its snapshots, and for each snapshot
-// that would change its file system the logarithm of the number of the clone's.
+// The error with which the promote is refused, or None. It costs for each file system the logarithm of the number of its snapshots, and for each
+// snapshot that would change its file system the logarithm of the number of the clone's.
 fn refusal_of(table: &Table, name: &DsName) -> Option<Refusal>
     ensures { result ≡ promote_refusal table.now name.now }
 {
@@ -71,8 +71,8 @@ fn refusal_of(table: &Table, name: &DsName) -> Option<Refusal>
     None
 }
 
-// The file system of this name, the one that has its origin, and which snapshot that is; or none where there is no clone of this name.
-// It costs for each file system the logarithm of the number of its snapshots.
+// The clone of this name, the file system that has its origin, and the origin's identity; or None where there is no clone of this name. It costs
+// for each file system the logarithm of the number of its snapshots.
 fn promotion_of<'a>(
     table: &'a Table,
     name: &DsName,
@@ -85,8 +85,8 @@ fn promotion_of<'a>(
     Some((clone, owner, origin))
 }
 
-// Whether a snapshot of this file system up to that group would have too long a name under the other one's. It costs the number of these
-// snapshots.
+// Whether a snapshot of `owner` of that group or an earlier one would have too long a name under the file system name `name`. It costs the
+// number of these snapshots.
 fn any_too_long(owner: &FileSystem, group: Group, name: &DsName) -> bool
     requires { AreRising 0 owner.now.system.snaps }
     ensures { result ≡ list_any (λ t. nat_lt name_limit (whole_length (record { file_system = name.now; component = t.name }))) (snaps_upto owner.now.system group.0) }
@@ -113,8 +113,8 @@ fn is_taken(file_system: &FileSystem, component: &Component) -> bool
     file_system.snapshot_named(component.as_bytes()).is_some()
 }
 
-// Whether the clone has a snapshot of the name of one of this file system's up to that group. It costs for each of these the logarithm of
-// the number of the clone's.
+// Whether the clone has a snapshot of the same name as a snapshot of `owner` of that group or an earlier one. It costs for each of these the
+// logarithm of the number of the clone's.
 fn any_taken(owner: &FileSystem, group: Group, clone: &FileSystem) -> bool
     requires { AreRising 0 owner.now.system.snaps }
     ensures { result ≡ list_any (λ t. list_any (λ u. same_name u.name t.name) clone.now.system.snaps) (snaps_upto owner.now.system group.0) }

@@ -18,16 +18,16 @@ use std::alloc::Global;
 use std::marker::Model;
 use std::sync::Arc;
 
-/// A file system has at most so many bookmarks (profile).
+/// A file system has at most this many bookmarks (profile).
 pub const BOOKMARK_LIMIT: usize = 1024;
 
-/// The bookmarks of a file system, at most `BOOKMARK_LIMIT` of them (zfs-bookmark(8); the limit is profile). Contracts see the map from
-/// their names to their guids and groups. They stand in byte order of their names; copies share them, and keep the allocator.
+/// The bookmarks of a file system, at most `BOOKMARK_LIMIT` of them (zfs-bookmark(8); the limit is profile). Contracts see the map from their
+/// names to their guids and groups. They are kept in byte order of their names. Copies share the bookmarks, and keep the allocator.
 pub struct Bookmarks {
     rows: Vec<Arc<Mark>>,
 }
 
-// By hand, so that it is proved once: a derived one is laid out anew in each crate that drops the type.
+// Written by hand, so that it is proved once: a derived `Drop` is expanded anew in each crate that drops the type.
 impl Drop for Bookmarks {
     fn drop(self) {
         let Bookmarks { rows } = self;
@@ -60,7 +60,7 @@ impl Bookmarks {
         }
     }
 
-    /// The same bookmarks, by one more owner of each. NoMemory where there is none for that. It costs their number.
+    /// A copy, which shares each bookmark. NoMemory where there is none for that. It costs their number.
     pub fn copy(&self) -> Result<Bookmarks, Refusal>
         ensures ok { IfOk result (λ b. b ≡ self.now) }
         ensures err { IfErr result (λ e. e ≡ Refusal.NoMemory) }
@@ -77,7 +77,7 @@ impl Bookmarks {
         self.rows.len()
     }
 
-    /// Whether no bookmark more may be made, since there are `BOOKMARK_LIMIT` of them (profile). Constant time.
+    /// Whether there are `BOOKMARK_LIMIT` bookmarks, so that none can be added (profile). Constant time.
     pub fn is_full(&self) -> bool
         ensures { result ≡ is_full self.now }
     {
@@ -108,9 +108,9 @@ impl Bookmarks {
         self.rows.as_slice()
     }
 
-    /// One more owner of each bookmark, in order of their groups, and then of their names, in which they are listed (zfs-list(8); the order
-    /// is profile). NoMemory where there is none for that. It costs their number, for each the logarithm of it in comparisons, and at most
-    /// a move of the pointers behind it.
+    /// All bookmarks in the order in which they are listed: by group, and then by name (zfs-list(8); the order is profile). The answer shares
+    /// each bookmark. NoMemory where there is none for that. It costs for each bookmark the logarithm of their number in comparisons, and at
+    /// most a move of the pointers after it.
     pub fn in_order(&self) -> Result<Vec<Arc<Mark>>, Refusal>
         ensures ok { IfOk result (λ v. map entry_in v.items ≡ marks_in_order self.now) }
         ensures names { IfOk result (λ v. map name_in v.items ≡ bookmarks_in_order (alone self.now)) }
@@ -119,9 +119,9 @@ impl Bookmarks {
         ordered(*self.rows.allocator(), &self.rows)
     }
 
-    /// A bookmark more, of this snapshot (zfs-bookmark(8)). Exists where there is one of that name; else TooMany where there are
-    /// `BOOKMARK_LIMIT` of them (profile); else NoMemory where there is none for it. After an error they are as they were. It costs the
-    /// length of the name and the number of bookmarks.
+    /// Adds a bookmark of this snapshot under this name (zfs-bookmark(8)). Exists where there is one of that name; else TooMany where there are
+    /// `BOOKMARK_LIMIT` of them (profile); else NoMemory where there is none for it. After an error they are as they were. It costs the length
+    /// of the name and the number of bookmarks.
     pub fn insert(&mut self, name: &Component, snapshot: SnapshotId) -> Result<(), Refusal>
         ensures ok { OnOk result (self.new ≡ finmap.insert self.old name.now (bookmark_of snapshot)) }
         ensures err { OnErr result (self.new ≡ self.old) }
@@ -140,8 +140,8 @@ impl Bookmarks {
         Ok(())
     }
 
-    /// Takes the bookmark of this name out (zfs-destroy(8)). NoDataset where there is none; then they are as they were. It takes no memory.
-    /// It costs the number of bookmarks.
+    /// Removes the bookmark of this name (zfs-destroy(8)). NoDataset where there is none; then they are as they were. It takes no memory. It
+    /// costs the number of bookmarks.
     pub fn remove(&mut self, name: &[u8]) -> Result<(), Refusal>
         ensures ok { OnOk result (self.new ≡ finmap.remove self.old name.now) }
         ensures err { OnErr result (self.new ≡ self.old) }
@@ -155,7 +155,7 @@ impl Bookmarks {
         Ok(())
     }
 
-    /// Whether there is a bookmark of a snapshot of a later group than this, which stands against a rollback to that group
+    /// Whether there is a bookmark of a snapshot of a later group than this one. Such a bookmark prevents a rollback to this group without -r
     /// (zfs-rollback(8)). It costs the number of bookmarks.
     pub fn any_after(&self, group: Group) -> bool
         ensures { result ≡ has_newer self.now group.0 }
@@ -163,7 +163,7 @@ impl Bookmarks {
         any_newer(&self.rows, group)
     }
 
-    /// Takes out the bookmarks of snapshots of later groups than this, as a rollback to that group does (zfs-rollback(8), -r). It takes no
+    /// Removes the bookmarks of snapshots of later groups than this one, as a rollback to this group does (zfs-rollback(8), -r). It takes no
     /// memory. It costs the number of bookmarks.
     pub fn remove_after(&mut self, group: Group)
         ensures { self.new ≡ without_newer self.old group.0 }

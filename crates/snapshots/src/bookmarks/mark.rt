@@ -11,8 +11,8 @@ use base::text::compare_bytes;
 use model::snapshot_id::SnapshotId;
 use std::cmp::Ordering;
 
-/// A bookmark: its name within its file system, and the guid and the creation group of its snapshot, which it keeps when that goes
-/// (zfs-bookmark(8)).
+/// A bookmark: its name within its file system, and the guid and the creation group of its snapshot, which it keeps after the snapshot is
+/// destroyed (zfs-bookmark(8)).
 #[derive(Drop)]
 pub struct Mark {
     pub name: Component,
@@ -20,7 +20,7 @@ pub struct Mark {
 }
 
 impl Mark {
-    /// A bookmark of this name, a copy of it, and of this snapshot. NoMemory where there is none for that. It costs the length of the name.
+    /// A bookmark of this snapshot, with a copy of this name. NoMemory where there is none for that. It costs the length of the name.
     pub(crate) fn new(name: &Component, snapshot: SnapshotId) -> Result<Mark, Refusal>
         ensures ok { IfOk result (λ m. entry_of m ≡ (name.now, bookmark_of snapshot)) }
         ensures err { IfErr result (λ e. e ≡ Refusal.NoMemory) }

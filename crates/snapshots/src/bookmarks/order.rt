@@ -13,7 +13,8 @@ use base::refusal::Refusal;
 use std::alloc::Global;
 use std::sync::Arc;
 
-// Where the bookmark of its group and its name stands among these, which stand in that order, or else where it would.
+// The place of the bookmark of this group and name among bookmarks sorted by group and then by name; or, as Err, the place where it would be
+// inserted.
 fn place_in_order(marks: &[Arc<Mark>], mark: &Mark) -> Result<usize, usize>
     requires { IsTrue (is_sorted bookmark_cmp (map keyed_in marks.now)) }
     ensures found { IfOk result (IsAt (map keyed_in marks.now) (order_key (entry_of mark.now))) }
@@ -22,7 +23,7 @@ fn place_in_order(marks: &[Arc<Mark>], mark: &Mark) -> Result<usize, usize>
     marks.binary_search_by(|other| other.compare_in_order(mark))
 }
 
-// Where a bookmark would stand among these, which stand in that order and of which none has its group and its name.
+// The place where a bookmark would be inserted among bookmarks sorted by group and then by name. None of them has its group and its name.
 fn gap_in_order(marks: &[Arc<Mark>], mark: &Mark) -> usize
     requires sorted { IsTrue (is_sorted bookmark_cmp (map keyed_in marks.now)) }
     requires absent { find bookmark_cmp (order_key (entry_of mark.now)) (map keyed_in marks.now) ≡ None }
@@ -34,8 +35,8 @@ fn gap_in_order(marks: &[Arc<Mark>], mark: &Mark) -> usize
     }
 }
 
-/// One more owner of each of these bookmarks, in order of their groups, and then of their names. NoMemory where there is none for that. It
-/// costs their number, for each the logarithm of it in comparisons, and at most a move of the pointers behind it.
+/// Another `Arc` of each of these bookmarks, sorted by group and then by name. NoMemory where there is none for that. It costs for each bookmark
+/// the logarithm of their number in comparisons, and at most a move of the pointers after it.
 pub fn ordered(alloc: Global, marks: &[Arc<Mark>]) -> Result<Vec<Arc<Mark>>, Refusal>
     requires { IsTrue (is_sorted name_cmp (map entry_in marks.now)) }
     ensures ok { IfOk result (λ v. map keyed_in v.items ≡ entries (from_entries {R = bookmark_cmp} (map keyed_in marks.now))) }
@@ -49,7 +50,7 @@ pub fn ordered(alloc: Global, marks: &[Arc<Mark>]) -> Result<Vec<Arc<Mark>>, Ref
     Ok(sorted)
 }
 
-/// One more owner of each of these bookmarks. NoMemory where there is none for that. It costs their number.
+/// Another `Arc` of each of these bookmarks, in the same order. NoMemory where there is none for that. It costs their number.
 pub fn shared(alloc: Global, marks: &[Arc<Mark>]) -> Result<Vec<Arc<Mark>>, Refusal>
     ensures ok { IfOk result (λ v. map arc_value v.items ≡ map arc_value marks.now) }
     ensures err { IfErr result (λ e. e ≡ Refusal.NoMemory) }

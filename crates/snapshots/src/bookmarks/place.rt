@@ -17,7 +17,7 @@ use model::snapshot_id::SnapshotId;
 use std::alloc::Global;
 use std::sync::Arc;
 
-/// Where the bookmark of this name stands, or else where it would. It costs the logarithm of their number.
+/// The place of the bookmark of this name, or, as Err, the place where it would be inserted. It costs the logarithm of their number.
 pub fn place(marks: &[Arc<Mark>], name: &[u8]) -> Result<usize, usize>
     requires { IsTrue (is_sorted name_cmp (map entry_in marks.now)) }
     ensures found { IfOk result (IsAt (map entry_in marks.now) name.now) }
@@ -26,7 +26,7 @@ pub fn place(marks: &[Arc<Mark>], name: &[u8]) -> Result<usize, usize>
     marks.binary_search_by(|mark| mark.compare(name))
 }
 
-// Where a bookmark of this name would stand, which isn't there. It costs the logarithm of their number.
+// The place where a bookmark of this name would be inserted. No bookmark has this name. It costs the logarithm of their number.
 fn gap(marks: &[Arc<Mark>], name: &[u8]) -> usize
     requires sorted { IsTrue (is_sorted name_cmp (map entry_in marks.now)) }
     requires absent { get (from_sorted {R = name_cmp} (map entry_in marks.now)) name.now ≡ None }
@@ -38,8 +38,8 @@ fn gap(marks: &[Arc<Mark>], name: &[u8]) -> usize
     }
 }
 
-/// Puts a bookmark of a name that isn't there in its place, where there are not too many. NoMemory where there is none for it; then they
-/// are as they were. It costs the length of the name and the number of bookmarks.
+/// Inserts a bookmark at its place. No bookmark has this name, and there are fewer than the limit. NoMemory where there is none for it; then
+/// they are as they were. It costs the length of the name and the number of bookmarks.
 pub fn put(
     alloc: Global,
     marks: &mut Vec<Arc<Mark>>,
@@ -60,7 +60,7 @@ pub fn put(
     Ok(())
 }
 
-/// Whether one of them has a group after this one. It costs their number.
+/// Whether one of the bookmarks has a later group than this one. It costs their number.
 pub fn any_newer(marks: &[Arc<Mark>], group: Group) -> bool
     ensures { result ≡ list_any (λ a. nat_lt group.0 a.value.snapshot.group.0) marks.now }
 {

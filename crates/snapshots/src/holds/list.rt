@@ -10,10 +10,10 @@ use indexmap::IndexSet;
 use std::alloc::Global;
 use std::marker::Model;
 
-/// A snapshot has at most so many tags (profile).
+/// A snapshot has at most this many tags (profile).
 pub const TAG_LIMIT: usize = 256;
 
-// Puts a tag that isn't there behind the others. NoMemory where there is none for it; then they are as they were.
+// Adds a tag, which isn't there yet, at the end. NoMemory where there is none for it; then they are as they were.
 fn put(alloc: Global, tags: &mut IndexSet<Vec<u8>>, tag: &[u8]) -> Result<(), Refusal>
     requires { has_tag (texts tags.old.keys) tag.now ≡ false }
     ensures ok { OnOk result (texts tags.new.keys ≡ texts tags.old.keys ++ tag.now ∷ []) }
@@ -43,7 +43,7 @@ pub struct Holds {
     tags: IndexSet<Vec<u8>>,
 }
 
-// By hand, so that it is proved once: a derived one is laid out anew in each crate that drops the type.
+// Written by hand, so that it is proved once: a derived `Drop` is expanded anew in each crate that drops the type.
 impl Drop for Holds {
     fn drop(self) {
         let Holds { tags } = self;
@@ -82,7 +82,7 @@ impl Holds {
         Ok(Holds { tags })
     }
 
-    /// How many tags there are, at most `TAG_LIMIT` (zfsprops(7): userrefs). Each stands once. Constant time.
+    /// How many tags there are, at most `TAG_LIMIT` (zfsprops(7): userrefs). Each tag occurs once. Constant time.
     pub fn len(&self) -> usize
         ensures len { result ≡ length self.now }
         ensures few { length self.now ≤ tag_limit }
@@ -91,14 +91,14 @@ impl Holds {
         self.tags.len()
     }
 
-    /// Whether there is no tag, so that none keeps the snapshot (zfs-hold(8)). Constant time.
+    /// Whether there is no tag, so that no tag holds the snapshot (zfs-hold(8)). Constant time.
     pub fn is_empty(&self) -> bool
         ensures { result ≡ is_none self.now }
     {
         self.len() == 0
     }
 
-    /// Whether no tag more may be made, since there are `TAG_LIMIT` of them (profile). Constant time.
+    /// Whether there are `TAG_LIMIT` tags, so that none can be added (profile). Constant time.
     pub fn is_full(&self) -> bool
         ensures { result ≡ is_full self.now }
     {
@@ -119,9 +119,8 @@ impl Holds {
         self.tags.as_slice()
     }
 
-    /// A tag more, behind the others (zfs-hold(8)). TagExists where it is there; else TooMany where there are `TAG_LIMIT` tags (profile);
-    /// else NoMemory where there is none for it. After an error the tags are as they were. Constant time on average, and the length of the
-    /// tag.
+    /// Adds a tag at the end (zfs-hold(8)). TagExists where it is there; else TooMany where there are `TAG_LIMIT` tags (profile); else NoMemory
+    /// where there is none for it. After an error the tags are as they were. Constant time on average, and the length of the tag.
     pub fn add(&mut self, tag: &Tag) -> Result<(), Refusal>
         ensures ok { OnOk result (self.new ≡ self.old ++ tag.now ∷ []) }
         ensures err { OnErr result (self.new ≡ self.old) }
@@ -140,8 +139,8 @@ impl Holds {
         Ok(())
     }
 
-    /// Takes this tag out; the others keep their order (zfs-release(8)). NoTag where it isn't there; then the tags are as they were. It
-    /// takes no memory. It costs the number of tags, and the length of this one.
+    /// Removes this tag; the others keep their order (zfs-release(8)). NoTag where it isn't there; then the tags are as they were. It takes no
+    /// memory. It costs the number of tags, and the length of this one.
     pub fn remove(&mut self, tag: &[u8]) -> Result<(), Refusal>
         ensures ok { OnOk result (self.new ≡ without_tag self.old tag.now) }
         ensures err { OnErr result (self.new ≡ self.old) }

@@ -1,0 +1,64 @@
+"""What the scripts share that tell of rows: their words, refusals, and sums."""
+
+MASK = (1 << 64) - 1
+PAST = 1 << 32
+REFUSALS = (
+    "BadName NoDataset Exists NoParent BadKey ReadOnly NotSnapshot Busy HasClones HasChildren NotNewest NotClone NameClash TagExists NoTag "
+    "Deferred NotAncestor Quota RefQuota NoSpace TooMany BadStream WrongSource Modified NoMemory NoView IsRoot BadLine SessionFull TooManySeats"
+).split()
+LETTERS = set("abcdefghijklmnopqrstuvwxyzABCDEFGHIJKLMNOPQRSTUVWXYZ0123456789-_.:")
+
+
+def mixed(total, number):
+    """The sum of a sequence whose last number this is."""
+    total = (total * 6364136223846793005 + number) & MASK
+    return (total << 23 | total >> 41) & MASK
+
+
+class Refused(Exception):
+    """A refusal, by its name."""
+
+
+def error(name):
+    return f"error {REFUSALS.index(name) + 1} {name}"
+
+
+def yes(is_so):
+    return "yes" if is_so else "no"
+
+
+class Words:
+    """The words of a row, where `{}` is a number."""
+
+    def __init__(self, text, number):
+        self.rest, self.stands = text, number
+
+    def word(self):
+        word, _, self.rest = self.rest.partition(" ")
+        return word
+
+    def chosen(self, inner):
+        if not inner:
+            return self.stands
+        return self.stands % int(inner[1:]) if inner.startswith("%") else (self.stands >> 8) % int(inner)
+
+    def long(self):
+        word = self.word()
+        return self.chosen(word[1:-1]) if word.startswith("{") else int(word)
+
+    def number(self):
+        return self.long() & 0xFFFFFFFF
+
+    def text(self):
+        """A word with a number in the place of its braces."""
+        head, braces, rest = self.word().partition("{")
+        inner, _, tail = rest.partition("}")
+        return f"{head}{self.chosen(inner)}{tail}" if braces else head
+
+
+def is_component(text):
+    return bool(text) and set(text) <= LETTERS and text not in (".", "..")
+
+
+def is_system(text):
+    return len(text) <= 255 and all(is_component(it) for it in text.split("/"))
