@@ -311,12 +311,20 @@ def counts_of(folder):
     return [len([*(folder / it).glob("*.edit")]) for it in PLACES]
 
 
+def told_by(file):
+    """What a file says to the prover: its bytes without the lines that are comments, or all of an edit, whose lines may be looked for."""
+    marks = {".rt": b"//", ".antt": b"--"}
+    if file.suffix not in marks:
+        return file.read_bytes()
+    return b"\n".join(it for it in file.read_bytes().split(b"\n") if not it.lstrip().startswith(marks[file.suffix]))
+
+
 def digest_of(folder):
-    """The digest of a crate's source, definitions, proofs and wrong bodies."""
+    """The digest of a crate's source, definitions, proofs and wrong bodies, without comments."""
     total = hashlib.sha256()
     files = [it for part in PARTS for it in (folder / part).rglob("*") if it.is_file()]
     for file in sorted(files) + edits_of(folder):
-        total.update(repr((str(file.relative_to(folder)), file.read_bytes())).encode())
+        total.update(repr((str(file.relative_to(folder)), told_by(file))).encode())
     return total.hexdigest()[:32]
 
 

@@ -1,5 +1,5 @@
 //! Counts of what was reached.
-ghost use Rattle.std.specs.Prelude.{◌≡◌};
+ghost use Rattle.std.specs.Prelude.{◌≡◌, ◌≤◌};
 ghost use Rattle.base.specs.Counting.{counted};
 
 use std::marker::Model;
@@ -38,7 +38,8 @@ impl Meter {
 
     /// Counts one more node.
     pub fn add_one(&mut self)
-        ensures { self.new ≡ counted self.old 1 }
+        ensures metered { self.new ≡ counted self.old 1 }
+        ensures never_lower { self.old ≤ self.new }
     {
         self.nodes = one_more(self.nodes);
     }
@@ -78,7 +79,8 @@ impl SegMeter {
 
     /// Counts one more segment.
     pub fn add_one(&mut self)
-        ensures { self.new ≡ counted self.old 1 }
+        ensures metered { self.new ≡ counted self.old 1 }
+        ensures never_lower { self.old ≤ self.new }
     {
         self.segments = one_more(self.segments);
     }
@@ -87,7 +89,8 @@ impl SegMeter {
 // The next count, or the same at the greatest.
 #[tactic(auto, unfolding(crate::specs::Counting::counted, crate::specs::Counting::most))]
 pub(crate) fn one_more(count: u64) -> u64
-    ensures { result ≡ counted count 1 }
+    ensures next { result ≡ counted count 1 }
+    ensures never_lower { count ≤ result }
 {
     count.saturating_add(1)
 }

@@ -93,6 +93,7 @@ impl Deadlist {
         ensures cuts { IfOk result (λ d. d.cuts ≡ self.now.cuts) }
         ensures err { IfErr result (λ e. e ≡ NoMemory) }
         ensures meter { meter.new ≡ counted meter.old (length self.now.cuts + 1) }
+        ensures never_lower { meter.old ≤ meter.new }
     {
         reach(meter, self.segments());
         let parts = self.parts.copy(self.alloc)?;
@@ -120,6 +121,7 @@ impl Deadlist {
         // It reaches no segment, and the entries stand as they stood, or it reaches all.
         ensures meter { ((meter.new ≡ meter.old) × (self.new.entries ≡ self.old.entries))
             ⊎ (meter.new ≡ counted meter.old (length self.old.cuts + 1)) }
+        ensures never_lower { meter.old ≤ meter.new }
     {
         if n as u64 > u64::MAX - self.count {
             return Err(Refusal::NoMemory);
@@ -192,6 +194,7 @@ impl Deadlist {
         ensures err { IfErr result (λ e. e.0 ≡ NoMemory) }
         ensures meter { meter.new
             ≡ counted meter.old ((length self.old.cuts + 1) + (length other.cuts + 1)) }
+        ensures never_lower { meter.old ≤ meter.new }
     {
         reach(meter, self.segments());
         reach(meter, other.segments());
@@ -259,6 +262,7 @@ impl Deadlist {
         ensures unchanged { OnErr result (self.new ≡ self.old) }
         ensures err { IfErr result (λ e. e ≡ NoMemory) }
         ensures meter { meter.new ≡ counted meter.old (reached_after cut.0 self.old.cuts) }
+        ensures never_lower { meter.old ≤ meter.new }
     {
         let count = self.space_after(cut, meter);
         let (kept, taken) = dealt(self.alloc, self.fresh.as_slice(), cut.0)?;
@@ -283,6 +287,7 @@ impl Deadlist {
     pub fn space_after(&self, cut: Group, meter: &mut SegMeter) -> u64
         ensures space { result ≡ length (filter (is_after cut.0) self.now.entries) }
         ensures meter { meter.new ≡ counted meter.old (reached_after cut.0 self.now.cuts) }
+        ensures never_lower { meter.old ≤ meter.new }
     {
         reach(meter, self.parts.reached_after(cut.0));
         self.count_after(cut.0)
@@ -308,6 +313,7 @@ impl Deadlist {
     pub fn space_upto(&self, cut: Group, meter: &mut SegMeter) -> u64
         ensures space { result ≡ length (filter (is_upto cut.0) self.now.entries) }
         ensures meter { meter.new ≡ counted meter.old (reached_upto cut.0 self.now.cuts) }
+        ensures never_lower { meter.old ≤ meter.new }
     {
         reach(meter, self.parts.reached_upto(cut.0));
         self.count_upto(cut.0)
@@ -333,6 +339,7 @@ impl Deadlist {
     pub fn iter(&self, meter: &mut SegMeter) -> Iter<'_>
         ensures entries { left result ≡ self.now.entries }
         ensures meter { meter.new ≡ counted meter.old (length self.now.cuts + 1) }
+        ensures never_lower { meter.old ≤ meter.new }
     {
         reach(meter, self.segments());
         Iter::new(&self.parts, self.fresh.as_slice())
@@ -343,6 +350,7 @@ impl Deadlist {
     pub fn iter_from(&self, first: u64, meter: &mut SegMeter) -> Iter<'_>
         ensures entries { left result ≡ drop first self.now.entries }
         ensures meter { meter.new ≡ counted meter.old (length self.now.cuts + 1) }
+        ensures never_lower { meter.old ≤ meter.new }
     {
         let mut entries = self.iter(meter);
         entries.pass(first);
@@ -384,6 +392,7 @@ impl Deadlist {
         ensures err { IfErr result (λ e. e ≡ NoMemory) }
         ensures meter { meter.new
             ≡ counted meter.old (if list_any (λ c. c == group.0) self.old.cuts then 0 else 1) }
+        ensures never_lower { meter.old ≤ meter.new }
     {
         let _before = meter.count();
         let at = self.parts.upto(group.0);
@@ -406,6 +415,7 @@ impl Deadlist {
         ensures err { IfErr result (λ e. e ≡ NoMemory) }
         ensures meter { meter.new
             ≡ counted meter.old (if list_any (λ c. c == group.0) self.old.cuts then 2 else 0) }
+        ensures never_lower { meter.old ≤ meter.new }
     {
         let _before = meter.count();
         let at = self.parts.upto(group.0);
@@ -419,7 +429,8 @@ impl Deadlist {
 
 /// Counts that many segments.
 fn reach(meter: &mut SegMeter, segments: usize)
-    ensures { meter.new ≡ counted meter.old segments }
+    ensures metered { meter.new ≡ counted meter.old segments }
+    ensures never_lower { meter.old ≤ meter.new }
 {
     let _before = meter.count();
     for _i in 0..segments {

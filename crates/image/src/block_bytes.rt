@@ -23,8 +23,8 @@ pub(crate) fn fill(bytes: &mut Vec<u8>, size: usize)
     }
 }
 
-/// The same where they are fewer. It stands apart, since mostly they aren't. One block more, as numbers are taken in turn, is a copy of as many
-/// zeros.
+/// Appends zeros up to `size`, where the bytes are fewer: the cold path of `fill`. Since numbers are taken in turn, mostly one block is
+/// missing, and a copy of a constant block of zeros is faster then.
 #[inline(never)]
 fn lengthen(bytes: &mut Vec<u8>, size: usize)
     requires fewer { length bytes.old.items < size }

@@ -131,7 +131,7 @@ impl Image {
         put_copy(&mut self.written, self.blocks, from, to);
     }
 
-    /// Puts in the states that it keeps from now on, and gives back those before. It takes no memory.
+    /// Replaces the map of protected blocks, and returns the map of before. It takes no memory.
     pub fn keep(&mut self, states: Allocator) -> Allocator
         requires { length states ≡ length self.old.kept }
         ensures before { result ≡ self.old.kept }

@@ -1,5 +1,5 @@
 //! The new blocks of a change, as they are written.
-ghost use Rattle.std.specs.Prelude.{◌≡◌, IsSome, IfOk, IfErr, map};
+ghost use Rattle.std.specs.Prelude.{◌≡◌, ◌≤◌, IsSome, IfOk, IfErr, map};
 ghost use Rattle.std.specs.List.{All};
 ghost use Rattle.std.specs.FinMap.{get};
 ghost use Rattle.base.specs.declared.refusal.Refusal.{Refusal};
@@ -35,6 +35,7 @@ pub fn blocks_of(
 ) -> Result<Vec<(BlockNo, [u8; 512])>, Refusal>
     ensures ok { All (λ b. IsSome (get tree.now b.key)) made.now → IfOk result (λ v. map written_pair v.items ≡ writes_of tree.now (map made_pair made.now)) }
     ensures err { IfErr result (λ e. e ≡ Refusal.NoMemory) }
+    ensures never_lower { meter.old ≤ meter.new }
 {
     let mut blocks = Vec::with_capacity(alloc, made.len())?;
     for new in made {

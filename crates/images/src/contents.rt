@@ -8,7 +8,7 @@ use image::ZEROS;
 use std::alloc::Global;
 use std::marker::Model;
 
-/// The bytes of a leaf: lent by whoever asks to write them, or a copy of them, or the zeros of a leaf that isn't there. Contracts see the
+/// The bytes of a leaf: lent by the caller that asks to write them, or a copy of them, or the zeros of a leaf that isn't there. Contracts see the
 /// list of them.
 #[derive(Drop)]
 pub struct Contents<'a> {

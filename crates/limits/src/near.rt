@@ -7,7 +7,7 @@ use datasets::{FILE_SYSTEM_LIMIT, FileSystem, parent_of};
 use std::alloc::Global;
 use std::sync::Arc;
 
-/// For each place of a table where the parent of the file system there may stand, which saves searches. Nothing rests on it: whoever asks looks whether it stands there (profile).
+/// For each place of a table, where the parent of the file system there may stand, which saves searches: a hint, which callers check (profile).
 #[derive(Drop)]
 pub struct Near {
     parents: Vec<usize>,

@@ -1,5 +1,5 @@
 //! The values of properties of file systems, snapshots and bookmarks.
-ghost use Rattle.std.specs.Prelude.{◌≡◌, ◌<◌, ◌*◌, ◌-◌, ◌^◌, true, false, Some, IsSome, IfOk, IfErr, map};
+ghost use Rattle.std.specs.Prelude.{◌≡◌, ◌≤◌, ◌<◌, ◌*◌, ◌-◌, ◌^◌, true, false, Some, IsSome, IfOk, IfErr, map};
 ghost use Rattle.std.specs.Option.{option_copied, option_map, unwrap_or};
 ghost use Rattle.std.specs.List.{join_with_byte};
 ghost use Rattle.std.specs.FinMap.{get};
@@ -15,7 +15,7 @@ ghost use Rattle.model.specs.Sums.{size_without, used_of, used_by_children};
 ghost use Rattle.model.specs.World.{clones_of, union_of};
 ghost use Rattle.model.specs.declared.reply.Value.{Value};
 ghost use Rattle.model.specs.declared.request.Property.{Property};
-ghost use Rattle.model.specs.requests.Get.{needs_memory};
+ghost use Rattle.model.specs.requests.Get.{live_needs_memory, snap_needs_memory, needs_memory};
 ghost use Rattle.world.specs.Tables.{world_of};
 ghost use Rattle.lookups.specs.Accounted.{IsAccounted};
 ghost use Rattle.lookups.specs.Named.{amount_value, live_value, origin_value, snapshot_value, value_in, value_named, is_used, reads_lists};
@@ -143,9 +143,9 @@ fn unwritten(file_system: &FileSystem) -> u64
     }
 }
 
-// A property of a file system of the table, to which so many blocks are available; it has no property of a snapshot alone. NoMemory where
-// there is none for a text. Constant time, but for what is used, which costs what `used_in` does, and for the origin what
-// `value_of_origin` costs.
+// A property of a file system of the table, to which so many blocks are available; it has no property of a snapshot alone. NoMemory only
+// where there is none for the text of its origin. Constant time, but for what is used, which costs what `used_in` does, and for the origin
+// what `value_of_origin` costs.
 fn value_of_live(
     alloc: Global,
     table: &Table,
@@ -159,7 +159,7 @@ fn value_of_live(
     requires few { len (union_of (world_of table.now)) < 2 ^ 32 }
     requires small { room < 2 ^ 55 }
     ensures ok { IfOk result (λ value. value ≡ live_value table.now room file_system.now property) }
-    ensures err { IfErr result (λ e. (needs_memory property ≡ true) × (e ≡ Refusal.NoMemory)) }
+    ensures err { IfErr result (λ e. (live_needs_memory property ≡ true) × (e ≡ Refusal.NoMemory)) }
 {
     match property {
         Property::Used => Ok(many_bytes(used_in(table, ledger, file_system.name()))),
@@ -199,7 +199,7 @@ fn written_within(file_system: &FileSystem, component: &[u8]) -> Option<Value>
 }
 
 // A property of the snapshot of this name within its file system of the table, which isn't what it uses; or none where there is no such
-// snapshot. NoMemory where there is none for a text.
+// snapshot. NoMemory only where there is none for the names of its clones.
 fn value_within(
     alloc: Global,
     table: &Table,
@@ -209,7 +209,7 @@ fn value_within(
 ) -> Result<Option<Value>, Refusal>
     requires { ¬ (property ≡ Property.Used) }
     ensures ok { IfOk result (λ value. value ≡ snapshot_value table.now file_system.now component.now property) }
-    ensures err { IfErr result (λ e. (needs_memory property ≡ true) × (e ≡ Refusal.NoMemory)) }
+    ensures err { IfErr result (λ e. (snap_needs_memory property ≡ true) × (e ≡ Refusal.NoMemory)) }
 {
     if let Property::Written = property {
         return Ok(written_within(file_system, component));
@@ -250,8 +250,9 @@ fn value_of_snapshot(
     segments: &mut SegMeter,
 ) -> Result<Option<Value>, Refusal>
     ensures ok { IfOk result (λ value. value ≡ value_in table.now member.now property) }
-    ensures err { IfErr result (λ e. (needs_memory property ≡ true) × (e ≡ Refusal.NoMemory)) }
+    ensures err { IfErr result (λ e. (snap_needs_memory property ≡ true) × (e ≡ Refusal.NoMemory)) }
     ensures unread { is_used property ≡ false → segments.new ≡ segments.old }
+    ensures never_lower { segments.old ≤ segments.new }
 {
     if let Property::Used = property {
         return Ok(used_by_snapshot(alloc, table, member, segments)?.map(in_bytes));
@@ -268,11 +269,11 @@ fn value_of_snapshot(
     )
 }
 
-/// A property of what has the name, to which so many blocks are available, or none where nothing has it. NoMemory where there is
-/// none for a text, or to find what a snapshot alone has. It costs the logarithm of the number of file systems, and for a snapshot that of
-/// the number of its file system's; an origin costs the number of file systems times the logarithm of that of the snapshots of one, clones
-/// their names, what a file system or its children use the number of file systems, and what a snapshot uses what `used_by_snapshot` does.
-/// That one alone reads dead lists.
+/// A property of what has the name, to which so many blocks are available, or none where nothing has it. NoMemory only where there is
+/// none for the text of a file system's origin or of a snapshot's clones, or to find what a snapshot alone has. It costs the logarithm of
+/// the number of file systems, and for a snapshot that of the number of its file system's; an origin costs the number of file systems times
+/// the logarithm of that of the snapshots of one, clones their names, what a file system or its children use the number of file systems, and
+/// what a snapshot uses what `used_by_snapshot` does. That one alone reads dead lists.
 pub fn value_named(
     alloc: Global,
     table: &Table,
@@ -286,8 +287,9 @@ pub fn value_named(
     requires few { len (union_of (world_of table.now)) < 2 ^ 32 }
     requires small { room < 2 ^ 55 }
     ensures ok { IfOk result (λ value. value ≡ value_named table.now room target.now property) }
-    ensures err { IfErr result (λ e. (needs_memory property ≡ true) × (e ≡ Refusal.NoMemory)) }
+    ensures err { IfErr result (λ e. (needs_memory target.now property ≡ true) × (e ≡ Refusal.NoMemory)) }
     ensures unread { reads_lists target.now property ≡ false → segments.new ≡ segments.old }
+    ensures never_lower { segments.old ≤ segments.new }
 {
     match target {
         Target::FileSystem(name) => match table.find(name) {

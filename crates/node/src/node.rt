@@ -33,7 +33,8 @@ pub trait Level {
         requires shallow { depth ≤ 5 }
         requires covered { at < 16 ^ depth }
         ensures found { option_map cell_of result ≡ cell_below depth (part self.now) at }
-        ensures metered { meter.new ≡ counted meter.old (steps_below depth (part self.now) at) };
+        ensures metered { meter.new ≡ counted meter.old (steps_below depth (part self.now) at) }
+        ensures never_lower { meter.old ≤ meter.new };
 
     /// The node's own block.
     fn block(&self) -> Dead

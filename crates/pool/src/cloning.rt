@@ -1,5 +1,5 @@
 //! Creations, clones and promotes.
-ghost use Rattle.std.specs.Prelude.{◌≡◌, None, OnErr};
+ghost use Rattle.std.specs.Prelude.{◌≡◌, ◌≤◌, None, OnErr};
 ghost use Rattle.model.specs.declared.request.Request.{Request};
 ghost use Rattle.pool.specs.Pools.{state_in, IsHeld};
 ghost use Rattle.pool.specs.Effects.{IsPerformed};
@@ -44,8 +44,8 @@ impl Keep {
         Ok(Effect::Nothing)
     }
 
-    /// Promotes the clone of this name, and asks the limits of what that leads to. At `Err` the world is as it was, but of no use where it has
-    /// a ledger. It costs what `snap::clones::promote` does.
+    /// Promotes the clone of this name, and asks the limits of what that leads to. At `Err` the world is as it was; where it has a ledger, the
+    /// caller discards it. It costs what `snap::clones::promote` does.
     pub(crate) fn promote(
         &self,
         alloc: Global,
@@ -56,6 +56,7 @@ impl Keep {
         requires { IsHeld self.now world.old }
         ensures performed { IsPerformed (state_in self.now world.old) self.now.numbers.present world.new (Request.Promote name.now) result }
         ensures unchanged { OnErr result (world.old.ledger ≡ None → world.new ≡ world.old) }
+        ensures never_lower { segments.old ≤ segments.new }
     {
         promote(alloc, &mut world.table, name, segments)?;
         match self.over(world) {

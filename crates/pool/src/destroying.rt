@@ -1,5 +1,5 @@
 //! Destroys and rollbacks.
-ghost use Rattle.std.specs.Prelude.{◌≡◌, ◌<◌, ◌^◌, ℕ, List, true, false, None, OnErr};
+ghost use Rattle.std.specs.Prelude.{◌≡◌, ◌≤◌, ◌<◌, ◌^◌, ℕ, List, true, false, None, OnErr};
 ghost use Rattle.std.specs.FinSet as set;
 ghost use Rattle.base.specs.declared.name.member.Member.{Member};
 ghost use Rattle.base.specs.declared.name.target.Target.{Target};
@@ -37,6 +37,7 @@ impl Keep {
         requires { IsHeld self.now world.old }
         ensures performed { IsPerformed (state_in self.now world.old) self.now.numbers.present world.new (Request.Destroy target.now recursive defer) result }
         ensures unchanged { OnErr result (world.new ≡ world.old) }
+        ensures never_lower { segments.old ≤ segments.new }
     {
         let alone = is_alone(&world.table, target, recursive);
         destroy(
@@ -55,7 +56,7 @@ impl Keep {
     }
 
     /// Takes a file system back to the snapshot that the target names, and asks the limits of what that leads to. At `Err` the world is as it
-    /// was, but of no use where it has a ledger. It costs what `removals::rollback` does.
+    /// was; where it has a ledger, the caller discards it. It costs what `removals::rollback` does.
     pub(crate) fn rollback(
         &self,
         alloc: Global,
@@ -67,6 +68,7 @@ impl Keep {
         requires { IsHeld self.now world.old }
         ensures performed { IsPerformed (state_in self.now world.old) self.now.numbers.present world.new (Request.Rollback target.now later) result }
         ensures unchanged { OnErr result (world.old.ledger ≡ None → world.new ≡ world.old) }
+        ensures never_lower { segments.old ≤ segments.new }
     {
         rollback(
             alloc,

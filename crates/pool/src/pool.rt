@@ -285,7 +285,7 @@ impl Pool {
     }
 
     /// One step: the request is done, or refused with the state as it was. The reply comes in the place of what stands there, since it has
-    /// room for a block's bytes, and whoever asks again and again spares its moves. What changes file systems changes them in place; a family
+    /// room for a block's bytes, and a caller that asks again and again spares its moves. What changes file systems changes them in place; a family
     /// that is destroyed, several snapshots, a rollback and a receive are made on a copy, which costs a count for each file system, and so is a
     /// snapshot and a promote where a file system has a limit. A name costs the logarithm of the number of file systems, and a snapshot's also
     /// that of the number of its file system's snapshots. A write or a punch costs the path to its leaf, and to free an object its nodes; a
@@ -394,15 +394,16 @@ impl Pool {
 
     /// The roots of the present datasets, or of those that the last sync left: for each file system, in byte order of the names, that of its
     /// live tree, then those of its snapshots, the oldest first. `Image::read_tree` reads a dataset from its root. NoMemory where there is none
-    /// for them. It costs the names.
+    /// for them. It costs the names, and a node for each dataset, which the pool's counts leave out.
     pub fn roots(&self, alloc: Global, last: bool) -> Result<Vec<DatasetRoot>, Refusal>
         ensures ok { IfOk result (λ roots. map shown_root roots.items ≡ roots_in (if last then self.now.state.last else self.now.state.now).file_systems) }
         ensures err { IfErr result (λ e. e ≡ Refusal.NoMemory) }
     {
+        let mut meter = Meter::new(Toll::new());
         if last {
-            return roots_of(alloc, &self.keep.last.table);
+            return roots_of(alloc, &self.keep.last.table, &mut meter);
         }
-        roots_of(alloc, &self.present.table)
+        roots_of(alloc, &self.present.table, &mut meter)
     }
 
     /// One step for each request, in order, and the replies. NoMemory where there is none for the list of replies: nothing was begun then.
@@ -433,7 +434,7 @@ fn make_done(reply: &mut Reply)
     }
 }
 
-// The same of one that isn't. It stands apart, since a reply takes room on the stack, which is filled first.
+// Puts Done in the place of another reply: the cold path, in a function of its own, since a reply takes room on the stack, which is filled first.
 #[inline(never)]
 fn clear(reply: &mut Reply)
     ensures { reply.new ≡ Reply.Done }

@@ -12,8 +12,8 @@ use snap::{Guids, snapshot};
 use std::alloc::Global;
 
 impl Keep {
-    /// Takes snapshots of these names, and asks the limits of what that leads to. At `Err` the world is as it was, but of no use where it has a
-    /// ledger. It costs what `snap::snapshot` does.
+    /// Takes snapshots of these names, and asks the limits of what that leads to. At `Err` the world is as it was; where it has a ledger, the
+    /// caller discards it. It costs what `snap::snapshot` does.
     pub(crate) fn snapshot(
         &self,
         alloc: Global,

@@ -23,7 +23,7 @@ use zalloc::Allocator;
 /// open, and keeps the live map as the snapshot of this name with the sender's guid, which closes the open group (zfs-receive(8); that the guid
 /// is the sender's, and groups, are profile). The answer names the numbers that the new blocks have, and takes none; of the blocks that the
 /// tree drops it names those that no snapshot has. NoSpace where the Free numbers and those of the dropped young blocks are too few, else
-/// NoMemory where there is none for it, or the snapshots would have more blocks than a u64 counts; then the table is of no use. It costs the
+/// NoMemory where there is none for it, or the snapshots would have more blocks than a u64 counts; on error, discard the table. It costs the
 /// logarithm of the number of file systems, and the change; and where another table shares the snapshots of this one, a 1,024th of their number.
 pub fn finish(
     alloc: Global,
@@ -45,6 +45,7 @@ pub fn finish(
     ensures only { IfErr result IsNoSpaceOrNoMemory }
     ensures metered { OnOk result (CountsDropped (live_of table.old.file_systems name.now.file_system) (changes_of updates.now) meter.old meter.new) }
     ensures never_lower { meter.old ≤ meter.new }
+    ensures segments_never_lower { segments.old ≤ segments.new }
 {
     let name = name.member();
     let changed = table.apply_live(

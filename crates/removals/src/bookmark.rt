@@ -56,7 +56,7 @@ pub(crate) fn remove_bookmark(
 }
 
 /// Takes the bookmarks of later groups than this one from the file system of this name, where it is there (zfs-rollback(8), -r), and no
-/// block with them. NoMemory where there is none for it, and then the table is of no use. It costs the logarithm of the number of file
+/// block with them. NoMemory where there is none for it, and then the table is to be discarded. It costs the logarithm of the number of file
 /// systems and the number of the file system's bookmarks.
 pub fn remove_newer_bookmarks(
     alloc: Global,

@@ -1,5 +1,5 @@
 //! What a destroy takes away.
-ghost use Rattle.std.specs.Prelude.{◌≡◌, ◌⊎◌, ◌&&◌, not, true, false, Some, None, IfSome, IfErr, OnOk, OnErr};
+ghost use Rattle.std.specs.Prelude.{◌≡◌, ◌≤◌, ◌⊎◌, ◌&&◌, not, true, false, Some, None, IfSome, IfErr, OnOk, OnErr};
 ghost use Rattle.base.specs.declared.refusal.Refusal.{Refusal};
 ghost use Rattle.base.specs.declared.name.target.Target.{Target};
 ghost use Rattle.base.specs.Names.{root_name};
@@ -68,6 +68,7 @@ fn remove_and_sweep(
     ensures unchanged { OnErr result (table.new ≡ table.old) }
     ensures kept { OnErr result (freeing.new ≡ freeing.old) }
     ensures err { IfErr result (λ e. e ≡ Refusal.NoMemory) }
+    ensures never_lower { segments.old ≤ segments.new }
 {
     let mut edit = WorkingCopy::of(table, freeing)?;
     remove_file_systems(&mut edit, alloc, table, name, recursive, segments)?;
@@ -97,6 +98,7 @@ fn destroy_file_systems(
     ensures unchanged { OnErr result (table.new ≡ table.old) }
     ensures kept { OnErr result (freeing.new ≡ freeing.old) }
     ensures only { IfErr result (λ e. (destroy_refusal table.old views.now.opened (Target.FileSystem name.now) recursive defer ≡ Some e) ⊎ (e ≡ Refusal.NoMemory)) }
+    ensures never_lower { segments.old ≤ segments.new }
 {
     table.facts();
     if let Some(refusal) = refusal_of(table, views, name, recursive, defer) {
@@ -142,6 +144,7 @@ pub fn destroy(
     ensures unchanged { OnErr result (table.new ≡ table.old) }
     ensures kept { OnErr result (freeing.new ≡ freeing.old) }
     ensures only { IfErr result (λ e. (destroy_refusal table.old views.now.opened target.now recursive defer ≡ Some e) ⊎ (e ≡ Refusal.NoMemory)) }
+    ensures never_lower { segments.old ≤ segments.new }
 {
     match target {
         Target::FileSystem(name) => destroy_file_systems(

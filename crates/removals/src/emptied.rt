@@ -1,5 +1,5 @@
 //! File systems that are emptied before they go.
-ghost use Rattle.std.specs.Prelude.{◌≡◌, [], false, Some, IsSome, IfOk, IfErr, OnOk, map};
+ghost use Rattle.std.specs.Prelude.{◌≡◌, ◌≤◌, [], false, Some, IsSome, IfOk, IfErr, OnOk, map};
 ghost use Rattle.std.specs.List.{filter, list_any};
 ghost use Rattle.std.specs.List.Sorted.{IsPermutation, IsNonDecreasingBy};
 ghost use Rattle.std.specs.FinMap.{get, entries};
@@ -69,7 +69,7 @@ fn rows_in_order<'a>(
 }
 
 // Empties this file system, which has no snapshot: what it has itself is to be freed, and it is no clone any more. NoMemory where there
-// is none for it, and then the edit is of no use. It costs the logarithm of the number of file systems.
+// is none for it, and then the edit is to be discarded. It costs the logarithm of the number of file systems.
 fn vacate(edit: &mut WorkingCopy, alloc: Global, name: &DsName) -> Result<(), Refusal>
     requires apart { AreDisjoint (union_of (world_of edit.old.to)) edit.old.freeing }
     requires there { IsSome (get edit.old.to.file_systems name.now) }
@@ -85,7 +85,7 @@ fn vacate(edit: &mut WorkingCopy, alloc: Global, name: &DsName) -> Result<(), Re
 }
 
 // Empties this file system, which is as the edit has it, with its snapshots, none of which has a clone. NoMemory where there is none for
-// it, and then the edit is of no use. It costs what `WorkingCopy::remove_newer` does.
+// it, and then the edit is to be discarded. It costs what `WorkingCopy::remove_newer` does.
 fn empty_one(
     edit: &mut WorkingCopy,
     alloc: Global,
@@ -98,6 +98,7 @@ fn empty_one(
     ensures ok { OnOk result (edit.new.to ≡ with_system edit.old.to file_system.now.name empty_file_system) }
     ensures lost { OnOk result (HasLost edit.old.to edit.old.freeing edit.new.to edit.new.freeing) }
     ensures err { IfErr result (λ e. e ≡ Refusal.NoMemory) }
+    ensures never_lower { segments.old ≤ segments.new }
 {
     edit.to.facts();
     edit.remove_newer(alloc, file_system, Group(0), segments)?;
@@ -106,7 +107,7 @@ fn empty_one(
 
 /// Empties the file systems of this family: what they and their snapshots have alone is to be freed. Each clone of such a snapshot is of
 /// the family, and is emptied before it: the group of its origin is later than that of the file system that has the snapshot. NoMemory
-/// where there is none for it, and then the edit is of no use. It costs the number of file systems, for n of the family n times its
+/// where there is none for it, and then the edit is to be discarded. It costs the number of file systems, for n of the family n times its
 /// logarithm, and for each what `WorkingCopy::remove_newer` does.
 pub(crate) fn empty_family(
     edit: &mut WorkingCopy,
@@ -121,6 +122,7 @@ pub(crate) fn empty_family(
     ensures ok { OnOk result (edit.new.to ≡ emptied table.now name.now) }
     ensures lost { OnOk result (HasLost edit.old.to edit.old.freeing edit.new.to edit.new.freeing) }
     ensures err { IfErr result (λ e. e ≡ Refusal.NoMemory) }
+    ensures never_lower { segments.old ≤ segments.new }
 {
     table.facts();
     let rows = rows_in_order(alloc, table, name)?;

@@ -1,5 +1,5 @@
 //! File systems that go, alone or with their descendants.
-ghost use Rattle.std.specs.Prelude.{◌≡◌, ◌||◌, true, false, IfErr, OnOk, OnErr, length, nat_lt};
+ghost use Rattle.std.specs.Prelude.{◌≡◌, ◌≤◌, ◌||◌, true, false, IfErr, OnOk, OnErr, length, nat_lt};
 ghost use Rattle.base.specs.declared.refusal.Refusal.{Refusal};
 ghost use Rattle.base.specs.declared.name.target.Target.{Target};
 ghost use Rattle.base.specs.Names.{root_name};
@@ -46,7 +46,7 @@ pub(crate) fn remove_file_system(
 }
 
 // Takes out the file systems of the family of this name, which isn't the root's, children before their parents: they are as the table has
-// them, without a snapshot. NoMemory where there is none for it, and then the edit is of no use. It costs the number of file systems, and
+// them, without a snapshot. NoMemory where there is none for it, and then the edit is to be discarded. It costs the number of file systems, and
 // for each of the family once more.
 fn remove_family(edit: &mut WorkingCopy, table: &Table, name: &DsName) -> Result<(), Refusal>
     requires apart { AreDisjoint (union_of (world_of edit.old.to)) edit.old.freeing }
@@ -70,7 +70,7 @@ fn remove_family(edit: &mut WorkingCopy, table: &Table, name: &DsName) -> Result
 }
 
 // Takes out the file systems of the family of this name with their snapshots, of whose clones each is of the family. NoMemory where there
-// is none for it, and then the edit is of no use. It costs what `empty_family` and `remove_family` do.
+// is none for it, and then the edit is to be discarded. It costs what `empty_family` and `remove_family` do.
 fn empty_and_remove(
     edit: &mut WorkingCopy,
     alloc: Global,
@@ -85,6 +85,7 @@ fn empty_and_remove(
     ensures ok { OnOk result (edit.new.to ≡ without_family table.now name.now true) }
     ensures lost { OnOk result (HasLost edit.old.to edit.old.freeing edit.new.to edit.new.freeing) }
     ensures err { IfErr result (λ e. e ≡ Refusal.NoMemory) }
+    ensures never_lower { segments.old ≤ segments.new }
 {
     empty_family(edit, alloc, table, name, segments)?;
     // Its rows are read while file systems go from the edit.
@@ -93,7 +94,7 @@ fn empty_and_remove(
 }
 
 /// Takes out this file system, which has no snapshot and no child, or with `recursive` its family with their snapshots, of whose clones
-/// each is of the family; it isn't the root. NoMemory where there is none for it, and then the edit is of no use. It costs the number of
+/// each is of the family; it isn't the root. NoMemory where there is none for it, and then the edit is to be discarded. It costs the number of
 /// file systems, and with `recursive` what `empty_family` and `remove_family` do.
 pub(crate) fn remove_file_systems(
     edit: &mut WorkingCopy,
@@ -111,6 +112,7 @@ pub(crate) fn remove_file_systems(
     ensures ok { OnOk result (edit.new.to ≡ without_family table.now name.now recursive) }
     ensures lost { OnOk result (HasLost edit.old.to edit.old.freeing edit.new.to edit.new.freeing) }
     ensures err { IfErr result (λ e. e ≡ Refusal.NoMemory) }
+    ensures never_lower { segments.old ≤ segments.new }
 {
     if recursive {
         return empty_and_remove(edit, alloc, table, name, segments);

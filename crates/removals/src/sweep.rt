@@ -1,5 +1,5 @@
 //! The deferred snapshots that go with their last clones.
-ghost use Rattle.std.specs.Prelude.{◌≡◌, IfErr, OnOk, map};
+ghost use Rattle.std.specs.Prelude.{◌≡◌, ◌≤◌, IfErr, OnOk, map};
 ghost use Rattle.std.specs.Option.{option_map};
 ghost use Rattle.base.specs.declared.refusal.Refusal.{Refusal};
 ghost use Rattle.datasets.specs.Rows.{entry_of};
@@ -41,7 +41,7 @@ fn unneeded<'a>(
 }
 
 // Lets the snapshot of this identity go, where its destroy is deferred and nothing needs it. NoMemory where there is none for it, and
-// then the edit is of no use. It costs what `unneeded` does and, where it goes, what `WorkingCopy::remove_snapshot` does.
+// then the edit is to be discarded. It costs what `unneeded` does and, where it goes, what `WorkingCopy::remove_snapshot` does.
 fn lose_unneeded(
     edit: &mut WorkingCopy,
     alloc: Global,
@@ -53,6 +53,7 @@ fn lose_unneeded(
     ensures ok { OnOk result (edit.new.to ≡ without_unneeded edit.old.to views.now.opened (snap_id id)) }
     ensures lost { OnOk result (HasLost edit.old.to edit.old.freeing edit.new.to edit.new.freeing) }
     ensures err { IfErr result (λ e. e ≡ Refusal.NoMemory) }
+    ensures never_lower { segments.old ≤ segments.new }
 {
     edit.to.facts();
     let owner = match unneeded(&edit.to, views, id) {
@@ -73,7 +74,7 @@ fn removed_origin(table: &Table, file_system: &FileSystem) -> Option<SnapshotId>
 }
 
 // Lets the origin of this file system go, where the file system is gone, the origin's destroy is deferred and nothing needs it. NoMemory
-// where there is none for it, and then the edit is of no use. It costs what `lose_unneeded` does.
+// where there is none for it, and then the edit is to be discarded. It costs what `lose_unneeded` does.
 fn remove_unneeded_origin(
     edit: &mut WorkingCopy,
     alloc: Global,
@@ -85,6 +86,7 @@ fn remove_unneeded_origin(
     ensures ok { OnOk result (edit.new.to ≡ without_origin edit.old.to views.now.opened (entry_of file_system.now)) }
     ensures lost { OnOk result (HasLost edit.old.to edit.old.freeing edit.new.to edit.new.freeing) }
     ensures err { IfErr result (λ e. e ≡ Refusal.NoMemory) }
+    ensures never_lower { segments.old ≤ segments.new }
 {
     match removed_origin(&edit.to, file_system) {
         Some(id) => lose_unneeded(edit, alloc, views, id, segments),
@@ -94,7 +96,7 @@ fn remove_unneeded_origin(
 
 impl WorkingCopy {
     /// Lets those of these snapshots go whose destroy is deferred and that no tag, no open view and no clone needs, where no other snapshot
-    /// waits for that (zfs-destroy(8), -d). NoMemory where there is none for it, and then the edit is of no use. It costs for each of them
+    /// waits for that (zfs-destroy(8), -d). NoMemory where there is none for it, and then the edit is to be discarded. It costs for each of them
     /// what `unneeded` does and, where it goes, what `WorkingCopy::remove_snapshot` does.
     pub fn sweep(
         &mut self,
@@ -108,6 +110,7 @@ impl WorkingCopy {
         ensures ok { OnOk result (self.new.to ≡ swept self.old.to views.now.opened) }
         ensures lost { OnOk result (HasLost self.old.to self.old.freeing self.new.to self.new.freeing) }
         ensures err { IfErr result (λ e. e ≡ Refusal.NoMemory) }
+        ensures never_lower { segments.old ≤ segments.new }
     {
         self.to.facts();
         for id in ids {
@@ -118,7 +121,7 @@ impl WorkingCopy {
 }
 
 /// Lets the snapshots go whose destroy is deferred and that nothing needs any more, once file systems of this table are gone
-/// (zfs-destroy(8), -d). NoMemory where there is none for it, and then the edit is of no use. It costs the number of file systems times
+/// (zfs-destroy(8), -d). NoMemory where there is none for it, and then the edit is to be discarded. It costs the number of file systems times
 /// its logarithm, for each clone that is gone what `unneeded` does, and for each snapshot that goes what `WorkingCopy::remove_snapshot` does.
 pub(crate) fn sweep(
     edit: &mut WorkingCopy,
@@ -133,6 +136,7 @@ pub(crate) fn sweep(
     ensures ok { OnOk result (edit.new.to ≡ swept edit.old.to views.now.opened) }
     ensures lost { OnOk result (HasLost edit.old.to edit.old.freeing edit.new.to edit.new.freeing) }
     ensures err { IfErr result (λ e. e ≡ Refusal.NoMemory) }
+    ensures never_lower { segments.old ≤ segments.new }
 {
     edit.to.facts();
     for file_system in table.file_systems() {

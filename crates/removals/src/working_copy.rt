@@ -1,5 +1,5 @@
 //! A table from which datasets go.
-ghost use Rattle.std.specs.Prelude.{◌≡◌, ◌⊎◌, ◌↔◌, ◌&&◌, true, false, not, map, Some, is_some, IfOk, IfErr, OnOk, length};
+ghost use Rattle.std.specs.Prelude.{◌≡◌, ◌≤◌, ◌⊎◌, ◌↔◌, ◌&&◌, true, false, not, map, Some, is_some, IfOk, IfErr, OnOk, length};
 ghost use Rattle.std.specs.List.{list_any};
 ghost use Rattle.std.specs.FinMap.{get};
 ghost use Rattle.base.specs.declared.refusal.Refusal.{Refusal};
@@ -59,7 +59,7 @@ impl WorkingCopy {
     }
 
     /// Lets the snapshot of this identity go from this file system, which has it; it has no clone (zfs-destroy(8)). The blocks that no
-    /// dataset has any more are to be freed. NoMemory where there is none for it, and then the edit is of no use. It costs what
+    /// dataset has any more are to be freed. NoMemory where there is none for it, and then the edit is to be discarded. It costs what
     /// `Table::remove_snapshot` does.
     pub fn remove_snapshot(
         &mut self,
@@ -74,6 +74,7 @@ impl WorkingCopy {
         ensures ok { OnOk result (self.new.to ≡ without_snap self.old.to (snap_id id)) }
         ensures lost { OnOk result (HasLost self.old.to self.old.freeing self.new.to self.new.freeing) }
         ensures err { IfErr result (λ e. e ≡ Refusal.NoMemory) }
+        ensures never_lower { segments.old ≤ segments.new }
     {
         self.to.facts();
         let lost = self.to.remove_snapshot(alloc, file_system, id, segments)?;
@@ -83,7 +84,7 @@ impl WorkingCopy {
 
     /// Makes the map of its newest snapshot the live map of this file system (zfs-rollback(8)): what it had beside is to be freed.
     /// NoDataset exactly where there is no file system of this name or it has no snapshot; else NoMemory as `Table::rollback` says, and
-    /// then the edit is of no use. It costs what that does.
+    /// then the edit is to be discarded. It costs what that does.
     pub fn lose_live(
         &mut self,
         alloc: Global,
@@ -95,6 +96,7 @@ impl WorkingCopy {
         ensures lost { OnOk result (HasLost self.old.to self.old.freeing self.new.to self.new.freeing) }
         ensures no_dataset { (result ≡ Err Refusal.NoDataset) ↔ (length (snaps_at self.old.to.file_systems name.now) ≡ 0) }
         ensures only { IfErr result (λ e. (e ≡ Refusal.NoDataset) ⊎ (e ≡ Refusal.NoMemory)) }
+        ensures never_lower { segments.old ≤ segments.new }
     {
         self.to.facts();
         let lost = self.to.rollback(alloc, name, segments)?;
@@ -103,7 +105,7 @@ impl WorkingCopy {
     }
 
     // From now on the destroy of the snapshot of this identity of this file system, which has it, is deferred. NoMemory where there is none
-    // for it, and then the edit is of no use. It costs what `Table::defer` does.
+    // for it, and then the edit is to be discarded. It costs what `Table::defer` does.
     fn defer(&mut self, alloc: Global, file_system: &DsName, id: SnapshotId) -> Result<(), Refusal>
         requires there { is_some (snap_in_system self.old.to file_system.now (snap_id id)) ≡ true }
         ensures ok { OnOk result (self.new.to ≡ deferred_snap self.old.to (snap_id id)) }
@@ -115,7 +117,7 @@ impl WorkingCopy {
 
     // Lets these snapshots go, which are the table's, each of another file system; with `defer` those stay that a tag, one of these views or
     // a clone needs, and their destroy is deferred. Where not `defer`, none of them has a clone. NoMemory where there is none for it, and then
-    // the edit is of no use. It costs for each what `remove_snapshot` or `Table::defer` does, and with `defer` the number of open views.
+    // the edit is to be discarded. It costs for each what `remove_snapshot` or `Table::defer` does, and with `defer` the number of open views.
     pub(crate) fn remove_or_defer(
         &mut self,
         alloc: Global,
@@ -133,6 +135,7 @@ impl WorkingCopy {
         ensures ok { OnOk result (self.new.to ≡ removed_or_deferred table.now (λ u. defer && is_needed (world_of table.now) views.now.opened u) (map (λ p. id_of p.1) all.now)) }
         ensures lost { OnOk result (HasLost self.old.to self.old.freeing self.new.to self.new.freeing) }
         ensures err { IfErr result (λ e. e ≡ Refusal.NoMemory) }
+        ensures never_lower { segments.old ≤ segments.new }
     {
         table.facts();
         for found in all {
@@ -147,7 +150,7 @@ impl WorkingCopy {
     }
 
     // Lets the snapshots go that this file system has of a later group than this one; it is as the edit has it, and none of them has a clone.
-    // NoMemory where there is none for it, and then the edit is of no use. It costs what `remove_snapshot` does for each, and the number of
+    // NoMemory where there is none for it, and then the edit is to be discarded. It costs what `remove_snapshot` does for each, and the number of
     // the file system's snapshots.
     pub(crate) fn remove_newer(
         &mut self,
@@ -162,6 +165,7 @@ impl WorkingCopy {
         ensures ok { OnOk result (self.new.to ≡ with_snaps_upto self.old.to file_system.now.name group.0) }
         ensures lost { OnOk result (HasLost self.old.to self.old.freeing self.new.to self.new.freeing) }
         ensures err { IfErr result (λ e. e ≡ Refusal.NoMemory) }
+        ensures never_lower { segments.old ≤ segments.new }
     {
         self.to.facts();
         let name = file_system.name();

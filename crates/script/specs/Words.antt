@@ -126,10 +126,12 @@ limit_of_word word =
     else if bytes_eq word (codes "refreservation") then Some limits.RefReservation
     else None
 
--- so many bytes in blocks: 0 is no limit, and what is no multiple of 512 is no amount (zfsprops(7): quota; that it is whole blocks is profile)
+-- so many bytes in blocks: 0 is no limit, and what is no multiple of 512 or more than 2^49 is no amount (zfsprops(7): quota; that it is whole
+-- blocks, and the greatest, is profile)
 unfoldable pub amount_of_bytes : ℕ → Option (Option ℕ)
 amount_of_bytes bytes =
-    if bytes == 0 then Some None
+    if nat_lt (2 ^ 49) bytes then None
+    else if bytes == 0 then Some None
     else if bytes % 512 == 0 then Some (Some (bytes / 512))
     else None
 

@@ -28,7 +28,7 @@ pub(crate) enum Step {
 
 /// Reads the next line. Of a line that is too long no more is kept than shows it. False where there is none.
 ///
-/// A read may wait, at a terminal or a pipe, until whoever writes there has seen the replies. So once the reader's buffer is drained, what
+/// A read may wait, at a terminal or a pipe, until the program that writes there has seen the replies. So once the reader's buffer is drained, what
 /// the writer holds is written out before the next read: of a script from a file that is once for each filled buffer.
 pub(crate) fn next_line<R: BufRead, W: Write>(
     reader: &mut R,

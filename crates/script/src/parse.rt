@@ -53,7 +53,7 @@ pub(crate) fn request_at(alloc: Global, line: &[u8]) -> Result<Request, Refusal>
     other_command_at(alloc, command, operands)
 }
 
-// The same of another command than those. They stand apart, since each call takes room on the stack, which is filled first. Each returns at
+// Reads the other commands. These are functions of their own, since each call takes room on the stack, which is filled first. Each returns at
 // once: the value of an `else if` is copied out of each one that it stands in.
 #[inline(never)]
 #[tactic(auto, unfolding(crate::specs::Meaning::command_of))]
@@ -118,9 +118,7 @@ fn other_command_at(
 fn lone_name(alloc: Global, operands: Option<&[u8]>) -> Result<DsName, Refusal>
     ensures { (request : List ℕ → Request) → MeansName result (words_left (option_copied operands.entry)) request }
 {
-    let Some(name) = one(operands) else {
-        return Err(Refusal::BadLine);
-    };
+    let name = one(operands).ok_or(Refusal::BadLine)?;
     DsName::read(alloc, name)
 }
 
@@ -145,9 +143,7 @@ fn promote(alloc: Global, operands: Option<&[u8]>) -> Result<Request, Refusal>
 fn clone(alloc: Global, operands: Option<&[u8]>) -> Result<Request, Refusal>
     ensures { Means result (clone_of (words_left (option_copied operands.entry))) }
 {
-    let Some((target, name)) = two(operands) else {
-        return Err(Refusal::BadLine);
-    };
+    let (target, name) = two(operands).ok_or(Refusal::BadLine)?;
     let target = Target::read(alloc, target)?;
     let name = DsName::read(alloc, name)?;
     Ok(Request::Clone { target, name })
@@ -158,9 +154,7 @@ fn clone(alloc: Global, operands: Option<&[u8]>) -> Result<Request, Refusal>
 fn tagged(alloc: Global, operands: Option<&[u8]>) -> Result<(Tag, Target), Refusal>
     ensures { (request : List ℕ → Target → Request) → MeansTagged result (words_left (option_copied operands.entry)) request }
 {
-    let Some((tag, target)) = two(operands) else {
-        return Err(Refusal::BadLine);
-    };
+    let (tag, target) = two(operands).ok_or(Refusal::BadLine)?;
     let tag = Tag::read(alloc, tag)?;
     let target = Target::read(alloc, target)?;
     Ok((tag, target))
@@ -187,9 +181,7 @@ fn release(alloc: Global, operands: Option<&[u8]>) -> Result<Request, Refusal>
 fn bookmark(alloc: Global, operands: Option<&[u8]>) -> Result<Request, Refusal>
     ensures { Means result (bookmark_of (words_left (option_copied operands.entry))) }
 {
-    let Some((target, mark)) = two(operands) else {
-        return Err(Refusal::BadLine);
-    };
+    let (target, mark) = two(operands).ok_or(Refusal::BadLine)?;
     let target = Target::read(alloc, target)?;
     let mark = MarkName::read(alloc, mark)?;
     Ok(Request::Bookmark { target, mark })
@@ -216,12 +208,8 @@ fn write_at(
 ) -> Result<Request, Refusal>
     ensures { Means result (written_of target.now object.now block.now digits.now) }
 {
-    let Some(object) = number(object) else {
-        return Err(Refusal::BadLine);
-    };
-    let Some(block) = number(block) else {
-        return Err(Refusal::BadLine);
-    };
+    let object = number(object).ok_or(Refusal::BadLine)?;
+    let block = number(block).ok_or(Refusal::BadLine)?;
     let mut bytes = [0u8; 512];
     if !fill_block(digits, &mut bytes) {
         return Err(Refusal::BadLine);
@@ -241,15 +229,9 @@ fn write_at(
 fn block_place(alloc: Global, operands: Option<&[u8]>) -> Result<(Target, u32, u32), Refusal>
     ensures { (request : Target → ℕ → ℕ → Request) → MeansBlock result (words_left (option_copied operands.entry)) request }
 {
-    let Some((target, object, block)) = three(operands) else {
-        return Err(Refusal::BadLine);
-    };
-    let Some(object) = number(object) else {
-        return Err(Refusal::BadLine);
-    };
-    let Some(block) = number(block) else {
-        return Err(Refusal::BadLine);
-    };
+    let (target, object, block) = three(operands).ok_or(Refusal::BadLine)?;
+    let object = number(object).ok_or(Refusal::BadLine)?;
+    let block = number(block).ok_or(Refusal::BadLine)?;
     let target = Target::read(alloc, target)?;
     Ok((target, object, block))
 }
@@ -281,12 +263,8 @@ fn punch(alloc: Global, operands: Option<&[u8]>) -> Result<Request, Refusal>
 fn free_object(alloc: Global, operands: Option<&[u8]>) -> Result<Request, Refusal>
     ensures { Means result (free_object_of (words_left (option_copied operands.entry))) }
 {
-    let Some((target, object)) = two(operands) else {
-        return Err(Refusal::BadLine);
-    };
-    let Some(object) = number(object) else {
-        return Err(Refusal::BadLine);
-    };
+    let (target, object) = two(operands).ok_or(Refusal::BadLine)?;
+    let object = number(object).ok_or(Refusal::BadLine)?;
     let target = Target::read(alloc, target)?;
     Ok(Request::FreeObject { target, object })
 }
@@ -332,9 +310,7 @@ fn snap_names(alloc: Global, words: &[u8]) -> Result<SnapNames, Refusal>
 pub(crate) fn lone_target(alloc: Global, operands: Option<&[u8]>) -> Result<Target, Refusal>
     ensures { (request : Target → Request) → MeansTarget result (words_left (option_copied operands.entry)) request }
 {
-    let Some(target) = one(operands) else {
-        return Err(Refusal::BadLine);
-    };
+    let target = one(operands).ok_or(Refusal::BadLine)?;
     Target::read(alloc, target)
 }
 
@@ -376,12 +352,8 @@ fn destroyed(alloc: Global, operands: Option<&[u8]>, recursive: bool) -> Result<
 fn lone_number(operands: Option<&[u8]>) -> Result<u64, Refusal>
     ensures { (request : ℕ → Request) → MeansNumber result (words_left (option_copied operands.entry)) request }
 {
-    let Some(word) = one(operands) else {
-        return Err(Refusal::BadLine);
-    };
-    let Some(number) = number(word) else {
-        return Err(Refusal::BadLine);
-    };
+    let word = one(operands).ok_or(Refusal::BadLine)?;
+    let number = number(word).ok_or(Refusal::BadLine)?;
     Ok(u64::from(number))
 }
 
@@ -422,12 +394,8 @@ fn close_view(operands: Option<&[u8]>) -> Result<Request, Refusal>
 fn pool_get(operands: Option<&[u8]>) -> Result<Request, Refusal>
     ensures { Means result (pool_get_of (words_left (option_copied operands.entry))) }
 {
-    let Some(property) = one(operands) else {
-        return Err(Refusal::BadLine);
-    };
-    let Some(property) = pool_property_named(property) else {
-        return Err(Refusal::BadLine);
-    };
+    let property = one(operands).ok_or(Refusal::BadLine)?;
+    let property = pool_property_named(property).ok_or(Refusal::BadLine)?;
     Ok(Request::PoolGet { property })
 }
 

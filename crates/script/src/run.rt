@@ -103,7 +103,7 @@ pub fn answer_line<C: Caller>(
 
 /// Asks the requests of a script's lines of a caller, in order, and writes their reply lines. Says whether a line was refused;
 /// with `stop` it ends at the first such line. The cost is linear in the script, beside the caller's; the memory is that of one
-/// line, of which a little more than 4 MiB are kept at most (profile). Whoever writes a line and waits for its reply gets it: what the
+/// line, of which a little more than 4 MiB are kept at most (profile). A program that writes a line and waits for its reply gets it: what the
 /// writer holds is written out before each read that may wait.
 ///
 /// After a fault all that was asked is answered and written, but for one line: its reply may be missing for want of memory, or
@@ -192,7 +192,7 @@ fn serve_request<C: Caller, W: Sink>(
     }
 }
 
-/// Writes that a line is refused, unless it is for want of memory. It stands apart, since a reply takes room on the stack, which is filled first.
+/// Writes that a line is refused, unless it is for want of memory. A function of its own, since a reply takes room on the stack, which is filled first.
 #[inline(never)]
 fn refuse<W: Sink>(writer: &mut W, refusal: Refusal) -> Result<Option<Refusal>, LineFault>
     ensures ok { IfOk result (λ told. (told ≡ Some refusal) × Appends (W.contents writer.old) (W.contents writer.new) (line_of (Reply.Refused refusal))) }

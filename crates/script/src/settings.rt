@@ -1,5 +1,5 @@
 //! Lines that set a limit of a file system.
-ghost use Rattle.std.specs.Prelude.{◌≡◌, ◌≤◌, ◌<◌, ◌^◌, ◌==◌, IfSome, length};
+ghost use Rattle.std.specs.Prelude.{◌≡◌, ◌<◌, ◌==◌, IfSome, length};
 ghost use Rattle.std.specs.List.{position};
 ghost use Rattle.std.specs.Option.{option_map, option_copied};
 ghost use Rattle.script.specs.Words.{at_equals, limit_of_word, amount_of_bytes, amount_of_word};
@@ -27,18 +27,10 @@ const SIZE_LIMIT: u64 = 562_949_953_421_312;
 pub(crate) fn set(alloc: Global, operands: Option<&[u8]>) -> Result<Request, Refusal>
     ensures { Means result (set_of (words_left (option_copied operands.entry))) }
 {
-    let Some((setting, name)) = two(operands) else {
-        return Err(Refusal::BadLine);
-    };
-    let Some((limit, size)) = split_at_equals(setting) else {
-        return Err(Refusal::BadLine);
-    };
-    let Some(limit) = limit_named(limit) else {
-        return Err(Refusal::BadLine);
-    };
-    let Some(amount) = amount(size) else {
-        return Err(Refusal::BadLine);
-    };
+    let (setting, name) = two(operands).ok_or(Refusal::BadLine)?;
+    let (limit, size) = split_at_equals(setting).ok_or(Refusal::BadLine)?;
+    let limit = limit_named(limit).ok_or(Refusal::BadLine)?;
+    let amount = amount(size).ok_or(Refusal::BadLine)?;
     let name = DsName::read(alloc, name)?;
     Ok(Request::Set {
         name,
@@ -94,12 +86,14 @@ fn amount(size: &[u8]) -> Option<Option<Blocks>>
     amount_of(number_up_to(size, SIZE_LIMIT)?)
 }
 
-// The amount that a number of bytes is, or no limit.
+/// The amount that a number of bytes is, or no limit where it is 0. None where it is no multiple of 512 or more than 2^49.
 #[tactic(auto, unfolding(crate::specs::Words::amount_of_bytes))]
-fn amount_of(bytes: u64) -> Option<Option<Blocks>>
-    requires { bytes ≤ 2 ^ 49 }
+pub fn amount_of(bytes: u64) -> Option<Option<Blocks>>
     ensures { result ≡ amount_of_bytes bytes }
 {
+    if bytes > SIZE_LIMIT {
+        return None;
+    }
     if bytes == 0 {
         return Some(None);
     }

@@ -39,7 +39,7 @@ pub(crate) fn write_reply<W: Sink>(writer: &mut W, reply: &Reply) -> io::Result<
 /// Room for the digits of a number.
 const NUMBER_ROOM: usize = 20;
 
-// A number, and the byte behind it. It stands apart, since its digits take room on the stack, which is filled first.
+// A number, and the byte behind it: a function of its own, since its digits take room on the stack, which is filled first.
 #[inline(never)]
 fn write_number<W: Sink>(writer: &mut W, number: u64, end: u8) -> io::Result<()>
     ensures fits { 21 ≤ W.room writer.old → IsOk result }
@@ -101,7 +101,7 @@ fn end_of(bytes: &[u8; 512]) -> usize
 /// Digits of a block.
 const BLOCK_DIGITS: usize = 1024;
 
-// A block's line. A block often ends in zeros, whose digits are there before. It stands apart, since its digits take room on the stack.
+// A block's line. A block often ends in zeros, whose digits are there before. A function of its own, since its digits take room on the stack.
 #[inline(never)]
 fn write_block<W: Sink>(writer: &mut W, bytes: &[u8; 512]) -> io::Result<()>
     ensures fits { 1025 ≤ W.room writer.old → IsOk result }

@@ -27,6 +27,7 @@ impl Tree {
         ensures cell { option_map cell_of result ≡ get self.now key }
         ensures bytes { IfSome result (λ c. key.level ≡ 0 → IsSome c.bytes) }
         ensures metered { meter.new ≡ counted meter.old (present_on_path self.now key) }
+        ensures never_lower { meter.old ≤ meter.new }
     {
         let _reached = meter.count();
         let Some(root) = &self.root else {

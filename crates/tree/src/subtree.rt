@@ -16,6 +16,7 @@ ghost use Rattle.node.specs.Kid.{IsSound};
 ghost use Rattle.node.specs.Node.{leaf_part, inner_part, part_of_slot};
 ghost use Rattle.node.specs.Cells.{dead_of};
 
+use crate::build::reach;
 use crate::tree::Tree;
 use base::meter::Meter;
 use base::number::{Dead, Group, Key};
@@ -249,18 +250,22 @@ impl Subtree {
         ensures keys { AreOwnOrBelow self.now }
         ensures all { branch_blocks self.now ≡ dead_block result ∷ flat_map branch_blocks (branches_below self.now) }
         ensures metered { meter.new ≡ counted meter.old 1 }
+        ensures never_lower { meter.old ≤ meter.new }
     {
         meter.add_one();
         self.node.block()
     }
 
-    /// The subtree at a place directly below, by one more owner of its top, if anything stands there: no block is visited. NoMemory
-    /// where there is none for that.
-    pub fn child(&self, place: u32) -> Result<Option<Subtree>, Refusal>
+    /// The subtree at a place directly below, by one more owner of its top, if anything stands there. It costs one node, its own top.
+    /// NoMemory where there is none for the owner.
+    pub fn child(&self, place: u32, meter: &mut Meter) -> Result<Option<Subtree>, Refusal>
         requires { place < 16 }
         ensures ok { IfOk result (λ child. child ≡ child_of self.now place) }
+        ensures metered { meter.new ≡ counted meter.old 1 }
+        ensures never_lower { meter.old ≤ meter.new }
         ensures err { OnErr result (result ≡ Err Refusal.NoMemory) }
     {
+        reach(meter);
         match &self.node {
             Node::Leaf(_) => Ok(None),
             Node::First(node) => child_at(node, self.key, place),
@@ -305,6 +310,7 @@ impl Subtree {
         ensures old { IfOk result (λ peeled. IfNone peeled ((k : Key) → IfSome (get self.map k) (λ c. c.birth ≤ cut.0))) }
         ensures kept { IfOk result (λ peeled. IfNone peeled (tops.new.items ≡ tops.old.items)) }
         ensures metered { meter.new ≡ counted meter.old 1 }
+        ensures never_lower { meter.old ≤ meter.new }
         ensures err { OnErr result (result ≡ Err Refusal.NoMemory) }
     {
         let block = self.block(meter);
@@ -320,6 +326,7 @@ impl Subtree {
         ensures leaf { self.now.key.level ≡ 0 → option_copied result ≡ option_map (λ c. c.bytes) (get self.now.map self.now.key) }
         ensures inner { 0 < self.now.key.level → result ≡ None }
         ensures metered { meter.new ≡ counted meter.old 1 }
+        ensures never_lower { meter.old ≤ meter.new }
     {
         meter.add_one();
         match &self.node {

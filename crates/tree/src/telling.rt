@@ -1,7 +1,7 @@
 //! The blocks of a tree, as they are written.
-ghost use Rattle.std.specs.Prelude.{◌≡◌, ℕ, ◌<◌, ◌≤◌, ◌-◌, ◌/◌, ◌^◌, IfSome, Some, None, length, map, slice_index_or};
+ghost use Rattle.std.specs.Prelude.{◌≡◌, ℕ, ◌<◌, ◌≤◌, ◌-◌, ◌/◌, ◌^◌, IfSome, IfNone, Some, None, length, map, slice_index_or};
 ghost use Rattle.std.specs.FinMap.{get};
-ghost use Rattle.std.specs.Option.{option_map};
+ghost use Rattle.std.specs.Option.{OnSome, option_map};
 ghost use Rattle.base.specs.Counting.{counted};
 ghost use Rattle.base.specs.Map.{block_of};
 ghost use Rattle.node.specs.Kid.{places};
@@ -12,6 +12,7 @@ ghost use Rattle.tree.specs.Reading.{key_over, present_on_path};
 ghost use Rattle.tree.specs.Telling.{part_block, part_bytes, part_below};
 
 use crate::block::{Block, Root};
+use crate::build::reach;
 use crate::tree::Tree;
 use base::meter::Meter;
 use base::number::{Dead, Key};
@@ -51,7 +52,8 @@ trait Tell: Level {
         requires covered { at < 16 ^ depth }
         ensures told { option_map made_bytes result ≡ option_map (part_bytes (level - depth)) (part_below depth (Self.part self.now) at) }
         ensures of_tree { IfSome result IsOfTree }
-        ensures metered { meter.new ≡ counted meter.old (steps_below depth (Self.part self.now) at) };
+        ensures metered { meter.new ≡ counted meter.old (steps_below depth (Self.part self.now) at) }
+        ensures never_lower { meter.old ≤ meter.new };
 
     /// Puts where the blocks are on the way to a leaf, each at its level, from a node of a level down, with the index of the leaf among
     /// those that the node covers. The places of these levels are empty before.
@@ -62,7 +64,8 @@ trait Tell: Level {
         requires empty { (l : ℕ) → l ≤ level → slice_index_or path.old l None ≡ None }
         ensures traced { (l : ℕ) → l ≤ level → maybe_block (slice_index_or path.new l None) ≡ option_map block_of (cell_below (level - l) (Self.part self.now) (at / 16 ^ l)) }
         ensures above { (l : ℕ) → level < l → slice_index_or path.new l None ≡ slice_index_or path.old l None }
-        ensures metered { meter.new ≡ counted meter.old (steps_below level (Self.part self.now) at) };
+        ensures metered { meter.new ≡ counted meter.old (steps_below level (Self.part self.now) at) }
+        ensures never_lower { meter.old ≤ meter.new };
 }
 
 impl Tell for Leaf {
@@ -106,13 +109,19 @@ impl<C: Tell> Tell for Inner<C> {
 }
 
 impl Tree {
-    /// Where the root is, or None where the tree has no block. Constant time.
-    pub fn root(&self) -> Option<Root>
+    /// Where the root is, or None where the tree has no block. It costs the root's node, where there is one.
+    pub fn root(&self, meter: &mut Meter) -> Option<Root>
         ensures root { maybe_block result ≡ root_of self.now }
         ensures rising { AreBirthsRising self.now }
+        ensures metered { OnSome result (meter.new ≡ counted meter.old 1) }
+        ensures unmetered { IfNone result (meter.new ≡ meter.old) }
+        ensures never_lower { meter.old ≤ meter.new }
     {
         match &self.root {
-            Some(root) => Some(root_at(root.block())),
+            Some(root) => {
+                reach(meter);
+                Some(root_at(root.block()))
+            }
             None => None,
         }
     }
@@ -122,6 +131,7 @@ impl Tree {
         ensures told { option_map made_bytes result ≡ option_map (bytes_of self.now key) (get self.now key) }
         ensures of_tree { IfSome result IsOfTree }
         ensures metered { meter.new ≡ counted meter.old (present_on_path self.now key) }
+        ensures never_lower { meter.old ≤ meter.new }
     {
         let _reached = meter.count();
         let Some(root) = &self.root else {
@@ -144,6 +154,7 @@ impl Tree {
         requires { leaf < 1048576 }
         ensures path { (l : ℕ) → l ≤ 5 → maybe_block (slice_index_or result l None) ≡ option_map block_of (get self.now (key_over leaf l)) }
         ensures metered { meter.new ≡ counted meter.old (present_on_path self.now (key_over leaf 0)) }
+        ensures never_lower { meter.old ≤ meter.new }
     {
         let _reached = meter.count();
         let mut path = [None; 6];

@@ -1,5 +1,5 @@
 -- The requests of calls without text.
-use Rattle.std.specs.Prelude.{ℕ, ◌^◌, nat_lt, Bool, List, [], ◌∷◌, Option, None, Some, slice_get, if◌then◌else◌}
+use Rattle.std.specs.Prelude.{ℕ, Bool, List, [], ◌∷◌, Option, None, Some, slice_get}
 use Rattle.std.specs.Option.{option_map, option_and_then}
 use Rattle.base.specs.Reading.{name_of, component_of, tag_of, snap_of, mark_of, target_of}
 use Rattle.model.specs.declared.limits.Limit.{Limit}
@@ -7,7 +7,6 @@ use Rattle.model.specs.declared.request.Property.{Property}
 use Rattle.model.specs.declared.request.PoolProperty.{PoolProperty}
 use Rattle.model.specs.declared.request.Request.{Request}
 use Rattle.model.specs.declared.request.Request.TheVariants.{Create, Write, Punch, FreeObject, Read, Get, Snapshot, Rollback, Destroy, Clone, Promote, OpenView, Hold, Release, Holds, Bookmark, WrittenSince, WouldFree, Set, Send, Receive}
-use Rattle.script.specs.Words.{amount_of_bytes}
 use Rattle.yuzgont_c.specs.declared.asking.TheConstants.{PROPERTIES, OF_POOL, LIMITS}
 
 -- a write of a block, where the bytes are a name (profile)
@@ -105,8 +104,3 @@ pool_property_at number = slice_get OF_POOL number
 -- the limit of a number, if there is one (profile)
 abbrev pub limit_at : ℕ → Option Limit
 limit_at number = slice_get LIMITS number
-
--- so many bytes as the amount of a limit: 0 lets it go, and what is no multiple of 512 or more than 2^49 is none (zfsprops(7): quota; the
--- greatest is profile)
-abbrev pub amount_at : ℕ → Option (Option ℕ)
-amount_at bytes = if nat_lt (2 ^ 49) bytes then None else amount_of_bytes bytes

@@ -4,7 +4,7 @@ ghost use Rattle.base.specs.Reading.{Reads};
 ghost use Rattle.yuzgont_c.specs.Asking.{asked_write, asked_punch, asked_read, asked_snapshot, asked_get, asked_send_from, asked_receive, property_at};
 ghost use Rattle.yuzgont_c.specs.Asking.{asked_create, asked_free_object, asked_rollback, asked_destroy, asked_clone, asked_promote, asked_open_view};
 ghost use Rattle.yuzgont_c.specs.Asking.{asked_hold, asked_release, asked_holds, asked_bookmark, asked_written_since, asked_would_free, asked_set};
-ghost use Rattle.yuzgont_c.specs.Asking.{pool_property_at, limit_at, amount_at};
+ghost use Rattle.yuzgont_c.specs.Asking.{pool_property_at, limit_at};
 
 use base::data::Data;
 use base::limit::Blocks;
@@ -53,9 +53,6 @@ const LIMITS: [Limit; 4] = [
     Limit::Reservation,
     Limit::RefReservation,
 ];
-
-// The most bytes of a limit: those of 2^40 blocks.
-const MOST_AMOUNT: u64 = 562_949_953_421_312;
 
 // A new file system.
 pub(crate) fn ask_create(alloc: Global, name: &[u8]) -> Result<Request, Refusal>
@@ -327,24 +324,4 @@ pub(crate) fn limit_of(number: u32) -> Option<Limit>
     ensures { result ≡ limit_at number }
 {
     LIMITS.get(number as usize).copied()
-}
-
-// The amount of a limit that so many bytes are, or no limit.
-#[tactic(auto, unfolding(script::specs::Words::amount_of_bytes))]
-pub(crate) fn amount_of(bytes: u64) -> Option<Option<Blocks>>
-    ensures { result ≡ amount_at bytes }
-{
-    if bytes > MOST_AMOUNT {
-        return None;
-    }
-    if bytes == 0 {
-        return Some(None);
-    }
-    if bytes % 512 != 0 {
-        return None;
-    }
-    match Blocks::new(bytes / 512) {
-        Ok(blocks) => Some(Some(blocks)),
-        Err(_) => None,
-    }
 }

@@ -2,7 +2,8 @@
 ghost use Rattle.std.specs.Prelude.{◌≡◌, Some, None, IfOk, IfErr};
 ghost use Rattle.yuzgont_c.specs.Answers.{Codes};
 ghost use Rattle.yuzgont_c.specs.Asking.{asked_create, asked_clone, asked_destroy, asked_promote, asked_rollback, asked_snapshot, asked_bookmark, asked_hold, asked_release, asked_holds};
-ghost use Rattle.yuzgont_c.specs.Asking.{asked_punch, asked_free_object, asked_written_since, asked_would_free, asked_receive, property_at, pool_property_at, limit_at, amount_at};
+ghost use Rattle.yuzgont_c.specs.Asking.{asked_punch, asked_free_object, asked_written_since, asked_would_free, asked_receive, property_at, pool_property_at, limit_at};
+ghost use Rattle.script.specs.Words.{amount_of_bytes};
 ghost use Rattle.yuzgont_c.specs.Calls.{Calls, Creates, IsFresh, CanBe, CreateRefused, Does, Writes, ReadsBlock, TellsNumber, GetsOf, PoolGetsOf, SetsOf, Syncs, Slices, OpensView, Lists, NamesPiece, Sends, Answers, RepliesPiece, StreamsPiece, Forgotten};
 ghost use Rattle.model.specs.declared.request.Request.TheVariants.{Abandon, CloseView, List};
 
@@ -356,7 +357,7 @@ pub extern "C" fn yuzgont_set(
     limit: u32,
     amount: u64,
 ) -> i32
-    ensures { Codes result (λ answer. Calls (SetsOf name.now (limit_at limit) (amount_at amount)) pool.old.slot.host answer pool.new.slot.host) }
+    ensures { Codes result (λ answer. Calls (SetsOf name.now (limit_at limit) (amount_of_bytes amount)) pool.old.slot.host answer pool.new.slot.host) }
 {
     on_host!(alloc, pool, |host| host.set(name, limit, amount))
 }

@@ -3,7 +3,8 @@ ghost use Rattle.std.specs.Prelude.{◌≡◌, Option, Some, IfOk, IfErr, length
 ghost use Rattle.model.specs.Step.{Step};
 ghost use Rattle.yuzgont_c.specs.Answers.{answer_of, number_in, view_in, names_in, stream_in};
 ghost use Rattle.yuzgont_c.specs.Asking.{asked_create, asked_clone, asked_destroy, asked_promote, asked_rollback, asked_snapshot, asked_bookmark, asked_hold, asked_release, asked_holds};
-ghost use Rattle.yuzgont_c.specs.Asking.{asked_punch, asked_free_object, asked_written_since, asked_would_free, asked_receive, property_at, pool_property_at, limit_at, amount_at};
+ghost use Rattle.yuzgont_c.specs.Asking.{asked_punch, asked_free_object, asked_written_since, asked_would_free, asked_receive, property_at, pool_property_at, limit_at};
+ghost use Rattle.script.specs.Words.{amount_of_bytes};
 ghost use Rattle.yuzgont_c.specs.Calls.{Does, Asks, KeepsResults, Writes, ReadsBlock, ReadInto, TellsNumber, GetsOf, PoolGetsOf, SetsOf, Syncs, Slices, OpensView, Lists, NamesPiece, Sends, Answers, number_told, Forgotten, IsFresh, CanBe, CreateRefused};
 ghost use Rattle.yuzgont_c.specs.Pieces.{IsPiece};
 ghost use Rattle.base.specs.Reading.{Reads};
@@ -12,8 +13,8 @@ ghost use Rattle.model.specs.declared.request.Request.TheVariants.{Abandon, Clos
 
 use crate::answer::Answer;
 use crate::asking::{
-    amount_of, ask_bookmark, ask_clone, ask_create, ask_destroy, ask_free_object, ask_get,
-    ask_hold, ask_holds, ask_open_view, ask_promote, ask_punch, ask_read, ask_receive, ask_release,
+    ask_bookmark, ask_clone, ask_create, ask_destroy, ask_free_object, ask_get, ask_hold,
+    ask_holds, ask_open_view, ask_promote, ask_punch, ask_read, ask_receive, ask_release,
     ask_rollback, ask_send, ask_set, ask_snapshot, ask_would_free, ask_write, ask_written_since,
     limit_of, pool_property_of, property_of,
 };
@@ -26,6 +27,7 @@ use model::request::Request;
 use pool::{MOST_BLOCKS, Pool};
 use runner::PoolCaller;
 use script::run::answer_line;
+use script::settings::amount_of;
 use std::alloc::Global;
 
 /// A pool, the reply of its last line, the stream of its last send and the names of its last list. Each call is one step of the pool, or none.
@@ -159,7 +161,7 @@ impl Host {
     /// Sets a limit of a file system to an amount in bytes, or lets it go where that is 0, as `Request::Set`. NoProperty where no limit has
     /// this number, BadAmount where the amount is no multiple of 512 or more than 2^49.
     pub fn set(&mut self, name: &[u8], limit: u32, amount: u64) -> Answer
-        ensures { SetsOf name.now (limit_at limit) (amount_at amount) self.old result self.new }
+        ensures { SetsOf name.now (limit_at limit) (amount_of_bytes amount) self.old result self.new }
     {
         let Some(limit) = limit_of(limit) else {
             return Answer::NoProperty;

@@ -1,5 +1,5 @@
 //! Names of file systems, components of names, and tags.
-ghost use Rattle.std.specs.Prelude.{◌≡◌, ◌↔◌, IsTrue};
+ghost use Rattle.std.specs.Prelude.{◌≡◌, ◌↔◌, Some, IsTrue};
 ghost use Rattle.base.specs.Reading.{Reads, name_of, component_of, tag_of};
 
 use crate::name::checks::{admitted, is_component_of, is_name_of, is_tag_of};
@@ -15,11 +15,14 @@ pub struct DsName {
 }
 
 impl Model for DsName {
-    ghost use Rattle.std.specs.Prelude.{List, ℕ};
+    ghost use Rattle.std.specs.Prelude.{◌≡◌, List, ℕ, true};
+    ghost use Rattle.base.specs.Words.{is_name};
 
     ghost Value = { List ℕ };
 
     ghost view = { λ n. n.path };
+
+    ghost invariant = { λ n. is_name n.path ≡ true };
 
     ghost inverse = { λ b. record { path = b } };
 }
@@ -34,9 +37,11 @@ impl DsName {
         Ok(DsName { path })
     }
 
-    /// Its bytes, as written.
+    /// Its bytes, as written: a file system's name, which reads as itself.
+    #[tactic(auto, unfolding(crate::specs::Reading::name_of))]
     pub fn as_bytes(&self) -> &[u8]
-        ensures { result.now ≡ self.now }
+        ensures value { result.now ≡ self.now }
+        ensures reads { name_of result.now ≡ Some result.now }
     {
         self.path.as_slice()
     }
@@ -56,11 +61,14 @@ pub struct Component {
 }
 
 impl Model for Component {
-    ghost use Rattle.std.specs.Prelude.{List, ℕ};
+    ghost use Rattle.std.specs.Prelude.{◌≡◌, List, ℕ, true};
+    ghost use Rattle.base.specs.Words.{is_component};
 
     ghost Value = { List ℕ };
 
     ghost view = { λ n. n.word };
+
+    ghost invariant = { λ n. is_component n.word ≡ true };
 
     ghost inverse = { λ b. record { word = b } };
 }
@@ -75,9 +83,11 @@ impl Component {
         Ok(Component { word })
     }
 
-    /// Its bytes, as written.
+    /// Its bytes, as written: a component, which reads as itself.
+    #[tactic(auto, unfolding(crate::specs::Reading::component_of))]
     pub fn as_bytes(&self) -> &[u8]
-        ensures { result.now ≡ self.now }
+        ensures value { result.now ≡ self.now }
+        ensures reads { component_of result.now ≡ Some result.now }
     {
         self.word.as_slice()
     }
@@ -98,11 +108,14 @@ pub struct Tag {
 }
 
 impl Model for Tag {
-    ghost use Rattle.std.specs.Prelude.{List, ℕ};
+    ghost use Rattle.std.specs.Prelude.{◌≡◌, List, ℕ, true};
+    ghost use Rattle.base.specs.Words.{is_tag};
 
     ghost Value = { List ℕ };
 
     ghost view = { λ t. t.tag };
+
+    ghost invariant = { λ t. is_tag t.tag ≡ true };
 
     ghost inverse = { λ b. record { tag = b } };
 }
@@ -117,9 +130,11 @@ impl Tag {
         Ok(Tag { tag })
     }
 
-    /// Its bytes, as written.
+    /// Its bytes, as written: a tag, which reads as itself.
+    #[tactic(auto, unfolding(crate::specs::Reading::tag_of))]
     pub fn as_bytes(&self) -> &[u8]
-        ensures { result.now ≡ self.now }
+        ensures value { result.now ≡ self.now }
+        ensures reads { tag_of result.now ≡ Some result.now }
     {
         self.tag.as_slice()
     }

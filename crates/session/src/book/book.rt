@@ -24,7 +24,7 @@ pub const CALL_LIMIT: u64 = 1_000_000;
 pub const SEAT_LIMIT: u32 = 64;
 
 /// What lies under the lock: the pool, and the history that led to its state. Contracts see the history, the pool's state, and how many
-/// seats were given. Whoever has a book knows that the history is a run of the pool from the state that `K` names to the present one,
+/// seats were given. The holder of a book knows that the history is a run of the pool from the state that `K` names to the present one,
 /// and that it takes as many calls as `K` says.
 #[derive(Drop)]
 pub struct Book<K: Opening> {
@@ -76,7 +76,7 @@ impl<K: Opening> Book<K> {
         })
     }
 
-    /// How many more calls it takes. The history is a run of the pool from its opening to the present state, whoever asks.
+    /// How many more calls it takes. The history is a run of the pool from its opening to the present state.
     pub fn room(&self) -> usize
         ensures left { result + length self.now.history ≡ K.limit }
         ensures legal { IsLegal K.opening self.now.history self.now.pool }

@@ -29,6 +29,7 @@ pub fn read<'a>(
     ensures only { IfErr result (λ e. e ≡ Refusal.BadKey) }
     ensures metered { OnOk result (meter.new ≡ counted meter.old (present_on_path tree.now (record { level = 0; index = leaf_index object block }))) }
     ensures unmetered { OnErr result (meter.new ≡ meter.old) }
+    ensures never_lower { meter.old ≤ meter.new }
 {
     let Some(leaf) = leaf_of(object, block) else {
         return Err(Refusal::BadKey);
