@@ -1,11 +1,9 @@
 """What the scripts share that tell of rows: their words, refusals, and sums."""
 
+from plain import REFUSALS, Refused
+
 MASK = (1 << 64) - 1
 PAST = 1 << 32
-REFUSALS = (
-    "BadName NoDataset Exists NoParent BadKey ReadOnly NotSnapshot Busy HasClones HasChildren NotNewest NotClone NameClash TagExists NoTag "
-    "Deferred NotAncestor Quota RefQuota NoSpace TooMany BadStream WrongSource Modified NoMemory NoView IsRoot BadLine SessionFull TooManySeats"
-).split()
 LETTERS = set("abcdefghijklmnopqrstuvwxyzABCDEFGHIJKLMNOPQRSTUVWXYZ0123456789-_.:")
 
 
@@ -13,10 +11,6 @@ def mixed(total, number):
     """The sum of a sequence whose last number this is."""
     total = (total * 6364136223846793005 + number) & MASK
     return (total << 23 | total >> 41) & MASK
-
-
-class Refused(Exception):
-    """A refusal, by its name."""
 
 
 def error(name):

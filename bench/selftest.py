@@ -21,6 +21,8 @@ ZFSP, LIBRARY = "crates/zfsp/out/zfsp", "crates/yuzgont_c/out/libyuzgont_c.a"
 BUILT = (ZFSP, LIBRARY, "crates/yuzgont_c/out/libyuzgont_c.a.stamp")
 # A crate whose wrong bodies are broken.
 CRATE = "node"
+# And one whose wrong bodies strike methods, below free functions of the same files.
+METHODS = "batch"
 # A command in the place of `rt ci`, which counts its runs in a file: the first says something, and later ones that all passed.
 STUB = "echo run >>runs; [ $(wc -l <runs) = 1 ] && { %s; exit 1; }; echo '3 passed, 0 failed'"
 
@@ -108,6 +110,23 @@ def body_made_right(copy):
     return *copy.python("bench/wrong_bodies.py", "--verify"), f"{CRATE}/refused/{edit.stem} changes nothing", f"{CRATE}/refused/{edit.stem} has changed since"
 
 
+def function_changed(copy):
+    """A word more at the place of a wrong body, in each function of the crate that one strikes: each has to be tried again, methods too."""
+    names = []
+    for edit in sorted(copy.root.glob(f"crates/{METHODS}/refused/*.edit")):
+        file, old = (re.search(rf"^{it}: (.*)$", edit.read_text(), re.M)[1] for it in ("file", "old"))
+        source = copy.root / f"crates/{METHODS}/{file}"
+        text = source.read_text()
+        source.write_text(text.replace(old, f"{old} /* changed */"))
+        status, said = copy.python("bench/wrong_bodies.py", "--verify")
+        source.write_text(text)
+        name = f"{METHODS}/refused/{edit.stem} has changed since it was tried"
+        if not status or name not in said:
+            return 0, f"{name} is not said"
+        names.append(name)
+    return 1, "\n".join(names), METHODS
+
+
 def line_of_another_function(copy):
     copy.edit("bench/wrong_bodies.txt", rf"^({CRATE}\n  \S+ \S+: ).*$", rf"\1{CRATE}::Nothing::at_all: returns")
     return *copy.python("bench/wrong_bodies.py", "--verify"), "strikes another function than its line says"
@@ -180,6 +199,7 @@ BROKEN = {
     "a wrong body deleted": (body_deleted, None),
     "a wrong body that wasn't tried": (body_without_line, None),
     "a wrong body made right": (body_made_right, None),
+    "a function that was changed since": (function_changed, None),
     "a wrong body that the prover lets pass": (body_let_pass, None),
     "a line of another function": (line_of_another_function, None),
     "a digest put right by hand": (digest_by_hand, None),

@@ -24,8 +24,8 @@ left out, and each check has J jobs, one if left out.
 
 --verify tries nothing. It compares the digests with the texts, and the lines with the files: each wrong body has one, of the function that it
 strikes. --gate tries a round of wrong bodies anew of each crate whose texts differ from main's (or, on main itself, from the last commit's), and
-then of crates in an order that the digest of HEAD's tree gives, until these have taken M minutes of the processors, 5 if left out. That digest
-also says which bodies of a crate come first. It writes nothing, and fails where a body isn't refused by the goals of its line. --plan only prints
+then of crates in an order that the digest of HEAD's tree gives, until these have taken M minutes, 5 if left out; what has begun goes on to its end. That
+digest also says which bodies of a crate come first. It writes nothing, and fails where a body isn't refused by the goals of its line. --plan only prints
 which crates --gate would try. The status is 1 where something fails.
 
 The libraries below a crate are those in place, where all are current, or else what `rt ci` has kept; what is in neither is built first.
@@ -67,18 +67,30 @@ def indent(line):
     return len(line) - len(line.lstrip())
 
 
+def head_of(lines, row):
+    """The row at which the innermost function around a row of a laid out file begins, or None outside each function."""
+    least = indent(lines[row]) + bool(HEAD.match(lines[row]))
+    for at in range(row, -1, -1):
+        line = lines[at]
+        if line.strip() and indent(line) < least and not line.lstrip().startswith(("//", "#")):
+            if HEAD.match(line):
+                return at
+            if ITEM.match(line):
+                return None
+    return None
+
+
 def struck(crate, path, text, at):
     """A pattern of the prover's names for the function around a place of a laid out file, or None outside each function."""
-    lines, row = text.split("\n"), text.count("\n", 0, at)
-    least, name, owners = indent(lines[row]) + bool(HEAD.match(lines[row])), None, []
-    for line in reversed(lines[: row + 1]):
+    lines = text.split("\n")
+    head, owners = head_of(lines, text.count("\n", 0, at)), []
+    if head is None:
+        return None
+    name, least = HEAD.match(lines[head])[1], indent(lines[head])
+    for line in reversed(lines[:head]):
         if not line.strip() or indent(line) >= least or line.lstrip().startswith(("//", "#")):
             continue
-        if name is None and HEAD.match(line):
-            name, least = HEAD.match(line)[1], indent(line)
-        elif name is None and ITEM.match(line):
-            return None
-        elif name and OWNER.match(line):
+        if OWNER.match(line):
             # `impl From<AllocError> for Refusal` is RefusalFromAllocError, and `impl<T> List<T>` is List
             trait, _, of = re.sub(r" where .*", "", OWNER.match(line)[2]).rpartition(" for ")
             words = (re.findall(r"\w+", of.partition("<")[0]) or [r"\w*"])[-1:]
@@ -86,8 +98,8 @@ def struck(crate, path, text, at):
             owners, least = ["".join(words), *owners], indent(line)
     # A method stands in the module of its type, which may be another, and a closure of a function below `fn`.
     parts = [f"{it}::" for it in path[len("src/") : -len(".rt")].split("/") if it not in ("lib", "main", "mod")]
-    parts, whole = r"(?:\w+::)*?" if owners else "".join(parts), "::".join([*owners, name or ""])
-    return f"{crate}::{parts}(?:{whole}|fn::{whole}::\\S+)" if name else None
+    parts, whole = r"(?:\w+::)*?" if owners else "".join(parts), "::".join([*owners, name])
+    return f"{crate}::{parts}(?:{whole}|fn::{whole}::\\S+)"
 
 
 @dataclass(eq=False)
@@ -338,13 +350,9 @@ def told_by(path, text):
 
 def function_at(text, at):
     """The text of the function around a place of a laid out file, with its attributes and contract; the whole text outside each function."""
-    lines, row = text.split("\n"), text.count("\n", 0, at)
-    head, least = row, indent(lines[row]) + bool(HEAD.match(lines[row]))
-    while head >= 0 and not (indent(lines[head]) < least and HEAD.match(lines[head])):
-        if lines[head].strip() and not lines[head].lstrip().startswith(("//", "#")):
-            least = min(least, max(indent(lines[head]), 1))
-        head -= 1
-    if head < 0:
+    lines = text.split("\n")
+    head = head_of(lines, text.count("\n", 0, at))
+    if head is None:
         return text
     depth, end, has_body = indent(lines[head]), head, False
     for end in range(head, len(lines)):
@@ -542,7 +550,7 @@ class Gate:
         self.libraries, self.minutes, self.table, self.order = libraries, minutes, Table(), order_of_tree()
         self.missing = libraries.take(libraries.crates)
         libraries.proved()
-        self.faults, self.bodies, self.tried = [], 0, []
+        self.faults, self.bodies, self.tried, self.running = [], 0, [], {}
 
     def try_crate(self, name):
         """Tries a round of the wrong bodies of a crate, and compares what refuses them with their lines."""
@@ -552,7 +560,10 @@ class Gate:
             self.faults.append(f"{name}: the libraries of {' '.join(missing)} are missing: run rt ci")
             return
         trial = Trial(self.libraries, crate, order=self.order)
-        if not trial.run():
+        self.running[name] = time.monotonic()
+        is_proved = trial.run()
+        del self.running[name]
+        if not is_proved:
             self.faults.append(f"{name} is not proved as it stands")
             return
         lines, names = trial.lines(), {name_of(it.file) for it in trial.tried()}
@@ -568,11 +579,15 @@ class Gate:
         with ThreadPoolExecutor(max(1, self.libraries.rt.processors() // 2)) as pool:
             list(pool.map(lambda it: None if is_enough() else self.try_crate(it), names))
 
+    def at_work(self):
+        """The seconds by the clock since the trials that haven't ended were begun."""
+        return sum(time.monotonic() - it for it in list(self.running.values()))
+
     def run(self):
         changed, others = planned()
         self.in_lanes(changed, lambda: False)
         since = used()
-        self.in_lanes(others, lambda: used() - since >= 60 * self.minutes)
+        self.in_lanes(others, lambda: used() - since + self.at_work() >= 60 * self.minutes)
         print("".join(f"wrong_bodies: {it}\n" for it in self.faults), end="")
         chosen = [it for it in self.tried if it in others]
         print(
