@@ -1,10 +1,11 @@
 //! The dead list of a dataset.
-ghost use Rattle.std.specs.Prelude.{◌≡◌, ◌+◌, ◌^◌, ◌≤◌, ◌<◌, ◌++◌, ◌∷◌, ◌⊎◌, [], length, filter, drop, OnOk, OnErr, IfOk, IfErr, IsOk, nat_le, nat_lt, ◌==◌, slice_get, if◌then◌else◌, true, false};
+ghost use Rattle.std.specs.Prelude.{◌≡◌, ◌+◌, ◌^◌, ◌≤◌, ◌<◌, ◌++◌, ◌∷◌, ◌⊎◌, [], length, filter, drop, max, OnOk, OnErr, IfOk, IfErr, IsOk, nat_le, nat_lt, ◌==◌, slice_get, if◌then◌else◌, true, false};
 ghost use Rattle.std.specs.List.{list_any};
 ghost use Rattle.std.specs.Option.{option_map};
 ghost use Rattle.std.specs.List.Sorted.{IsPermutation, IsStrictlyIncreasing};
 ghost use Rattle.base.specs.Counting.{counted};
 ghost use Rattle.base.specs.declared.refusal.Refusal.TheVariants.{NoMemory};
+ghost use Rattle.deadlist.specs.Bits.{search_steps};
 ghost use Rattle.deadlist.specs.Entries.{is_after, is_upto};
 ghost use Rattle.deadlist.specs.Left.{left};
 ghost use Rattle.deadlist.specs.Segments.{with_cut, with_cuts, without_cut, reached_upto, reached_after};
@@ -18,14 +19,16 @@ use base::refusal::Refusal;
 use std::alloc::{AllocError, Global};
 use std::marker::Model;
 
-/// Blocks that a dataset has let go and the dataset before it still has, with their births (On-Disk Specification, chapter 4:
-/// dead lists), in segments: a cut at a group divides the entries born by it from those born after it. The cuts rise, and the
-/// last segment is open upwards.
+/// The blocks that a dataset no longer has and the dataset before it still has, with their births (On-Disk Specification, chapter 4: dead
+/// lists). Cuts divide the list into segments: a cut at a group divides the entries born by that group from those born after it. The cuts rise,
+/// and the last segment has no upper cut.
 ///
-/// The entries of the last segment stand in order of birth, in runs of which each is more than twice as long as the next one; so any
-/// group divides it in about the square of the logarithm of its entries. New entries wait behind the segments, 64 at most once a `reserve`
-/// has sorted in more, or an `append`. A copy shares the runs, so that it costs the segments and the entries that wait. No entry was born
-/// before `low`, and none after `high`: a group that has all on one side reaches none.
+/// The entries of the last segment are in order of birth, in runs of which each is more than twice as long as the next one. So dividing it at
+/// any group costs about the square of the logarithm of its entries. New entries wait behind the segments; at most 63 wait after an `append`, or
+/// after a `reserve` that has sorted entries in. A copy shares the runs, so that it costs the segments and the waiting entries. No entry was
+/// born before `low`, and none after `high`, so that a count at a group that has all entries on one side looks into no segment.
+///
+/// Contracts see how many entries wait (`waiting`), and how many others a sum looks at, at most (`steps`). The meter of a sum counts both.
 pub struct Deadlist {
     parts: Parts,
     count: u64,
@@ -35,7 +38,7 @@ pub struct Deadlist {
     alloc: Global,
 }
 
-// By hand, so that it is proved once: a derived one is laid out anew in each crate that drops the type.
+// Written by hand, so that it is proved once: a derived one is expanded anew in each crate that drops the type.
 impl Drop for Deadlist {
     fn drop(self) {
         let Deadlist {
@@ -55,7 +58,7 @@ impl Model for Deadlist {
     ghost use Rattle.std.specs.Prelude.{◌≡◌, ◌++◌, ◌-◌, ◌^◌, min, length};
     ghost use Rattle.std.specs.Vec.{vec_len, vec_capacity};
     ghost use Rattle.deadlist.specs.Held.{Held};
-    ghost use Rattle.deadlist.specs.Segments.{IsCut, AreBornFrom, AreBornBy, entries_of, cuts_of};
+    ghost use Rattle.deadlist.specs.Segments.{IsCut, AreBornFrom, AreBornBy, entries_of, cuts_of, steps_of};
 
     ghost Value = { Held };
 
@@ -63,6 +66,8 @@ impl Model for Deadlist {
       entries = entries_of d.parts ++ d.fresh.items;
       cuts = cuts_of d.parts;
       room = min (vec_capacity d.fresh - vec_len d.fresh) (2 ^ 64 - 1 - d.count);
+      waiting = length d.fresh.items;
+      steps = steps_of d.parts;
     } };
 
     ghost invariant = { λ d. IsCut d.parts × (d.count ≡ length (entries_of d.parts ++ d.fresh.items))
@@ -75,6 +80,8 @@ impl Deadlist {
     pub fn new(alloc: Global) -> Deadlist
         ensures entries { result.entries ≡ [] }
         ensures cuts { result.cuts ≡ [] }
+        ensures waiting { result.waiting ≡ 0 }
+        ensures steps { result.steps ≡ 0 }
     {
         Deadlist {
             parts: Parts::new(alloc),
@@ -86,13 +93,16 @@ impl Deadlist {
         }
     }
 
-    /// An equal list. It costs the segments with their runs, which it shares, and the entries that wait; the meter counts all segments,
-    /// also at an error. NoMemory where memory is refused.
+    /// An equal list, which shares the runs. It costs the segments with their runs, and the waiting entries. The meter counts all segments, also
+    /// at an error. NoMemory where memory is refused.
     pub fn copy(&self, meter: &mut SegMeter) -> Result<Deadlist, Refusal>
         ensures entries { IfOk result (λ d. d.entries ≡ self.now.entries) }
         ensures cuts { IfOk result (λ d. d.cuts ≡ self.now.cuts) }
+        ensures waiting { IfOk result (λ d. d.waiting ≡ self.now.waiting) }
+        ensures steps { IfOk result (λ d. d.steps ≡ self.now.steps) }
         ensures err { IfErr result (λ e. e ≡ NoMemory) }
         ensures meter { meter.new ≡ counted meter.old (length self.now.cuts + 1) }
+        ensures never_lower { meter.old ≤ meter.new }
     {
         reach(meter, self.segments());
         let parts = self.parts.copy(self.alloc)?;
@@ -107,19 +117,26 @@ impl Deadlist {
         })
     }
 
-    /// Makes room for that many pushes, until another call that changes the list. Once 64 entries were put in, or as many as the list
-    /// has segments, it also sorts these in, each by a binary search over the cuts, and where runs become one it costs their entries; the
-    /// meter then counts all segments. NoMemory where memory is refused, and then nothing is changed.
+    /// Makes room for that many pushes, until another call that changes the list. Once at least 64 entries wait, and at least as many as the
+    /// list has segments, it also sorts these in: each costs a binary search over the cuts, and runs that are merged cost their entries. Then
+    /// the meter counts all segments. NoMemory where memory is refused, or where the list with these pushes would have more entries than a u64
+    /// counts; then nothing is changed.
     pub fn reserve(&mut self, n: usize, meter: &mut SegMeter) -> Result<(), Refusal>
         ensures entries { IsPermutation self.old.entries self.new.entries }
         ensures cuts { self.new.cuts ≡ self.old.cuts }
         ensures room { OnOk result (n ≤ self.new.room) }
+
+        // Few wait then; and a sum looks at no more entries than before, or than about the square of the logarithm of all.
+        ensures waiting { OnOk result (self.new.waiting ≤ max 63 (length self.old.cuts)) }
+        ensures steps { OnOk result
+            (self.new.steps ≤ max self.old.steps (search_steps (length self.old.entries))) }
         ensures unchanged { OnErr result (self.new ≡ self.old) }
         ensures err { IfErr result (λ e. e ≡ NoMemory) }
 
-        // It reaches no segment, and the entries stand as they stood, or it reaches all.
+        // Either it reaches no segment, and the entries keep their order, or it reaches all segments.
         ensures meter { ((meter.new ≡ meter.old) × (self.new.entries ≡ self.old.entries))
             ⊎ (meter.new ≡ counted meter.old (length self.old.cuts + 1)) }
+        ensures never_lower { meter.old ≤ meter.new }
     {
         if n as u64 > u64::MAX - self.count {
             return Err(Refusal::NoMemory);
@@ -134,12 +151,14 @@ impl Deadlist {
         Ok(())
     }
 
-    // Sorts the new entries into their segments, and makes room for that many pushes.
+    // Sorts the waiting entries into their segments, and makes room for that many pushes.
     fn sort(&mut self, n: usize) -> Result<(), AllocError>
         requires { n + length self.old.entries < 2 ^ 64 }
         ensures entries { IsPermutation self.old.entries self.new.entries }
         ensures cuts { self.new.cuts ≡ self.old.cuts }
         ensures room { OnOk result (n ≤ self.new.room) }
+        ensures waiting { OnOk result (self.new.waiting ≡ 0) }
+        ensures steps { OnOk result (self.new.steps ≤ search_steps (length self.old.entries)) }
         ensures unchanged { OnErr result (self.new ≡ self.old) }
     {
         let sorted = self.parts.sorted(self.alloc, self.fresh.as_slice())?;
@@ -149,12 +168,14 @@ impl Deadlist {
         Ok(())
     }
 
-    /// Puts an entry into the list, for which a `reserve` made room. It takes no memory, and costs the same in every list.
+    /// Adds an entry. A `reserve` must have made room for it. It takes no memory. Constant time.
     pub fn push_reserved(&mut self, dead: Dead)
         requires { 0 < self.old.room }
         ensures entries { self.new.entries ≡ self.old.entries ++ dead ∷ [] }
         ensures cuts { self.new.cuts ≡ self.old.cuts }
         ensures room { self.new.room + 1 ≡ self.old.room }
+        ensures waiting { self.new.waiting ≡ self.old.waiting + 1 }
+        ensures steps { self.new.steps ≡ self.old.steps }
     {
         self.fresh.push_reserved(dead);
         self.count += 1;
@@ -162,12 +183,15 @@ impl Deadlist {
         self.high = self.high.max(dead.birth.0);
     }
 
-    /// Puts in those of these entries that were born by the cut, in their order, for which a `reserve` made room. It takes no memory, and
-    /// costs the number of these entries.
+    /// Adds those of these entries that were born by the cut, in their order. A `reserve` must have made room for them. It takes no memory, and
+    /// costs the number of all these entries.
     pub fn push_upto(&mut self, entries: &[Dead], cut: Group)
         requires { length (filter (is_upto cut.0) entries.now) ≤ self.old.room }
         ensures entries { self.new.entries ≡ self.old.entries ++ filter (is_upto cut.0) entries.now }
         ensures cuts { self.new.cuts ≡ self.old.cuts }
+        ensures waiting { self.new.waiting
+            ≡ self.old.waiting + length (filter (is_upto cut.0) entries.now) }
+        ensures steps { self.new.steps ≡ self.old.steps }
     {
         for dead in entries {
             if dead.birth.0 <= cut.0 {
@@ -176,9 +200,10 @@ impl Deadlist {
         }
     }
 
-    /// Adds the other's entries and cuts: whole segments where the cuts agree, else their entries by a binary search each. It costs the
-    /// segments of both with their runs, and the entries that wait, which are sorted in where they are 64; and where runs become one, these.
-    /// The meter counts the segments of both. NoMemory where memory is refused, and then the other is handed back, and both are unchanged.
+    /// Adds the other list's entries and cuts: whole segments where the cuts agree, and else each entry by a binary search. It costs the
+    /// segments of both lists with their runs, the waiting entries, which are sorted in where there are 64 or more, and the entries of runs that
+    /// are merged. The meter counts the segments of both. NoMemory where memory is refused; then the other list is handed back, and both are
+    /// unchanged.
     pub fn append(
         &mut self,
         other: Deadlist,
@@ -187,11 +212,14 @@ impl Deadlist {
         ensures entries { OnOk result
             (IsPermutation (self.old.entries ++ other.entries) self.new.entries) }
         ensures cuts { OnOk result (self.new.cuts ≡ with_cuts self.old.cuts other.cuts) }
+        ensures waiting { OnOk result (self.new.waiting ≤ 63) }
+        ensures steps { OnOk result (self.new.steps ≤ search_steps (length self.new.entries)) }
         ensures unchanged { OnErr result (self.new ≡ self.old) }
         ensures returned { IfErr result (λ e. e.1 ≡ other) }
         ensures err { IfErr result (λ e. e.0 ≡ NoMemory) }
         ensures meter { meter.new
             ≡ counted meter.old ((length self.old.cuts + 1) + (length other.cuts + 1)) }
+        ensures never_lower { meter.old ≤ meter.new }
     {
         reach(meter, self.segments());
         reach(meter, other.segments());
@@ -201,33 +229,40 @@ impl Deadlist {
         }
     }
 
-    // The same, of another that stays.
+    // Adds the other list's entries and cuts; the other list stays as it is. On an error nothing is changed.
     fn joined(&mut self, other: &Deadlist) -> Result<(), AllocError>
         ensures entries { OnOk result
             (IsPermutation (self.old.entries ++ other.now.entries) self.new.entries) }
         ensures cuts { OnOk result (self.new.cuts ≡ with_cuts self.old.cuts other.now.cuts) }
+        ensures waiting { OnOk result (self.new.waiting ≤ 63) }
+        ensures steps { OnOk result (self.new.steps ≤ search_steps (length self.new.entries)) }
         ensures unchanged { OnErr result (self.new ≡ self.old) }
     {
         *self = self.both(other)?.with_few_waiting()?;
         Ok(())
     }
 
-    // The same entries, where no more than a few wait.
+    // The same list, with the waiting entries sorted in where there are 64 or more.
     fn with_few_waiting(mut self) -> Result<Deadlist, AllocError>
+        requires { self.steps ≤ search_steps (length self.entries) }
         ensures entries { IfOk result (λ d. IsPermutation self.entries d.entries) }
         ensures cuts { IfOk result (λ d. d.cuts ≡ self.cuts) }
+        ensures waiting { IfOk result (λ d. d.waiting ≤ 63) }
+        ensures steps { IfOk result (λ d. d.steps ≤ search_steps (length d.entries)) }
     {
-        if self.fresh.len() >= FEW {
-            self.sort(0)?;
+        if self.fresh.len() < FEW {
+            return Ok(self);
         }
+        self.sort(0)?;
         Ok(self)
     }
 
-    // A list of both, where all that waits in either waits.
+    // A list with the entries and cuts of both. The waiting entries of both wait in it.
     fn both(&self, other: &Deadlist) -> Result<Deadlist, AllocError>
         ensures entries { IfOk result
             (λ d. IsPermutation (self.now.entries ++ other.now.entries) d.entries) }
         ensures cuts { IfOk result (λ d. d.cuts ≡ with_cuts self.now.cuts other.now.cuts) }
+        ensures steps { IfOk result (λ d. d.steps ≤ search_steps (length d.entries)) }
     {
         let Some(count) = self.count.checked_add(other.count) else {
             return Err(AllocError);
@@ -247,22 +282,28 @@ impl Deadlist {
         })
     }
 
-    /// Takes out the entries born after the cut, and keeps the others; each list has the cuts on its side. It costs the segments that end
-    /// after the cut, which the meter counts, a search in each run of the segment that the cut divides, and the entries that wait, and now
-    /// and then a copy of the fewer of a run's two parts. NoMemory where memory is refused, and then nothing is changed.
+    /// Removes the entries born after the cut, and answers them as a list; each of the two lists has the cuts on its side. It costs the segments
+    /// that end after the cut, which the meter counts, a search in each run of the segment that the cut divides, the waiting entries, and
+    /// sometimes a copy of the smaller of a run's two parts. NoMemory where memory is refused, and then nothing is changed.
     pub fn take_after(&mut self, cut: Group, meter: &mut SegMeter) -> Result<Deadlist, Refusal>
         ensures kept { OnOk result (self.new.entries ≡ filter (is_upto cut.0) self.old.entries) }
         ensures kept_cuts { OnOk result (self.new.cuts ≡ filter (λ c. nat_le c cut.0) self.old.cuts) }
         ensures taken { IfOk result (λ d. d.entries ≡ filter (is_after cut.0) self.old.entries) }
         ensures taken_cuts { IfOk result
             (λ d. d.cuts ≡ filter (λ c. nat_lt cut.0 c) self.old.cuts) }
+        ensures kept_waiting { OnOk result (self.new.waiting ≤ self.old.waiting) }
+        ensures kept_steps { OnOk result (self.new.steps ≤ self.old.steps) }
+        ensures taken_waiting { IfOk result (λ d. d.waiting ≤ self.old.waiting) }
+        ensures taken_steps { IfOk result (λ d. d.steps ≤ self.old.steps) }
         ensures unchanged { OnErr result (self.new ≡ self.old) }
         ensures err { IfErr result (λ e. e ≡ NoMemory) }
         ensures meter { meter.new ≡ counted meter.old (reached_after cut.0 self.old.cuts) }
+        ensures never_lower { meter.old ≤ meter.new }
     {
-        let count = self.space_after(cut, meter);
+        reach(meter, self.parts.reached_after(cut.0));
         let (kept, taken) = dealt(self.alloc, self.fresh.as_slice(), cut.0)?;
         let parts = self.parts.take_after(self.alloc, cut.0)?;
+        let count = parts.sum_from(0) + taken.len() as u64;
         let (low, high) = (self.low.max(cut.0.saturating_add(1)), self.high);
         self.fresh = kept;
         self.count -= count;
@@ -277,20 +318,26 @@ impl Deadlist {
         })
     }
 
-    /// How many entries were born after the cut, in blocks: from the segments' sizes, and where the cut doesn't stand also from the
-    /// segment that it divides. It costs the segments that end after the cut, which the meter counts, and where some entries were born
-    /// by the cut and some after it, a search in each run of that segment and the entries that wait.
+    /// How many entries were born after the cut, which is their space in blocks. It adds the segments' sizes; where the list doesn't have this
+    /// cut, it also counts in the segment that the cut divides. The meter counts the segments that end after the cut, and each entry that the
+    /// sum looks at. Where some entries were born by the cut and some after it, those are some in each run of the divided segment, and the
+    /// waiting entries; else there are none.
     pub fn space_after(&self, cut: Group, meter: &mut SegMeter) -> u64
         ensures space { result ≡ length (filter (is_after cut.0) self.now.entries) }
-        ensures meter { meter.new ≡ counted meter.old (reached_after cut.0 self.now.cuts) }
+        ensures reached { counted meter.old (reached_after cut.0 self.now.cuts) ≤ meter.new }
+        ensures looked { meter.new
+            ≤ meter.old + (reached_after cut.0 self.now.cuts + (self.now.steps + self.now.waiting)) }
+        ensures never_lower { meter.old ≤ meter.new }
     {
         reach(meter, self.parts.reached_after(cut.0));
-        self.count_after(cut.0)
+        self.count_after(cut.0, meter)
     }
 
-    // How many entries were born after the cut.
-    fn count_after(&self, cut: u64) -> u64
-        ensures { result ≡ length (filter (is_after cut) self.now.entries) }
+    // How many entries were born after the cut. The meter counts those that it looks at.
+    fn count_after(&self, cut: u64, meter: &mut SegMeter) -> u64
+        ensures count { result ≡ length (filter (is_after cut) self.now.entries) }
+        ensures looked { meter.new ≤ meter.old + (self.now.steps + self.now.waiting) }
+        ensures never_lower { meter.old ≤ meter.new }
     {
         let count = self.count;
         if self.high <= cut {
@@ -299,23 +346,30 @@ impl Deadlist {
         if cut < self.low {
             return count;
         }
-        self.parts.sum_after(cut) + count_in(self.fresh.as_slice(), cut)
+        let sum = self.parts.sum_after(cut, meter);
+        sum + count_in(self.fresh.as_slice(), cut, meter)
     }
 
-    /// How many entries were born by the cut, in blocks: from the segments' sizes, and where the cut doesn't stand also from the segment
-    /// that it divides. It costs the segments that end by the cut and that one, which the meter counts, and where some entries were born
-    /// by the cut and some after it, a search in each run of that segment and the entries that wait.
+    /// How many entries were born by the cut, which is their space in blocks. It adds the segments' sizes; where the list doesn't have this cut,
+    /// it also counts in the segment that the cut divides. The meter counts the segments that end at the cut or before it and the divided one,
+    /// and each entry that the sum looks at. Where some entries were born by the cut and some after it, those are some in each run of the divided
+    /// segment, and the waiting entries; else there are none.
     pub fn space_upto(&self, cut: Group, meter: &mut SegMeter) -> u64
         ensures space { result ≡ length (filter (is_upto cut.0) self.now.entries) }
-        ensures meter { meter.new ≡ counted meter.old (reached_upto cut.0 self.now.cuts) }
+        ensures reached { counted meter.old (reached_upto cut.0 self.now.cuts) ≤ meter.new }
+        ensures looked { meter.new
+            ≤ meter.old + (reached_upto cut.0 self.now.cuts + (self.now.steps + self.now.waiting)) }
+        ensures never_lower { meter.old ≤ meter.new }
     {
         reach(meter, self.parts.reached_upto(cut.0));
-        self.count_upto(cut.0)
+        self.count_upto(cut.0, meter)
     }
 
-    // How many entries were born by the cut.
-    fn count_upto(&self, cut: u64) -> u64
-        ensures { result ≡ length (filter (is_upto cut) self.now.entries) }
+    // How many entries were born by the cut. The meter counts those that it looks at.
+    fn count_upto(&self, cut: u64, meter: &mut SegMeter) -> u64
+        ensures count { result ≡ length (filter (is_upto cut) self.now.entries) }
+        ensures looked { meter.new ≤ meter.old + (self.now.steps + self.now.waiting) }
+        ensures never_lower { meter.old ≤ meter.new }
     {
         let count = self.count;
         if self.high <= cut {
@@ -325,24 +379,27 @@ impl Deadlist {
             return 0;
         }
         let fresh = self.fresh.as_slice();
-        self.parts.sum_upto(cut) + (fresh.len() as u64 - count_in(fresh, cut))
+        let sum = self.parts.sum_upto(cut, meter);
+        sum + (fresh.len() as u64 - count_in(fresh, cut, meter))
     }
 
-    /// The entries, segment by segment, and then those that no `reserve` has sorted in yet. The meter counts all segments at once,
-    /// however many of the entries are then asked for.
+    /// The entries, segment by segment, and then the waiting ones, which aren't sorted in yet. The meter counts all segments at once, however
+    /// many entries are then read.
     pub fn iter(&self, meter: &mut SegMeter) -> Iter<'_>
         ensures entries { left result ≡ self.now.entries }
         ensures meter { meter.new ≡ counted meter.old (length self.now.cuts + 1) }
+        ensures never_lower { meter.old ≤ meter.new }
     {
         reach(meter, self.segments());
         Iter::new(&self.parts, self.fresh.as_slice())
     }
 
-    /// The entries of `iter` without that many of the first. It costs a step for each segment and each run that it passes. The meter
-    /// counts all segments at once.
+    /// The entries of `iter` without the first `first` ones. It costs a step for each segment and each run that it skips. The meter counts all
+    /// segments at once.
     pub fn iter_from(&self, first: u64, meter: &mut SegMeter) -> Iter<'_>
         ensures entries { left result ≡ drop first self.now.entries }
         ensures meter { meter.new ≡ counted meter.old (length self.now.cuts + 1) }
+        ensures never_lower { meter.old ≤ meter.new }
     {
         let mut entries = self.iter(meter);
         entries.pass(first);
@@ -356,7 +413,7 @@ impl Deadlist {
         self.count
     }
 
-    /// How many segments it has: one more than cuts, which rise.
+    /// How many segments it has: one more than it has cuts. The cuts rise.
     pub fn segments(&self) -> usize
         ensures count { result ≡ length self.now.cuts + 1 }
         ensures rising { IsStrictlyIncreasing self.now.cuts }
@@ -364,7 +421,7 @@ impl Deadlist {
         self.parts.closed.len() + 1
     }
 
-    /// The group of the cut with that index, counted from the lowest, or None where it has no more. Constant time.
+    /// The group of the cut with that index, counted from the lowest, or None where there is no such cut. Constant time.
     pub fn cut_at(&self, index: usize) -> Option<Group>
         ensures { option_map (λ g. g.0) result ≡ slice_get self.now.cuts index }
     {
@@ -372,18 +429,21 @@ impl Deadlist {
         Some(segment.upper)
     }
 
-    /// Sets a cut, where it doesn't stand; the meter then counts the segment that it divides. It costs a search in each run of that segment
-    /// and its entries that wait, and moves the segments behind it. NoMemory where memory is refused, and then nothing is changed. Where
-    /// the cut stands it takes no memory.
+    /// Adds a cut at `group`, unless the list has it; then the meter counts the segment that the cut divides. It costs a search in each run of
+    /// that segment and the waiting entries of that segment, and moves the segments behind it. NoMemory where memory is refused, and then
+    /// nothing is changed. Where the list has the cut already it takes no memory.
     pub fn cut(&mut self, group: Group, meter: &mut SegMeter) -> Result<(), Refusal>
         ensures entries { IsPermutation self.old.entries self.new.entries }
         ensures cuts { OnOk result (self.new.cuts ≡ with_cut group.0 self.old.cuts) }
         ensures stands { list_any (λ c. c == group.0) self.old.cuts ≡ true → IsOk result }
         ensures room { self.new.room ≡ self.old.room }
+        ensures waiting { self.new.waiting ≡ self.old.waiting }
+        ensures steps { self.new.steps ≤ self.old.steps }
         ensures unchanged { OnErr result (self.new ≡ self.old) }
         ensures err { IfErr result (λ e. e ≡ NoMemory) }
         ensures meter { meter.new
             ≡ counted meter.old (if list_any (λ c. c == group.0) self.old.cuts then 0 else 1) }
+        ensures never_lower { meter.old ≤ meter.new }
     {
         let _before = meter.count();
         let at = self.parts.upto(group.0);
@@ -394,18 +454,21 @@ impl Deadlist {
         Ok(())
     }
 
-    /// Removes a cut, where it stands; the meter then counts the two segments that become one. It costs the entries of the second, and
-    /// moves the segments behind it. NoMemory where memory is refused, and then nothing is changed. Where the cut doesn't stand it takes no
-    /// memory.
+    /// Removes the cut at `group`, if the list has it; then the meter counts the two segments that become one. It costs the entries of the
+    /// second, and moves the segments behind it. NoMemory where memory is refused, and then nothing is changed. Where the list doesn't have the
+    /// cut it takes no memory.
     pub fn join(&mut self, group: Group, meter: &mut SegMeter) -> Result<(), Refusal>
         ensures entries { self.new.entries ≡ self.old.entries }
         ensures cuts { OnOk result (self.new.cuts ≡ without_cut group.0 self.old.cuts) }
         ensures absent { list_any (λ c. c == group.0) self.old.cuts ≡ false → IsOk result }
         ensures room { self.new.room ≡ self.old.room }
+        ensures waiting { self.new.waiting ≡ self.old.waiting }
+        ensures steps { self.new.steps ≤ self.old.steps + length self.old.entries }
         ensures unchanged { OnErr result (self.new ≡ self.old) }
         ensures err { IfErr result (λ e. e ≡ NoMemory) }
         ensures meter { meter.new
             ≡ counted meter.old (if list_any (λ c. c == group.0) self.old.cuts then 2 else 0) }
+        ensures never_lower { meter.old ≤ meter.new }
     {
         let _before = meter.count();
         let at = self.parts.upto(group.0);
@@ -419,7 +482,8 @@ impl Deadlist {
 
 /// Counts that many segments.
 fn reach(meter: &mut SegMeter, segments: usize)
-    ensures { meter.new ≡ counted meter.old segments }
+    ensures metered { meter.new ≡ counted meter.old segments }
+    ensures never_lower { meter.old ≤ meter.new }
 {
     let _before = meter.count();
     for _i in 0..segments {

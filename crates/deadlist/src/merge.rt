@@ -1,16 +1,18 @@
-//! Entries put into the segments that they lie in, one by one or a whole segment at a time.
-ghost use Rattle.std.specs.Prelude.{◌≡◌, ◌+◌, ◌<◌, ◌++◌, List, OnOk, IfOk, IsTrue};
+//! Additions of entries to the segments of their births, one by one or a whole segment at a time.
+ghost use Rattle.std.specs.Prelude.{◌≡◌, ◌+◌, ◌≤◌, ◌<◌, ◌++◌, List, length, OnOk, IfOk, IsTrue};
 ghost use Rattle.std.specs.List.Sorted.{IsPermutation};
 ghost use Rattle.base.specs.declared.number.Dead.{Dead};
-ghost use Rattle.deadlist.specs.Segments.{IsCut, AreBornFrom, AreBornByIf, FitsAt, entries_of, cuts_of, with_cuts, pile_at, with_pile, last_with};
+ghost use Rattle.deadlist.specs.Bits.{search_steps};
+ghost use Rattle.deadlist.specs.Segments.{IsCut, AreBornFrom, AreBornByIf, AreAlike, FitsAt, entries_in, entries_of, cuts_of, most_steps, steps_of, with_cuts, pile_at, with_pile, last_with};
+ghost use Rattle.deadlist.specs.Spans.{spans};
 
-use crate::parts::Parts;
+use crate::parts::{Parts, Segment};
 use crate::pile::Pile;
 use base::number::Dead;
 use std::alloc::{AllocError, Global};
 
 impl Parts {
-    /// Puts entries into the segments that their births lie in.
+    /// Adds each of these entries to the segment of its birth.
     pub fn place_all(&mut self, alloc: Global, entries: &[Dead]) -> Result<(), AllocError>
         requires { IsCut self.old }
         ensures entries { OnOk result
@@ -24,11 +26,11 @@ impl Parts {
         Ok(())
     }
 
-    /// Puts the entries of a pile into the segments that their births lie in.
+    /// Adds each entry of a pile to the segment of its birth.
     fn place_pile(&mut self, alloc: Global, pile: &Pile) -> Result<(), AllocError>
         requires { IsCut self.old }
         ensures entries { OnOk result
-            (IsPermutation (entries_of self.old ++ pile.now) (entries_of self.new)) }
+            (IsPermutation (entries_of self.old ++ pile.now.entries) (entries_of self.new)) }
         ensures cuts { OnOk result (cuts_of self.new ≡ cuts_of self.old) }
         ensures cut { OnOk result (IsCut self.new) }
     {
@@ -39,14 +41,14 @@ impl Parts {
         self.place_all(alloc, tail)
     }
 
-    /// Puts the entries of a pile to those of the segment with that index.
+    /// Adds the entries of a pile to the segment with that index.
     fn put_pile(&mut self, alloc: Global, at: usize, pile: Pile) -> Result<(), AllocError>
-        ensures closed { OnOk result (self.new.closed.items ≡ with_pile self.old.closed.items at
-            (pile_at self.new.closed.items self.new.last at)) }
-        ensures last { OnOk result (self.new.last ≡ last_with self.old.closed.items self.old.last at
-            (pile_at self.new.closed.items self.new.last at)) }
-        ensures pile { OnOk result (IsPermutation (pile_at self.old.closed.items self.old.last at ++ pile)
-            (pile_at self.new.closed.items self.new.last at)) }
+        ensures closed { OnOk result (spans self.new.closed.items ≡ with_pile (spans self.old.closed.items) at
+            (pile_at (spans self.new.closed.items) self.new.last.entries at)) }
+        ensures last { OnOk result (self.new.last.entries ≡ last_with (spans self.old.closed.items) self.old.last.entries at
+            (pile_at (spans self.new.closed.items) self.new.last.entries at)) }
+        ensures pile { OnOk result (IsPermutation (pile_at (spans self.old.closed.items) self.old.last.entries at ++ pile.entries)
+            (pile_at (spans self.new.closed.items) self.new.last.entries at)) }
     {
         let own = self.replace(at, Pile::new(alloc));
         let all = own.joined(pile)?;
@@ -54,10 +56,10 @@ impl Parts {
         Ok(())
     }
 
-    /// Whether the segment with that index ends no earlier than the group, or than any where there is none.
+    /// Whether the segment with that index has no upper cut, or has it at `to` or later. Where `to` is None, only the last segment will do.
     fn ends_late(&self, at: usize, to: Option<u64>) -> bool
         ensures { IsTrue result
-            → (q : List Dead) → AreBornByIf to q → FitsAt self.now.closed.items at q }
+            → (q : List Dead) → AreBornByIf to q → FitsAt (spans self.now.closed.items) at q }
     {
         if at >= self.closed.len() {
             return true;
@@ -68,7 +70,8 @@ impl Parts {
         }
     }
 
-    /// Adds a pile whose entries were born between the groups: whole, where one segment takes them all.
+    /// Adds a pile whose entries were born from `from` to `to`, or from `from` on where `to` is None. It is added whole where one segment takes
+    /// all its entries.
     fn absorb(
         &mut self,
         alloc: Global,
@@ -77,10 +80,10 @@ impl Parts {
         to: Option<u64>,
     ) -> Result<(), AllocError>
         requires cut { IsCut self.old }
-        requires from { AreBornFrom from pile }
-        requires to { AreBornByIf to pile }
+        requires from { AreBornFrom from pile.entries }
+        requires to { AreBornByIf to pile.entries }
         ensures entries { OnOk result
-            (IsPermutation (entries_of self.old ++ pile) (entries_of self.new)) }
+            (IsPermutation (entries_of self.old ++ pile.entries) (entries_of self.new)) }
         ensures cuts { OnOk result (cuts_of self.new ≡ cuts_of self.old) }
         ensures cut { OnOk result (IsCut self.new) }
     {
@@ -91,7 +94,7 @@ impl Parts {
         self.place_pile(alloc, &pile)
     }
 
-    /// Adds the other's cuts and entries, whole segments where the cuts agree.
+    /// Adds the cuts and entries of the other. Where the cuts agree, whole segments are added.
     pub fn merge(&mut self, alloc: Global, other: &Parts) -> Result<(), AllocError>
         requires cut { IsCut self.old }
         requires other { IsCut other.now }
@@ -112,30 +115,45 @@ impl Parts {
         self.absorb(alloc, last, from, None)
     }
 
-    /// A copy with more entries, each in the segment that its birth lies in, and those of the last segment in order.
+    /// A copy with these entries added, each to the segment of its birth, and with each segment settled.
     pub fn sorted(&self, alloc: Global, entries: &[Dead]) -> Result<Parts, AllocError>
         requires { IsCut self.now }
         ensures entries { IfOk result
             (λ p. IsPermutation (entries_of self.now ++ entries.now) (entries_of p)) }
         ensures cuts { IfOk result (λ p. cuts_of p ≡ cuts_of self.now) }
         ensures cut { IfOk result (λ p. IsCut p) }
+        ensures steps { IfOk result (λ p. steps_of p ≤ search_steps (length (entries_of p))) }
     {
         let mut parts = self.copy(alloc)?;
         parts.place_all(alloc, entries)?;
         parts.settled(alloc)
     }
 
-    /// The same entries, where those of the last segment are in order.
-    pub fn settled(self, alloc: Global) -> Result<Parts, AllocError>
-        requires { IsCut self }
-        ensures entries { IfOk result (λ p. IsPermutation (entries_of self) (entries_of p)) }
-        ensures cuts { IfOk result (λ p. cuts_of p ≡ cuts_of self) }
+    /// The same entries and cuts, with each segment settled, as `Pile::settled` says.
+    pub fn settled(&self, alloc: Global) -> Result<Parts, AllocError>
+        requires { IsCut self.now }
+        ensures entries { IfOk result (λ p. IsPermutation (entries_of self.now) (entries_of p)) }
+        ensures cuts { IfOk result (λ p. cuts_of p ≡ cuts_of self.now) }
         ensures cut { IfOk result (λ p. IsCut p) }
+        ensures steps { IfOk result (λ p. steps_of p ≤ search_steps (length (entries_of p))) }
     {
+        let closed = settled_all(alloc, self.closed.as_slice())?;
         let last = self.last.settled(alloc)?;
-        Ok(Parts {
-            closed: self.closed,
-            last,
-        })
+        Ok(Parts { closed, last })
     }
+}
+
+/// The same segments, where the entries of each are in order.
+fn settled_all(alloc: Global, segments: &[Segment]) -> Result<Vec<Segment>, AllocError>
+    ensures alike { IfOk result (λ v. AreAlike (spans segments.now) (spans v.items)) }
+    ensures steps { IfOk result
+        (λ v. most_steps v.items ≤ search_steps (length (entries_in (spans segments.now)))) }
+{
+    let mut settled = Vec::with_capacity(alloc, segments.len())?;
+    for segment in segments {
+        let upper = segment.upper;
+        let pile = segment.pile.settled(alloc)?;
+        settled.push(Segment { upper, pile })?;
+    }
+    Ok(settled)
 }

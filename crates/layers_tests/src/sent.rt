@@ -141,7 +141,9 @@ fn counts(alloc: Global, tree: &Tree, since: Group) -> Result<(usize, u32, u64),
 }
 
 /// Leaf 16 stands in another node than leaf 0: beside it are 15 absent leaves, above it 14 absent places and the older node, and
-/// 15 absent places in each of the three nodes above.
+/// 15 absent places in each of the three nodes above. Each node that the walk comes to is reached once for its birth. A young one above the
+/// leaves is reached once more for each of its sixteen places, and a young leaf once more for its bytes: from 0, 8 + 6 * 16 + 2; from the group
+/// of the first write, 7 + 5 * 16 + 1, as the older leaf's node goes no further than its birth.
 #[test]
 fn what_the_source_has_is_not_sent(rt: HostRuntime) {
     let alloc = rt.alloc();
@@ -151,5 +153,5 @@ fn what_the_source_has_is_not_sent(rt: HostRuntime) {
     let all = counts(alloc, &rig.tree, Group(0)).expect(&rt, "memory");
     let later = counts(alloc, &rig.tree, EARLY).expect(&rt, "memory");
     let none = counts(alloc, &rig.tree, LATE).expect(&rt, "memory");
-    assert!(rt; all == (91, 0, 10) && later == (75, 16, 8) && none == (0, u32::MAX, 1));
+    assert!(rt; all == (91, 0, 106) && later == (75, 16, 88) && none == (0, u32::MAX, 1));
 }

@@ -376,10 +376,11 @@ impl Pool {
         reply
     }
 
-    /// How many nodes of trees and how many segments of dead lists were reached since the pool was made. A count stops at the greatest u64. A
-    /// request that only reads reaches nodes where it reads a block or makes a stream. A request that changes the world reaches nodes where it
-    /// changes the contents of a live map, or frees blocks. So a snapshot, a clone, a promote and any request for a property reach none.
-    /// A request that only reads reaches no more segments than the contract of `steps::answer` says. Constant time.
+    /// How many nodes of trees and how many segments of dead lists were reached since the pool was made. The second number also counts each entry
+    /// of a dead list that a sum looks at. A count stops at the greatest u64. A request that only reads reaches nodes where it reads a block or
+    /// makes a stream. A request that changes the world reaches nodes where it changes the contents of a live map, or frees blocks. So a snapshot,
+    /// a clone, a promote and any request for a property reach none. A request that only reads adds no more to the second number than the contract
+    /// of `steps::answer` says. Constant time.
     pub fn meters(&self) -> (u64, u64)
         ensures { result ≡ (self.now.nodes, self.now.segments) }
     {
@@ -397,15 +398,17 @@ impl Pool {
 
     /// The roots of the present datasets, or, where `last` is true, of those that the last sync left. The file systems come in byte order of
     /// their names; for each, the root of its live tree comes first, then those of its snapshots, the oldest first. `Image::read_tree` reads a
-    /// dataset from its root. NoMemory where the roots or their names can't be allocated. It costs the names.
+    /// dataset from its root. NoMemory where the roots or their names can't be allocated. It costs the names, and a node for each dataset, which the
+    /// pool's counts leave out.
     pub fn roots(&self, alloc: Global, last: bool) -> Result<Vec<DatasetRoot>, Refusal>
         ensures ok { IfOk result (λ roots. map shown_root roots.items ≡ roots_in (if last then self.now.state.last else self.now.state.now).file_systems) }
         ensures err { IfErr result (λ e. e ≡ Refusal.NoMemory) }
     {
+        let mut meter = Meter::new(Toll::new());
         if last {
-            return roots_of(alloc, &self.keep.last.table);
+            return roots_of(alloc, &self.keep.last.table, &mut meter);
         }
-        roots_of(alloc, &self.present.table)
+        roots_of(alloc, &self.present.table, &mut meter)
     }
 
     /// Does one step for each request, in order, and returns the replies. NoMemory where the list of replies can't be allocated; no step is done

@@ -1,5 +1,5 @@
 //! What a dataset has written since a snapshot of its lineage.
-ghost use Rattle.std.specs.Prelude.{◌≡◌, ◌-◌, Some, None, IfSome, IfNone, IfOk, IfErr, OnOk, nat_lt, true, false};
+ghost use Rattle.std.specs.Prelude.{◌≡◌, ◌≤◌, ◌-◌, Some, None, IfSome, IfNone, IfOk, IfErr, OnOk, nat_lt, true, false};
 ghost use Rattle.std.specs.Option.{option_map, option_map_or, option_copied};
 ghost use Rattle.std.specs.FinSet.{len};
 ghost use Rattle.base.specs.Map.{blocks};
@@ -20,7 +20,8 @@ use model::snapshot_id::SnapshotId;
 /// target isn't a dataset that is there or there is no such snapshot; else NotAncestor exactly where the snapshot isn't an older one of the
 /// dataset's lineage (the order is profile). It costs the logarithms of the numbers of file systems and of the snapshots of one. For each file
 /// system of the lineage down to the snapshot's it also costs the lookup of its origin, the number of its snapshots, and for each dead list of
-/// these that is of the lineage about the square of the logarithm of its entries; a dead list has one segment and is read once.
+/// these that is of the lineage about the square of the logarithm of its entries; a dead list is read once. The meter counts the one segment of
+/// each list that is read, and the entries that its sum looks at.
 pub fn written_since(
     table: &Table,
     target: &Target,
@@ -32,6 +33,7 @@ pub fn written_since(
     ensures refused { IfSome (since_refusal table.now target.now since.now) (λ e. result ≡ Err e) }
     ensures only { IfErr result (λ e. since_refusal table.now target.now since.now ≡ Some e) }
     ensures meter { IfOk result (λ n. HasReachedNamed table.now target.now since.now (segments.new - segments.old)) }
+    ensures never_lower { segments.old ≤ segments.new }
 {
     table.facts();
     let Some((file_system, dataset)) = dataset_named(table, target) else {
@@ -90,7 +92,7 @@ fn group_at(dataset: Option<&Snapshot>) -> Option<Group>
 
 // Counts the entries born by the group of the snapshot `since` in the dead lists of the datasets after it up to this one, at most the greatest
 // u64. None where `since`, a snapshot of `owner`, isn't an older one of the dataset's lineage. The walk goes down from the dataset's file system
-// to that of its origin and so on, and costs what `written_since` does.
+// to that of its origin and so on. It costs what `written_since` does, and the meter counts what it does there.
 fn gone_since(
     table: &Table,
     file_system: &FileSystem,
@@ -104,6 +106,7 @@ fn gone_since(
     ensures some { IfSome result (IsDeadSince table.now (dataset_at file_system.now (option_copied dataset.entry)) (snap_id since)) }
     ensures none { IfNone result (is_before table.now (dataset_at file_system.now (option_copied dataset.entry)) (snap_id since) ≡ false) }
     ensures meter { IfSome result (λ n. HasReached table.now (dataset_at file_system.now (option_copied dataset.entry)) (snap_id since) (segments.new - segments.old)) }
+    ensures never_lower { segments.old ≤ segments.new }
 {
     table.facts();
     let group = since.group;
