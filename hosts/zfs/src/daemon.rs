@@ -111,12 +111,23 @@ fn run_call(call: &mut Call) -> Status {
         Program::Zfs => zfs::run(call),
         Program::Zpool => zpool::run(call),
     };
+    if call.request.makes_folders {
+        make_folders(&call.world);
+    }
     match outcome {
         Ok(()) => call.status,
         Err(failure) => {
             tell(call, &failure);
             failure.status()
         }
+    }
+}
+
+/// Makes the folders in which something is mounted, as a mount does. One that can't be made is left out.
+fn make_folders(world: &World) {
+    for pool in world.pools() {
+        let mounted = pool.run(|host| host.mounted()).unwrap_or_default();
+        mounted.iter().for_each(|(_, place)| drop(fs::create_dir_all(place)));
     }
 }
 

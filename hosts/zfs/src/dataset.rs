@@ -47,6 +47,8 @@ pub struct FileSystem {
     /// Received properties that are inherited all the same, as `zfs inherit` says.
     pub hidden: BTreeSet<String>,
     pub is_mounted: bool,
+    /// Where it is mounted, if that isn't its mountpoint: a rename with `-u` leaves it where it was.
+    pub mounted_at: Option<String>,
     /// The options of its mount, which stand for properties as long as it is mounted.
     pub mount_options: Vec<String>,
     /// What a resumable receive that was cut has left.
@@ -380,6 +382,7 @@ mod tests {
             received: Values::new(),
             hidden: BTreeSet::new(),
             is_mounted: false,
+            mounted_at: None,
             mount_options: Vec::new(),
             partial: None,
             snapshots: Vec::new(),

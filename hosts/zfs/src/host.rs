@@ -75,6 +75,7 @@ impl Host {
             received: Values::new(),
             hidden: BTreeSet::new(),
             is_mounted: false,
+            mounted_at: None,
             mount_options: Vec::new(),
             partial: None,
             snapshots: Vec::new(),
@@ -247,6 +248,7 @@ impl Host {
         let is_mountable = self.is_mountable(name);
         if let Some(file_system) = self.tree.edit(name) {
             file_system.is_mounted = is_mountable && file_system.kind == Kind::FileSystem;
+            file_system.mounted_at = None;
         }
     }
 

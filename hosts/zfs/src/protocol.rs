@@ -14,13 +14,14 @@ use std::time::{Duration, SystemTime, UNIX_EPOCH};
 use std::{env, fmt, fs};
 
 /// The first word of each request.
-const VERSION: &str = "yuzfront-1";
+const VERSION: &str = "yuzfront-2";
 
 /// The most bytes of a request: more than Linux gives to a program's arguments.
 pub const REQUEST_LIMIT: usize = 4 << 20;
 
-/// The variables of a client's environment that count: options end at the first operand, and a pool to which `mount -a` is limited.
-const VARIABLES: [&str; 2] = ["POSIXLY_CORRECT", "__ZFS_POOL_RESTRICT"];
+/// The variables of a client's environment that count: options end at the first operand, a pool to which `mount -a` is limited, and folders are made
+/// where something is mounted.
+const VARIABLES: [&str; 3] = ["POSIXLY_CORRECT", "__ZFS_POOL_RESTRICT", "YUZFRONT_FOLDERS"];
 
 /// How long a client may take to send its request.
 const PATIENCE: Duration = Duration::from_secs(20);
@@ -36,6 +37,8 @@ pub struct Request {
     pub is_posix: bool,
     /// The one pool that `mount -a` and `unmount -a` go through, where it is set.
     pub restricted_to: Option<String>,
+    /// Whether each folder in which something is mounted is made after the command.
+    pub makes_folders: bool,
     pub arguments: Vec<String>,
 }
 
@@ -93,8 +96,9 @@ fn invalid(what: &str) -> io::Error {
 impl Request {
     fn encoded(&self) -> Vec<u8> {
         let (clock, program) = (self.clock.to_string(), self.program.to_string());
-        let is_posix = if self.is_posix { "1" } else { "" };
-        let head = [VERSION, &clock, &self.folder, &program, is_posix, self.restricted_to.as_deref().unwrap_or("")];
+        let set = |is_set: bool| if is_set { "1" } else { "" };
+        let restricted_to = self.restricted_to.as_deref().unwrap_or("");
+        let head = [VERSION, &clock, &self.folder, &program, set(self.is_posix), restricted_to, set(self.makes_folders)];
         let words = head.into_iter().chain(self.arguments.iter().map(String::as_str));
         words.flat_map(|word| word.bytes().filter(|&byte| byte != 0).chain([0])).collect()
     }
@@ -112,23 +116,25 @@ impl Request {
             Some("zpool") => Program::Zpool,
             _ => return Err(invalid("no program")),
         };
-        let is_posix = !words.next().ok_or_else(|| invalid("no variables"))?.is_empty();
-        let restricted_to = words.next().ok_or_else(|| invalid("no variables"))?.to_owned();
-        let restricted_to = Some(restricted_to).filter(|pool| !pool.is_empty());
-        Ok(Request { clock, folder, program, is_posix, restricted_to, arguments: words.map(str::to_owned).collect() })
+        let mut variable = || words.next().ok_or_else(|| invalid("no variables"));
+        let is_posix = !variable()?.is_empty();
+        let restricted_to = Some(variable()?.to_owned()).filter(|pool| !pool.is_empty());
+        let makes_folders = !variable()?.is_empty();
+        Ok(Request { clock, folder, program, is_posix, restricted_to, makes_folders, arguments: words.map(str::to_owned).collect() })
     }
 
     /// What this process would ask as a client.
     pub fn of_process() -> Request {
         let mut words = env::args_os().map(|word| word.to_string_lossy().into_owned());
         let program = Program::named(&words.next().unwrap_or_default());
-        let [is_posix, restricted_to] = VARIABLES.map(env::var_os);
+        let [is_posix, restricted_to, makes_folders] = VARIABLES.map(env::var_os);
         Request {
             clock: SystemTime::now().duration_since(UNIX_EPOCH).map_or(0, |since| since.as_secs() as i64),
             folder: env::current_dir().map_or_else(|_| String::from("/"), |folder| folder.to_string_lossy().into_owned()),
             program,
             is_posix: is_posix.is_some(),
             restricted_to: restricted_to.map(|pool| pool.to_string_lossy().into_owned()),
+            makes_folders: makes_folders.is_some_and(|value| !value.is_empty()),
             arguments: words.collect(),
         }
     }
@@ -202,7 +208,8 @@ mod tests {
     fn request() -> Request {
         let arguments = ["list", "", "tank/a b"].map(String::from).to_vec();
         let restricted_to = Some("tank".into());
-        Request { clock: 1_800_000_000, folder: "/home/x".into(), program: Program::Zpool, is_posix: true, restricted_to, arguments }
+        let (folder, program) = ("/home/x".into(), Program::Zpool);
+        Request { clock: 1_800_000_000, folder, program, is_posix: true, restricted_to, makes_folders: true, arguments }
     }
 
     #[test]
@@ -220,10 +227,10 @@ mod tests {
         assert!(Request::decoded(&whole[..whole.len() - 1]).is_err());
         assert!(Request::decoded(b"").is_err());
         assert!(Request::decoded(b"yuzfront-0\x001\0/\0zfs\0").is_err());
-        assert!(Request::decoded(b"yuzfront-1\0soon\0/\0zfs\0").is_err());
-        assert!(Request::decoded(b"yuzfront-1\x001\0/\0cat\0").is_err());
-        assert!(Request::decoded(b"yuzfront-1\x001\0/\0zfs\0\0").is_err());
-        assert!(Request::decoded(b"yuzfront-1\x001\0/\0zfs\0\0\0").unwrap().arguments.is_empty());
+        assert!(Request::decoded(b"yuzfront-2\0soon\0/\0zfs\0").is_err());
+        assert!(Request::decoded(b"yuzfront-2\x001\0/\0cat\0").is_err());
+        assert!(Request::decoded(b"yuzfront-2\x001\0/\0zfs\0\0\0").is_err());
+        assert!(Request::decoded(b"yuzfront-2\x001\0/\0zfs\0\0\0\0").unwrap().arguments.is_empty());
     }
 
     #[test]

@@ -223,9 +223,15 @@ impl Host {
         mount_point_in(&self.tree, name)
     }
 
-    /// The mountpoint at the last sync.
-    pub fn settled_mount_point(&self, name: &str) -> String {
-        mount_point_in(self.settled(), name).0
+    /// The file systems that are mounted, and where.
+    pub fn mounted(&self) -> Vec<(String, String)> {
+        let names = self.tree.iter().map(|(name, _)| name);
+        names.filter_map(|name| mounted_at(&self.tree, name).map(|place| (name.clone(), place))).collect()
+    }
+
+    /// Where a file system was mounted at the last sync.
+    pub fn settled_place(&self, name: &str) -> Option<String> {
+        mounted_at(self.settled(), name)
     }
 
     fn written_since(&mut self, dataset: &Dataset, since: &str) -> Value {
@@ -268,6 +274,11 @@ impl Host {
         };
         values.get(&name).cloned().unwrap_or_else(|| "-".into())
     }
+}
+
+fn mounted_at(tree: &Tree, name: &str) -> Option<String> {
+    let file_system = tree.get(name).filter(|it| it.is_mounted)?;
+    Some(file_system.mounted_at.clone().unwrap_or_else(|| mount_point_in(tree, name).0))
 }
 
 fn mount_point_in(tree: &Tree, name: &str) -> (String, Source) {

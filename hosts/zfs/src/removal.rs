@@ -55,16 +55,14 @@ impl Host {
         Ok(())
     }
 
-    /// A client that stands in a mountpoint keeps it busy. It is asked after a destroy, of what was there before.
+    /// A client that stands in a mountpoint keeps it busy; the deepest is told. What was there at the last sync counts, so this may be asked after a
+    /// destroy.
     pub fn check_unused(&self, name: &str, folder: &str) -> Outcome {
-        for below in self.settled().with_below(name) {
-            let is_mounted = self.settled().get(&below).is_some_and(|it| it.is_mounted);
-            let point = self.settled_mount_point(&below);
-            if is_mounted && (folder == point || name::is_below(folder, &point)) {
-                return Err(Failure::Told(format!("cannot unmount '{point}': pool or dataset is busy")));
-            }
+        let places = self.settled().with_below(name).into_iter().rev().filter_map(|below| self.settled_place(&below));
+        match places.into_iter().find(|place| folder == place || name::is_below(folder, place)) {
+            Some(place) => Err(Failure::Told(format!("cannot unmount '{place}': pool or dataset is busy"))),
+            None => Ok(()),
         }
-        Ok(())
     }
 
     fn destroy_whole(&mut self, name: &str) -> Outcome {

@@ -247,6 +247,7 @@ impl Host {
     pub fn unmount(&mut self, name: &str) {
         if let Some(file_system) = self.tree.edit(name) {
             file_system.is_mounted = false;
+            file_system.mounted_at = None;
         }
     }
 

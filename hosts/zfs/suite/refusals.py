@@ -101,7 +101,7 @@ def main():
     arguments = parser.parse_args()
     if 'SUITE' not in os.environ:
         parser.error('runs inside `root`')
-    passing = {line.split()[0] for line in open(arguments.s) if line.rstrip().endswith(' passes')} if arguments.s else None
+    passing = {line.split()[0] for line in open(arguments.s) if line.split()[1:2] == ['passes']} if arguments.s else None
     rules = exceptions(arguments.x)
     calls = collections.defaultdict(collections.Counter)
     for line in open(arguments.calls, errors='replace'):

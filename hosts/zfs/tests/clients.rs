@@ -10,7 +10,7 @@ use std::process::Stdio;
 use std::time::Duration;
 use std::{fs, thread};
 
-const VERSION: &str = "yuzfront-1";
+const VERSION: &str = "yuzfront-2";
 
 /// A request's words, each with a zero after it.
 fn words(words: &[&str]) -> Vec<u8> {
@@ -18,7 +18,7 @@ fn words(words: &[&str]) -> Vec<u8> {
 }
 
 fn list() -> Vec<u8> {
-    words(&[VERSION, "1800000000", "/", "zfs", "", "", "list"])
+    words(&[VERSION, "1800000000", "/", "zfs", "", "", "", "list"])
 }
 
 fn framed(bytes: &[u8]) -> Vec<u8> {
@@ -69,9 +69,9 @@ fn a_bad_frame_ends_that_client_alone() {
         ("one descriptor", framed(&list), 1),
         ("an empty one", framed(b""), 3),
         ("no zero at the end", framed(&list[..list.len() - 1]), 3),
-        ("another version", framed(&words(&["yuzfront-0", "1", "/", "zfs", "", "", "list"])), 3),
-        ("no clock", framed(&words(&[VERSION, "soon", "/", "zfs", "", "", "list"])), 3),
-        ("another program", framed(&words(&[VERSION, "1", "/", "cat", "", "", "x"])), 3),
+        ("another version", framed(&words(&["yuzfront-0", "1", "/", "zfs", "", "", "", "list"])), 3),
+        ("no clock", framed(&words(&[VERSION, "soon", "/", "zfs", "", "", "", "list"])), 3),
+        ("another program", framed(&words(&[VERSION, "1", "/", "cat", "", "", "", "x"])), 3),
         ("the longest length", u32::MAX.to_le_bytes().to_vec(), 3),
         ("too long a one", framed(&long), 3),
         ("three bytes of a length", vec![1, 0, 0], 3),

@@ -1,7 +1,7 @@
 //! What each command does, told by the commands that list.
 
 mod common;
-use common::World;
+use common::{Said, World};
 
 fn names(world: &World, of: &str) -> Vec<String> {
     world.line(&format!("zfs list -H -r -t all -o name {of}")).out.lines().map(str::to_owned).collect()
@@ -288,4 +288,48 @@ fn a_send_tells_its_steps_as_openzfs_does() {
     assert!(first("-nv -i @1").starts_with("send from tank/a@1 to tank/a@2 estimated size is "));
     assert!(first("-nv -I @1").starts_with("send from @1 to tank/a@2 estimated size is "));
     assert!(world.run("zfs send -nvP -i @1 tank/a@2").lines().last().unwrap().starts_with("size\t"));
+}
+
+/// A pool `tank` that is mounted below a folder of the test's own, and that folder.
+fn mounted_world() -> (World, String) {
+    let world = World::new();
+    let (file, place) = (world.folder.join("tank.img"), world.folder.join("m"));
+    std::fs::File::create(&file).unwrap().set_len(1 << 30).unwrap();
+    let place = place.to_str().unwrap().to_owned();
+    world.done("zpool", ["create", "-m", &place, "tank", file.to_str().unwrap()]);
+    (world, place)
+}
+
+#[test]
+fn a_mountpoint_in_which_the_caller_stands_is_busy() {
+    let (world, place) = mounted_world();
+    world.run("zfs create -p tank/a/b");
+    let inside = format!("{place}/a/b");
+    std::fs::create_dir_all(&inside).unwrap();
+    let from_inside = |words: &str| Said::from(world.command("zfs", words.split(' ')).current_dir(&inside).output().unwrap());
+    let busy = Said { status: 1, out: String::new(), err: format!("cannot unmount '{inside}': pool or dataset is busy\n") };
+    for refused in ["rename tank/a tank/c", "unmount tank/a/b", "unmount tank/a", "destroy -r tank/a", "destroy tank/a/b"] {
+        assert_eq!(from_inside(refused), busy, "{refused}");
+    }
+    // With -u nothing is mounted elsewhere, so that it stays where it was until it is mounted again.
+    assert_eq!(from_inside("rename -u tank/a tank/c").status, 0);
+    assert_eq!(value(&world, "mountpoint", "tank/c/b"), format!("{place}/c/b"));
+    assert!(world.run("zfs mount").contains(&format!("tank/c/b                        {inside}\n")));
+    assert_eq!(from_inside("rename tank/c tank/d"), busy);
+    world.run("zfs rename tank/c tank/d");
+    assert!(world.run("zfs mount").contains(&format!("tank/d/b                        {place}/d/b\n")));
+}
+
+#[test]
+fn folders_are_made_at_mountpoints_where_that_is_asked() {
+    let (world, place) = mounted_world();
+    let is_folder = |name: &str| std::path::Path::new(&format!("{place}{name}")).is_dir();
+    world.run("zfs create tank/a");
+    assert!(!is_folder("/a"));
+    let made = |words: &str| assert!(world.command("zfs", words.split(' ')).env("YUZFRONT_FOLDERS", "1").status().unwrap().success());
+    made("create -o canmount=off tank/b");
+    made("create tank/b/c");
+    assert!(is_folder("/a") && is_folder("/b/c"));
+    made("create -u tank/d");
+    assert!(!is_folder("/d"));
 }

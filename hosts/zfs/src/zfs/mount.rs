@@ -69,19 +69,25 @@ impl Host {
     fn set_mounted(&mut self, name: &str, is_mounted: bool, options: &str) {
         if let Some(file_system) = self.tree.edit(name) {
             file_system.is_mounted = is_mounted;
+            file_system.mounted_at = None;
             file_system.mount_options = options.split(',').filter(|option| !option.is_empty()).map(str::to_owned).collect();
         }
         self.settle_names();
+    }
+
+    /// Says where a file system stays mounted, whatever its mountpoint is.
+    pub fn leave_mounted(&mut self, name: &str, place: String) {
+        if let Some(file_system) = self.tree.edit(name) {
+            file_system.mounted_at = Some(place);
+        }
     }
 }
 
 fn list(call: &mut Call) -> Outcome {
     for pool in call.world.pools() {
-        let lines = pool.run(|host| {
-            let mounted: Vec<String> = host.tree.iter().filter(|(_, it)| it.is_mounted).map(|(name, _)| name.clone()).collect();
-            mounted.iter().map(|name| format!("{name:<30}  {}", host.mount_point(name).0)).collect::<Vec<_>>()
-        })?;
-        lines.iter().for_each(|line| call.output.line(line));
+        for (name, place) in pool.run(|host| host.mounted())? {
+            call.output.line(&format!("{name:<30}  {place}"));
+        }
     }
     Ok(())
 }
@@ -103,6 +109,7 @@ pub fn unmount(call: &mut Call, words: &[String]) -> Outcome {
         return unmount_path(call, &name);
     }
     let pool = walk::open(call, &name, Kinds::FILE_SYSTEM)?;
+    let folder = call.request.folder.clone();
     pool.run(move |host| {
         let base = host.open(&name)?.base;
         let fail = |reason: &str| Err(Failure::Cannot(Action::Unmount(name.clone()), Reason::Text(reason.into())));
@@ -112,6 +119,7 @@ pub fn unmount(call: &mut Call, words: &[String]) -> Outcome {
         if !base.is_mounted {
             return fail("not currently mounted");
         }
+        host.check_unused(&name, &folder)?;
         host.set_mounted(&name, false, "");
         Ok(())
     })?
@@ -120,10 +128,13 @@ pub fn unmount(call: &mut Call, words: &[String]) -> Outcome {
 fn unmount_path(call: &mut Call, path: &str) -> Outcome {
     for pool in call.world.pools() {
         let path = path.trim_end_matches('/').to_owned();
+        let folder = call.request.folder.clone();
         let is_done = pool.run(move |host| {
-            let found = host.tree.iter().find(|(name, it)| it.is_mounted && host.mount_point(name).0 == path).map(|(name, _)| name.clone());
-            found.map(|name| host.set_mounted(&name, false, "")).is_some()
-        })?;
+            let Some((name, _)) = host.mounted().into_iter().find(|(_, place)| *place == path) else { return Ok(false) };
+            host.check_unused(&name, &folder)?;
+            host.set_mounted(&name, false, "");
+            Ok(true)
+        })??;
         if is_done {
             return Ok(());
         }

@@ -33,7 +33,7 @@ pub fn run(call: &mut Call, words: &[String]) -> Outcome {
     }
     let kinds = if is_unmounted { Kinds::FILE_SYSTEM } else if has_parents { Kinds::FV } else { Kinds::FVS };
     let pool = walk::open(call, &source, kinds)?;
-    let clock = call.clock();
+    let (clock, folder) = (call.clock(), call.request.folder.clone());
     let is_valid = !source.contains('@') && name::check(&target, Kinds::FV, true).is_ok();
     if is_valid && call.world.pool_of(&target).is_none() && target.contains('/') {
         return Err(Failure::Cannot(Action::Create(target.clone()), Reason::NoPool(name::pool(&target).to_owned())));
@@ -45,7 +45,8 @@ pub fn run(call: &mut Call, words: &[String]) -> Outcome {
         if has_parents && name::check(&target, Kinds::FV, true).is_ok() && name::pool(&target) == host.name {
             host.make_parents(&target, clock).trying(|| Action::Create(target.clone()))?;
         }
-        rename_file_system(host, &source, &target, is_unmounted)
+        // With -u all stays mounted where it was.
+        rename_file_system(host, &source, &target, Some(folder.as_str()).filter(|_| !is_unmounted))
     })?;
     call.log(&pool);
     Ok(())
@@ -86,11 +87,15 @@ fn rename_snapshots(host: &mut Host, source: &str, target: &str, is_recursive: b
     Ok(())
 }
 
-fn rename_file_system(host: &mut Host, source: &str, target: &str, is_unmounted: bool) -> Outcome {
+/// Where the client stands counts if what is mounted is to move.
+fn rename_file_system(host: &mut Host, source: &str, target: &str, folder: Option<&str>) -> Outcome {
     if source == target {
         return Ok(());
     }
     check_target(host, source, target)?;
+    if let Some(folder) = folder {
+        host.check_unused(source, folder)?;
+    }
     let action = || Action::Rename(source.to_owned());
     let longest = host.tree.with_below(source).iter().flat_map(|below| longest_names(host, below)).max().unwrap_or(0);
     let levels = |name: &str| name.matches('/').count();
@@ -106,14 +111,19 @@ fn rename_file_system(host: &mut Host, source: &str, target: &str, is_unmounted:
     if let Some(reason) = reason {
         return Err(Failure::Cannot(action(), reason));
     }
+    let mut mounted = host.mounted();
+    mounted.retain(|(name, _)| name == source || name::is_below(name, source));
     if name::parent(source) == name::parent(target) {
         host.tree.rename(source, target);
     } else {
         host.move_file_system(source, target).trying(action)?;
     }
-    if !is_unmounted {
-        let mounted: Vec<String> = host.tree.with_below(target).into_iter().filter(|it| host.tree.get(it).is_some_and(|it| it.is_mounted)).collect();
-        mounted.iter().for_each(|name| host.mount(name));
+    for (old, place) in mounted {
+        let name = format!("{target}{}", &old[source.len()..]);
+        match folder {
+            Some(_) => host.mount(&name),
+            None => host.leave_mounted(&name, place),
+        }
     }
     Ok(())
 }
@@ -152,7 +162,7 @@ mod tests {
     use crate::host::tests::{host, make, snapshot};
 
     fn rename(host: &mut Host, source: &str, target: &str) -> Result<(), String> {
-        host.change(|host| rename_file_system(host, source, target, false)).map_err(|failure| failure.to_string())
+        host.change(|host| rename_file_system(host, source, target, Some("/"))).map_err(|failure| failure.to_string())
     }
 
     #[test]

@@ -171,10 +171,8 @@ fn by_path(call: &Call, operand: &str) -> Outcome<(Arc<PoolThread>, String)> {
     for pool in call.world.pools() {
         let path = path.clone();
         let found = pool.run(move |host| {
-            let mounted = host.tree.iter().filter(|(_, it)| it.is_mounted);
-            let points = mounted.map(|(name, _)| (host.mount_point(name).0, name.clone()));
-            let holds = |point: &str| path == point || is_there && name::is_below(&path, point);
-            points.filter(|(point, _)| holds(point)).map(|(point, name)| (point.len(), name)).max()
+            let holds = |place: &str| path == place || is_there && name::is_below(&path, place);
+            host.mounted().into_iter().filter(|(_, place)| holds(place)).map(|(name, place)| (place.len(), name)).max()
         })?;
         if let Some((length, name)) = found.filter(|(length, _)| best.as_ref().is_none_or(|best| *length > best.0)) {
             best = Some((length, pool, name));
