@@ -265,14 +265,13 @@ impl Host {
     }
 
     /// What was received, for the column of that name.
-    pub fn received(&self, dataset: &Dataset, property: &Property) -> String {
-        let name = property.to_string();
+    pub fn received(&self, dataset: &Dataset, property: &Property) -> Value {
         let values = match &dataset.part {
             Part::Whole => &dataset.base.received,
             Part::Snapshot(snapshot) => &snapshot.received,
-            Part::Bookmark(_) => return "-".into(),
+            Part::Bookmark(_) => return Value::none(),
         };
-        values.get(&name).cloned().unwrap_or_else(|| "-".into())
+        values.get(&property.to_string()).map_or_else(Value::none, |text| Value::plain(text.clone()))
     }
 }
 
@@ -380,7 +379,7 @@ mod tests {
         host.inherit("tank/a", &property, false).unwrap();
         assert_eq!(read(&mut host, "tank/a", "compression"), ("zle".into(), "inherited from tank".into()));
         let dataset = host.open("tank/a").unwrap();
-        assert_eq!(host.received(&dataset, &property), "lz4");
+        assert_eq!(host.received(&dataset, &property).text, "lz4");
         host.inherit("tank/a", &property, true).unwrap();
         assert_eq!(read(&mut host, "tank/a", "compression"), ("lz4".into(), "received".into()));
     }

@@ -333,3 +333,51 @@ fn folders_are_made_at_mountpoints_where_that_is_asked() {
     made("create -u tank/d");
     assert!(!is_folder("/d"));
 }
+
+#[test]
+fn a_receive_overrides_at_the_top_and_hides_what_it_leaves_out() {
+    let world = World::with_pool();
+    world.run("zfs create -p tank/a/b
+        zfs set copies=2 my:note=x quota=1G refquota=1G tank/a
+        zfs set compression=lz4 quota=2G tank/a/b
+        zfs snapshot -r tank/a@s");
+    let stream = world.stream(&["-R", "tank/a@s"]);
+    let words = "-o canmount=noauto -o compress=gzip -o quota=3G -x copies -x my:note -x refquota tank/z";
+    let said = world.receive(&stream, &words.split(' ').collect::<Vec<_>>());
+    assert_eq!(said.status, 0, "{said:?}");
+    let told = |property: &str, name: &str| world.done("zfs", ["get", "-H", "-o", "value,received,source", property, name]);
+    assert_eq!(told("canmount", "tank/z"), "noauto\t-\tlocal\n");
+    assert_eq!(told("canmount", "tank/z/b"), "on\t-\tdefault\n");
+    assert_eq!(told("compression", "tank/z"), "gzip\t-\tlocal\n");
+    assert_eq!(told("compression", "tank/z/b"), "gzip\tlz4\tinherited from tank/z\n");
+    assert_eq!(told("quota", "tank/z"), "3G\t1G\tlocal\n");
+    assert_eq!(told("quota", "tank/z/b"), "2G\t2G\treceived\n");
+    assert_eq!(told("copies", "tank/z"), "1\t2\tdefault\n");
+    assert_eq!(told("my:note", "tank/z"), "-\tx\t-\n");
+    assert_eq!(told("refquota", "tank/z"), "none\t-\tdefault\n");
+}
+
+#[test]
+fn a_replication_brings_properties_of_snapshots_that_are_there() {
+    let world = World::with_pool();
+    world.run("zfs create tank/a
+        zfs snapshot tank/a@s");
+    assert_eq!(world.receive(&world.stream(&["-R", "tank/a@s"]), &["tank/z"]).status, 0);
+    world.run("zfs set my:note=late tank/a@s
+        zfs snapshot tank/a@t");
+    assert_eq!(world.receive(&world.stream(&["-R", "-I", "@s", "tank/a@t"]), &["tank/z"]).status, 0);
+    assert_eq!(world.run("zfs get -H -o value,source my:note tank/z@s"), "late\treceived\n");
+}
+
+#[test]
+fn a_receive_sets_what_the_kind_has() {
+    let world = World::with_pool();
+    world.run("zfs create -p tank/a
+        zfs create -s -V 1M tank/a/v
+        zfs snapshot -r tank/a@s");
+    let said = world.receive(&world.stream(&["tank/a/v@s"]), &["-o", "atime=off", "tank/v"]);
+    assert_eq!(said.err, "cannot receive new filesystem stream: property 'atime' does not apply to datasets of this type\n");
+    assert_eq!(world.receive(&world.stream(&["tank/a/v@s"]), &["-x", "atime", "tank/v"]).status, 0);
+    assert_eq!(world.receive(&world.stream(&["-R", "tank/a@s"]), &["-o", "atime=off", "tank/z"]).status, 0);
+    assert_eq!((value(&world, "atime", "tank/z"), value(&world, "atime", "tank/z/v")), ("off".into(), "-".into()));
+}

@@ -9,7 +9,7 @@ use crate::dataset::{Kind, Values};
 use std::io::{self, Read, Write};
 
 /// What a stream begins with.
-pub const MAGIC: &[u8; 8] = b"YUZZFS01";
+pub const MAGIC: &[u8; 8] = b"YUZZFS02";
 
 /// The most bytes of a head: some 100,000 names of snapshots.
 const HEAD_LIMIT: usize = 64 << 20;
@@ -35,8 +35,16 @@ pub struct Begin {
     pub is_replication: bool,
     /// Whether a replication starts from a snapshot that the receiver has.
     pub is_incremental: bool,
-    /// Of a replication: all file systems, each with its snapshots and their guids.
-    pub file_systems: Vec<(String, Vec<(String, u64)>)>,
+    /// Of a replication: all file systems, each with its snapshots.
+    pub file_systems: Vec<(String, Vec<Listed>)>,
+}
+
+/// A snapshot that the sender of a replication has.
+#[derive(Clone, Debug, PartialEq, Eq)]
+pub struct Listed {
+    pub name: String,
+    pub guid: u64,
+    pub properties: Values,
 }
 
 /// One snapshot.
@@ -103,9 +111,10 @@ impl Encoder {
         for (name, snapshots) in &begin.file_systems {
             self.text(name);
             self.number(snapshots.len() as u64);
-            for (snapshot, guid) in snapshots {
-                self.text(snapshot);
-                self.number(*guid);
+            for snapshot in snapshots {
+                self.text(&snapshot.name);
+                self.number(snapshot.guid);
+                self.values(&snapshot.properties);
             }
         }
     }
@@ -170,8 +179,12 @@ impl Decoder<'_> {
             to_name: self.text()?,
             is_replication: self.flag()?,
             is_incremental: self.flag()?,
-            file_systems: self.list(|it| Some((it.text()?, it.list(|it| Some((it.text()?, it.number()?)))?)))?,
+            file_systems: self.list(|it| Some((it.text()?, it.list(Decoder::listed)?)))?,
         })
+    }
+
+    fn listed(&mut self) -> Option<Listed> {
+        Some(Listed { name: self.text()?, guid: self.number()?, properties: self.values()? })
     }
 
     fn step(&mut self) -> Option<Step> {
@@ -316,7 +329,8 @@ mod tests {
     }
 
     fn begin() -> Begin {
-        let snapshots = vec![("s".into(), 1), ("t".into(), u64::MAX)];
+        let listed = |name: &str, guid, properties| Listed { name: name.into(), guid, properties };
+        let snapshots = vec![listed("s", 1, Values::new()), listed("t", u64::MAX, Values::from([("a:b".into(), "c".into())]))];
         Begin { to_name: "tank@t".into(), is_replication: true, is_incremental: true, file_systems: vec![("tank".into(), snapshots)] }
     }
 

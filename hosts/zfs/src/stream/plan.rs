@@ -1,6 +1,6 @@
 //! What a send consists of: one step after another, each a stream of the layer.
 
-use super::format::{Begin, Step};
+use super::format::{Begin, Listed, Step};
 use super::token::Token;
 use crate::dataset::{Dataset, FileSystem, Kind, Part, Snapshot, Values};
 use crate::failure::{Action, Failure, Outcome, Reason};
@@ -216,9 +216,10 @@ impl Host {
 
     fn begin(&self, wanted: &Wanted, names: &[String], is_incremental: bool) -> Begin {
         let listed = |name: &String| {
-            let snapshots = self.tree.snapshots(name);
-            let named = snapshots.iter().map(|it| (name::snapshot(&it.name).unwrap_or_default().to_owned(), it.guid()));
-            (name.clone(), named.collect())
+            let snapshots = self.tree.get(name).map(|it| it.snapshots.clone()).unwrap_or_default();
+            let properties = |it: &Snapshot| of_snapshot(it, wanted.is_backup);
+            let listed = snapshots.iter().map(|it| Listed { name: it.name.clone(), guid: it.guid, properties: properties(it) });
+            (name.clone(), listed.collect())
         };
         Begin {
             to_name: wanted.name.clone(),

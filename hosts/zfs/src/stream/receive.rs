@@ -1,6 +1,6 @@
 //! What a receive does to a pool: one step after another, each whole or not at all.
 
-use super::format::{Begin, Step};
+use super::format::{Begin, Listed, Step};
 use super::respell::with_source;
 use super::Partial;
 use crate::dataset::{Dataset, Kind, Values};
@@ -56,6 +56,7 @@ pub struct Arrived {
     pub step: Step,
     pub bytes: Rc<Vec<u8>>,
     pub is_top: bool,
+    pub is_replication: bool,
 }
 
 /// Where a sent snapshot goes.
@@ -354,16 +355,16 @@ impl Host {
     /// What was received takes the place of what was received before. Limits that don't fit are told, and left.
     fn receive_properties(&mut self, manner: &Manner, base: &str, properties: &Values) -> Vec<String> {
         let mut told = Vec::new();
-        let before = self.tree.get(base).map(|it| it.received.clone()).unwrap_or_default();
+        let (before, local) = self.tree.get(base).map(|it| (it.received.clone(), it.local.clone())).unwrap_or_default();
         let mut wanted = properties.clone();
-        wanted.retain(|name, _| !manner.excluded.contains(name));
+        // What `-x` names is received and hidden; where it can't be inherited it isn't received, unless a local value stands for it.
+        wanted.retain(|name, _| is_inherited(name) || local.contains_key(name) || !manner.excluded.contains(name));
         let mut kept = wanted.clone();
         let gone = before.keys().filter(|name| !wanted.contains_key(*name)).map(|name| (name.clone(), "0".to_owned()));
         let changes: Vec<(String, String)> = gone.chain(wanted.clone()).collect();
         for (name, value) in changes {
             let Some(native) = Native::named(&name).filter(|native| native.is_limit()) else { continue };
-            let is_local = self.tree.get(base).is_some_and(|it| it.local.contains_key(&name));
-            if is_local {
+            if local.contains_key(&name) {
                 continue;
             }
             if let Err(reason) = self.set_limit(base, native, &value) {
@@ -380,28 +381,32 @@ impl Host {
         told
     }
 
-    /// `-o` sets what is asked, at the top or, where it can't be inherited, everywhere; `-x` has an inherited one inherited.
+    /// `-o` sets what is asked at the top, and has it inherited below; `-x` has it inherited where no local value stands for it. What can't be
+    /// inherited stays as it was received.
     fn override_properties(&mut self, manner: &Manner, arrived: &Arrived, base: &str) -> Outcome {
         let kind = arrived.step.kind;
-        let is_inherited = |property: &str| Native::named(property).is_none_or(Native::is_inherited);
+        let action = || Action::SetProperty(base.to_owned());
         for setting in &manner.settings {
-            let action = || Action::SetProperty(base.to_owned());
-            if !arrived.is_top && is_inherited(&setting.property) {
-                let property = Property::named(&setting.property);
-                if let Some(property) = property {
+            if !arrived.is_top {
+                if let Some(property) = Property::named(&setting.property).filter(|_| is_inherited(&setting.property)) {
                     self.inherit(base, &property, false).trying(action)?;
                 }
                 continue;
             }
             match check(setting, kind, true) {
                 Ok(checked) => self.set(base, &checked).trying(action)?,
-                Err(Reason::NotOfKind(_)) => {}
+                Err(Reason::NotOfKind(_)) if arrived.is_replication => {}
+                Err(Reason::NotOfKind(name)) => {
+                    let reason = Reason::Text(format!("property '{name}' does not apply to datasets of this type"));
+                    return Err(Failure::Cannot(arrived.step.action(), reason));
+                }
                 Err(reason) => return Err(Failure::Cannot(arrived.step.action(), reason)),
             }
         }
-        for property in &manner.excluded {
-            if let Some(file_system) = self.tree.edit(base) {
-                file_system.received.remove(property);
+        for name in &manner.excluded {
+            let is_local = self.tree.get(base).is_some_and(|it| it.local.contains_key(name));
+            if let Some(property) = Property::named(name).filter(|_| is_inherited(name) && !is_local) {
+                self.inherit(base, &property, false).trying(action)?;
             }
         }
         Ok(())
@@ -449,12 +454,13 @@ impl Host {
         Ok(())
     }
 
-    /// Brings what is here to what the sender of an incremental replication has: names of snapshots, and with force what it hasn't goes.
+    /// Brings what is here to what the sender of an incremental replication has: names and properties of snapshots, and with force what it hasn't
+    /// goes.
     pub fn follow_sender(&mut self, manner: &Manner, begin: &Begin) -> Outcome {
-        let mut sent: HashMap<String, HashMap<u64, String>> = HashMap::new();
+        let mut sent: HashMap<String, HashMap<u64, &Listed>> = HashMap::new();
         for (name, snapshots) in &begin.file_systems {
             let here = destination(manner, begin, &format!("{name}@x"))?;
-            sent.insert(name::base(&here).to_owned(), snapshots.iter().map(|(name, guid)| (*guid, name.clone())).collect());
+            sent.insert(name::base(&here).to_owned(), snapshots.iter().map(|it| (it.guid, it)).collect());
         }
         let top = destination(manner, begin, &begin.to_name)?;
         for base in self.tree.with_below(name::base(&top)) {
@@ -470,18 +476,19 @@ impl Host {
         Ok(())
     }
 
-    fn follow_snapshots(&mut self, manner: &Manner, base: &str, sent: &HashMap<u64, String>) -> Outcome {
+    fn follow_snapshots(&mut self, manner: &Manner, base: &str, sent: &HashMap<u64, &Listed>) -> Outcome {
         let mut gone = false;
         for snapshot in self.tree.snapshots(base) {
-            let component = name::snapshot(&snapshot.name).unwrap_or_default();
             match sent.get(&snapshot.guid()) {
-                Some(name) if name != component => {
-                    let is_free = self.tree.get(base).is_some_and(|it| it.snapshot(name).is_none());
-                    if let Some(it) = self.tree.edit_snapshot(&snapshot.name).filter(|_| is_free) {
-                        it.name.clone_from(name);
+                Some(listed) => {
+                    let is_free = self.tree.get(base).is_some_and(|it| it.snapshot(&listed.name).is_none());
+                    if let Some(it) = self.tree.edit_snapshot(&snapshot.name) {
+                        it.received.clone_from(&listed.properties);
+                        if is_free {
+                            it.name.clone_from(&listed.name);
+                        }
                     }
                 }
-                Some(_) => {}
                 // One that is held or has clones stays, as it does in ZFS.
                 None if manner.is_forced => gone |= self.layer.order(&format!("destroy {}", snapshot.path)).is_ok(),
                 None => {}
@@ -508,6 +515,11 @@ fn not_received(arrived: &Arrived, base: &str, refusal: Refusal) -> Failure {
         other => other.into(),
     };
     Failure::Cannot(arrived.step.action(), reason)
+}
+
+/// Whether a property of that name is inherited: one of users always is.
+fn is_inherited(name: &str) -> bool {
+    Native::named(name).is_none_or(Native::is_inherited)
 }
 
 /// The properties of `-o` and `-x` are known, and such that a receive may set. An origin is no property here.
@@ -545,7 +557,7 @@ mod tests {
         let wanted = Wanted { name: sent.into(), from: from.map(str::to_owned), with_properties: true, ..Wanted::default() };
         let plan = host.plan(&wanted).unwrap();
         let bytes = Rc::new(plan.steps[0].body(host).unwrap());
-        Arrived { destination: destination.into(), step: plan.steps[0].head.clone(), bytes, is_top: true }
+        Arrived { destination: destination.into(), step: plan.steps[0].head.clone(), bytes, is_top: true, is_replication: false }
     }
 
     fn receive(host: &mut Host, manner: &Manner, arrived: &Arrived) -> Result<Vec<String>, String> {

@@ -171,7 +171,7 @@ impl Query {
             Field::Name => dataset.name.clone(),
             Field::Property => property.to_string(),
             Field::Value => text.clone(),
-            Field::Received => host.received(dataset, property),
+            Field::Received => shown(property, &host.received(dataset, property), self.is_exact),
             Field::Source => source.to_string(),
         };
         Some(self.fields.iter().map(cell).collect())

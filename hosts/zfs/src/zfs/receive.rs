@@ -5,7 +5,7 @@ use crate::call::Call;
 use crate::failure::{Action, Failure, Outcome, Reason, Trying};
 use crate::name;
 use crate::options::Options;
-use crate::property::Kinds;
+use crate::property::{Kinds, Property};
 use crate::setting::{settings, Setting};
 use crate::size;
 use crate::stream::format::{read_body, read_head, read_magic, Broken, Head, Step};
@@ -40,6 +40,8 @@ pub fn run(call: &mut Call, words: &[String]) -> Outcome {
     check_overrides(&given, &excluded).trying(|| Action::Receive)?;
     let (origins, given): (Vec<Setting>, Vec<Setting>) = given.into_iter().partition(|setting| setting.property == "origin");
     let origin = origins.into_iter().next().map(|setting| setting.value);
+    // As a property may have another name too.
+    let excluded = excluded.into_iter().map(|name| Property::named(&name).map_or(name, |property| property.to_string())).collect();
     let manner = Manner { origin, settings: given, excluded, clock: call.clock(), folder: call.request.folder.clone(), ..manner(&options, target) };
     receive(call, &manner)
 }
@@ -118,7 +120,7 @@ fn receive(call: &mut Call, manner: &Manner) -> Outcome {
         let goal = destination(manner, &begin, &step.to_name)?;
         let top = top.get_or_insert_with(|| name::base(&goal).to_owned());
         let is_top = top == name::base(&goal);
-        next = receive_step(call, &pool, manner, step, length, Goal { name: goal, is_top })?;
+        next = receive_step(call, &pool, manner, step, length, Goal { name: goal, is_top, is_replication: begin.is_replication })?;
     }
     call.log(&pool);
     Ok(())
@@ -128,6 +130,7 @@ fn receive(call: &mut Call, manner: &Manner) -> Outcome {
 struct Goal {
     name: String,
     is_top: bool,
+    is_replication: bool,
 }
 
 /// Receives a step, once the head behind it has come: a stream that is cut before its end leaves nothing of its last step. That head.
@@ -150,7 +153,8 @@ fn receive_step(call: &mut Call, pool: &Arc<PoolThread>, manner: &Manner, step: 
     let count = bytes.len() as u64;
     let manner_here = manner.clone();
     let told = call.change(pool, move |host| {
-        let arrived = Arrived { destination: goal.name, step, bytes: Rc::new(bytes), is_top: goal.is_top };
+        let Goal { name: destination, is_top, is_replication } = goal;
+        let arrived = Arrived { destination, step, bytes: Rc::new(bytes), is_top, is_replication };
         host.receive_step(&manner_here, &arrived)
     })?;
     told.iter().for_each(|line| call.output.error(line));
