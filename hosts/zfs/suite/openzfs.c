@@ -1,8 +1,8 @@
 /* A preload for OpenZFS's own programs zfs and zpool: a /dev/zfs that answers.
  *
- * It has the datasets of the file $OPENZFS_HAS, a line each: name, type, origin, holds, parted by tabs, as `zfs list -H -t all -o
- * name,type,origin,userrefs` writes them. Each change is refused with the number $OPENZFS_ERRNO, as a kernel would: each name of a request of several, or with $OPENZFS_WHOLE
- * the request as a whole. So the programs say what OpenZFS says.
+ * It has the datasets of the file $OPENZFS_HAS, a line each: name, type, origin, holds, guid, parted by tabs, as `zfs list -H -t all -o
+ * name,type,origin,userrefs,guid` writes them. Each change is refused with the number $OPENZFS_ERRNO, as a kernel would: each name of a request of
+ * several, or with $OPENZFS_WHOLE the request as a whole. So the programs say what OpenZFS says.
  * The layout of a request is OpenZFS 2.1's `zfs_cmd_t` (include/sys/zfs_ioctl.h), the numbers are those of include/sys/fs/zfs.h.
  */
 #define _GNU_SOURCE
@@ -53,13 +53,14 @@ typedef struct {
 
 enum {
     POOL_CONFIGS = 0x5a04, POOL_STATS = 0x5a05, OBJSET_STATS = 0x5a12, ZPLPROPS = 0x5a13, DATASET_NEXT = 0x5a14, SNAPSHOT_NEXT = 0x5a15,
-    SET_PROPERTY = 0x5a16, SNAPSHOT = 0x5a23, GET_PROPS = 0x5a27, RELEASE = 0x5a31, HOLD = 0x5a30, HOLDS = 0x5a32, RECVD_PROPS = 0x5a33, DESTROY_SNAPS = 0x5a3b,
+    SET_PROPERTY = 0x5a16, PROMOTE = 0x5a22, SNAPSHOT = 0x5a23, GET_PROPS = 0x5a27, RELEASE = 0x5a31, HOLD = 0x5a30, HOLDS = 0x5a32, RECVD_PROPS = 0x5a33, DESTROY_SNAPS = 0x5a3b,
     LOG_HISTORY = 0x5a3f, BOOKMARK = 0x5a43, GET_BOOKMARKS = 0x5a44, DESTROY_BOOKMARKS = 0x5a45,
 };
 
 typedef struct {
     char *name, *origin;
     int volume, holds;
+    uint64_t guid;
 } dataset_t;
 
 static dataset_t has[8192];
@@ -71,8 +72,9 @@ static void load(void) {
     for (count = 0; file && count < 8192 && fgets(line, sizeof line, file);) {
         char *rest = line;
         char *name = strsep(&rest, "\t\n"), *type = strsep(&rest, "\t\n"), *origin = strsep(&rest, "\t\n"), *holds = strsep(&rest, "\t\n");
-        if (name && *name && type && origin && holds)
-            has[count++] = (dataset_t){strdup(name), strdup(origin), !strcmp(type, "volume"), atoi(holds)};
+        char *guid = strsep(&rest, "\t\n");
+        if (name && *name && type && origin && holds && guid)
+            has[count++] = (dataset_t){strdup(name), strdup(origin), !strcmp(type, "volume"), atoi(holds), strtoull(guid, NULL, 10)};
     }
     if (file)
         fclose(file);
@@ -168,7 +170,7 @@ static nvlist_t *properties(int at) {
     number(made, "compressratio", 100);
     number(made, "creation", 1700000000);
     number(made, "createtxg", group(at));
-    number(made, "guid", 777 + at);
+    number(made, "guid", has[at].guid);
     number(made, "objsetid", 50 + at);
     number(made, "version", 5);
     if (has[at].volume) {
@@ -192,7 +194,7 @@ static nvlist_t *properties(int at) {
 static int stats(request_t *request, int at) {
     memset(&request->stats, 0, sizeof request->stats);
     request->stats.type = has[at].volume ? 3 : 2;
-    request->stats.guid = 777 + at;
+    request->stats.guid = has[at].guid;
     request->stats.txg = group(at);
     request->stats.is_snapshot = strchr(has[at].name, '@') != NULL;
     for (int i = 0; i < count; i++)
@@ -238,6 +240,27 @@ static int refuse_each(request_t *request, unsigned long what, int number) {
         if (refused(what, nvpair_name(pair), number))
             nvlist_add_int32(errors, nvpair_name(pair), number);
     give(request, errors);
+    return refuse(number);
+}
+
+/* Of the snapshots up to the origin, from it backward, the first whose name a snapshot of the clone has: the kernel gives its name with EEXIST, as
+ * dsl_dataset_promote (module/zfs/dsl_dataset.c) does. Without one it doesn't refuse with EEXIST, so no text is right then. */
+static int refuse_promote(request_t *request, int number) {
+    int clone = find(request->name), at = clone < 0 ? -1 : find(has[clone].origin);
+    size_t length = at < 0 ? 0 : strcspn(has[at].name, "@") + 1;
+    if (number != EEXIST)
+        return refuse(number);
+    snprintf(request->string, sizeof request->string, "no snapshot is in the way");
+    for (; at >= 0; at--) {
+        char name[512];
+        if (strncmp(has[at].name, has[find(has[clone].origin)].name, length))
+            continue;
+        snprintf(name, sizeof name, "%s@%s", request->name, has[at].name + length);
+        if (find(name) >= 0) {
+            snprintf(request->string, sizeof request->string, "%s", has[at].name + length);
+            break;
+        }
+    }
     return refuse(number);
 }
 
@@ -298,6 +321,10 @@ static int answer(unsigned long what, request_t *request) {
         if (getenv("OPENZFS_HOLDS")) /* those of a send */
             return give(request, list());
         return refuse_each(request, what, number);
+    case PROMOTE:
+        if (number)
+            return refuse_promote(request, number);
+        break;
     case SET_PROPERTY: case SNAPSHOT: case DESTROY_SNAPS: case BOOKMARK: case DESTROY_BOOKMARKS:
         return refuse_each(request, what, number);
     }

@@ -3,15 +3,17 @@
 
     root -b BIN  refusals.py -p OPENZFS [-x EXCEPTIONS] [-s STATE] CALLS
 
-It runs inside `root`, since OpenZFS's programs make folders for mountpoints. OPENZFS is a folder into which Debian's packages zfsutils-linux, libzfs4linux, libnvpair3linux and libuutil3linux were unpacked (`fetch FOLDER
-openzfs` makes FOLDER/openzfs). CALLS is what `call` wrote. The programs run over openzfs.c, which answers in the kernel's place: it has the
-datasets that were there, and refuses each change with a number. A refusal is right where its text (standard error) and status are the
-programs' for one of the numbers that a kernel gives. What the programs can't be asked (they would need the pool itself, or a stream) is in
-EXCEPTIONS: a line each of a pattern of the call, a pattern of the text, and the place in OpenZFS's sources that gives it, parted by tabs.
+It runs inside `root`, since OpenZFS's programs make folders for mountpoints. OPENZFS is a folder into which Debian's packages zfsutils-linux,
+libzfs4linux, libnvpair3linux and libuutil3linux were unpacked (`fetch FOLDER openzfs` makes FOLDER/openzfs). CALLS is what `call` wrote. The programs
+run over openzfs.c, which answers in the kernel's place: it has the datasets that were there, and refuses each change with a number. A refusal is right
+where its text (standard error) and status are the programs' for one of the numbers that a kernel gives. A receive's stream of one snapshot is handed on
+as the first record of such a stream of OpenZFS, with the same names and guids. What the programs can't be asked (they would need the pool itself, or
+another stream) is in EXCEPTIONS: a line each of a pattern of the call, a pattern of the text, and the place in OpenZFS's sources that gives it, parted by
+tabs.
 
 Prints what differs, and a count a script. Status 0 where nothing differs in scripts that STATE says pass (all, where there is no STATE).
 """
-import argparse, collections, concurrent.futures, difflib, errno, os, pty, re, subprocess, sys, tempfile
+import argparse, collections, concurrent.futures, difflib, errno, os, pty, re, struct, subprocess, sys, tempfile
 
 NUMBERS = [errno.EIO, errno.EEXIST, errno.EBUSY, errno.ENOENT, errno.EINVAL, errno.ENOSPC, errno.EDQUOT, errno.ESRCH, errno.EXDEV, errno.ENOTSUP,
            errno.ENODEV, errno.ETXTBSY, errno.ENAMETOOLONG, errno.EROFS, errno.E2BIG, errno.EPERM, errno.ERANGE, errno.EAGAIN, errno.ENOTEMPTY, 0]
@@ -21,6 +23,31 @@ WAYS = [(number, whole) for number in NUMBERS for whole in (False, True)]
 
 def plain(text):
     return re.sub(r'\\(.)', lambda m: {'n': '\n', 't': '\t'}.get(m[1], m[1]), text)
+
+
+def begin(stream):
+    """OpenZFS's DRR_BEGIN record (include/sys/zfs_ioctl.h) of a whole stream with one step and without properties; of others nothing.
+    The stream's format is src/stream/format.rs's."""
+    records, at = [], 8
+    while stream[:8] == b'YUZZFS02' and len(stream) >= at + 13:
+        kind, head, body = struct.unpack_from('>cIQ', stream, at)
+        records.append((kind, stream[at + 13:at + 13 + head]))
+        at += 13 + head + 8 + body
+    if at != len(stream) or [kind for kind, _ in records] != [b'B', b'S', b'E']:
+        return b''
+    length, = struct.unpack_from('>Q', records[0][1])
+    is_replication, = struct.unpack_from('>Q', records[0][1], 8 + length)
+    step = records[1][1]
+    length, = struct.unpack_from('>Q', step)
+    name, (to, since, is_clone, creation, is_volume, sizes) = step[8:8 + length], struct.unpack_from('>6Q', step, 8 + length)
+    rest = 8 + length + 48
+    for _ in range(2 * sizes):
+        rest += 8 + struct.unpack_from('>Q', step, rest)[0]
+    has_properties, = struct.unpack_from('>Q', step, rest)
+    if is_replication or has_properties:
+        return b''
+    # a substream with the spill blocks of system attributes and records of what is freed
+    return struct.pack('<IIQQQIIQQ256s', 0, 0, 0x2F5bacbac, 1 | 4 << 2, creation, 3 if is_volume else 2, 4 | is_clone, to, since, name)
 
 
 class OpenZfs:
@@ -39,7 +66,7 @@ class OpenZfs:
     def ask(self, call, way):
         """The status and the text."""
         number, whole = way
-        words, there, terminals, posix = call
+        words, there, terminals, posix, stream = call
         env = {'PATH': os.environ['PATH'], 'LC_ALL': 'C', 'LD_LIBRARY_PATH': self.libraries, 'LD_PRELOAD': self.preload, 'OPENZFS_ERRNO': str(number)}
         if posix:
             env['POSIXLY_CORRECT'] = '1'
@@ -50,13 +77,16 @@ class OpenZfs:
         ours = theirs = None
         if terminals != '-':
             ours, theirs = pty.openpty()
-        with tempfile.NamedTemporaryFile('w', dir=self.scratch) as has, open(os.devnull, 'r+b') as null:
+        with tempfile.NamedTemporaryFile('w', dir=self.scratch) as has, open(os.devnull, 'r+b') as null, \
+                tempfile.TemporaryFile(dir=self.scratch) as given:
             has.write(there)
             has.flush()
+            given.write(stream)
+            given.seek(0)
             env['OPENZFS_HAS'] = has.name
             try:
                 done = subprocess.run([self.program(words[0]), *words[1:]], env=env, stderr=subprocess.PIPE, timeout=20,
-                                      stdin=theirs if '0' in terminals else null, stdout=theirs if '1' in terminals else null)
+                                      stdin=theirs if '0' in terminals else given, stdout=theirs if '1' in terminals else null)
                 answer = (done.returncode, done.stderr.replace(b'\0', b'').decode('utf-8', 'replace').strip('\n'))
             except subprocess.TimeoutExpired:
                 answer = (None, '')
@@ -105,9 +135,9 @@ def main():
     rules = exceptions(arguments.x)
     calls = collections.defaultdict(collections.Counter)
     for line in open(arguments.calls, errors='replace'):
-        script, status, terminals, posix, words, there, text = line.rstrip('\n').split('\t')
+        script, status, terminals, posix, words, there, text, stream = line.rstrip('\n').split('\t')
         if passing is None or script in passing:
-            calls[(tuple(plain(words).split('\x1f')), plain(there), terminals, posix), int(status), plain(text)][script] += 1
+            calls[(tuple(plain(words).split('\x1f')), plain(there), terminals, posix, begin(bytes.fromhex(stream))), int(status), plain(text)][script] += 1
     right, excepted, wrong = collections.Counter(), collections.Counter(), collections.Counter()
     with tempfile.TemporaryDirectory() as scratch, concurrent.futures.ThreadPoolExecutor(4) as workers:
         openzfs = OpenZfs(arguments.p, scratch)

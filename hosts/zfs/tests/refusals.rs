@@ -177,4 +177,14 @@ fn a_refused_stream_changes_nothing() {
         assert!(said.err.starts_with("cannot ") || said.err.starts_with("warning"), "{what}: {said:?}");
         assert_eq!(world.state(), before, "{what}");
     }
+    let texts: [(&[u8], &str, &str); 5] = [
+        (&full, "none", "cannot receive new filesystem stream: destination 'none' does not exist\n"),
+        (&step, "none@1", "cannot receive incremental stream: destination 'none' does not exist\n"),
+        (&step, "none/b", "cannot receive incremental stream: destination 'none/b' does not exist\n"),
+        (&step, "none/@b", "cannot receive: invalid name\n"),
+        (&full, "none/b", "cannot open 'none': dataset does not exist\ncannot receive new filesystem stream: unable to restore to destination\n"),
+    ];
+    for (stream, target, text) in texts {
+        assert_eq!(world.receive(stream, &[target]).err, text, "{target}");
+    }
 }

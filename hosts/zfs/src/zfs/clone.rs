@@ -77,20 +77,19 @@ impl Host {
         Ok(())
     }
 
-    /// Gives a clone its origin and all older snapshots.
+    /// Gives a clone its origin and all older snapshots. Of several names that are in the way the newest is told, as OpenZFS's kernel goes from the
+    /// origin backward; a name that would be too long goes before all.
     pub fn promote(&mut self, name: &str) -> Result<(), Reason> {
         let whole = self.tree.whole(name).ok_or(Reason::NoDataset)?;
         let origin = self.origin(&whole.path).ok_or(Reason::NotClone)?;
         let given = self.tree.snapshots(name::base(&origin));
         let count = given.iter().position(|it| it.name == origin).map_or(0, |place| place + 1);
-        for snapshot in &given[..count] {
-            let component = name::snapshot(&snapshot.name).unwrap_or_default();
-            if whole.base.snapshot(component).is_some() {
-                return Err(Reason::Text(format!("conflicting snapshot '{component}' from parent '{origin}'")));
-            }
-            if name.len() + 1 + component.len() > name::NAME_LIMIT {
-                return Err(Reason::TooManyBelow);
-            }
+        let mut components = given[..count].iter().filter_map(|it| name::snapshot(&it.name));
+        if components.clone().any(|it| name.len() + 1 + it.len() > name::NAME_LIMIT) {
+            return Err(Reason::TooManyBelow);
+        }
+        if let Some(component) = components.rfind(|it| whole.base.snapshot(it).is_some()) {
+            return Err(Reason::Text(format!("conflicting snapshot '{component}' from parent '{origin}'")));
         }
         self.layer.order(&format!("promote {}", whole.path))?;
         self.follow_layer();
@@ -137,10 +136,14 @@ mod tests {
     fn a_name_that_both_have_stands_in_the_way_of_a_promote() {
         let mut host = host();
         make_fs(&mut host, "tank/a");
-        snapshot(&mut host, "tank/a@1");
-        host.change(|host| host.make_clone("tank/a@1", "tank/c", 1).map_err(|_| Failure::Silent)).unwrap();
+        for name in ["tank/a@1", "tank/a@2", "tank/a@3"] {
+            snapshot(&mut host, name);
+        }
+        host.change(|host| host.make_clone("tank/a@3", "tank/c", 1).map_err(|_| Failure::Silent)).unwrap();
         snapshot(&mut host, "tank/c@1");
-        assert_eq!(host.promote("tank/c").unwrap_err().to_string(), "conflicting snapshot '1' from parent 'tank/a@1'");
+        assert_eq!(host.promote("tank/c").unwrap_err().to_string(), "conflicting snapshot '1' from parent 'tank/a@3'");
+        snapshot(&mut host, "tank/c@2");
+        assert_eq!(host.promote("tank/c").unwrap_err().to_string(), "conflicting snapshot '2' from parent 'tank/a@3'");
         assert_eq!(host.promote("tank/a"), Err(Reason::NotClone));
     }
 }

@@ -8,7 +8,7 @@ use crate::options::Options;
 use crate::property::{Kinds, Property};
 use crate::setting::{settings, Setting};
 use crate::size;
-use crate::stream::format::{read_body, read_head, read_magic, Broken, Head, Step};
+use crate::stream::format::{read_body, read_head, read_magic, Begin, Broken, Head, Step};
 use crate::stream::receive::{check_overrides, check_values, destination, Arrived, Manner, Naming};
 use crate::usage::{Usage, ZfsCommand};
 use crate::world::PoolThread;
@@ -104,7 +104,7 @@ fn receive(call: &mut Call, manner: &Manner) -> Outcome {
         _ => return Err(unreadable(&Broken::Damaged)),
     };
     check_values(&manner.settings).trying(|| Action::Receive)?;
-    let pool = call.world.pool_of(&manner.target).ok_or_else(|| no_pool(manner))?;
+    let Some(pool) = call.world.pool_of(&manner.target) else { return Err(no_pool(call, manner, &begin)) };
     if begin.is_replication && begin.is_incremental && !manner.is_dry {
         let (manner, begin) = (manner.clone(), begin.clone());
         call.change(&pool, move |host| host.follow_sender(&manner, &begin))?;
@@ -208,12 +208,29 @@ fn cut(call: &Call, pool: &Arc<PoolThread>, manner: &Manner, goal: &str, step: &
     }
 }
 
-fn no_pool(manner: &Manner) -> Failure {
-    let base = name::base(&manner.target);
-    let Some(above) = name::parent(base) else {
-        return Failure::Cannot(Action::ReceiveNew, Reason::Text(format!("destination '{base}' does not exist")));
+/// What is said where there is no pool of that name: what the stream's first step meets.
+fn no_pool(call: &mut Call, manner: &Manner, begin: &Begin) -> Failure {
+    let action = match read_head(call) {
+        Ok((Head::Step(step), _)) => {
+            let step = step.onto(manner.origin.as_deref().filter(|_| !begin.is_replication));
+            match destination(manner, begin, &step.to_name) {
+                Ok(goal) if step.is_clone && manner.origin.is_none() => {
+                    return Failure::Cannot(Action::Receive, Reason::Text(format!("local origin for clone {goal} does not exist")));
+                }
+                Ok(_) => step.action(),
+                Err(failure) => return failure,
+            }
+        }
+        Ok(_) => Action::ReceiveNew,
+        Err(broken) => return unreadable(&broken),
     };
-    Failure::Told(format!("cannot open '{above}': dataset does not exist\ncannot receive new filesystem stream: unable to restore to destination"))
+    let base = name::base(&manner.target);
+    match name::parent(base) {
+        Some(above) if action == Action::ReceiveNew => {
+            Failure::Told(format!("cannot open '{above}': dataset does not exist\n{action}: unable to restore to destination"))
+        }
+        _ => Failure::Cannot(action, Reason::Text(format!("destination '{base}' does not exist"))),
+    }
 }
 
 /// What can't be read is said as libzfs says it.
